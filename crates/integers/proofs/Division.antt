@@ -1,0 +1,2 @@
+-- Laws of floor division and of rounding by a positive number.
+use mathlib.Core.Path.{_≡_, refl, ap}

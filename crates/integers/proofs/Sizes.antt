@@ -1,0 +1,65 @@
+-- The size natAbs of sums, differences, products and finite sums. `omega` takes natAbs z as an unknown natural number.
+use mathlib.Core.Path.{_≡_, refl, ap}
+use mathlib.Core.Bool.{Bool, true, false, cond}
+use mathlib.Core.List.{List, [], _∷_}
+use Prim.Native.Nat.{ℕ, zero, suc, _+_, _*_, _-_, _<_, _≤_}
+use native.Mathlib.Nat.{mul-le-mul, mul-suc}
+use native.Mathlib.Omega.{arith}
+use lib.Dec.{T, ltb, ltb→lt}
+use lib.ListN.{length}
+use lib.IntN.{ℤ, pos, negsuc, negℤ, natAbs, subℕ, _+ℤ_, _-ℤ_, _*ℤ_}
+use Rattle.integers.specs.Sums.{max0, sumTo, sumOver}
+
+natAbs-subℕ : (a b : ℕ) → natAbs (subℕ a b) ≤ a + b
+natAbs-subℕ a b = go (ltb a b) (λ t. ltb→lt a b t)
+  where
+    go : (c : Bool) → (T c → a < b) → natAbs (cond c (negsuc (b - suc a)) (pos (a - b))) ≤ a + b
+    go true f = let h : a < b = f tt in omega arith
+    go false f = omega arith
+
+pub natAbs-add : (x y : ℤ) → natAbs (x +ℤ y) ≤ natAbs x + natAbs y
+natAbs-add (pos a) (pos b) = omega arith
+natAbs-add (pos a) (negsuc b) = natAbs-subℕ a (suc b)
+natAbs-add (negsuc a) (pos b) = omega (arith, natAbs-subℕ b (suc a))
+natAbs-add (negsuc a) (negsuc b) = omega arith
+
+pub natAbs-neg : (x : ℤ) → natAbs (negℤ x) ≡ natAbs x
+natAbs-neg (pos zero) = refl
+natAbs-neg (pos (suc n)) = refl
+natAbs-neg (negsuc n) = refl
+
+pub natAbs-sub : (x y : ℤ) → natAbs (x -ℤ y) ≤ natAbs x + natAbs y
+natAbs-sub x y = omega (arith, natAbs-add x (negℤ y), natAbs-neg y)
+
+neg-pos : (n : ℕ) → natAbs (negℤ (pos n)) ≡ n
+neg-pos n = natAbs-neg (pos n)
+
+pub natAbs-mul : (x y : ℤ) → natAbs (x *ℤ y) ≡ natAbs x * natAbs y
+natAbs-mul (pos a) (pos b) = refl
+natAbs-mul (pos a) (negsuc b) = neg-pos (a * suc b)
+natAbs-mul (negsuc a) (pos b) = neg-pos (suc a * b)
+natAbs-mul (negsuc a) (negsuc b) = refl
+
+-- a product of two bounded numbers
+pub natAbs-times : (x y : ℤ) {A B : ℕ} → natAbs x ≤ A → natAbs y ≤ B → natAbs (x *ℤ y) ≤ A * B
+natAbs-times x y hx hy = rw (natAbs-mul x y) (mul-le-mul hx hy)
+
+pub natAbs-max0 : (x : ℤ) → natAbs (max0 x) ≤ natAbs x
+natAbs-max0 (pos n) = omega arith
+natAbs-max0 (negsuc n) = omega arith
+
+-- a sum of n terms, each of size at most B
+pub natAbs-sumTo : (n B : ℕ) (g : ℕ → ℤ) → ((k : ℕ) → k < n → natAbs (g k) ≤ B) → natAbs (sumTo n g) ≤ B * n
+unfolding sumTo
+natAbs-sumTo zero B g h = omega arith
+natAbs-sumTo (suc n) B g h = rw mul-suc (omega (arith, natAbs-add (sumTo n g) (g n), natAbs-sumTo n B g (λ k b. h k (omega arith)), h n (omega arith)))
+
+-- what holds of each element of a list
+abbrev pub Each : {A : Type 0} → (A → Type 0) → List A → Type 0
+Each P [] = Unit
+Each P (x ∷ xs) = P x × Each P xs
+
+pub natAbs-sumOver : {A : Type 0} (B : ℕ) (g : A → ℤ) (xs : List A) → Each (λ x. natAbs (g x) ≤ B) xs → natAbs (sumOver xs g) ≤ B * length xs
+unfolding sumOver
+natAbs-sumOver B g [] h = omega arith
+natAbs-sumOver B g (x ∷ xs) h = rw mul-suc (omega (arith, natAbs-add (g x) (sumOver xs g), natAbs-sumOver B g xs (h .1), h .0))
