@@ -1,2 +1,55 @@
 -- Laws of floor division and of rounding by a positive number.
-use mathlib.Core.Path.{_≡_, refl, ap}
+use mathlib.Core.Path.{_≡_, refl, ap, _∙_, sym}
+use Prim.Native.Nat.{ℕ, zero, suc, _+_, _-_, _*_, _/_, _%_, _<_, _≤_}
+use native.Mathlib.Nat.{mod-lt, div-add-mod', le-div-iff-mul-le, div-lt-iff-lt-mul, mul-div-mul-left, mul-add, div-eq-of-lt}
+use native.Mathlib.Omega.{arith}
+use lib.Arith.{digits-div, digits-mod, comp-comp}
+use lib.IntN.{ℤ, pos, negsuc, negℤ, natAbs, negℤ-negℤ, _+ℤ_, _*ℤ_}
+use Rattle.integers.specs.Division.{floorDiv, floorMod, roundUp, roundAway}
+use Rattle.integers.proofs.Linear.{⊖s}
+use Rattle.integers.proofs.Sizes.{natAbs-neg}
+
+-- ---- floor division: z is quotient × d + remainder, and only so
+
+pub floorMod-lt : (z : ℤ) (d : ℕ) → 0 < d → floorMod z d < d
+floorMod-lt (pos n) d h = mod-lt n h
+floorMod-lt (negsuc n) d h = omega arith
+
+pub floor-split : (z : ℤ) (d : ℕ) → 0 < d → floorDiv z d *ℤ pos d +ℤ pos (floorMod z d) ≡ z
+floor-split (pos n) d h = ap pos (div-add-mod' n d)
+floor-split (negsuc n) d h = simp ⊖s (omega (arith, div-add-mod' n d, mod-lt n h))
+
+-- below zero: −(a + 1) × d + r is −(m + 1) with m = a × d + (d − 1 − r)
+below : (a r d : ℕ) → r < d → negsuc a *ℤ pos d +ℤ pos r ≡ negsuc (a * d + (d - suc r))
+below a r d h = simp ⊖s (omega arith)
+
+pub floor-unique : (q : ℤ) (r d : ℕ) → r < d → (floorDiv (q *ℤ pos d +ℤ pos r) d ≡ q) × (floorMod (q *ℤ pos d +ℤ pos r) d ≡ r)
+floor-unique (pos a) r d h = (ap pos (digits-div a h), digits-mod a h)
+floor-unique (negsuc a) r d h =
+    rw (below a r d h) (
+      ap negsuc (digits-div a {r = d - suc r} (omega arith)),
+      ap (λ (x : ℕ). d - suc x) (digits-mod a {r = d - suc r} (omega arith)) ∙ comp-comp h,
+    )
+
+-- ---- rounding to the nearest, a half away from zero
+
+-- r is n / d to the nearest, a half upwards, exactly where r − 1/2 ≤ n / d < r + 1/2
+pub roundUp-least : (n d : ℕ) → 0 < d → roundUp n d * (2 * d) ≤ 2 * n + d
+roundUp-least n d h = le-div-iff-mul-le {k = 2 * d} {x = roundUp n d} {y = 2 * n + d} (omega arith) .0 (omega arith)
+
+pub roundUp-most : (n d : ℕ) → 0 < d → 2 * n + d < (roundUp n d + 1) * (2 * d)
+roundUp-most n d h = div-lt-iff-lt-mul {k = 2 * d} {x = 2 * n + d} {y = roundUp n d + 1} (omega arith) .0 (omega arith)
+
+-- by an even number, half of it is added first
+pub roundUp-even : (n h : ℕ) → roundUp n (2 * h) ≡ (n + h) / (2 * h)
+roundUp-even n h = ap (λ (x : ℕ). x / (2 * (2 * h))) {x = 2 * n + 2 * h} (sym (mul-add 2 n h)) ∙ mul-div-mul-left {m = 2} (n + h) (2 * h) (omega arith)
+
+-- charges round as payments do
+pub roundAway-neg : (z : ℤ) (d : ℕ) → 0 < d → roundAway (negℤ z) d ≡ negℤ (roundAway z d)
+roundAway-neg (pos zero) d h = rw (div-eq-of-lt {n = 2 * 0 + d} {m = 2 * d} (omega arith))
+roundAway-neg (pos (suc n)) d h = refl
+roundAway-neg (negsuc n) d h = sym (negℤ-negℤ (pos (roundUp (suc n) d)))
+
+pub natAbs-roundAway : (z : ℤ) (d : ℕ) → natAbs (roundAway z d) ≡ roundUp (natAbs z) d
+natAbs-roundAway (pos n) d = refl
+natAbs-roundAway (negsuc n) d = natAbs-neg (pos (roundUp (suc n) d))

@@ -1,0 +1,4 @@
+pub mod Worst
+pub mod Overloads
+pub mod Theorems
+pub mod Sizes

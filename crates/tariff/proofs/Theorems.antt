@@ -1,0 +1,58 @@
+-- THE THEOREMS over document 01's definitions, each for every grid, book, period and process. Statements only: the proofs are in Worst.antt and
+-- Overloads.antt.
+use mathlib.Core.Path.{_≡_, refl}
+use mathlib.Core.Logic.{_↔_}
+use mathlib.Core.List.{List, []}
+use Prim.Native.Nat.{ℕ, _<_, _≤_}
+use native.Mathlib.Omega.{arith}
+use lib.Count.{ones, trailingZeros}
+use lib.IntN.{ℤ, pos}
+use lib.Signed.{_≤ℤ_, _<ℤ_}
+use Rattle.tariff.specs.declared.Contract.{Contract}
+use Rattle.tariff.specs.declared.Kind.the-variants.{Option}
+use Rattle.tariff.specs.declared.Period.{Period}
+use Rattle.tariff.specs.declared.Process.{Process}
+use Rattle.tariff.specs.Units.{Grid, maxConstraints}
+use Rattle.tariff.specs.Contracts.{ofPeriod}
+use Rattle.tariff.specs.Feasibility.{flow, Passes, excess, overloaded, overloadSet, overloadCount, lowestOverload}
+use Rattle.tariff.specs.Shortfall.{PriceList, shortfall, oneCent, IsWorst}
+use Rattle.tariff.proofs.Worst as W
+use Rattle.tariff.proofs.Overloads as O
+
+module _ (g : Grid) (process : Process) (period : Period) (book : List Contract) where
+  abbrev tested : List Contract
+  tested = ofPeriod period book
+
+  -- Demand 3: the test passes exactly when the worst shortfall is 0
+  pub pass-is-worst-zero : Passes g process tested ↔ IsWorst g process tested (pos 0)
+  pass-is-worst-zero = (W.pass→worst g process tested, W.worst→pass g process tested)
+
+  -- Demand 3: the one-cent list is a price list, and its shortfall is the excess at its constraint
+  pub excess-is-a-shortfall : (k : ℕ) → k < g .constraints → PriceList g (oneCent g k) × (shortfall g process tested (oneCent g k) ≡ excess g process tested k)
+  excess-is-a-shortfall k h = (W.only-list g k h, W.only-shortfall g process tested k h)
+
+  -- the test passes exactly when no constraint is in the overload set
+  pub pass-is-empty-set : Passes g process tested ↔ (overloadSet g process tested ≡ 0)
+  pass-is-empty-set = O.passes-empty g process tested
+
+  -- when it fails, the constraint named is the lowest overloaded one, and its excess is above 0
+  pub fail-names-lowest : 0 < overloadSet g process tested → O.Lowest (g .constraints) (overloaded g process tested) (lowestOverload g process tested) × (pos 0 <ℤ excess g process tested (lowestOverload g process tested))
+  fail-names-lowest s = (O.fails-lowest g process tested s, O.fails-excess g process tested s)
+
+  -- the count is the set's count of ones, and the lowest its trailing zeros
+  pub count-is-ones : ones (overloadSet g process tested) ≡ overloadCount g process tested
+  unfolding overloadSet overloadCount
+  count-is-ones = O.set-ones (g .constraints) (overloaded g process tested)
+
+  pub lowest-is-trailing : g .constraints ≤ maxConstraints → 0 < overloadSet g process tested → trailingZeros 64 (overloadSet g process tested) ≡ lowestOverload g process tested
+  unfolding overloadSet lowestOverload
+  lowest-is-trailing h s = O.set-trailing (g .constraints) 64 (overloaded g process tested) h s
+
+-- the empty book passes
+pub empty-book-passes : (g : Grid) (process : Process) (period : Period) → Passes g process (ofPeriod period [])
+unfolding ofPeriod
+empty-book-passes g process period = W.empty-passes g process
+
+-- an option never relieves a constraint
+pub option-never-relieves : (g : Grid) (c : Contract) → c .kind ≡ Option → (k : ℕ) → pos 0 ≤ℤ flow g c k
+option-never-relieves g c e k = W.option-flow g c e k

@@ -1,0 +1,7 @@
+pub mod Refusals
+pub mod Units
+pub mod Contracts
+pub mod Processes
+pub mod Settlement
+pub mod Feasibility
+pub mod Shortfall

@@ -1,0 +1,53 @@
+-- Document 01, "When input is turned down": the refusals' numbers, the first check that holds, and what becomes of lent cells.
+use mathlib.Core.Bool.{Bool, cond}
+use mathlib.Core.List.{List, [], _∷_, _++_}
+use Prim.Native.Nat.{ℕ}
+use lib.ListN.{length, drop}
+use Rattle.tariff.specs.declared.Refusal.{Refusal}
+use Rattle.tariff.specs.declared.Refusal.the-variants.{ShortFile, NodeCount, ConstraintCount, SpareBits, FileLength, LimitRange, FactorRange, Padding, ShortTable, ContractCount, NodeNumber, SameEnds, QuantityRange, PriceCount, PriceRange, ProcessNumber, PeriodOrKind, HolderRange}
+use Rattle.tariff.specs.declared.Checked.{Checked}
+use Rattle.tariff.specs.declared.Checked.the-variants.{Passed, Refused}
+
+-- the paper's number of each refusal
+abbrev pub numberOf : Refusal → ℕ
+numberOf ShortFile = 1
+numberOf NodeCount = 2
+numberOf ConstraintCount = 3
+numberOf SpareBits = 4
+numberOf FileLength = 5
+numberOf LimitRange = 6
+numberOf FactorRange = 7
+numberOf Padding = 8
+numberOf ShortTable = 9
+numberOf ContractCount = 10
+numberOf NodeNumber = 11
+numberOf SameEnds = 12
+numberOf QuantityRange = 13
+numberOf PriceCount = 14
+numberOf PriceRange = 15
+numberOf ProcessNumber = 16
+numberOf PeriodOrKind = 17
+numberOf HolderRange = 18
+
+-- one condition and the refusal that comes for it alone
+pub record Check : Type 0 where
+  pub fails : Bool
+  pub refusal : Refusal
+
+-- "checks run in the order written": the first that holds
+unfoldable pub first : List Check → Checked
+first [] = Passed
+first (c ∷ cs) = cond (c .fails) (Refused (c .refusal)) (first cs)
+
+-- an answer by what the checks found: one for a refusal, another where there is none
+abbrev pub decided : {A : Type 0} → Checked → (Refusal → A) → A → A
+decided Passed f a = a
+decided (Refused r) f a = f r
+
+-- "success writes the cells named and no other": the values from the front, the rest as at entry
+abbrev pub overwrite : {A : Type 0} → List A → List A → List A
+overwrite values entry = values ++ drop (length values) entry
+
+-- "a refusal changes no lent cell"
+abbrev pub cellsAfter : {A : Type 0} → Checked → List A → List A → List A
+cellsAfter checked values entry = decided checked (λ r. entry) (overwrite values entry)
