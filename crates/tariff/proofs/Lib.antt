@@ -2,3 +2,4 @@ pub mod Worst
 pub mod Overloads
 pub mod Theorems
 pub mod Sizes
+pub mod Rules

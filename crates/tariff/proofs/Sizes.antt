@@ -81,7 +81,7 @@ module _ (g : Grid) (fs : FactorsInRange g) where
   unfolding totalFlow
   totalFlow-sized cs k h hk = natAbs-sumOver 200000000000 (λ c. flow g c k) cs (flows-sized k hk cs h)
 
-percent-sized : (process : Process) → percent process ≤ 100
+pub percent-sized : (process : Process) → percent process ≤ 100
 percent-sized Annual = omega arith
 percent-sized TierLt = omega arith
 percent-sized Monthly = omega arith

@@ -1,10 +1,13 @@
 // Document 01's units, contracts, processes and refusals as types. Sums keep their unit: a quantity, a price or an MCC is opened only here, in its own
 // sums and in the product rules.
 ghost use mathlib.Core.Path.{_≡_};
-ghost use Prim.Native.Nat.{_+_, _*_, _≤_};
+ghost use Prim.Native.Nat.{_+_, _*_, _^_, _≤_, _<_};
 ghost use lib.IntN.{pos, natAbs, negℤ, _+ℤ_, _-ℤ_, _*ℤ_};
+ghost use lib.Signed.{ltZ};
 ghost use Rattle.tariff.specs.Refusals.{numberOf};
+ghost use Rattle.tariff.specs.Contracts.{kindOf, periodOf, samePeriod, counted as countedAs};
 ghost use Rattle.tariff.specs.Processes.{percent as percentOf, processOf};
+ghost use Rattle.tariff.specs.Settlement.{cents as centsOf, wholeCents, parts as partsOf};
 
 // Why input is turned down ("When input is turned down"): one case for each of the paper's numbers.
 pub enum Refusal {
@@ -67,10 +70,49 @@ pub enum Kind {
     Option,
 }
 
+impl Kind {
+    pub fn from_number(number: u64) -> Kind
+        ensures { λ r. ⌜ r ≡ kindOf number ⌝ }
+    {
+        if number == 0 {
+            Kind::Obligation
+        } else {
+            Kind::Option
+        }
+    }
+}
+
 // Time-of-use period.
 pub enum Period {
     OffPeak,
     OnPeak,
+}
+
+impl Period {
+    pub fn from_number(number: u64) -> Period
+        ensures { λ r. ⌜ r ≡ periodOf number ⌝ }
+    {
+        if number == 0 {
+            Period::OffPeak
+        } else {
+            Period::OnPeak
+        }
+    }
+
+    pub fn same(self, other: Period) -> bool
+        ensures { λ r. ⌜ r ≡ samePeriod self other ⌝ }
+    {
+        match self {
+            Period::OffPeak => match other {
+                Period::OffPeak => true,
+                Period::OnPeak => false,
+            },
+            Period::OnPeak => match other {
+                Period::OffPeak => false,
+                Period::OnPeak => true,
+            },
+        }
+    }
 }
 
 // The process that awards CRRs, which fixes the share of each limit that is released (003, 36.4.1).
@@ -82,7 +124,9 @@ pub enum Process {
 
 impl Process {
     pub const ANNUAL_PERCENT: u64 = 75;
+
     pub const TIER_LT_PERCENT: u64 = 60;
+
     pub const MONTHLY_PERCENT: u64 = 100;
 
     pub fn from_number(number: u64) -> Process
@@ -107,22 +151,146 @@ impl Process {
             Process::Monthly => Self::MONTHLY_PERCENT,
         }
     }
+
+    // The product rule of the released limit: in flow units, with nothing lost.
+    pub fn released(self, limit: u64) -> Flow
+        requires { ⌜ limit ≤ 100000000 ⌝ }
+        ensures { λ r. ⌜ r .0 ≡ pos (limit * percentOf self * 1000) ⌝ }
+    {
+        let percent = self.percent();
+        Flow((limit * percent * 1000) as i64)
+    }
 }
 
 // Thousandths of a MW.
 pub struct Quantity(pub u64);
 
+impl Quantity {
+    pub fn plus(self, other: Quantity) -> Quantity
+        requires { ⌜ self .0 + other .0 < 2 ^ 64 ⌝ }
+        ensures { λ r. ⌜ r .0 ≡ self .0 + other .0 ⌝ }
+    {
+        Quantity(self.0 + other.0)
+    }
+
+    // The product rule of flows: this quantity from source to sink, by their shift factors on one constraint.
+    pub fn flow(self, source: i64, sink: i64) -> Flow
+        requires { ⌜ (natAbs source ≤ 100000) × (natAbs sink ≤ 100000) × (self .0 ≤ 1000000) ⌝ }
+        ensures { λ r. ⌜ r .0 ≡ (source -ℤ sink) *ℤ pos (self .0) ⌝ }
+    {
+        let q = self.0 as i64;
+        Flow((source - sink) * q)
+    }
+}
+
 // Cents per MWh.
 pub struct Price(pub u64);
+
+impl Price {
+    pub fn plus(self, other: Price) -> Price
+        requires { ⌜ self .0 + other .0 < 2 ^ 64 ⌝ }
+        ensures { λ r. ⌜ r .0 ≡ self .0 + other .0 ⌝ }
+    {
+        Price(self.0 + other.0)
+    }
+
+    // The product rule of congestion (002 part C): shift factor × shadow price.
+    pub fn times(self, factor: i64) -> Mcc
+        requires { ⌜ (natAbs factor ≤ 100000) × (self .0 ≤ 500000) ⌝ }
+        ensures { λ r. ⌜ r .0 ≡ factor *ℤ pos (self .0) ⌝ }
+    {
+        let p = self.0 as i64;
+        Mcc(factor * p)
+    }
+}
 
 // The marginal cost of congestion: 10^-5 cents per MWh.
 pub struct Mcc(pub i64);
 
+impl Mcc {
+    pub fn plus(self, other: Mcc) -> Mcc
+        requires { ⌜ natAbs (self .0) + natAbs (other .0) < 2 ^ 63 ⌝ }
+        ensures { λ r. ⌜ r .0 ≡ self .0 +ℤ other .0 ⌝ }
+    {
+        Mcc(self.0 + other.0)
+    }
+
+    pub fn minus(self, other: Mcc) -> Mcc
+        requires { ⌜ natAbs (self .0) + natAbs (other .0) < 2 ^ 63 ⌝ }
+        ensures { λ r. ⌜ r .0 ≡ self .0 -ℤ other .0 ⌝ }
+    {
+        Mcc(self.0 - other.0)
+    }
+
+    pub fn negated(self) -> Mcc
+        requires { ⌜ natAbs (self .0) < 2 ^ 63 ⌝ }
+        ensures { λ r. ⌜ r .0 ≡ negℤ (self .0) ⌝ }
+    {
+        Mcc(-self.0)
+    }
+
+    // The product rule of amounts (003, 36.2.1): a difference of two MCCs × quantity.
+    pub fn times(self, quantity: Quantity) -> Amount
+        requires { ⌜ (natAbs (self .0) ≤ 6400000000000) × (quantity .0 ≤ 1000000) ⌝ }
+        ensures { λ r. ⌜ r .0 ≡ self .0 *ℤ pos (quantity .0) ⌝ }
+    {
+        let q = quantity.0 as i64;
+        Amount(self.0 * q)
+    }
+}
+
 // 10^-8 MW.
 pub struct Flow(pub i64);
 
+impl Flow {
+    pub fn plus(self, other: Flow) -> Flow
+        requires { ⌜ natAbs (self .0) + natAbs (other .0) < 2 ^ 63 ⌝ }
+        ensures { λ r. ⌜ r .0 ≡ self .0 +ℤ other .0 ⌝ }
+    {
+        Flow(self.0 + other.0)
+    }
+
+    pub fn minus(self, other: Flow) -> Flow
+        requires { ⌜ natAbs (self .0) + natAbs (other .0) < 2 ^ 63 ⌝ }
+        ensures { λ r. ⌜ r .0 ≡ self .0 -ℤ other .0 ⌝ }
+    {
+        Flow(self.0 - other.0)
+    }
+
+    // This flow as it counts: an option never relieves.
+    pub fn counted(self, kind: Kind) -> Flow
+        requires { ⌜ natAbs (self .0) < 2 ^ 63 ⌝ }
+        ensures { λ r. ⌜ r .0 ≡ countedAs kind (self .0) ⌝ }
+    {
+        match kind {
+            Kind::Obligation => self,
+            Kind::Option => { if self.0 < 0 { Flow(0) } else { self } }
+        }
+    }
+
+    pub fn exceeds(self, other: Flow) -> bool
+        requires { ⌜ (natAbs (self .0) < 2 ^ 63) × (natAbs (other .0) < 2 ^ 63) ⌝ }
+        ensures { λ r. ⌜ r ≡ ltZ (other .0) (self .0) ⌝ }
+    {
+        other.0 < self.0
+    }
+}
+
 // 10^-8 cents for one hour.
 pub struct Amount(pub i64);
+
+impl Amount {
+    // This amount as it counts: an option is never charged.
+    pub fn counted(self, kind: Kind) -> Amount
+        requires { ⌜ natAbs (self .0) < 2 ^ 63 ⌝ }
+        ensures { λ r. ⌜ r .0 ≡ countedAs kind (self .0) ⌝ }
+    {
+        match kind {
+            Kind::Obligation => self,
+            Kind::Option => { if self.0 < 0 { Amount(0) } else { self } }
+        }
+    }
+}
 
 // A point-to-point CRR.
 pub struct Contract {
