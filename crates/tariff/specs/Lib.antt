@@ -1,5 +1,6 @@
 pub mod Refusals
 pub mod Units
+pub mod Checks
 pub mod Contracts
 pub mod Processes
 pub mod Settlement

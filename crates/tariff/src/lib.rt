@@ -7,7 +7,6 @@ ghost use lib.Signed.{ltZ};
 ghost use Rattle.tariff.specs.Refusals.{numberOf};
 ghost use Rattle.tariff.specs.Contracts.{kindOf, periodOf, samePeriod, counted as countedAs};
 ghost use Rattle.tariff.specs.Processes.{percent as percentOf, processOf};
-ghost use Rattle.tariff.specs.Settlement.{cents as centsOf, wholeCents, parts as partsOf};
 
 // Why input is turned down ("When input is turned down"): one case for each of the paper's numbers.
 pub enum Refusal {

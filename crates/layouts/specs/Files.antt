@@ -1,0 +1,36 @@
+-- Document 01, "The three files": what they share. Fields are packed most significant bit first; zero bits fill the last byte.
+use mathlib.Core.Bool.{Bool, not}
+use mathlib.Core.List.{List, [], _∷_, _++_}
+use Prim.Native.Nat.{ℕ, zero, suc, _+_, _-_, _*_, _/_}
+use lib.Dec.{ltb, eqb}
+use lib.ListN.{length}
+use Rattle.tariff.specs.declared.Refusal.the-variants.{ShortFile, SpareBits, FileLength, Padding}
+use Rattle.tariff.specs.Refusals.{Check}
+
+-- how many bytes hold so many bits, and how many bits of padding that leaves
+abbrev pub bytesFor : ℕ → ℕ
+bytesFor used = (used + 7) / 8
+
+abbrev pub padFor : ℕ → ℕ
+padFor used = 8 * bytesFor used - used
+
+-- 1: fewer bytes than the header's
+abbrev pub shortFile : List ℕ → ℕ → Check
+shortFile s header = record { fails = ltb (length s) header; refusal = ShortFile }
+
+-- 4: a spare bit set
+abbrev pub spareBits : ℕ → Check
+spareBits spare = record { fails = not (eqb spare 0); refusal = SpareBits }
+
+-- 5: length differs from what the counts fix
+abbrev pub fileLength : List ℕ → ℕ → Check
+fileLength s size = record { fails = not (eqb (length s) size); refusal = FileLength }
+
+-- 8: a padding bit set
+abbrev pub padding : ℕ → Check
+padding pad = record { fails = not (eqb pad 0); refusal = Padding }
+
+-- f 0, f 1, .., f (n − 1)
+unfoldable pub listTo : {A : Type 0} → ℕ → (ℕ → A) → List A
+listTo zero f = []
+listTo (suc n) f = listTo n f ++ f n ∷ []

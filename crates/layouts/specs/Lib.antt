@@ -1,0 +1,4 @@
+pub mod Files
+pub mod GridFile
+pub mod BookFile
+pub mod PriceFile

@@ -1,0 +1,79 @@
+-- Document 01, "When input is turned down": the conditions on counts, numbers and figures, each with its refusal. Those on a file's bytes are in layouts.
+use mathlib.Core.Bool.{Bool, true, false, _||_}
+use mathlib.Core.List.{List, [], _∷_}
+use Prim.Native.Nat.{ℕ}
+use lib.Dec.{leb, ltb, eqb}
+use lib.IntN.{ℤ, natAbs}
+use Rattle.tariff.specs.declared.Refusal.the-variants.{NodeCount, ConstraintCount, LimitRange, FactorRange, ShortTable, ContractCount, NodeNumber, SameEnds, QuantityRange, PriceRange, ProcessNumber, PeriodOrKind, HolderRange}
+use Rattle.tariff.specs.Units.{maxNodes, maxConstraints, maxContracts, maxLimit, maxFactor, maxPrice, maxQuantity, maxHolder}
+use Rattle.tariff.specs.Refusals.{Check}
+
+-- whether some element of a list is bad
+unfoldable pub some : {A : Type 0} → (A → Bool) → List A → Bool
+some bad [] = false
+some bad (x ∷ xs) = bad x || some bad xs
+
+-- 2: nodes 0 or above 200
+abbrev pub nodeCount : ℕ → Check
+nodeCount n = record { fails = eqb n 0 || ltb maxNodes n; refusal = NodeCount }
+
+-- 3: constraints above 64
+abbrev pub constraintCount : ℕ → Check
+constraintCount k = record { fails = ltb maxConstraints k; refusal = ConstraintCount }
+
+-- 6: a limit too large
+abbrev pub limitBad : ℕ → Bool
+limitBad l = ltb maxLimit l
+
+abbrev pub limitRange : List ℕ → Check
+limitRange ls = record { fails = some limitBad ls; refusal = LimitRange }
+
+-- 7: a factor out of range
+abbrev pub factorBad : ℤ → Bool
+factorBad f = ltb maxFactor (natAbs f)
+
+abbrev pub factorRange : List ℤ → Check
+factorRange fs = record { fails = some factorBad fs; refusal = FactorRange }
+
+-- 9: a lent table, or a place for an answer, of fewer cells than are needed
+abbrev pub shortTable : ℕ → ℕ → Check
+shortTable cells needed = record { fails = ltb cells needed; refusal = ShortTable }
+
+-- 10: more than 1,000 contracts
+abbrev pub contractCount : ℕ → Check
+contractCount m = record { fails = ltb maxContracts m; refusal = ContractCount }
+
+-- 11: source or sink not below the node count
+abbrev pub nodeNumber : ℕ → ℕ → ℕ → Check
+nodeNumber nodes source sink = record { fails = leb nodes source || leb nodes sink; refusal = NodeNumber }
+
+-- 12: source equals sink
+abbrev pub sameEnds : ℕ → ℕ → Check
+sameEnds source sink = record { fails = eqb source sink; refusal = SameEnds }
+
+-- 13: quantity 0 or above 1,000,000
+abbrev pub quantityRange : ℕ → Check
+quantityRange q = record { fails = eqb q 0 || ltb maxQuantity q; refusal = QuantityRange }
+
+-- 15: a price too large
+abbrev pub priceBad : ℕ → Bool
+priceBad p = ltb maxPrice p
+
+abbrev pub priceRange : List ℕ → Check
+priceRange ps = record { fails = some priceBad ps; refusal = PriceRange }
+
+-- 16: process not 0 to 2
+abbrev pub processNumber : ℕ → Check
+processNumber p = record { fails = ltb 2 p; refusal = ProcessNumber }
+
+-- 17: period not 0 or 1
+abbrev pub periodNumber : ℕ → Check
+periodNumber t = record { fails = ltb 1 t; refusal = PeriodOrKind }
+
+-- 17, of a contract that is written: kind or period not 0 or 1
+abbrev pub kindAndPeriod : ℕ → ℕ → Check
+kindAndPeriod kind period = record { fails = ltb 1 kind || ltb 1 period; refusal = PeriodOrKind }
+
+-- 18: holder above 1,023
+abbrev pub holderRange : ℕ → Check
+holderRange h = record { fails = ltb maxHolder h; refusal = HolderRange }
