@@ -1,9 +1,9 @@
 -- Laws of `field` and `fields`: where a field lies, a run of fields, and a field gathered from bytes.
 use mathlib.Core.Path.{_≡_, sym, ap, ap₂, _∙_}
 use Prim.Native.Nat.{ℕ, suc, _+_, _-_, _*_, _/_, _%_, _^_, _≤_, _<_}
-use native.Mathlib.Nat.{mul-le-mul-left, mod-lt}
+use native.Mathlib.Nat.{mul-le-mul-left, mul-suc, mod-lt, mod-one}
 use native.Mathlib.Omega.{arith}
-use mathlib.Core.List.{List}
+use mathlib.Core.List.{List, _∷_}
 use lib.ListN.{length, getD, take, drop, length-drop, take-append-drop}
 use lib.Seq.{take-add, getD-drop, length-take-le}
 use lib.Pow.{split, pow-pos, shr-shr, high}
@@ -13,6 +13,11 @@ use Rattle.bits.proofs.Numbers.{Below, part-high, part-low, number-appe
 pub field-lt : (s : List ℕ) (o w : ℕ) → field s o w < 2 ^ w
 unfolding field
 field-lt s o w = mod-lt (number 8 s / 2 ^ (8 * length s - (o + w))) (pow-pos w)
+
+-- a field of no bits, as padding may be, is 0
+pub field-zero : (s : List ℕ) (o : ℕ) → field s o 0 ≡ 0
+unfolding field
+field-zero s o = mod-one (number 8 s / 2 ^ (8 * length s - (o + 0)))
 
 -- only the bytes that the field touches count: k bytes from byte f on
 pub field-window : (s : List ℕ) (o w f k : ℕ) → Below 8 s → 8 * f ≤ o → o + w ≤ 8 * (f + k) → f + k ≤ length s
@@ -50,6 +55,13 @@ field-window s o w f k b lo hi le =
         ap (number 8) (sym (take-append-drop (f + k) s)) ∙ number-append 8 (take (f + k) s) rest
         ∙ rw (long, take-add, number-append, mid)
 
+-- the field a bits into a record of c bytes that starts at byte f
+pub field-part : (s : List ℕ) (f c a w : ℕ) → Below 8 s → f + c ≤ length s → a + w ≤ 8 * c
+    → field s (8 * f + a) w ≡ number 8 (take c (drop f s)) / 2 ^ (8 * c - (a + w)) % 2 ^ w
+field-part s f c a w b le fit =
+    field-window s (8 * f + a) w f c b (omega arith) (omega arith) le ∙ ap (λ (x : ℕ). number 8 (take c (drop f s)) / 2 ^ x % 2 ^ w) (omega arith)
+
+-- bytes gathered one by one
 pub window-more : (s : List ℕ) (f i acc : ℕ) → f + i < length s → acc ≡ number 8 (take i (drop f s))
     → acc * 256 + getD s (f + i) 0 ≡ number 8 (take (i + 1) (drop f s))
 window-more s f i acc h e = rw (number-more 8 (drop f s) i (rw length-drop (omega arith)), ← e, getD-drop)
@@ -71,6 +83,15 @@ field-of-run s o w n i h le =
     getD-digits w n (number 8 s / 2 ^ (8 * length s - (o + w * n))) i h
     ∙ ap (λ (x : ℕ). x % 2 ^ w) (shr-shr (number 8 s) (8 * length s - (o + w * n)) (w * (n - suc i)))
     ∙ ap (λ (x : ℕ). number 8 s / 2 ^ x % 2 ^ w) (omega (arith, ap (λ (x : ℕ). w * x) {x = n} {y = i + 1 + (n - suc i)} (omega arith)))
+
+-- a run is its first field and the run behind it
+pub fields-cons : (s : List ℕ) (o w n : ℕ) → o + w * suc n ≤ 8 * length s → fields s o w (suc n) ≡ field s o w ∷ fields s (o + w) w n
+unfolding field fields
+fields-cons s o w n le =
+    let head : 8 * length s - (o + w * suc n) + w * n ≡ 8 * length s - (o + w) = omega (arith, mul-suc w n) in
+    let tail : 8 * length s - (o + w * suc n) ≡ 8 * length s - (o + w + w * n) = omega (arith, mul-suc w n) in
+    λ i. (ap (λ (x : ℕ). x % 2 ^ w) (shr-shr (number 8 s) (8 * length s - (o + w * suc n)) (w * n)) ∙ ap (λ (x : ℕ). number 8 s / 2 ^ x % 2 ^ w) head) i
+    ∷ digits w n (number 8 s / 2 ^ tail i)
 
 pub length-fields : (s : List ℕ) (o w n : ℕ) → length (fields s o w n) ≡ n
 unfolding fields

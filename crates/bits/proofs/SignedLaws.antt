@@ -3,6 +3,9 @@ use mathlib.Core.Path.{_≡_, refl, ap, _∙_}
 use Prim.Native.Nat.{ℕ, zero, suc, _-_, _+_, _^_, _≤_, _<_}
 use native.Mathlib.Nat.{two-pow-succ}
 use native.Mathlib.Omega.{arith}
+use mathlib.Core.List.{List, [], _∷_, map}
+use lib.ListN.{getD}
+use lib.Pow.{pow-pos}
 use mathlib.Core.Bool.{Bool, true, false, cond}
 use borrow.Author.Tests.{ltb-true, lt-ltb, le-ltb}
 use lib.Dec.{ltb}
@@ -13,6 +16,7 @@ use mir.Val.{toZ}
 use mir.Facts.{toZ-pos}
 use lib.Signed.{mag, ltZ}
 use Rattle.bits.specs.Signed.{ofInt, toInt}
+use Rattle.bits.proofs.Numbers.{Below}
 
 -- w bits are twice as many as w - 1
 half : (w : ℕ) → 1 ≤ w → 2 ^ w ≡ 2 ^ (w - 1) + 2 ^ (w - 1)
@@ -39,6 +43,25 @@ of-to w v h = by (ltb v (2 ^ (w - 1)))
 pub of-lt : (w : ℕ) (z : ℤ) → 1 ≤ w → mag z < 2 ^ (w - 1) → ofInt w z < 2 ^ w
 of-lt w (pos n) p h = omega (arith, half w p)
 of-lt w (negsuc n) p h = omega (arith, half w p)
+
+-- ---- lists of them
+
+-- each integer is one of w bits. Past the end `getD` gives 0, as for `Below`
+abbrev pub Small : ℕ → List ℤ → Type 0
+Small w zs = (i : ℕ) → mag (getD zs i (pos 0)) < 2 ^ (w - 1)
+
+pub to-of-all : (w : ℕ) (zs : List ℤ) → 1 ≤ w → Small w zs → map (toInt w) (map (ofInt w) zs) ≡ zs
+to-of-all w [] p h = refl
+to-of-all w (z ∷ zs) p h = λ i. to-of w z p (h 0) i ∷ to-of-all w zs p (λ j. h (suc j)) i
+
+pub of-to-all : (w : ℕ) (vs : List ℕ) → Below w vs → map (ofInt w) (map (toInt w) vs) ≡ vs
+of-to-all w [] h = refl
+of-to-all w (v ∷ vs) h = λ i. of-to w v (h 0) i ∷ of-to-all w vs (λ j. h (suc j)) i
+
+pub of-below : (w : ℕ) (zs : List ℤ) → 1 ≤ w → Small w zs → Below w (map (ofInt w) zs)
+of-below w [] p h i = pow-pos w
+of-below w (z ∷ zs) p h zero = of-lt w z p (h 0)
+of-below w (z ∷ zs) p h (suc i) = of-below w zs p (λ j. h (suc j)) i
 
 -- ---- the code: a power of the width, taken off or put on, at 64 bits
 

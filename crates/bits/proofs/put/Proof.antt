@@ -8,7 +8,8 @@ use lib.Pow.{pow-pos}
 use borrow.Author.Needs.{needs}
 use Rattle.bits.specs.Bits.{number}
 use Rattle.bits.specs.Pen.{written}
-use Rattle.bits.proofs.Writing.{put-turn, put-more, put-rest}
+use Rattle.bits.proofs.Writing.{put-turn, put-more}
+use Rattle.bits.proofs.Fill.{rest-turn}
 use Rattle.bits.proofs.put.Statement.{statement}
 use Rattle.bits.proofs.put.Tie as tie
 
@@ -50,7 +51,7 @@ loop-less c = search needs
 loop-again : tie.Need-loop-again Inv-loop μ-loop
 loop-again c =
     let l = c .before .before .before .loop in (
-      put-rest (l .buf) _ (l .at) _ (l .inv .0),
+      rest-turn (l .buf) _ (l .at) _ (l .inv .0),
       simp length-set (omega arith),
       omega arith,
       omega arith,
