@@ -12,12 +12,12 @@ use Rattle.bits.proofs.Numbers.{Below, part-high, part-low, number-appe
 
 pub field-lt : (s : List ℕ) (o w : ℕ) → field s o w < 2 ^ w
 unfolding field
-field-lt s o w = mod-lt (number 8 s / 2 ^ (8 * length s - (o + w))) (pow-pos w)
+field-lt s o w = mod-lt _ (pow-pos w)
 
 -- a field of no bits, as padding may be, is 0
 pub field-zero : (s : List ℕ) (o : ℕ) → field s o 0 ≡ 0
 unfolding field
-field-zero s o = mod-one (number 8 s / 2 ^ (8 * length s - (o + 0)))
+field-zero s o = mod-one _
 
 -- only the bytes that the field touches count: k bytes from byte f on
 pub field-window : (s : List ℕ) (o w f k : ℕ) → Below 8 s → 8 * f ≤ o → o + w ≤ 8 * (f + k) → f + k ≤ length s

@@ -20,6 +20,7 @@ pub rest-turn : {A : Type 0} (out out₀ : List A) (i : ℕ) (v : A) → drop i 
 rest-turn out out₀ i v rest = drop-set-lt (i + 1) out i v (omega arith) ∙ sym (drop-drop 1 i out) ∙ ap (drop 1) rest ∙ drop-drop 1 i out₀
 
 -- the first cells are F, and the rest is as it was
-pub fill-front : {A : Type 0} (F out out₀ : List A) (i : ℕ) → take i out ≡ take i F → drop i out ≡ drop i out₀ → i ≡ length F → out ≡ F ++ drop (length F) out₀
+pub fill-front : {A : Type 0} (F out out₀ : List A) (i : ℕ) → take i out ≡ take i F → drop i out ≡ drop i out₀ → i ≡ length F
+    → out ≡ F ++ drop (length F) out₀
 fill-front F out out₀ i done rest e =
     sym (take-append-drop i out) ∙ ap₂ _++_ (done ∙ take-all i F (omega arith)) (rest ∙ ap (λ (n : ℕ). drop n out₀) e)

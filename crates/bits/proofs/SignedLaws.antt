@@ -72,7 +72,8 @@ minus v (suc n) h = rw (lt-ltb v (suc n) h)
 pub code-minus : (w v P : ℕ) → P ≡ 2 ^ w → 2 ^ w < 2 ^ 63 → v < 2 ^ w → toZ w64 v -ℤ toZ w64 P ≡ negsuc (2 ^ w - suc v)
 code-minus w v P e s h = rw (e, toZ-pos w64 {n = v} (omega arith), toZ-pos w64 {n = 2 ^ w} s, minus v (2 ^ w) h)
 
-pub code-plus : (w : ℕ) (z : ℤ) (P : ℕ) → P ≡ 2 ^ w → 2 ^ w < 2 ^ 63 → 1 ≤ w → mag z < 2 ^ (w - 1) → ltZ z (pos 0) ≡ true → z +ℤ toZ w64 P ≡ pos (ofInt w z)
+pub code-plus : (w : ℕ) (z : ℤ) (P : ℕ) → P ≡ 2 ^ w → 2 ^ w < 2 ^ 63 → 1 ≤ w → mag z < 2 ^ (w - 1) → ltZ z (pos 0) ≡ true
+    → z +ℤ toZ w64 P ≡ pos (ofInt w z)
 code-plus w (pos n) P e s p h l = let no : n < 0 = ltb-true n 0 l in absurd (omega arith)
 code-plus w (negsuc n) P e s p h l = rw (e, toZ-pos w64 {n = 2 ^ w} s, le-ltb (2 ^ w) (suc n) (omega (arith, half w p)))
 

@@ -21,7 +21,8 @@ pub join-lt : (j k : ℕ) {a v : ℕ} → a < 2 ^ j → v < 2 ^ k → a * 2 ^ k 
 join-lt j k ha hv = rw pow-add (digits-lt ha hv)
 
 -- the byte that is stored and the bits that are left are the bits that were held
-pub put-turn : (s : List ℕ) (at held bits byte rest : ℕ) → at < length s → 8 ≤ held → bits < 2 ^ held → byte ≡ bits / 2 ^ (held - 8) % 2 ^ 8 → rest ≡ bits / 2 ^ 0 % 2 ^ (held - 8)
+pub put-turn : (s : List ℕ) (at held bits byte rest : ℕ) → at < length s → 8 ≤ held → bits < 2 ^ held
+    → byte ≡ bits / 2 ^ (held - 8) % 2 ^ 8 → rest ≡ bits / 2 ^ 0 % 2 ^ (held - 8)
     → number 8 (take (at + 1) (set s at byte)) * 2 ^ (held - 8) + rest ≡ number 8 (take at s) * 2 ^ held + bits
 put-turn s at held bits byte rest h big fit b r =
     rw (add-one, take-suc-set s at byte h, number-append, b, r, div-one)
@@ -39,6 +40,7 @@ put-more n held k bits v w e = rw (e, pow-add) (omega arith)
 
 -- ---- a pen that started at the beginning and put the fields one by one
 
+-- at the beginning nothing is written
 pub pen-start : (buf : List ℕ) (p : Pen) → Ready p → place p ≡ 0 → written buf p ≡ packed []
 unfolding written
 pen-start buf p ok at =
@@ -47,7 +49,7 @@ pen-start buf p ok at =
     let b : p .bits < 2 ^ 0 = rw h at (ok .fit) in
     rw (h, a) (omega (arith, b))
 
--- Y was written, then Z
+-- one field more: Y was written before it, Z after it
 pub pen-step : (fs : List Field) (w v Y Z : ℕ) → Y ≡ packed fs → Z ≡ Y * 2 ^ w + v → Z ≡ packed (fs ++ bits w v ∷ [])
 pen-step fs w v Y Z y z = z ∙ rw (y, packed-append, add-zero w) (omega arith)
 
@@ -60,6 +62,7 @@ pen-bytes buf r m ok end =
     let b : r .bits < 2 ^ 0 = rw h at (ok .fit) in
     rw (h, a) (omega (arith, b))
 
+-- at the end the bytes are the file of the fields
 pub pen-end : (fs : List Field) (m : ℕ) (buf : List ℕ) (r : Pen) → Below 8 buf → m ≤ length buf → Ready r → place r ≡ total fs → total fs ≡ 8 * m
     → written buf r ≡ packed fs → take m buf ≡ fileOf fs
 unfolding fileOf

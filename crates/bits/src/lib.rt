@@ -1,6 +1,6 @@
 // Bit fields of any width at any bit offset of a slice of bytes, the most significant bit first: read, written, and taken as two's complement.
 ghost use mathlib.Core.Path.{_≡_};
-ghost use Prim.Native.Nat.{ℕ, _+_, _-_, _*_, _/_, _%_, _^_, _≤_, _<_};
+ghost use Prim.Native.Nat.{_+_, _-_, _*_, _/_, _%_, _^_, _≤_, _<_};
 ghost use lib.Signed.{mag};
 ghost use lib.ListN.{length, take, drop};
 ghost use Rattle.bits.specs.Bits.{number, field as fieldOf};
@@ -143,5 +143,9 @@ pub fn unsigned(z: i64, width: usize) -> u64
     requires { ⌜ mag z < 2 ^ (width - 1) ⌝ }
     ensures { λ r. ⌜ (r ≡ ofInt width z) × (r < 2 ^ width) ⌝ }
 {
-    if z < 0 { (z + ((1u64 << width) as i64)) as u64 } else { z as u64 }
+    if z < 0 {
+        (z + ((1u64 << width) as i64)) as u64
+    } else {
+        z as u64
+    }
 }

@@ -1,6 +1,6 @@
 -- `bits::join`: the shifted power is exact, and the bits behind one another fit.
 use mathlib.Core.Path.{_≡_, refl}
-use Prim.Native.Nat.{_<_, _≤_, _+_, _*_, _%_, _^_}
+use Prim.Native.Nat.{_<_, _+_, _*_, _%_, _^_}
 use native.Mathlib.Omega.{arith}
 use native.Mathlib.Nat.{lt-of-lt-of-le}
 use lib.Pow.{pow-mono}

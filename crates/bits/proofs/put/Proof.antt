@@ -1,10 +1,8 @@
 -- `bits::put`: a turn stores the eight highest bits that are held. What is written does not change, and the bytes behind it are as they were.
-use mathlib.Core.Path.{_≡_, refl, _∙_}
+use mathlib.Core.Path.{_≡_, _∙_}
 use Prim.Native.Nat.{_<_, _≤_, _+_, _*_, _^_}
 use native.Mathlib.Omega.{arith}
-use native.Mathlib.Nat.{mod-lt}
 use lib.ListN.{length, take, drop, length-set}
-use lib.Pow.{pow-pos}
 use borrow.Author.Needs.{needs}
 use Rattle.bits.specs.Bits.{number}
 use Rattle.bits.specs.Pen.{written}

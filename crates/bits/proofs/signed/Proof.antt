@@ -1,6 +1,6 @@
 -- `bits::signed`: the powers are exact, and each half of the numbers is that of `toInt`.
 use mathlib.Core.Path.{_≡_, _∙_, sym}
-use Prim.Native.Nat.{suc, _*_, _-_, _%_, _^_, _≤_, _<_}
+use Prim.Native.Nat.{suc, _*_, _-_, _%_, _^_, _≤_}
 use native.Mathlib.Omega.{arith}
 use lib.Pow.{pow-mono}
 use lib.IntN.{negsuc, _-ℤ_}
@@ -22,7 +22,7 @@ half c = one-shl (c .args .width - 1) (omega arith)
 small : (c : tie.Start) → 2 ^ (c .args .width) ≤ 2 ^ 32
 small c = pow-mono (c .pre .0 .1)
 
-diff : (c : tie.Else1) → toZ w64 (c .before .args .v) -ℤ toZ w64 (1 * 2 ^ (c .before .args .width) % 2 ^ 64) ≡ negsuc (2 ^ (c .before .args .width) - suc (c .before .args .v))
+diff : (c : tie.Else1) → let a = c .before .args in toZ w64 (a .v) -ℤ toZ w64 (1 * 2 ^ (a .width) % 2 ^ 64) ≡ negsuc (2 ^ (a .width) - suc (a .v))
 diff c = let s = c .before in code-minus (s .args .width) (s .args .v) _ (power s) (omega (arith, small s)) (s .pre .1)
 
 sub-if1 : tie.Need-sub-if1

@@ -1,11 +1,11 @@
 -- `bits::unsigned`: what the machine reads back of `z` is `z`, and each arm's number is that of `ofInt`.
 use mathlib.Core.Path.{_≡_, _∙_, refl, ap}
-use Prim.Native.Nat.{_*_, _-_, _%_, _^_, _≤_, _<_}
+use Prim.Native.Nat.{_*_, _%_, _^_, _≤_, _<_}
 use native.Mathlib.Omega.{arith}
 use lib.Pow.{pow-mono}
-use lib.IntN.{ℤ, pos, _+ℤ_, natAbs}
+use lib.IntN.{ℤ, pos, _+ℤ_}
 use mir.Syntax.{w64}
-use mir.Val.{toZ, ofZ, Fits}
+use mir.Val.{toZ, ofZ}
 use mir.Facts.{toZ-pos, toZ-ofZ}
 use borrow.Author.Needs.{needs}
 use Rattle.bits.specs.Signed.{ofInt}
@@ -26,12 +26,13 @@ back c = toZ-ofZ (c .fits .z)
 below : (c : tie.Start) → ofInt (c .args .width) (c .args .z) < 2 ^ (c .args .width)
 below c = of-lt (c .args .width) (c .args .z) (c .pre .0 .0) (c .pre .1)
 
-neg : (c : tie.Then1) → toZ w64 (ofZ w64 (c .before .args .z)) +ℤ toZ w64 (1 * 2 ^ (c .before .args .width) % 2 ^ 64) ≡ pos (ofInt (c .before .args .width) (c .before .args .z))
+neg : (c : tie.Then1) → let a = c .before .args in toZ w64 (ofZ w64 (a .z)) +ℤ toZ w64 (1 * 2 ^ (a .width) % 2 ^ 64) ≡ pos (ofInt (a .width) (a .z))
 neg c =
     let s = c .before in
     rw (back s) (code-plus (s .args .width) (s .args .z) _ (power s) (omega (arith, small s)) (s .pre .0 .0) (s .pre .1) (rw (back s) at (c .if1 .taken)))
 
-neg-back : (c : tie.Then1) → toZ w64 (ofZ w64 (toZ w64 (ofZ w64 (c .before .args .z)) +ℤ toZ w64 (1 * 2 ^ (c .before .args .width) % 2 ^ 64))) ≡ pos (ofInt (c .before .args .width) (c .before .args .z))
+neg-back : (c : tie.Then1)
+    → let a = c .before .args in toZ w64 (ofZ w64 (toZ w64 (ofZ w64 (a .z)) +ℤ toZ w64 (1 * 2 ^ (a .width) % 2 ^ 64))) ≡ pos (ofInt (a .width) (a .z))
 neg-back c = ap (λ (z : ℤ). toZ w64 (ofZ w64 z)) (neg c) ∙ toZ-pos w64 (omega (arith, below (c .before), small (c .before)))
 
 nonneg : (c : tie.Else1) → toZ w64 (ofZ w64 (c .before .args .z)) ≡ pos (ofInt (c .before .args .width) (c .before .args .z))

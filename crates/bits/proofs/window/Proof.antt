@@ -1,8 +1,8 @@
 -- `bits::window`: after i turns `acc` is the number of the first i bytes.
-use mathlib.Core.Path.{_≡_, refl, sym, ap, _∙_}
-use Prim.Native.Nat.{ℕ, _+_, _-_, _*_, _^_, _≤_, _<_}
+use mathlib.Core.Path.{_≡_}
+use Prim.Native.Nat.{_-_, _≤_}
 use native.Mathlib.Omega.{arith}
-use lib.ListN.{length, take, drop, getD, set, length-set}
+use lib.ListN.{take, drop}
 use borrow.Author.Needs.{needs}
 use Rattle.bits.specs.Bits.{number}
 use Rattle.bits.proofs.window.Statement.{statement}
