@@ -1,9 +1,7 @@
 -- A bit-packed file, the most significant bit first, as one number. Bytes are digits of 8 bits; a run of fields of w bits is a run of digits of w bits.
--- Assumes nothing.
-use Prim.Native.Nat.{ℕ, zero, suc, _+_, _-_, _*_, _/_, _%_, _^_, _≤_, _<_}
+use Prim.Native.Nat.{ℕ, zero, suc, _+_, _-_, _*_, _/_, _%_, _^_}
 use mathlib.Core.List.{List, [], _∷_}
-use lib.ListN.{length, take}
-use Rattle.bits.specs.declared.Pen.{Pen}
+use lib.ListN.{length}
 
 -- the number whose digits of w bits are ds, the first the most significant
 abbrev pub number : ℕ → List ℕ → ℕ
@@ -22,16 +20,3 @@ field s offset width = number 8 s / 2 ^ (8 * length s - (offset + width)) % 2 ^ 
 -- n fields of `width` bits each, one after the other from bit `offset` on
 unfoldable pub fields : List ℕ → ℕ → ℕ → ℕ → List ℕ
 fields s offset width n = digits width n (number 8 s / 2 ^ (8 * length s - (offset + width * n)))
-
--- what a pen has written: the bytes before its place, and the bits that it holds, which fill no byte yet
-unfoldable pub written : List ℕ → Pen → ℕ
-written s p = number 8 (take (p .at) s) * 2 ^ (p .held) + p .bits
-
--- how many bits a pen has written
-abbrev pub place : Pen → ℕ
-place p = 8 * p .at + p .held
-
--- a pen between two fields holds less than a byte
-pub record Ready (p : Pen) : Type 0 where
-  pub few : p .held ≤ 7
-  pub fit : p .bits < 2 ^ (p .held)

@@ -1,23 +1,25 @@
+// Bit fields of any width at any bit offset of a slice of bytes, the most significant bit first: read, written, and taken as two's complement.
 ghost use mathlib.Core.Path.{_≡_};
-ghost use Prim.Native.Nat.{ℕ, _+_, _-_, _*_, _/_, _%_, _^_, _≤_, _<_};
+ghost use Prim.Native.Nat.{_+_, _-_, _*_, _/_, _%_, _^_, _≤_, _<_};
 ghost use lib.Signed.{mag};
+ghost use lib.ListN.{length, take, drop};
+ghost use Rattle.bits.specs.Bits.{number, field as fieldOf};
+ghost use Rattle.bits.specs.Pen.{written, place, Ready};
 ghost use Rattle.bits.specs.Signed.{ofInt, toInt};
-ghost use lib.ListN.{length, getD, take, drop};
-ghost use Rattle.bits.specs.Bits.{number, field as fieldOf, written, place, Ready};
 
 // One byte more: `acc` is the number of `i` bytes from `first` on, and the result that of `i + 1`.
 fn more(s: &[u8], first: usize, i: usize, acc: u64) -> u64
-    requires { ⌜ (first + i < length (now s)) × (i ≤ 4) × (acc ≡ number 8 (take i (drop first (now s)))) ⌝ }
+    requires { ⌜ (first + i < length (now s)) × (i ≤ 6) × (acc ≡ number 8 (take i (drop first (now s)))) ⌝ }
     ensures { λ r. ⌜ r ≡ number 8 (take (i + 1) (drop first (now (s .entry)))) ⌝ }
 {
     let b = s[first + i] as u64;
     acc * 256 + b
 }
 
-// The bytes of `s` from `first` on, `count` of them and at most 5, as one number.
+// The bytes of `s` from `first` on, `count` of them and at most 7, as one number.
 pub fn window(s: &[u8], first: usize, count: usize) -> u64
     requires { ⌜ first + count ≤ length (now s) ⌝ }
-    requires { ⌜ count ≤ 5 ⌝ }
+    requires { ⌜ count ≤ 7 ⌝ }
     ensures { λ r. ⌜ r ≡ number 8 (take count (drop first (now (s .entry)))) ⌝ }
 {
     let mut acc: u64 = 0;
@@ -29,7 +31,7 @@ pub fn window(s: &[u8], first: usize, count: usize) -> u64
     acc
 }
 
-// Five bytes from `first` on, with no loop.
+// Five bytes from `first` on, with no loop: a field of 32 bits lies in five bytes.
 pub fn window5(s: &[u8], first: usize) -> u64
     requires { ⌜ first + 5 ≤ length (now s) ⌝ }
     ensures { λ r. ⌜ r ≡ number 8 (take 5 (drop first (now (s .entry)))) ⌝ }
@@ -41,10 +43,23 @@ pub fn window5(s: &[u8], first: usize) -> u64
     more(s, first, 4, d)
 }
 
+// Six bytes from `first` on, with no loop: a record of 48 bits.
+pub fn window6(s: &[u8], first: usize) -> u64
+    requires { ⌜ first + 6 ≤ length (now s) ⌝ }
+    ensures { λ r. ⌜ r ≡ number 8 (take 6 (drop first (now (s .entry)))) ⌝ }
+{
+    let a = more(s, first, 0, 0);
+    let b = more(s, first, 1, a);
+    let c = more(s, first, 2, b);
+    let d = more(s, first, 3, c);
+    let e = more(s, first, 4, d);
+    more(s, first, 5, e)
+}
+
 // The `width` bits of `v` above its `low` lowest.
-fn part(v: u64, low: usize, width: usize) -> u64
+pub fn part(v: u64, low: usize, width: usize) -> u64
     requires { ⌜ (low ≤ 63) × (width ≤ 63) ⌝ }
-    ensures { λ r. ⌜ r ≡ v / 2 ^ low % 2 ^ width ⌝ }
+    ensures { λ r. ⌜ (r ≡ v / 2 ^ low % 2 ^ width) × (r < 2 ^ width) ⌝ }
 {
     (v >> low) % (1u64 << width)
 }
@@ -88,13 +103,14 @@ fn join(a: u64, held: usize, v: u64, width: usize) -> u64
     a * (1u64 << width) + v
 }
 
-// Writes `v` as the next `width` bits.
+// Writes `v` as the next `width` bits. The bytes from the pen's new place on stay as they are.
 pub fn put(buf: &mut [u8], pen: Pen, v: u64, width: usize) -> Pen
     requires { ⌜ Ready pen ⌝ }
     requires { ⌜ (v < 2 ^ width) × (width ≤ 32) ⌝ }
     requires { ⌜ place pen + width ≤ 8 * length (now buf) ⌝ }
     ensures { λ r. ⌜ written (now (buf .exit)) r ≡ written (now (buf .entry)) pen * 2 ^ width + v ⌝ }
     ensures { λ r. ⌜ (place r ≡ place pen + width) × Ready r ⌝ }
+    ensures { λ r. ⌜ drop (r .at) (now (buf .exit)) ≡ drop (r .at) (now (buf .entry)) ⌝ }
 {
     let mut at = pen.at;
     let mut held = pen.held + width;
@@ -108,21 +124,28 @@ pub fn put(buf: &mut [u8], pen: Pen, v: u64, width: usize) -> Pen
     Pen { at, held, bits }
 }
 
-// Two's complement of 18 bits.
-pub fn signed18(v: u64) -> i64
-    requires { ⌜ v < 2 ^ 18 ⌝ }
-    ensures { λ r. ⌜ r ≡ toInt 18 v ⌝ }
+// The integer that `v` is in two's complement of `width` bits.
+pub fn signed(v: u64, width: usize) -> i64
+    requires { ⌜ (1 ≤ width) × (width ≤ 32) ⌝ }
+    requires { ⌜ v < 2 ^ width ⌝ }
+    ensures { λ r. ⌜ r ≡ toInt width v ⌝ }
 {
-    if v < 131072 {
+    if v < (1u64 << (width - 1)) {
         v as i64
     } else {
-        (v as i64) - 262144
+        (v as i64) - ((1u64 << width) as i64)
     }
 }
 
-pub fn bits18(z: i64) -> u64
-    requires { ⌜ mag z < 2 ^ 17 ⌝ }
-    ensures { λ r. ⌜ r ≡ ofInt 18 z ⌝ }
+// The two's complement of `width` bits of `z`.
+pub fn unsigned(z: i64, width: usize) -> u64
+    requires { ⌜ (1 ≤ width) × (width ≤ 32) ⌝ }
+    requires { ⌜ mag z < 2 ^ (width - 1) ⌝ }
+    ensures { λ r. ⌜ (r ≡ ofInt width z) × (r < 2 ^ width) ⌝ }
 {
-    if z < 0 { (z + 262144) as u64 } else { z as u64 }
+    if z < 0 {
+        (z + ((1u64 << width) as i64)) as u64
+    } else {
+        z as u64
+    }
 }

@@ -1,16 +1,15 @@
+-- `bits::join`: the shifted power is exact, and the bits behind one another fit.
 use mathlib.Core.Path.{_≡_, refl}
-use Prim.Native.Nat.{_<_, _≤_, _+_, _*_, _%_, _^_}
+use Prim.Native.Nat.{_<_, _+_, _*_, _%_, _^_}
 use native.Mathlib.Omega.{arith}
 use native.Mathlib.Nat.{lt-of-lt-of-le}
 use lib.Pow.{pow-mono}
-use Rattle.bits.proofs.Laws.{one-shl, join-lt}
+use Rattle.bits.proofs.Numbers.{one-shl}
+use Rattle.bits.proofs.Writing.{join-lt}
 use borrow.Author.Needs.{needs}
 use Rattle.bits.proofs.join.Statement.{statement}
 use Rattle.bits.proofs.join.Tie as tie
-use Rattle.bits.proofs.join.Reads as reads
-use Rattle.bits.proofs.join.Lts as lts
 
--- src/lib.rt:79:10
 shl-result : tie.Need-shl-result
 shl-result c = search needs
 
@@ -20,15 +19,12 @@ power c = one-shl (c .args .width) (omega arith)
 small : (c : tie.Start) → c .args .a * 2 ^ (c .args .width) + c .args .v < 2 ^ 63
 small c = lt-of-lt-of-le (join-lt (c .args .held) (c .args .width) (c .pre .0) (c .pre .1)) (pow-mono (c .pre .2))
 
--- src/lib.rt:79:5
 mul-result : tie.Need-mul-result
 mul-result c = rw (power c) (omega (arith, small c))
 
--- src/lib.rt:79:5
 add-result : tie.Need-add-result
 add-result c = rw (power c) (omega (arith, small c))
 
--- src/lib.rt:75:1
 returns : tie.Need-returns
 returns c = rw (power c) (refl, join-lt (c .args .held) (c .args .width) (c .pre .0) (c .pre .1))
 

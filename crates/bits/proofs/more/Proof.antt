@@ -1,8 +1,8 @@
--- `bits::more`: one turn of Horner's rule. Assumes nothing.
+-- `bits::more`: one turn of Horner's rule.
 use Prim.Native.Nat.{_+_, _*_, _^_, _<_}
 use native.Mathlib.Omega.{arith}
 use borrow.Author.Needs.{needs}
-use Rattle.bits.proofs.Laws.{window-more, window-fits}
+use Rattle.bits.proofs.Fields.{window-more, window-fits}
 use Rattle.bits.proofs.more.Statement.{statement}
 use Rattle.bits.proofs.more.Tie as tie
 
@@ -15,11 +15,11 @@ shared-slice-read-b c = search needs
 cast-b : tie.Need-cast-b
 cast-b c = omega (arith, c .shared-slice-known .given (c .before .args .first + c .before .args .i))
 
--- `acc` is a number of at most 4 bytes
-small : (c : tie.After-shared-slice-known) → c .before .args .acc < 2 ^ (8 * 4)
+-- `acc` is a number of at most 6 bytes
+small : (c : tie.After-shared-slice-known) → c .before .args .acc < 2 ^ (8 * 6)
 small c =
     let a = c .before .args in
-    window-fits (a .s .now) (a .first) (a .i) 4 (a .acc) (λ i. c .shared-slice-known .given i .fits) (c .before .pre .1) (c .before .pre .2)
+    window-fits (a .s .now) (a .first) (a .i) 6 (a .acc) (λ i. c .shared-slice-known .given i .fits) (c .before .pre .1) (c .before .pre .2)
 
 mul-result : tie.Need-mul-result
 mul-result c = omega (arith, small c)

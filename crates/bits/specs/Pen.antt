@@ -1,0 +1,19 @@
+-- A pen writes fields one after the other into bytes: what it has written, where it stands, and what holds of it between two fields.
+use Prim.Native.Nat.{ℕ, _+_, _*_, _^_, _≤_, _<_}
+use mathlib.Core.List.{List}
+use lib.ListN.{take}
+use Rattle.bits.specs.Bits.{number}
+use Rattle.bits.specs.declared.Pen.{Pen}
+
+-- the bytes before its place, and the bits that it holds, which fill no byte yet
+unfoldable pub written : List ℕ → Pen → ℕ
+written s p = number 8 (take (p .at) s) * 2 ^ (p .held) + p .bits
+
+-- how many bits a pen has written
+abbrev pub place : Pen → ℕ
+place p = 8 * p .at + p .held
+
+-- a pen between two fields holds less than a byte
+pub record Ready (p : Pen) : Type 0 where
+  pub few : p .held ≤ 7
+  pub fit : p .bits < 2 ^ (p .held)
