@@ -16,13 +16,13 @@ use Rattle.layouts.specs.Files.{listTo}
 abbrev pub bookBytes : ℕ → ℕ
 bookBytes m = 2 + 6 * m
 
-abbrev pub kindNumber : Kind → ℕ
-kindNumber Obligation = 0
-kindNumber Option = 1
+abbrev pub kindBit : Kind → ℕ
+kindBit Obligation = 0
+kindBit Option = 1
 
-abbrev pub periodNumber : Period → ℕ
-periodNumber OffPeak = 0
-periodNumber OnPeak = 1
+abbrev pub periodBit : Period → ℕ
+periodBit OffPeak = 0
+periodBit OnPeak = 1
 
 -- a contract of six numbers, in the file's order
 abbrev pub contract : ℕ → ℕ → ℕ → ℕ → ℕ → ℕ → Contract
@@ -32,7 +32,7 @@ contract kind period holder source sink quantity =
 -- ---- a book as a table: six cells a contract, in the file's order
 
 unfoldable pub cellsOf : Contract → List ℕ
-cellsOf c = kindNumber (c .kind) ∷ periodNumber (c .period) ∷ c .holder ∷ c .source ∷ c .sink ∷ c .quantity .0 ∷ []
+cellsOf c = kindBit (c .kind) ∷ periodBit (c .period) ∷ c .holder ∷ c .source ∷ c .sink ∷ c .quantity .0 ∷ []
 
 unfoldable pub rowAt : List ℕ → ℕ → Contract
 rowAt cells i =
@@ -46,7 +46,7 @@ rowsIn m cells = listTo m (rowAt cells)
 
 unfoldable pub contractFields : Contract → List Field
 contractFields c =
-    bits 1 (kindNumber (c .kind)) ∷ bits 1 (periodNumber (c .period)) ∷ bits 10 (c .holder) ∷ bits 8 (c .source) ∷ bits 8 (c .sink) ∷ bits 20 (c .quantity .0) ∷ []
+    bits 1 (kindBit (c .kind)) ∷ bits 1 (periodBit (c .period)) ∷ bits 10 (c .holder) ∷ bits 8 (c .source) ∷ bits 8 (c .sink) ∷ bits 20 (c .quantity .0) ∷ []
 
 unfoldable pub bookFields : List Contract → List Field
 bookFields cs = (bits 10 (length cs) ∷ bits 6 0 ∷ []) ++ flatMap contractFields cs

@@ -3,3 +3,4 @@ pub mod Overloads
 pub mod Theorems
 pub mod Sizes
 pub mod Rules
+pub mod Checks

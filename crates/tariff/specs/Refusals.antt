@@ -3,6 +3,7 @@ use mathlib.Core.Bool.{Bool, cond}
 use mathlib.Core.List.{List, [], _∷_, _++_}
 use Prim.Native.Nat.{ℕ}
 use lib.ListN.{length, drop}
+use lib.IntN.{ℤ}
 use Rattle.tariff.specs.declared.Refusal.{Refusal}
 use Rattle.tariff.specs.declared.Refusal.the-variants.{ShortFile, NodeCount, ConstraintCount, SpareBits, FileLength, LimitRange, FactorRange, Padding, ShortTable, ContractCount, NodeNumber, SameEnds, QuantityRange, PriceCount, PriceRange, ProcessNumber, PeriodOrKind, HolderRange}
 use Rattle.tariff.specs.declared.Checked.{Checked}
@@ -43,6 +44,21 @@ first (c ∷ cs) = cond (c .fails) (Refused (c .refusal)) (first cs)
 abbrev pub decided : {A : Type 0} → Checked → (Refusal → A) → A → A
 decided Passed f a = a
 decided (Refused r) f a = f r
+
+-- An answer by the paper's figures: the refusal's number (0 where there is none) and the values given. "A refusal gives its number alone."
+pub record Outcome : Type 0 where
+  pub number : ℕ
+  pub values : List ℤ
+
+abbrev pub given : List ℤ → Outcome
+given vs = record { number = 0; values = vs }
+
+abbrev pub refusedBy : Refusal → Outcome
+refusedBy r = record { number = numberOf r; values = [] }
+
+-- what an operation answers, by its checks and the values that it gives
+abbrev pub answered : Checked → List ℤ → Outcome
+answered checked vs = decided checked refusedBy (given vs)
 
 -- "success writes the cells named and no other": the values from the front, the rest as at entry
 abbrev pub overwrite : {A : Type 0} → List A → List A → List A
