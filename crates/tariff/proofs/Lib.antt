@@ -4,3 +4,4 @@ pub mod Theorems
 pub mod Sizes
 pub mod Rules
 pub mod Checks
+pub mod Periods

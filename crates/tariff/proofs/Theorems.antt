@@ -1,5 +1,5 @@
--- THE THEOREMS over document 01's definitions, each for every grid, book, period and process. Statements only: the proofs are in Worst.antt and
--- Overloads.antt.
+-- THE THEOREMS over document 01's definitions, each for every grid, book, period and process. Statements only: the proofs are in Worst.antt,
+-- Overloads.antt and Periods.antt.
 use mathlib.Core.Path.{_≡_, refl}
 use mathlib.Core.Logic.{_↔_}
 use mathlib.Core.List.{List, []}
@@ -8,6 +8,7 @@ use native.Mathlib.Omega.{arith}
 use lib.Count.{ones, trailingZeros}
 use lib.IntN.{ℤ, pos}
 use lib.Signed.{_≤ℤ_, _<ℤ_}
+use Rattle.integers.proofs.Sizes.{Each}
 use Rattle.tariff.specs.declared.Contract.{Contract}
 use Rattle.tariff.specs.declared.Kind.the-variants.{Option}
 use Rattle.tariff.specs.declared.Period.{Period}
@@ -18,6 +19,7 @@ use Rattle.tariff.specs.Feasibility.{flow, Passes, excess, overloaded, o
 use Rattle.tariff.specs.Shortfall.{PriceList, shortfall, oneCent, IsWorst}
 use Rattle.tariff.proofs.Worst as W
 use Rattle.tariff.proofs.Overloads as O
+use Rattle.tariff.proofs.Periods as P
 
 module _ (g : Grid) (process : Process) (period : Period) (book : List Contract) where
   abbrev tested : List Contract
@@ -47,6 +49,10 @@ module _ (g : Grid) (process : Process) (period : Period) (book : List Contract)
   pub lowest-is-trailing : g .constraints ≤ maxConstraints → 0 < overloadSet g process tested → trailingZeros 64 (overloadSet g process tested) ≡ lowestOverload g process tested
   unfolding overloadSet lowestOverload
   lowest-is-trailing h s = O.set-trailing (g .constraints) 64 (overloaded g process tested) h s
+
+-- the contracts tested are of the period, every one
+pub tested-are-of-the-period : (period : Period) (book : List Contract) → Each (λ (c : Contract). c .period ≡ period) (ofPeriod period book)
+tested-are-of-the-period = P.ofPeriod-each
 
 -- the empty book passes
 pub empty-book-passes : (g : Grid) (process : Process) (period : Period) → Passes g process (ofPeriod period [])

@@ -1,0 +1,64 @@
+-- Document 01, "Checked values": P1 to P11 as rows of what the definitions give and what the paper says.
+use mathlib.Core.List.{List, [], _∷_, map}
+use Prim.Native.Nat.{ℕ}
+use lib.IntN.{ℤ, pos}
+use Rattle.tariff.specs.declared.Contract.{Contract}
+use Rattle.tariff.specs.declared.Period.{Period}
+use Rattle.tariff.specs.declared.Period.the-variants.{OffPeak, OnPeak}
+use Rattle.tariff.specs.declared.Process.{Process}
+use Rattle.tariff.specs.declared.Process.the-variants.{Annual, TierLt, Monthly}
+use Rattle.tariff.specs.Units.{Grid}
+use Rattle.tariff.specs.Contracts.{ofPeriod}
+use Rattle.tariff.specs.Settlement.{mcc, amount, cents}
+use Rattle.tariff.specs.Feasibility.{totalFlow, excess, overloadSet, overloadCount, lowestOverload}
+use Rattle.layouts.specs.BookFile.{bookFile}
+use Rattle.layouts.specs.PriceFile.{priceFile}
+use Rattle.checked_values.specs.Cases.{minus, gridL, pricesL, bookL, gridP, bookP}
+
+pub record Row : Type 0 where
+  pub given : List ℤ
+  pub expected : List ℤ
+
+abbrev onPeak : List Contract → List Contract
+onPeak = ofPeriod OnPeak
+
+-- the set of overloaded constraints, and the excess at constraint 0
+abbrev passing : Grid → Process → List Contract → List ℤ
+passing g process cs = pos (overloadSet g process cs) ∷ excess g process cs 0 ∷ []
+
+-- the set, how many, the lowest, and the excess there
+abbrev failing : Grid → Process → List Contract → List ℤ
+failing g process cs = pos (overloadSet g process cs) ∷ pos (overloadCount g process cs) ∷ pos (lowestOverload g process cs) ∷ excess g process cs (lowestOverload g process cs) ∷ []
+
+-- the empty book's set
+abbrev empty : Process → Period → ℤ
+empty process period = pos (overloadSet gridL process (ofPeriod period []))
+
+abbrev bytes : List ℕ → List ℤ
+bytes = map pos
+
+unfoldable pub table : List Row
+table =
+    -- P1 MCC in L
+    record { given = map (mcc gridL pricesL) (0 ∷ 1 ∷ 2 ∷ []); expected = minus 9000000 ∷ pos 0 ∷ minus 92000000 ∷ [] }
+    -- P2 amounts in L
+    ∷ record { given = map (amount gridL pricesL) (onPeak bookL); expected = pos 90000000000 ∷ pos 0 ∷ minus 83000000 ∷ [] }
+    -- P3 on-peak flows in L; monthly passes
+    ∷ record { given = totalFlow gridL (onPeak bookL) 0 ∷ totalFlow gridL (onPeak bookL) 1 ∷ pos (overloadSet gridL Monthly (onPeak bookL)) ∷ []; expected = pos 635070000 ∷ minus 200060000 ∷ pos 0 ∷ [] }
+    -- P4 first limit 6,000, monthly: passes with equality
+    ∷ record { given = passing (gridP 6000) Monthly (onPeak (bookP 10000)); expected = pos 0 ∷ pos 0 ∷ [] }
+    -- P5 quantity 10,001: fails at constraint 0 by 60,000
+    ∷ record { given = failing (gridP 6000) Monthly (onPeak (bookP 10001)); expected = pos 1 ∷ pos 1 ∷ pos 0 ∷ pos 60000 ∷ [] }
+    -- P6 annual, quantity 10,000, limit 8,000: passes
+    ∷ record { given = passing (gridP 8000) Annual (onPeak (bookP 10000)); expected = pos 0 ∷ pos 0 ∷ [] }
+    -- P7 limit 7,999: fails by 75,000
+    ∷ record { given = failing (gridP 7999) Annual (onPeak (bookP 10000)); expected = pos 1 ∷ pos 1 ∷ pos 0 ∷ pos 75000 ∷ [] }
+    -- P8 the empty book passes, in every process and period
+    ∷ record { given = empty Annual OffPeak ∷ empty TierLt OffPeak ∷ empty Monthly OffPeak ∷ empty Annual OnPeak ∷ empty TierLt OnPeak ∷ empty Monthly OnPeak ∷ []; expected = pos 0 ∷ pos 0 ∷ pos 0 ∷ pos 0 ∷ pos 0 ∷ pos 0 ∷ [] }
+    -- P9 amount -50,000,000 is -1 cent; -49,999,999 is 0
+    ∷ record { given = cents (minus 50000000) ∷ cents (minus 49999999) ∷ []; expected = minus 1 ∷ pos 0 ∷ [] }
+    -- P10 P4's book
+    ∷ record { given = bytes (bookFile (bookP 10000)); expected = bytes (0x00 ∷ 0x40 ∷ 0x40 ∷ 0x70 ∷ 0x00 ∷ 0x10 ∷ 0x27 ∷ 0x10 ∷ []) }
+    -- P11 on-peak, one price of 1 cent
+    ∷ record { given = bytes (priceFile 1 1 (1 ∷ [])); expected = bytes (0x81 ∷ 0x00 ∷ 0x00 ∷ 0x20 ∷ []) }
+    ∷ []
