@@ -5,6 +5,7 @@ ghost use Prim.Native.Nat.{_+_, _*_, _^_, _≤_, _<_};
 ghost use lib.IntN.{pos, natAbs, negℤ, _+ℤ_, _-ℤ_, _*ℤ_};
 ghost use lib.Signed.{ltZ};
 ghost use Rattle.tariff.specs.Refusals.{numberOf};
+ghost use Rattle.tariff.specs.Checks.{quantityRange};
 ghost use Rattle.tariff.specs.Contracts.{kindOf, periodOf, samePeriod, counted as countedAs};
 ghost use Rattle.tariff.specs.Processes.{percent as percentOf, processOf};
 
@@ -170,6 +171,16 @@ impl Quantity {
         ensures { λ r. ⌜ r .0 ≡ self .0 + other .0 ⌝ }
     {
         Quantity(self.0 + other.0)
+    }
+
+    // 13: 0 or above 1,000,000.
+    pub fn out_of_range(self) -> bool
+        ensures { λ r. ⌜ r ≡ quantityRange (self .0) .fails ⌝ }
+    {
+        if self.0 == 0 {
+            return true;
+        }
+        1000000 < self.0
     }
 
     // The product rule of flows: this quantity from source to sink, by their shift factors on one constraint.

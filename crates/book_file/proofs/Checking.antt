@@ -1,0 +1,43 @@
+-- Laws of checks that go contract by contract.
+use mathlib.Core.Path.{_≡_, refl, sym, ap, _∙_}
+use mathlib.Core.Logic.{⊎-elim}
+use mathlib.Core.List.{List, [], _∷_, _++_}
+use Prim.Native.Nat.{ℕ, zero, suc, _+_, _<_, _≤_}
+use native.Mathlib.Nat.{eq-or-lt-of-le}
+use native.Mathlib.Numerals.{add-one}
+use native.Mathlib.Omega.{arith}
+use Rattle.tariff.specs.declared.Refusal.{Refusal}
+use Rattle.tariff.specs.declared.Checked.{Checked}
+use Rattle.tariff.specs.declared.Checked.the-variants.{Passed, Refused}
+use Rattle.tariff.specs.Refusals.{Check, first, decided}
+use Rattle.tariff.proofs.Checks.{first-append, passed-append}
+use Rattle.book_file.specs.BookChecks.{checksTo}
+
+module _ (f : ℕ → List Check) where
+  pub checks-start : first (checksTo 0 f) ≡ Passed
+  unfolding first checksTo
+  checks-start = refl
+
+  -- none so far, and none at i
+  pub checks-more : (i : ℕ) → first (checksTo i f) ≡ Passed → first (f i) ≡ Passed → first (checksTo (i + 1) f) ≡ Passed
+  unfolding checksTo
+  checks-more i e g = rw (add-one, first-append (checksTo i f) (f i), e, g)
+
+  -- none before i, and one at i: that is the first of all
+  pub checks-stop : (m i : ℕ) (r : Refusal) → i < m → first (checksTo i f) ≡ Passed → first (f i) ≡ Refused r → first (checksTo m f) ≡ Refused r
+  unfolding checksTo
+  checks-stop zero i r h e g = absurd (omega arith)
+  checks-stop (suc m) i r h e g =
+      first-append (checksTo m f) (f m)
+      ∙ ⊎-elim
+          (λ q. let same : i ≡ m = omega arith in rw (rw same at e) (rw same at g))
+          (λ q. rw (checks-stop m i r (omega arith) e g))
+          (eq-or-lt-of-le h)
+
+  -- where all pass, each does
+  pub checks-each : (m : ℕ) → first (checksTo m f) ≡ Passed → (i : ℕ) → i < m → first (f i) ≡ Passed
+  unfolding checksTo
+  checks-each zero e i h = absurd (omega arith)
+  checks-each (suc m) e i h =
+      let p = passed-append (checksTo m f) (f m) e in
+      ⊎-elim (λ q. let same : m ≡ i = omega arith in rw same at (p .1)) (λ q. checks-each m (p .0) i (omega arith)) (eq-or-lt-of-le h)

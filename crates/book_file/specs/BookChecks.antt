@@ -1,0 +1,44 @@
+-- Document 01, "When input is turned down": the checks of reading and writing a book, in the paper's order, and the reader's answer.
+use mathlib.Core.List.{List, [], _∷_, _++_}
+use Prim.Native.Nat.{ℕ, zero, suc, _+_, _*_}
+use lib.ListN.{length, getD}
+use lib.IntN.{pos}
+use Rattle.tariff.specs.declared.Contract.{Contract}
+use Rattle.tariff.specs.Refusals.{Check, Outcome, given, refusedBy}
+use Rattle.tariff.specs.Checks.{nodeCount, contractCount, nodeNumber, sameEnds, quantityRange, kindAndPeriod, holderRange, shortTable}
+use Rattle.layouts.specs.Files.{shortFile, spareBits, fileLength}
+use Rattle.layouts.specs.BookFile.{bookBytes, countIn, spareIn, contractAt, rowAt}
+use Rattle.book_file.specs.declared.BookAnswer.{BookAnswer}
+use Rattle.book_file.specs.declared.BookAnswer.the-variants.{Read, Refused}
+
+-- contract by contract: the checks of 0, then of 1, and so on below m
+unfoldable pub checksTo : ℕ → (ℕ → List Check) → List Check
+checksTo zero f = []
+checksTo (suc m) f = checksTo m f ++ f m
+
+-- "11, source or sink not below the node count; 12, source equals sink; 13, quantity 0 or above 1,000,000"
+unfoldable pub contractChecks : ℕ → Contract → List Check
+contractChecks n c = nodeNumber n (c .source) (c .sink) ∷ sameEnds (c .source) (c .sink) ∷ quantityRange (c .quantity .0) ∷ []
+
+-- "the book's own from 1 to 13": 1, 10, 4, 5, then contract by contract
+unfoldable pub bookChecks : ℕ → List ℕ → List Check
+bookChecks n s =
+    shortFile s 2 ∷ contractCount (countIn s) ∷ spareBits (spareIn s) ∷ fileLength s (bookBytes (countIn s))
+    ∷ checksTo (countIn s) (λ i. contractChecks n (contractAt s i))
+
+-- reading a book for a grid of n nodes: "2 for that count, then 1 .. Last, 9"
+unfoldable pub readChecks : ℕ → List ℕ → ℕ → List Check
+readChecks n s cells = nodeCount n ∷ bookChecks n s ++ shortTable cells (6 * countIn s) ∷ []
+
+-- writing: "contract by contract 17 (here kind or period not 0 or 1), 18 (holder above 1,023), 11, 12, 13"
+unfoldable pub rowChecks : ℕ → List ℕ → ℕ → List Check
+rowChecks n cells i = kindAndPeriod (getD cells (6 * i) 0) (getD cells (6 * i + 1) 0) ∷ holderRange (getD cells (6 * i + 2) 0) ∷ contractChecks n (rowAt cells i)
+
+-- writing a book: "2 for the node count, 10, 9, then contract by contract .., and 9 last"
+unfoldable pub writeChecks : ℕ → ℕ → List ℕ → ℕ → List Check
+writeChecks n m cells bytes = nodeCount n ∷ contractCount m ∷ shortTable (length cells) (6 * m) ∷ checksTo m (rowChecks n cells) ++ shortTable bytes (bookBytes m) ∷ []
+
+-- the reader's answer by the paper's figures: how many contracts were read
+abbrev pub bookOutcome : BookAnswer → Outcome
+bookOutcome (Read m) = given (pos m ∷ [])
+bookOutcome (Refused r) = refusedBy r

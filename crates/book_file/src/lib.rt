@@ -1,0 +1,104 @@
+// Reading and writing a book of contracts, with every refusal. `check_book` and `contract_at` serve the test and the settlement too.
+ghost use mathlib.Core.Path.{_≡_};
+ghost use mathlib.Core.List.{List, [], _∷_, flatMap};
+ghost use Prim.Native.Nat.{ℕ, _+_, _*_, _^_, _≤_, _<_};
+ghost use lib.ListN.{length, getD, take, drop};
+ghost use lib.IntN.{pos};
+ghost use Rattle.tariff.specs.Refusals.{first, answered, cellsAfter, overwrite};
+ghost use Rattle.layouts.specs.Files.{listTo, writeOutcome};
+ghost use Rattle.layouts.specs.BookFile.{bookBytes, countIn, contractAt, bookIn, cellsOf, rowAt, rowsIn, bookFile};
+ghost use Rattle.book_file.specs.BookChecks.{checksTo, contractChecks, bookChecks, readChecks, rowChecks, writeChecks, bookOutcome};
+use layouts::WriteAnswer;
+use tariff::{Checked, Contract, Kind, Period, Quantity, Refusal};
+
+// What reading a book gives: how many contracts were read, or the refusal.
+pub enum BookAnswer {
+    Read { contracts: usize },
+    Refused(Refusal),
+}
+
+// Contract i of a book's bytes: six bytes at once.
+pub fn contract_at(file: &[u8], i: usize) -> Contract
+    requires { ⌜ (i < 1024) × (2 + 6 * i + 6 ≤ length (now file)) ⌝ }
+    ensures { λ r. ⌜ r ≡ contractAt (now (file .entry)) i ⌝ }
+{
+    let v = bits::window6(file, 2 + 6 * i);
+    let kind = Kind::from_number(bits::part(v, 47, 1));
+    let period = Period::from_number(bits::part(v, 46, 1));
+    let holder = bits::part(v, 36, 10);
+    let source = bits::part(v, 28, 8) as usize;
+    let sink = bits::part(v, 20, 8) as usize;
+    let quantity = Quantity(bits::part(v, 0, 20));
+    Contract {
+        kind,
+        period,
+        holder,
+        source,
+        sink,
+        quantity,
+    }
+}
+
+// A contract's own checks: 11, 12, 13.
+fn check_contract(nodes: usize, c: Contract) -> Checked
+    ensures { λ r. ⌜ r ≡ first (contractChecks nodes c) ⌝ }
+{
+    if nodes <= c.source {
+        return Checked::Refused(Refusal::NodeNumber);
+    }
+    if nodes <= c.sink {
+        return Checked::Refused(Refusal::NodeNumber);
+    }
+    if c.source == c.sink {
+        return Checked::Refused(Refusal::SameEnds);
+    }
+    let quantity = c.quantity;
+    if quantity.out_of_range() {
+        return Checked::Refused(Refusal::QuantityRange);
+    }
+    Checked::Passed
+}
+
+// The checks of contract i of a book's bytes.
+fn check_at(nodes: usize, file: &[u8], i: usize) -> Checked
+    requires { ⌜ (i < 1024) × (2 + 6 * i + 6 ≤ length (now file)) ⌝ }
+    ensures { λ r. ⌜ r ≡ first (contractChecks nodes (contractAt (now (file .entry)) i)) ⌝ }
+{
+    check_contract(nodes, contract_at(file, i))
+}
+
+// The checks of a book's contracts, one after the other.
+fn check_contracts(nodes: usize, file: &[u8], count: usize) -> Checked
+    requires { ⌜ (count ≤ 1000) × (bookBytes count ≤ length (now file)) ⌝ }
+    ensures { λ r. ⌜ r ≡ first (checksTo count (λ i. contractChecks nodes (contractAt (now (file .entry)) i))) ⌝ }
+{
+    let mut i = 0;
+    while i < count {
+        let checked = check_at(nodes, file, i);
+        if let Checked::Refused(refusal) = checked {
+            return Checked::Refused(refusal);
+        }
+        i += 1;
+    }
+    Checked::Passed
+}
+
+// The book's own checks: 1, 10, 4, 5, then contract by contract 11, 12, 13.
+pub fn check_book(nodes: usize, file: &[u8]) -> Checked
+    ensures { λ r. ⌜ r ≡ first (bookChecks nodes (now (file .entry))) ⌝ }
+{
+    if file.len() < 2 {
+        return Checked::Refused(Refusal::ShortFile);
+    }
+    let count = bits::field(file, 0, 10) as usize;
+    if 1000 < count {
+        return Checked::Refused(Refusal::ContractCount);
+    }
+    if bits::field(file, 10, 6) != 0 {
+        return Checked::Refused(Refusal::SpareBits);
+    }
+    if file.len() != 2 + 6 * count {
+        return Checked::Refused(Refusal::FileLength);
+    }
+    check_contracts(nodes, file, count)
+}
