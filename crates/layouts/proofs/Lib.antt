@@ -1,0 +1,5 @@
+pub mod Lists
+pub mod Padded
+pub mod GridFile
+pub mod PriceFile
+pub mod BookFile
