@@ -30,9 +30,9 @@ module _ (f : ℕ → List Check) where
   checks-stop (suc m) i r h e g =
       first-append (checksTo m f) (f m)
       ∙ ⊎-elim
-          (λ q. let same : i ≡ m = omega arith in rw (rw same at e) (rw same at g))
-          (λ q. rw (checks-stop m i r (omega arith) e g))
-          (eq-or-lt-of-le h)
+      (λ q. let same : i ≡ m = omega arith in rw (rw same at e) (rw same at g))
+      (λ q. rw (checks-stop m i r (omega arith) e g))
+      (eq-or-lt-of-le h)
 
   -- where all pass, each does
   pub checks-each : (m : ℕ) → first (checksTo m f) ≡ Passed → (i : ℕ) → i < m → first (f i) ≡ Passed

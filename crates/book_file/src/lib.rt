@@ -9,7 +9,12 @@ ghost use Rattle.layouts.specs.Files.{listTo, writeOutcome};
 ghost use Rattle.layouts.specs.BookFile.{bookBytes, countIn, contractAt, bookIn, cellsOf, rowAt, rowsIn, bookFile};
 ghost use Rattle.book_file.specs.BookChecks.{checksTo, contractChecks, bookChecks, readChecks, rowChecks, writeChecks, bookOutcome};
 use layouts::WriteAnswer;
-use tariff::{Checked, Contract, Kind, Period, Quantity, Refusal};
+use tariff::Checked;
+use tariff::Contract;
+use tariff::Kind;
+use tariff::Period;
+use tariff::Quantity;
+use tariff::Refusal;
 
 // What reading a book gives: how many contracts were read, or the refusal.
 pub enum BookAnswer {

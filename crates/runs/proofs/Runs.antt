@@ -1,0 +1,68 @@
+-- Laws of a search, a reading and a writing that go through a run from the front: one for a turn and one for each end.
+use mathlib.Core.Path.{_≡_, refl, sym, ap, _∙_}
+use mathlib.Core.Bool.{true, false}
+use mathlib.Core.List.{List, []}
+use Prim.Native.Nat.{ℕ, _+_, _-_, _*_, _≤_, _<_}
+use native.Mathlib.Omega.{arith}
+use borrow.Author.Tests.{lt-ltb, le-ltb}
+use lib.ListN.{length, getD, take, drop, set}
+use lib.Seq.{take-all, drop-drop, getD-take, length-take-le}
+use Rattle.bits.specs.Bits.{field, fields}
+use Rattle.bits.specs.Pen.{place, Ready}
+use Rattle.bits.specs.declared.Pen.{Pen}
+use Rattle.bits.proofs.Fields.{field-of-run, length-fields}
+use Rattle.bits.proofs.Fill.{fill-turn, rest-turn, fill-front}
+use Rattle.tariff.specs.Checks.{some}
+use Rattle.tariff.specs.Refusals.{overwrite}
+use Rattle.tariff.proofs.Checks.{some-good, some-bad}
+use Rattle.runs.specs.Runs.{above}
+
+-- what is equal from i on is equal from j on
+pub drop-later : {A : Type 0} (xs ys : List A) (i j : ℕ) → i ≤ j → drop i xs ≡ drop i ys → drop j xs ≡ drop j ys
+drop-later xs ys i j h e =
+    let k : j ≡ i + (j - i) = omega arith in
+    rw (k, ← drop-drop (j - i) i xs, ← drop-drop (j - i) i ys) (ap (drop (j - i)) e)
+
+-- a field that is read is the run's
+pub run-at : (s : List ℕ) (o w n i at v : ℕ) → i < n → o + w * n ≤ 8 * length s → at ≡ o + w * i → v ≡ field s at w → v ≡ getD (fields s o w n) i 0
+run-at s o w n i at v h le a e = e ∙ ap (λ (x : ℕ). field s x w) a ∙ sym (field-of-run s o w n i h le)
+
+pub run-in : (s : List ℕ) (o w n i : ℕ) → i < n → i < length (fields s o w n)
+run-in s o w n i h = rw length-fields h
+
+-- a cell of the first n
+pub cell-in : (cells : List ℕ) (n i : ℕ) → n ≤ length cells → i < n → i < length (take n cells)
+cell-in cells n i le h = rw length-take-le h
+
+-- ---- a search in a list, from the front
+
+module _ (xs : List ℕ) (most i v : ℕ) (h : i < length xs) (e : v ≡ getD xs i 0) where
+  pub above-found : most < v → true ≡ some (above most) xs
+  above-found l = sym (some-bad (above most) xs i 0 h (rw (← e) (lt-ltb most v l)))
+
+  pub above-turn : v ≤ most → some (above most) (take i xs) ≡ false → some (above most) (take (i + 1) xs) ≡ false
+  above-turn l none = some-good (above most) xs i 0 h none (rw (← e) (le-ltb most v l))
+
+pub above-end : (xs : List ℕ) (most i : ℕ) → length xs ≤ i → some (above most) (take i xs) ≡ false → false ≡ some (above most) xs
+above-end xs most i h none = sym (ap (some (above most)) (sym (take-all i xs h)) ∙ none)
+
+-- nothing is searched yet
+pub above-start : (most : ℕ) → some (above most) [] ≡ false
+unfolding some
+above-start most = refl
+
+-- ---- a reading into the first cells: one cell more, and all
+
+module _ (s : List ℕ) (o w n : ℕ) (out out₀ : List ℕ) (i : ℕ) (done : take i out ≡ take i (fields s o w n)) (rest : drop i out ≡ drop i out₀) where
+  pub read-turn : (v : ℕ) → i < length out → i < n → v ≡ getD (fields s o w n) i 0
+      → (take (i + 1) (set out i v) ≡ take (i + 1) (fields s o w n)) × (drop (i + 1) (set out i v) ≡ drop (i + 1) out₀)
+  read-turn v h k e = (fill-turn (fields s o w n) out i done v 0 h (run-in s o w n i k) e, rest-turn out out₀ i v rest)
+
+  pub read-end : i ≡ n → out ≡ overwrite (fields s o w n) out₀
+  read-end e = fill-front (fields s o w n) out out₀ i done rest (e ∙ sym (length-fields s o w n))
+
+-- ---- a pen that goes on: what stands from its new place on is what stood there before
+
+pub pen-rest : (p r : Pen) (w : ℕ) → Ready p → Ready r → place r ≡ place p + w → (later now first : List ℕ)
+    → drop (r .at) later ≡ drop (r .at) now → drop (p .at) now ≡ drop (p .at) first → drop (r .at) later ≡ drop (r .at) first
+pen-rest p r w a b e later now first step rest = step ∙ drop-later now first (p .at) (r .at) (omega (arith, a .few, b .few)) rest

@@ -1,0 +1,77 @@
+// Runs of fields of one width, and tables of cells: searched for a figure above a limit, read into cells from the front, and written from cells by a pen.
+ghost use mathlib.Core.Path.{_≡_};
+ghost use Prim.Native.Nat.{ℕ, _+_, _*_, _^_, _≤_, _<_};
+ghost use lib.ListN.{length, getD, take, drop};
+ghost use Rattle.bits.specs.Bits.{number, fields};
+ghost use Rattle.bits.specs.Pen.{written, place, Ready};
+ghost use Rattle.tariff.specs.Checks.{some};
+ghost use Rattle.tariff.specs.Refusals.{overwrite};
+ghost use Rattle.runs.specs.Runs.{above};
+use bits::Pen;
+
+// Whether one of `count` fields of `width` bits, from bit `offset` on, is above `most`.
+pub fn field_above(s: &[u8], offset: usize, width: usize, count: usize, most: u64) -> bool
+    requires { ⌜ offset + width * count ≤ 8 * length (now s) ⌝ }
+    requires { ⌜ (width ≤ 32) × (length (now s) ≤ 1000000) ⌝ }
+    ensures { λ r. ⌜ r ≡ some (above most) (fields (now (s .entry)) offset width count) ⌝ }
+{
+    let mut at = offset;
+    let mut i = 0;
+    while i < count {
+        if most < bits::field(s, at, width) {
+            return true;
+        }
+        at += width;
+        i += 1;
+    }
+    false
+}
+
+// Reads `count` fields of `width` bits, from bit `offset` on, into the first cells of `out`.
+pub fn read_run(s: &[u8], offset: usize, width: usize, count: usize, out: &mut [u64])
+    requires { ⌜ offset + width * count ≤ 8 * length (now s) ⌝ }
+    requires { ⌜ (width ≤ 32) × (length (now s) ≤ 1000000) ⌝ }
+    requires { ⌜ count ≤ length (now out) ⌝ }
+    ensures { λ r. ⌜ now (out .exit) ≡ overwrite (fields (now (s .entry)) offset width count) (now (out .entry)) ⌝ }
+{
+    let mut at = offset;
+    let mut i = 0;
+    while i < count {
+        out[i] = bits::field(s, at, width);
+        at += width;
+        i += 1;
+    }
+}
+
+// Whether one of the first `count` cells is above `most`.
+pub fn cell_above(cells: &[u64], count: usize, most: u64) -> bool
+    requires { ⌜ count ≤ length (now cells) ⌝ }
+    ensures { λ r. ⌜ r ≡ some (above most) (take count (now (cells .entry))) ⌝ }
+{
+    let mut i = 0;
+    while i < count {
+        if most < cells[i] {
+            return true;
+        }
+        i += 1;
+    }
+    false
+}
+
+// Writes each of the first `count` cells as the next `width` bits. The bytes from the pen's new place on stay as they are.
+pub fn write_run(buf: &mut [u8], from: Pen, cells: &[u64], count: usize, width: usize) -> Pen
+    requires { ⌜ Ready from ⌝ }
+    requires { ⌜ (width ≤ 32) × (count ≤ length (now cells)) × ((k : ℕ) → k < count → getD (now cells) k 0 < 2 ^ width) ⌝ }
+    requires { ⌜ place from + width * count ≤ 8 * length (now buf) ⌝ }
+    ensures { λ r. ⌜ written (now (buf .exit)) r ≡ written (now (buf .entry)) from * 2 ^ (width * count) + number width (take count (now (cells .entry))) ⌝ }
+    ensures { λ r. ⌜ (place r ≡ place from + width * count) × Ready r ⌝ }
+    ensures { λ r. ⌜ drop (r .at) (now (buf .exit)) ≡ drop (r .at) (now (buf .entry)) ⌝ }
+{
+    let mut pen = from;
+    let mut i = 0;
+    while i < count {
+        pen = bits::put(buf, pen, cells[i], width);
+        i += 1;
+    }
+    pen
+}
