@@ -2,7 +2,9 @@
 use mathlib.Core.Path.{_≡_, refl, sym, ap, _∙_}
 use mathlib.Core.Logic.{⊎-elim}
 use mathlib.Core.List.{List, [], _∷_, _++_}
-use Prim.Native.Nat.{ℕ, zero, suc, _+_, _<_, _≤_}
+use Prim.Native.Nat.{ℕ, zero, suc, _+_, _*_, _<_, _≤_}
+use lib.ListN.{length}
+use borrow.Author.Tests.{lt-ltb, le-ltb, eq-eqb, ne-eqb}
 use native.Mathlib.Nat.{eq-or-lt-of-le}
 use native.Mathlib.Numerals.{add-one}
 use native.Mathlib.Omega.{arith}
@@ -11,7 +13,9 @@ use Rattle.tariff.specs.declared.Checked.{Checked}
 use Rattle.tariff.specs.declared.Checked.the-variants.{Passed, Refused}
 use Rattle.tariff.specs.Refusals.{Check, first, decided}
 use Rattle.tariff.proofs.Checks.{first-append, passed-append}
-use Rattle.book_file.specs.BookChecks.{checksTo}
+use Rattle.tariff.specs.declared.Refusal.the-variants.{ShortFile, SpareBits, FileLength, ContractCount}
+use Rattle.layouts.specs.BookFile.{countIn, spareIn}
+use Rattle.book_file.specs.BookChecks.{checksTo, checksAt, bookChecks}
 
 module _ (f : ℕ → List Check) where
   pub checks-start : first (checksTo 0 f) ≡ Passed
@@ -41,3 +45,27 @@ module _ (f : ℕ → List Check) where
   checks-each (suc m) e i h =
       let p = passed-append (checksTo m f) (f m) e in
       ⊎-elim (λ q. let same : m ≡ i = omega arith in rw same at (p .1)) (λ q. checks-each m (p .0) i (omega arith)) (eq-or-lt-of-le h)
+
+-- ---- the book's own checks, one after the other; m is the count read and x the spare bits
+module _ (n : ℕ) (s : List ℕ) where
+  pub short-book : length s < 2 → Refused ShortFile ≡ first (bookChecks n s)
+  unfolding first bookChecks
+  short-book h = rw (lt-ltb (length s) 2 h)
+
+  module _ (long : 2 ≤ length s) (m : ℕ) (count : m ≡ countIn s) where
+    pub many-contracts : 1000 < m → Refused ContractCount ≡ first (bookChecks n s)
+    unfolding first bookChecks
+    many-contracts h = rw (le-ltb (length s) 2 long, ← count, lt-ltb 1000 m h)
+
+    module _ (few : m ≤ 1000) (x : ℕ) (spare : x ≡ spareIn s) where
+      pub spare-set : (x ≡ 0 → ⊥) → Refused SpareBits ≡ first (bookChecks n s)
+      unfolding first bookChecks
+      spare-set h = rw (le-ltb (length s) 2 long, ← count, le-ltb 1000 m few, ← spare, ne-eqb x 0 h)
+
+      pub wrong-length : x ≡ 0 → (length s ≡ 2 + 6 * m → ⊥) → Refused FileLength ≡ first (bookChecks n s)
+      unfolding first bookChecks
+      wrong-length z h = rw (le-ltb (length s) 2 long, ← count, le-ltb 1000 m few, ← spare, eq-eqb x 0 z, ne-eqb (length s) (2 + 6 * m) h)
+
+      pub right-header : x ≡ 0 → length s ≡ 2 + 6 * m → first (checksTo m (checksAt n s)) ≡ first (bookChecks n s)
+      unfolding first bookChecks
+      right-header z h = rw (le-ltb (length s) 2 long, ← count, le-ltb 1000 m few, ← spare, eq-eqb x 0 z, eq-eqb (length s) (2 + 6 * m) h)

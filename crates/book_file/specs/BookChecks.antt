@@ -20,11 +20,15 @@ checksTo (suc m) f = checksTo m f ++ f m
 unfoldable pub contractChecks : ℕ → Contract → List Check
 contractChecks n c = nodeNumber n (c .source) (c .sink) ∷ sameEnds (c .source) (c .sink) ∷ quantityRange (c .quantity .0) ∷ []
 
+-- of contract i of a book's bytes
+unfoldable pub checksAt : ℕ → List ℕ → ℕ → List Check
+checksAt n s i = contractChecks n (contractAt s i)
+
 -- "the book's own from 1 to 13": 1, 10, 4, 5, then contract by contract
 unfoldable pub bookChecks : ℕ → List ℕ → List Check
 bookChecks n s =
     shortFile s 2 ∷ contractCount (countIn s) ∷ spareBits (spareIn s) ∷ fileLength s (bookBytes (countIn s))
-    ∷ checksTo (countIn s) (λ i. contractChecks n (contractAt s i))
+    ∷ checksTo (countIn s) (checksAt n s)
 
 -- reading a book for a grid of n nodes: "2 for that count, then 1 .. Last, 9"
 unfoldable pub readChecks : ℕ → List ℕ → ℕ → List Check

@@ -7,7 +7,7 @@ ghost use lib.IntN.{pos};
 ghost use Rattle.tariff.specs.Refusals.{first, answered, cellsAfter, overwrite};
 ghost use Rattle.layouts.specs.Files.{listTo, writeOutcome};
 ghost use Rattle.layouts.specs.BookFile.{bookBytes, countIn, contractAt, bookIn, cellsOf, rowAt, rowsIn, bookFile};
-ghost use Rattle.book_file.specs.BookChecks.{checksTo, contractChecks, bookChecks, readChecks, rowChecks, writeChecks, bookOutcome};
+ghost use Rattle.book_file.specs.BookChecks.{checksTo, checksAt, contractChecks, bookChecks, readChecks, rowChecks, writeChecks, bookOutcome};
 use layouts::WriteAnswer;
 use tariff::Checked;
 use tariff::Contract;
@@ -67,7 +67,7 @@ fn check_contract(nodes: usize, c: Contract) -> Checked
 // The checks of contract i of a book's bytes.
 fn check_at(nodes: usize, file: &[u8], i: usize) -> Checked
     requires { ⌜ (i < 1024) × (2 + 6 * i + 6 ≤ length (now file)) ⌝ }
-    ensures { λ r. ⌜ r ≡ first (contractChecks nodes (contractAt (now (file .entry)) i)) ⌝ }
+    ensures { λ r. ⌜ r ≡ first (checksAt nodes (now (file .entry)) i) ⌝ }
 {
     check_contract(nodes, contract_at(file, i))
 }
@@ -75,7 +75,7 @@ fn check_at(nodes: usize, file: &[u8], i: usize) -> Checked
 // The checks of a book's contracts, one after the other.
 fn check_contracts(nodes: usize, file: &[u8], count: usize) -> Checked
     requires { ⌜ (count ≤ 1000) × (bookBytes count ≤ length (now file)) ⌝ }
-    ensures { λ r. ⌜ r ≡ first (checksTo count (λ i. contractChecks nodes (contractAt (now (file .entry)) i))) ⌝ }
+    ensures { λ r. ⌜ r ≡ first (checksTo count (checksAt nodes (now (file .entry)))) ⌝ }
 {
     let mut i = 0;
     while i < count {

@@ -1,3 +1,4 @@
+-- `check_contract`.
 use mathlib.Core.Path.{_≡_, sym, _∙_}
 use borrow.Author.Tests.{le-leb, lt-leb, eq-eqb, ne-eqb}
 use Rattle.tariff.specs.Refusals.{first}
@@ -5,37 +6,28 @@ use Rattle.book_file.specs.BookChecks.{contractChecks}
 use borrow.Author.Needs.{needs}
 use Rattle.book_file.proofs.check_contract.Statement.{statement}
 use Rattle.book_file.proofs.check_contract.Tie as tie
-use Rattle.book_file.proofs.check_contract.Reads as reads
-use Rattle.book_file.proofs.check_contract.Lts as lts
-use Rattle.tariff.proofs.Quantity.out_of_range.Reads as out-of-range-reads
 
--- src/lib.rt:47:9
 returns : tie.Need-returns
 unfolding first contractChecks
 returns c = rw (le-leb _ _ (c .if1 .taken))
 
--- src/lib.rt:50:9
 returns-2 : tie.Need-returns-2
 unfolding first contractChecks
 returns-2 c = rw (lt-leb _ _ (c .before .before .if1 .left), le-leb _ _ (c .if2 .taken))
 
--- src/lib.rt:53:9
 returns-3 : tie.Need-returns-3
 unfolding first contractChecks
 returns-3 c = rw (lt-leb _ _ (c .before .before .before .before .if1 .left), lt-leb _ _ (c .before .before .if2 .left), eq-eqb _ _ (c .if3 .taken))
 
--- src/lib.rt:56:8
 out-of-range-requires : tie.Need-out-of-range-requires
 out-of-range-requires c κs = search needs
 
--- src/lib.rt:57:9
 returns-4 : tie.Need-returns-4
 unfolding first contractChecks
 returns-4 c =
     let d = c .before .before .before in
     rw (lt-leb _ _ (d .before .before .before .before .if1 .left), lt-leb _ _ (d .before .before .if2 .left), ne-eqb _ _ (d .if3 .left), sym (c .before .out-of-range .ensures) ∙ c .if4 .taken)
 
--- src/lib.rt:43:1
 returns-5 : tie.Need-returns-5
 unfolding first contractChecks
 returns-5 c =

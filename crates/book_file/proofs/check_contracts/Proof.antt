@@ -1,49 +1,58 @@
+-- `check_contracts`.
+use mathlib.Core.Path.{_≡_, refl, sym, ap, _∙_}
+use Prim.Native.Nat.{ℕ, _+_, _-_, _*_, _^_, _≤_, _<_}
+use native.Mathlib.Omega.{arith}
+use lib.ListN.{length, take, drop, getD, set, length-set}
+use borrow.Author.Needs.{needs}
+use Rattle.tariff.specs.Refusals.{first}
+use Rattle.tariff.specs.declared.Checked.the-variants.{Passed, Refused}
+use Rattle.book_file.specs.BookChecks.{checksTo, checksAt}
+use Rattle.book_file.proofs.Checking.{checks-start, checks-more, checks-stop}
 use Rattle.book_file.proofs.check_contracts.Statement.{statement}
 use Rattle.book_file.proofs.check_contracts.Tie as tie
-use Rattle.book_file.proofs.check_contracts.Reads as reads
-use Rattle.book_file.proofs.check_contracts.Lts as lts
-use Rattle.book_file.proofs.check_at.Reads as check-at-reads
 
 abbrev Inv-loop : tie.InvT-loop
-Inv-loop nodes file count i₀ i = ?
+Inv-loop nodes file count i₀ i =
+    (i ≤ count) × (first (checksTo i (checksAt nodes file)) ≡ Passed)
 
 abbrev μ-loop : tie.MeasureT-loop
-μ-loop nodes file count i₀ i = ?
+μ-loop nodes file count i₀ i = count - i
 
--- src/lib.rt:76:5
 loop-holds : tie.Need-loop-holds Inv-loop μ-loop
-loop-holds c = ?
+loop-holds c = (omega arith, checks-start (checksAt (c .before .args .nodes) (c .before .args .file .now)))
 
--- src/lib.rt:77:13
 check-at-requires : tie.Need-check-at-requires Inv-loop μ-loop
-check-at-requires c κs = ?
+check-at-requires c κs = search needs
 
--- src/lib.rt:78:33
 enum-known-checked : tie.Need-enum-known-checked Inv-loop μ-loop
-enum-known-checked c = ?
+enum-known-checked c = search needs
 
--- src/lib.rt:79:13
 returns : tie.Need-returns Inv-loop μ-loop
-returns c = ?
+returns c =
+    let l = c .before .before .before .before .before .loop in
+    let a = c .before .before .before .before .before .before .before .args in
+    sym (checks-stop (checksAt (a .nodes) (a .file .now)) (a .count) (l .i) _ (omega arith) (l .inv .1) (sym (c .before .before .before .check-at .ensures) ∙ c .before .checked .given .1))
 
 enum-told : tie.Need-enum-told Inv-loop μ-loop
-enum-told c = ?
+enum-told c = search needs
 
--- src/lib.rt:81:9
 add-i : tie.Need-add-i Inv-loop μ-loop
-add-i c = ?
+add-i c = search needs
 
--- src/lib.rt:76:5
 loop-less : tie.Need-loop-less Inv-loop μ-loop
-loop-less c = ?
+loop-less c = search needs
 
--- src/lib.rt:76:5
 loop-again : tie.Need-loop-again Inv-loop μ-loop
-loop-again c = ?
+loop-again c =
+    let l = c .before .before .before .before .loop in
+    let a = c .before .before .before .before .before .before .args in
+    (omega arith, checks-more (checksAt (a .nodes) (a .file .now)) (l .i) (l .inv .1) (sym (c .before .before .check-at .ensures) ∙ c .enum-told .given .1))
 
--- src/lib.rt:71:1
 returns-2 : tie.Need-returns-2 Inv-loop μ-loop
-returns-2 c = ?
+returns-2 c =
+    let a = c .before .before .before .args in
+    let last : c .before .loop .i ≡ a .count = omega arith in
+    sym (rw last at (c .before .loop .inv .1))
 
 pub check-contracts-spec : {M : Type 1} → statement M
 check-contracts-spec =
