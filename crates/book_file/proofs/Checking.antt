@@ -12,10 +12,11 @@ use Rattle.tariff.specs.declared.Refusal.{Refusal}
 use Rattle.tariff.specs.declared.Checked.{Checked}
 use Rattle.tariff.specs.declared.Checked.the-variants.{Passed, Refused}
 use Rattle.tariff.specs.Refusals.{Check, first, decided}
+use Rattle.tariff.specs.Checks.{shortTable}
 use Rattle.tariff.proofs.Checks.{first-append, passed-append}
-use Rattle.tariff.specs.declared.Refusal.the-variants.{ShortFile, SpareBits, FileLength, ContractCount}
+use Rattle.tariff.specs.declared.Refusal.the-variants.{ShortFile, NodeCount, SpareBits, FileLength, ShortTable, ContractCount}
 use Rattle.layouts.specs.BookFile.{countIn, spareIn}
-use Rattle.book_file.specs.BookChecks.{checksTo, checksAt, bookChecks}
+use Rattle.book_file.specs.BookChecks.{checksTo, checksAt, bookChecks, readChecks}
 
 module _ (f : ℕ → List Check) where
   pub checks-start : first (checksTo 0 f) ≡ Passed
@@ -69,3 +70,31 @@ module _ (n : ℕ) (s : List ℕ) where
       pub right-header : x ≡ 0 → length s ≡ 2 + 6 * m → first (checksTo m (checksAt n s)) ≡ first (bookChecks n s)
       unfolding first bookChecks
       right-header z h = rw (le-ltb (length s) 2 long, ← count, le-ltb 1000 m few, ← spare, eq-eqb x 0 z, eq-eqb (length s) (2 + 6 * m) h)
+
+-- ---- reading's checks
+module _ (n : ℕ) (s : List ℕ) (cells : ℕ) where
+  pub no-node : n ≡ 0 → Refused NodeCount ≡ first (readChecks n s cells)
+  unfolding first readChecks
+  no-node h = rw (eq-eqb n 0 h)
+
+  pub many-nodes : 200 < n → Refused NodeCount ≡ first (readChecks n s cells)
+  unfolding first readChecks
+  many-nodes h = let no : n ≡ 0 → ⊥ = λ z. omega arith in rw (ne-eqb n 0 no, lt-ltb 200 n h)
+
+  module _ (some-nodes : n ≡ 0 → ⊥) (few-nodes : n ≤ 200) where
+    -- past 2: the book's own, then 9
+    then-own : first (readChecks n s cells) ≡ decided (first (bookChecks n s)) Refused (first (shortTable cells (6 * countIn s) ∷ []))
+    unfolding first readChecks
+    then-own = rw (ne-eqb n 0 some-nodes, le-ltb 200 n few-nodes) (first-append (bookChecks n s) (shortTable cells (6 * countIn s) ∷ []))
+
+    pub own-refuses : (r : Refusal) → first (bookChecks n s) ≡ Refused r → Refused r ≡ first (readChecks n s cells)
+    own-refuses r e = sym (then-own ∙ rw e)
+
+    module _ (own : first (bookChecks n s) ≡ Passed) (m : ℕ) (count : m ≡ countIn s) where
+      pub short-cells : cells < 6 * m → Refused ShortTable ≡ first (readChecks n s cells)
+      unfolding first
+      short-cells h = sym (then-own ∙ rw (own, ← count, lt-ltb cells (6 * m) h))
+
+      pub all-fits : 6 * m ≤ cells → Passed ≡ first (readChecks n s cells)
+      unfolding first
+      all-fits h = sym (then-own ∙ rw (own, ← count, le-ltb cells (6 * m) h))

@@ -1,6 +1,6 @@
 // Reading and writing a book of contracts, with every refusal. `check_book` and `contract_at` serve the test and the settlement too.
 ghost use mathlib.Core.Path.{_≡_};
-ghost use mathlib.Core.List.{List, [], _∷_, flatMap};
+ghost use mathlib.Core.List.{List, [], _∷_, _++_, flatMap};
 ghost use Prim.Native.Nat.{ℕ, _+_, _*_, _^_, _≤_, _<_};
 ghost use lib.ListN.{length, getD, take, drop};
 ghost use lib.IntN.{pos};
@@ -106,4 +106,66 @@ pub fn check_book(nodes: usize, file: &[u8]) -> Checked
         return Checked::Refused(Refusal::FileLength);
     }
     check_contracts(nodes, file, count)
+}
+
+// Reading's checks: 2, the book's own, 9.
+fn check_read(nodes: usize, file: &[u8], cells: usize) -> Checked
+    ensures { λ r. ⌜ r ≡ first (readChecks nodes (now (file .entry)) cells) ⌝ }
+{
+    if nodes == 0 {
+        return Checked::Refused(Refusal::NodeCount);
+    }
+    if 200 < nodes {
+        return Checked::Refused(Refusal::NodeCount);
+    }
+    let own = check_book(nodes, file);
+    if let Checked::Refused(refusal) = own {
+        return Checked::Refused(refusal);
+    }
+    let count = bits::field(file, 0, 10) as usize;
+    if cells < 6 * count {
+        return Checked::Refused(Refusal::ShortTable);
+    }
+    Checked::Passed
+}
+
+// Stores contract i into its six cells.
+fn read_contract(file: &[u8], i: usize, book: &mut [u64])
+    requires { ⌜ (i < 1024) × (2 + 6 * i + 6 ≤ length (now file)) × (6 * i + 6 ≤ length (now book)) ⌝ }
+    ensures { λ r. ⌜ now (book .exit) ≡ take (6 * i) (now (book .entry)) ++ cellsOf (contractAt (now (file .entry)) i) ++ drop (6 * i + 6) (now (book .entry)) ⌝ }
+{
+    let v = bits::window6(file, 2 + 6 * i);
+    let at = 6 * i;
+    book[at] = bits::part(v, 47, 1);
+    book[at + 1] = bits::part(v, 46, 1);
+    book[at + 2] = bits::part(v, 36, 10);
+    book[at + 3] = bits::part(v, 28, 8);
+    book[at + 4] = bits::part(v, 20, 8);
+    book[at + 5] = bits::part(v, 0, 20);
+}
+
+// Stores the first `count` contracts into the first cells.
+fn read_contracts(file: &[u8], count: usize, book: &mut [u64])
+    requires { ⌜ (count ≤ 1000) × (bookBytes count ≤ length (now file)) × (6 * count ≤ length (now book)) ⌝ }
+    ensures { λ r. ⌜ now (book .exit) ≡ overwrite (flatMap cellsOf (listTo count (contractAt (now (file .entry))))) (now (book .entry)) ⌝ }
+{
+    let mut i = 0;
+    while i < count {
+        read_contract(file, i, book);
+        i += 1;
+    }
+}
+
+// Reads a book for a grid of `nodes` nodes into a table of six cells a contract.
+pub fn read_book(nodes: usize, file: &[u8], book: &mut [u64]) -> BookAnswer
+    ensures answer { λ r. ⌜ bookOutcome r ≡ answered (first (readChecks nodes (now (file .entry)) (length (now (book .entry))))) (pos (countIn (now (file .entry))) ∷ []) ⌝ }
+    ensures cells { λ r. ⌜ now (book .exit) ≡ cellsAfter (first (readChecks nodes (now (file .entry)) (length (now (book .entry))))) (flatMap cellsOf (bookIn (now (file .entry)))) (now (book .entry)) ⌝ }
+{
+    let checked = check_read(nodes, file, book.len());
+    if let Checked::Refused(refusal) = checked {
+        return BookAnswer::Refused(refusal);
+    }
+    let count = bits::field(file, 0, 10) as usize;
+    read_contracts(file, count, book);
+    BookAnswer::Read { contracts: count }
 }
