@@ -12,7 +12,7 @@ use Rattle.bits.specs.Bits.{number}
 use Rattle.bits.proofs.Numbers.{Below}
 use Rattle.layouts.specs.Files.{listTo}
 use Rattle.layouts.specs.BookFile.{contractAt, cellsOf}
-use Rattle.layouts.proofs.BookFile.{contract-number, kind-bit, period-bit, cells-more, length-cells}
+use Rattle.layouts.proofs.BookFile.{contract-number, kind-bit, period-bit, length-cells}
 use Rattle.layouts.proofs.Lists.{length-listTo}
 
 pub six-sets : (l : List ℕ) (at a b c d e f : ℕ) → at + 6 ≤ length l
@@ -33,29 +33,27 @@ cells-number s i v b le e =
     ap cellsOf (contract-number s i v b le e)
     ∙ (λ t. kind-bit (v / 2 ^ 47 % 2 ^ 1) (mod-lt (v / 2 ^ 47) (pow-pos 1)) t ∷ period-bit (v / 2 ^ 46 % 2 ^ 1) (mod-lt (v / 2 ^ 46) (pow-pos 1)) t ∷ v / 2 ^ 36 % 2 ^ 10 ∷ v / 2 ^ 28 % 2 ^ 8 ∷ v / 2 ^ 20 % 2 ^ 8 ∷ v / 2 ^ 0 % 2 ^ 20 ∷ [])
 
--- ---- rows stored one after the other, the first i of f so far
-module _ (f : ℕ → Contract) (i : ℕ) (out out₀ : List ℕ) (done : take (6 * i) out ≡ flatMap cellsOf (listTo i f)) (rest : drop (6 * i) out ≡ drop (6 * i) out₀) (fits : 6 * i + 6 ≤ length out) where
-  cells-long : length (cellsOf (f i)) ≡ 6
-  unfolding cellsOf
-  cells-long = refl
+-- ---- a block of cells stored behind those that are stored already
+module _ (block out out₀ next : List ℕ) (at end : ℕ) (ends : end ≡ at + length block) (rest : drop at out ≡ drop at out₀) (fits : end ≤ length out)
+    (stored : next ≡ take at out ++ block ++ drop end out) where
+  front-long : length (take at out ++ block) ≡ end
+  front-long = length-append (take at out) block ∙ omega (arith, length-take-le at out (omega arith))
 
-  front-long : length (take (6 * i) out ++ cellsOf (f i)) ≡ 6 * (i + 1)
-  front-long = length-append (take (6 * i) out) (cellsOf (f i)) ∙ omega (arith, length-take-le (6 * i) out (omega arith), cells-long)
+  pub block-front : (F : List ℕ) → take at out ≡ F → take end next ≡ F ++ block
+  block-front F done = ap (λ (l : List ℕ). take end l) stored ∙ take-at (take at out ++ block) (drop end out) end front-long ∙ ap (λ (l : List ℕ). l ++ block) done
 
-  module _ (next : List ℕ) (stored : next ≡ take (6 * i) out ++ cellsOf (f i) ++ drop (6 * i + 6) out) where
-    pub rows-turn : take (6 * (i + 1)) next ≡ flatMap cellsOf (listTo (i + 1) f)
-    rows-turn =
-        ap (λ (l : List ℕ). take (6 * (i + 1)) l) stored ∙ take-at (take (6 * i) out ++ cellsOf (f i)) (drop (6 * i + 6) out) (6 * (i + 1)) front-long
-        ∙ ap (λ (l : List ℕ). l ++ cellsOf (f i)) done ∙ sym (cells-more i f)
+  pub block-rest : drop end next ≡ drop end out₀
+  block-rest =
+      ap (λ (l : List ℕ). drop end l) stored ∙ drop-at (take at out ++ block) (drop end out) end front-long
+      ∙ ap (λ (x : ℕ). drop x out) ends ∙ sym (drop-drop (length block) at out) ∙ ap (λ (l : List ℕ). drop (length block) l) rest ∙ drop-drop (length block) at out₀
+      ∙ ap (λ (x : ℕ). drop x out₀) (sym ends)
 
-    pub rows-rest : drop (6 * (i + 1)) next ≡ drop (6 * (i + 1)) out₀
-    rows-rest =
-        let six : 6 * (i + 1) ≡ 6 * i + 6 = omega arith in
-        ap (λ (l : List ℕ). drop (6 * (i + 1)) l) stored ∙ drop-at (take (6 * i) out ++ cellsOf (f i)) (drop (6 * i + 6) out) (6 * (i + 1)) front-long
-        ∙ sym (drop-drop 6 (6 * i) out) ∙ ap (λ (l : List ℕ). drop 6 l) rest ∙ drop-drop 6 (6 * i) out₀ ∙ ap (λ (x : ℕ). drop x out₀) (sym six)
+  pub block-length : length next ≡ length out
+  block-length = ap length stored ∙ length-append (take at out ++ block) (drop end out) ∙ omega (arith, front-long, length-drop end out)
 
-    pub rows-length : length next ≡ length out
-    rows-length = ap length stored ∙ length-append (take (6 * i) out ++ cellsOf (f i)) (drop (6 * i + 6) out) ∙ omega (arith, front-long, length-drop (6 * i + 6) out)
+pub length-cell-row : (c : Contract) → length (cellsOf c) ≡ 6
+unfolding cellsOf
+length-cell-row c = refl
 
 pub length-rows : (m : ℕ) (f : ℕ → Contract) → length (flatMap cellsOf (listTo m f)) ≡ 6 * m
 length-rows m f = length-cells (listTo m f) ∙ ap (λ (x : ℕ). 6 * x) (length-listTo m f)

@@ -8,7 +8,8 @@ use mathlib.Core.List.{List, _++_, flatMap}
 use Rattle.tariff.specs.Refusals.{overwrite}
 use Rattle.layouts.specs.Files.{listTo}
 use Rattle.layouts.specs.BookFile.{contractAt, cellsOf}
-use Rattle.book_file.proofs.Table.{rows-turn, rows-rest, rows-length, length-rows}
+use Rattle.book_file.proofs.Table.{block-front, block-rest, block-length, length-cell-row, length-rows}
+use Rattle.layouts.proofs.BookFile.{cells-more}
 use Rattle.book_file.proofs.read_contracts.Statement.{statement}
 use Rattle.book_file.proofs.read_contracts.Tie as tie
 
@@ -37,12 +38,15 @@ loop-again c =
     let l = c .before .before .before .before .before .loop in
     let a = c .before .before .before .before .before .before .before .before .args in
     let f = contractAt (a .file .now) in
+    let six = length-cell-row (f (l .i)) in
     let fits : 6 * l .i + 6 ≤ length (l .book) = omega (arith, l .inv .1) in
+    let ends : 6 * l .i + 6 ≡ 6 * l .i + length (cellsOf (f (l .i))) = omega (arith, six) in
+    let next : 6 * l .i + 6 ≡ 6 * (l .i + 1) = omega arith in
     let e = c .before .before .read-contract .ensures in (
       omega arith,
-      rows-length f (l .i) (l .book) (a .book .now) (l .inv .2) (l .inv .3) fits _ e ∙ l .inv .1,
-      rows-turn f (l .i) (l .book) (a .book .now) (l .inv .2) (l .inv .3) fits _ e,
-      rows-rest f (l .i) (l .book) (a .book .now) (l .inv .2) (l .inv .3) fits _ e,
+      block-length (cellsOf (f (l .i))) (l .book) (a .book .now) _ (6 * l .i) (6 * l .i + 6) ends (l .inv .3) fits e ∙ l .inv .1,
+      rw next at (block-front (cellsOf (f (l .i))) (l .book) (a .book .now) _ (6 * l .i) (6 * l .i + 6) ends (l .inv .3) fits e _ (l .inv .2)) ∙ sym (cells-more (l .i) f),
+      rw next at (block-rest (cellsOf (f (l .i))) (l .book) (a .book .now) _ (6 * l .i) (6 * l .i + 6) ends (l .inv .3) fits e),
     )
 
 same-length : tie.Need-same-length Inv-loop μ-loop
