@@ -32,7 +32,7 @@ write-run-requires c κs =
     let g = c .before .before .before .put2 in (
       g .ensures .1 .0 .1,
       (
-        (omega arith, omega (arith, s .pre), λ k h. omega (arith, s .pre .1 k h)),
+        (omega arith, omega (arith, s .pre), λ k h. omega (arith, s .pre .1 k (omega arith))),
         omega (arith, s .pre, e .kept .0, g .kept .0, e .ensures .1 .0 .0, g .ensures .1 .0 .0),
       ),
     )

@@ -22,7 +22,7 @@ read-run-requires : tie.Need-read-run-requires
 read-run-requires c κs =
     let s = c .before .before .before .before .before .before in
     let ok = readable (s .args .constraints) (s .args .file .now) (length (s .args .prices .now)) (sym (c .before .before .before .check-read .ensures) ∙ c .before .enum-told .given .1) in
-    (omega arith, ((omega arith, omega arith), ok .room))
+    (omega arith, ((omega arith, omega arith), omega arith))
 
 field-requires : tie.Need-field-requires
 field-requires c κs =
