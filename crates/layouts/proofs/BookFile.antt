@@ -73,12 +73,12 @@ pub record BookWritten (cs : List Contract) (s : List ℕ) : Type 0 where
 
 -- ---- the fields of contracts
 
-total-contracts : (cs : List Contract) → total (flatMap contractFields cs) ≡ 48 * length cs
+pub total-contracts : (cs : List Contract) → total (flatMap contractFields cs) ≡ 48 * length cs
 unfolding flatMap contractFields
 total-contracts [] = refl
 total-contracts (c ∷ cs) = rw (total-append (contractFields c) (flatMap contractFields cs)) (omega (arith, total-contracts cs))
 
-fit-contracts : (cs : List Contract) → Each ContractFits cs → Fit (flatMap contractFields cs)
+pub fit-contracts : (cs : List Contract) → Each ContractFits cs → Fit (flatMap contractFields cs)
 unfolding flatMap contractFields
 fit-contracts [] h = tt
 fit-contracts (c ∷ cs) h =

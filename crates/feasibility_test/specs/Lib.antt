@@ -1,0 +1,3 @@
+pub mod TestChecks
+pub mod Answer
+pub mod Carried
