@@ -13,7 +13,12 @@ ghost use Rattle.layouts.specs.BookFile.{bookIn};
 ghost use Rattle.feasibility_test.specs.TestChecks.{testChecks};
 ghost use Rattle.feasibility_test.specs.Answer.{testOutcome, testValues, Demand3};
 ghost use Rattle.feasibility_test.specs.Carried.{Carries};
-use tariff::{Checked, Contract, Flow, Period, Process, Refusal};
+use tariff::Checked;
+use tariff::Contract;
+use tariff::Flow;
+use tariff::Period;
+use tariff::Process;
+use tariff::Refusal;
 
 // The flow on all constraints, carried together with the number of contracts counted.
 pub struct Flows {
