@@ -6,7 +6,7 @@ use Prim.Native.Nat.{ℕ, _+_, _-_, _*_, _≤_, _<_}
 use native.Mathlib.Omega.{arith}
 use borrow.Author.Tests.{lt-ltb, le-ltb}
 use lib.ListN.{length, getD, take, drop, set}
-use lib.Seq.{take-all, drop-drop, getD-take, length-take-le}
+use lib.Seq.{take-all, drop-drop, length-take-le}
 use Rattle.bits.specs.Bits.{field, fields}
 use Rattle.bits.specs.Pen.{place, Ready}
 use Rattle.bits.specs.declared.Pen.{Pen}
