@@ -1,0 +1,95 @@
+-- `price_file::fill`: the period, the count, the prices and the padding, one after the other.
+use mathlib.Core.Path.{_≡_, refl}
+use native.Mathlib.Omega.{arith}
+use lib.ListN.{length, take}
+use lib.Seq.{length-take-le}
+use lib.Pow.{pow-pos}
+use Rattle.runs.proofs.Penned.{penned-start, penned-put, penned-run}
+use Rattle.price_file.proofs.PriceLaws.{prices-penned}
+use borrow.Author.Needs.{needs}
+use Rattle.price_file.proofs.fill.Statement.{statement}
+use Rattle.price_file.proofs.fill.Tie as tie
+
+mul-used : tie.Need-mul-used
+mul-used c = search needs
+
+add-used : tie.Need-add-used
+add-used c = search needs
+
+add-size : tie.Need-add-size
+add-size c = search needs
+
+put-requires : tie.Need-put-requires
+put-requires c κs = search needs
+
+put-requires-2 : tie.Need-put-requires-2
+put-requires-2 c κs = search needs
+
+write-run-requires : tie.Need-write-run-requires
+write-run-requires c κs =
+    let s = c .before .before .before .before .before .before .before .before .before .before .before in
+    let e = c .before .before .before .before .before .before .before .put in
+    let g = c .before .before .before .put2 in (
+      g .ensures .1 .0 .1,
+      (
+        (omega arith, omega (arith, s .pre), λ k h. omega (arith, s .pre .1 k (omega arith))),
+        omega (arith, s .pre, e .kept .0, g .kept .0, e .ensures .1 .0 .0, g .ensures .1 .0 .0),
+      ),
+    )
+
+mul-put : tie.Need-mul-put
+mul-put c = search needs
+
+sub-put : tie.Need-sub-put
+sub-put c = search needs
+
+put-requires-3 : tie.Need-put-requires-3
+put-requires-3 c κs =
+    let s = c .before .before .before .before .before .before .before .before .before .before .before .before .before .before .before in
+    let e = c .before .before .before .before .before .before .before .before .before .before .before .put in
+    let g = c .before .before .before .before .before .before .before .put2 in
+    let w = c .before .before .before .write-run in (
+      w .ensures .1 .0 .1,
+      (
+        (pow-pos _, omega (arith, s .pre)),
+        omega (arith, s .pre, e .kept .0, g .kept .0, w .kept .0, e .ensures .1 .0 .0, g .ensures .1 .0 .0, w .ensures .1 .0 .0),
+      ),
+    )
+
+same-length : tie.Need-same-length
+same-length c = search needs
+
+returns : tie.Need-returns
+returns c =
+    let s = c .before .before .before .before .before .before .before .before .before .before .before .before .before .before .before .before .before .before in
+    let a = s .args in
+    let e = c .before .before .before .before .before .before .before .before .before .before .before .before .before .before .put in
+    let g = c .before .before .before .before .before .before .before .before .before .before .put2 in
+    let w = c .before .before .before .before .before .before .write-run in
+    let z = c .before .before .put3 in
+    let ps = take (a .constraints) (a .prices .now) in
+    let long : length ps ≡ a .constraints = length-take-le (a .constraints) (a .prices .now) (omega (arith, s .pre)) in
+    let one = penned-put (penned-start (a .file .now) _ (record { few = omega arith; fit = omega arith }) refl) 1 _ _ (a .period) (e .ensures) in
+    let two = penned-put one 7 _ _ (a .constraints) (g .ensures) in
+    let three = penned-run two 19 _ _ ps (a .constraints) long (w .ensures) in
+    let four = penned-put three _ _ _ 0 (z .ensures) in (
+      refl,
+      prices-penned (a .period) (a .constraints) ps (a .file .now) _ _ long four (λ i. c .slice-known5 .given i .fits)
+          (omega (arith, s .pre, e .kept .0, g .kept .0, w .kept .0, z .kept .0)),
+    )
+
+pub fill-spec : {M : Type 1} → statement M
+fill-spec =
+    tie.close
+    (tie.spec
+    mul-used
+    add-used
+    add-size
+    put-requires
+    put-requires-2
+    write-run-requires
+    mul-put
+    sub-put
+    put-requires-3
+    same-length
+    returns)

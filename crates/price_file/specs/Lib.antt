@@ -1,0 +1,2 @@
+pub mod PriceAnswers
+pub mod PriceChecks
