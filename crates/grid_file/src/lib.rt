@@ -100,7 +100,13 @@ fn factor_bad_in(file: &[u8], nodes: usize, constraints: usize) -> bool
 }
 
 // The reader's checks on a file of the right length, with so many lent cells for `limits` and `factors`.
-fn check_figures(file: &[u8], nodes: usize, constraints: usize, limits: usize, factors: usize) -> Checked
+fn check_figures(
+    file: &[u8],
+    nodes: usize,
+    constraints: usize,
+    limits: usize,
+    factors: usize,
+) -> Checked
     requires { ⌜ (nodes ≡ nodesIn (now file)) × (constraints ≡ constraintsIn (now file)) × (nodes ≤ 200) × (constraints ≤ 64) × (length (now file) ≡ gridBytes nodes constraints) ⌝ }
     ensures { λ r. ⌜ r ≡ first (limitRange (limitsIn (now (file .entry))) ∷ factorRange (factorsIn (now (file .entry))) ∷ padding (padIn (now (file .entry))) ∷ shortTable limits (constraintsIn (now (file .entry))) ∷ shortTable factors (nodesIn (now (file .entry)) * constraintsIn (now (file .entry))) ∷ []) ⌝ }
 {
@@ -177,14 +183,25 @@ pub fn read_grid(file: &[u8], limits: &mut [u64], factors: &mut [i64]) -> GridAn
             let nodes = bits::field(file, 0, 8) as usize;
             let constraints = bits::field(file, 8, 7) as usize;
             runs::read_run(file, 16, 27, constraints, limits);
-            read_factors(file, 16 + 27 * constraints, factor_count(nodes, constraints), factors);
+            read_factors(
+                file,
+                16 + 27 * constraints,
+                factor_count(nodes, constraints),
+                factors,
+            );
             GridAnswer::Read { nodes, constraints }
         }
     }
 }
 
 // The writer's checks, with `bytes` lent bytes for the file.
-fn check_write(nodes: usize, constraints: usize, limits: &[u64], factors: &[i64], bytes: usize) -> Checked
+fn check_write(
+    nodes: usize,
+    constraints: usize,
+    limits: &[u64],
+    factors: &[i64],
+    bytes: usize,
+) -> Checked
     ensures { λ r. ⌜ r ≡ first (writeChecks nodes constraints (now (limits .entry)) (now (factors .entry)) bytes) ⌝ }
 {
     if nodes == 0 {
@@ -258,7 +275,13 @@ fn fill(nodes: usize, constraints: usize, limits: &[u64], factors: &[i64], file:
 }
 
 // Writes a grid's file from the first cells of its tables.
-pub fn write_grid(nodes: usize, constraints: usize, limits: &[u64], factors: &[i64], file: &mut [u8]) -> WriteAnswer
+pub fn write_grid(
+    nodes: usize,
+    constraints: usize,
+    limits: &[u64],
+    factors: &[i64],
+    file: &mut [u8],
+) -> WriteAnswer
     ensures { λ r. ⌜ writeOutcome r ≡ answered (first (writeChecks nodes constraints (now (limits .entry)) (now (factors .entry)) (length (now (file .entry))))) (pos (gridBytes nodes constraints) ∷ []) ⌝ }
     ensures { λ r. ⌜ now (file .exit) ≡ cellsAfter (first (writeChecks nodes constraints (now (limits .entry)) (now (factors .entry)) (length (now (file .entry))))) (gridFile (grid nodes constraints (now (limits .entry)) (now (factors .entry)))) (now (file .entry)) ⌝ }
 {
