@@ -4,7 +4,7 @@ use mathlib.Core.Bool.{Bool, true, false, _||_}
 use mathlib.Core.List.{List, [], _∷_, _++_, map}
 use Prim.Native.Nat.{ℕ, _+_, _-_, _*_, _≤_, _<_}
 use native.Mathlib.Omega.{arith}
-use borrow.Author.Tests.{ltb-false, lt-ltb, le-ltb, eq-eqb, ne-eqb}
+use borrow.Author.Tests.{ltb-false, eq-eqb, ne-eqb}
 use lib.Dec.{ltb, eqb}
 use lib.ListN.{length, getD, take}
 use lib.IntN.{ℤ, pos, natAbs}
@@ -30,14 +30,11 @@ use Rattle.grid_file.proofs.Factors.{count-fits, factorsAt, length-code
 -- ---- the node count
 
 module _ (n : ℕ) where
-  pub nodes-none : n ≡ 0 → (eqb n 0 || ltb maxNodes n) ≡ true
+  pub nodes-none : n ≡ 0 → true ≡ (eqb n 0 || ltb maxNodes n)
   nodes-none e = rw (eq-eqb n 0 e)
 
-  pub nodes-many : (n ≡ 0 → ⊥) → 200 < n → (eqb n 0 || ltb maxNodes n) ≡ true
-  nodes-many z h = rw (ne-eqb n 0 z, lt-ltb 200 n h)
-
-  pub nodes-fine : (n ≡ 0 → ⊥) → n ≤ 200 → (eqb n 0 || ltb maxNodes n) ≡ false
-  nodes-fine z h = rw (ne-eqb n 0 z, le-ltb 200 n h)
+  pub nodes-some : (n ≡ 0 → ⊥) → ltb maxNodes n ≡ (eqb n 0 || ltb maxNodes n)
+  nodes-some z = rw (ne-eqb n 0 z)
 
   pub nodes-few-of : (eqb n 0 || ltb maxNodes n) ≡ false → n ≤ 200
   nodes-few-of e = by (eqb n 0) e
