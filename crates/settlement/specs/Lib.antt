@@ -1,0 +1,2 @@
+pub mod SettleChecks
+pub mod Answers
