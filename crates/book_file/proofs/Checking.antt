@@ -39,6 +39,12 @@ module _ (f : ℕ → List Check) where
       (λ q. rw (checks-stop m i r (omega arith) e g))
       (eq-or-lt-of-le h)
 
+  -- where each passes, all do
+  pub checks-all : (m : ℕ) → ((i : ℕ) → i < m → first (f i) ≡ Passed) → first (checksTo m f) ≡ Passed
+  unfolding first checksTo
+  checks-all zero h = refl
+  checks-all (suc m) h = first-append (checksTo m f) (f m) ∙ rw (checks-all m (λ i b. h i (omega arith)), h m (omega arith))
+
   -- where all pass, each does
   pub checks-each : (m : ℕ) → first (checksTo m f) ≡ Passed → (i : ℕ) → i < m → first (f i) ≡ Passed
   unfolding checksTo

@@ -1,0 +1,73 @@
+-- A price file there and back, over what the entries ensure: bytes that no check of the reader refuses are the file of the prices that are read from them,
+-- and a file that is written is not refused and gives the period and the prices.
+use mathlib.Core.Path.{_≡_, refl, _∙_}
+use mathlib.Core.Bool.{Bool, true, false}
+use mathlib.Core.List.{List}
+use Prim.Native.Nat.{ℕ, _^_, _≤_, _<_}
+use native.Mathlib.Omega.{arith}
+use borrow.Author.Tests.{ltb-true, ltb-false, le-ltb}
+use lib.Dec.{ltb}
+use lib.Pow.{pow-pos}
+use lib.ListN.{length, getD, take, List·getD-eq-default}
+use lib.Seq.{getD-take, length-take-le}
+use Rattle.bits.proofs.Numbers.{Below}
+use Rattle.tariff.specs.declared.Checked.the-variants.{Passed}
+use Rattle.tariff.specs.Refusals.{first}
+use Rattle.tariff.proofs.Checks.{first-passes, passed-cons}
+use Rattle.layouts.specs.PriceFile.{priceBytes, priceFile, periodIn, countIn, pricesIn, padIn}
+use Rattle.layouts.proofs.PriceFile.{PriceFits, PriceWritten, prices-written, prices-read}
+use Rattle.runs.proofs.Tests.{same, same-of, last-passes}
+use Rattle.price_file.specs.PriceChecks.{readChecks, writeChecks}
+use Rattle.price_file.proofs.PriceLaws.{Writable, writable}
+
+-- ---- read, then written
+
+pub read-then-written : (k : ℕ) (s : List ℕ) (cells : ℕ) → Below 8 s → first (readChecks k s cells) ≡ Passed → priceFile (periodIn s) k (pricesIn k s) ≡ s
+unfolding readChecks
+read-then-written k s cells b e =
+    let count = passed-cons _ _ (passed-cons _ _ (passed-cons _ _ e .1) .1) in
+    let size = passed-cons _ _ (count .1) in
+    let pad = passed-cons _ _ (passed-cons _ _ (size .1) .1) in
+    prices-read k s b (same-of _ _ (size .0)) (same-of _ _ (count .0)) (same-of _ _ (pad .0))
+
+-- ---- written, then read
+
+-- what the reader finds in a file: it is not refused where the table is long enough
+pub record ReadBack (t k : ℕ) (prices s : List ℕ) : Type 0 where
+  pub passes : (cells : ℕ) → k ≤ cells → first (readChecks k s cells) ≡ Passed
+  pub period : periodIn s ≡ t
+  pub prices-are : pricesIn k s ≡ take k prices
+
+module _ (t k : ℕ) (prices : List ℕ) (bytes : ℕ) (e : first (writeChecks t k prices bytes) ≡ Passed) where
+  ok : Writable t k prices bytes
+  ok = writable t k prices bytes e
+
+  prices-fit : Below 19 (take k prices)
+  prices-fit i = by (ltb i k) refl
+    where
+      by : (b : Bool) → ltb i k ≡ b → getD (take k prices) i 0 < 2 ^ 19
+      by true q = let h = ltb-true i k q in rw (getD-take k prices i 0 h) (omega (arith, ok .small i h))
+      by false q = rw (List·getD-eq-default (take k prices) 0 {n = i} (omega (arith, length-take-le k prices (ok .cells), ltb-false i k q))) (pow-pos 19)
+
+  found : PriceWritten t k (take k prices) (priceFile t k (take k prices))
+  found =
+      prices-written t k (take k prices)
+      (record { period-fits = omega (arith, ok .period); count-fits = omega (arith, ok .few); one-price-each = length-take-le k prices (ok .cells); prices-fit = prices-fit })
+
+  -- each check of the reader is one that the writer made, or is settled by the file
+  not-refused : (cells : ℕ) → k ≤ cells → first (readChecks k (priceFile t k (take k prices)) cells) ≡ Passed
+  unfolding readChecks writeChecks
+  not-refused cells h =
+      let s = priceFile t k (take k prices) in
+      let three = passed-cons _ _ (passed-cons _ _ e .1) in
+      let fifteen = passed-cons _ _ (passed-cons _ _ (three .1) .1) in
+      first-passes _ _ (three .0)
+      ∙ first-passes _ _ (le-ltb (length s) 1 (omega (arith, found .size)))
+      ∙ first-passes _ _ (same _ _ (found .count))
+      ∙ first-passes _ _ (same _ _ (found .size))
+      ∙ first-passes _ _ (rw (found .prices) (fifteen .0))
+      ∙ first-passes _ _ (same _ _ (found .pad))
+      ∙ last-passes _ (le-ltb _ _ h)
+
+  pub written-then-read : ReadBack t k prices (priceFile t k (take k prices))
+  written-then-read = record { passes = not-refused; period = found .period; prices-are = found .prices }
