@@ -1,0 +1,86 @@
+-- `grid_file::read_factors`: the cells passed hold the factors passed, and those behind are as they were.
+use mathlib.Core.Path.{_≡_, sym, ap, _∙_}
+use Prim.Native.Nat.{_+_, _-_, _*_, _≤_}
+use native.Mathlib.Omega.{arith}
+use borrow.Author.Needs.{needs}
+use lib.ListN.{length, take, drop, length-set}
+use mir.Syntax.{w64}
+use mir.Facts.{toZ-ofZ}
+use Rattle.bits.specs.Signed.{toInt}
+use Rattle.bits.proofs.Fields.{within}
+use Rattle.bits.proofs.Fill.{fill-turn, rest-turn, fill-front}
+use Rattle.grid_file.proofs.Factors.{factorsAt, length-factors, factor-at}
+use Rattle.grid_file.proofs.read_factors.Statement.{statement}
+use Rattle.grid_file.proofs.read_factors.Tie as tie
+
+abbrev Inv-loop : tie.InvT-loop
+Inv-loop file offset count out₀ at₀ i₀ out at i =
+    (i ≤ count) × (length out ≡ length out₀) × (at ≡ offset + 18 * i) × (take i out ≡ take i (factorsAt file offset count)) × (drop i out ≡ drop i out₀)
+
+abbrev μ-loop : tie.MeasureT-loop
+μ-loop file offset count out₀ at₀ i₀ out at i = count - i
+
+loop-holds : tie.Need-loop-holds Inv-loop μ-loop
+loop-holds c = search needs
+
+field-requires : tie.Need-field-requires Inv-loop μ-loop
+field-requires c κs = search needs
+
+signed-requires : tie.Need-signed-requires Inv-loop μ-loop
+signed-requires c κs = search needs
+
+mul-t10 : tie.Need-mul-t10 Inv-loop μ-loop
+mul-t10 c = search needs
+
+slice-set-from-out : tie.Need-slice-set-from-out Inv-loop μ-loop
+slice-set-from-out c = search needs
+
+add-at : tie.Need-add-at Inv-loop μ-loop
+add-at c = search needs
+
+add-i : tie.Need-add-i Inv-loop μ-loop
+add-i c = search needs
+
+loop-less : tie.Need-loop-less Inv-loop μ-loop
+loop-less c = search needs
+
+loop-again : tie.Need-loop-again Inv-loop μ-loop
+loop-again c =
+    let s = c .before .before .before .before .before in
+    let a = s .args in
+    let l = c .before .before .before .loop in
+    let fs = factorsAt (a .file .now) (a .offset) (a .count) in
+    let v = toZ-ofZ {w = w64} (record { sfits = c .signed .ok }) ∙ c .signed .ensures ∙ factor-at (a .file .now) (a .offset) (a .count) (l .i) (l .at) _ (omega arith) (s .pre .0) (l .inv .2) (c .before .field .ensures .0) in (
+      omega arith,
+      simp length-set (omega arith),
+      omega arith,
+      fill-turn fs (l .out) (l .i) (l .inv .3) _ (toInt 18 0) (omega arith) (rw length-factors (omega arith)) v,
+      rest-turn (l .out) (a .out .now) (l .i) _ (l .inv .4),
+    )
+
+same-length : tie.Need-same-length Inv-loop μ-loop
+same-length c = search needs
+
+returns : tie.Need-returns Inv-loop μ-loop
+returns c =
+    let a = c .before .before .before .args in
+    let l = c .before .loop in
+    fill-front (factorsAt (a .file .now) (a .offset) (a .count)) (l .out) (a .out .now) (l .i) (l .inv .3) (l .inv .4) (rw length-factors (omega arith))
+
+pub read-factors-spec : {M : Type 1} → statement M
+read-factors-spec =
+    tie.close
+    (tie.spec
+    Inv-loop
+    μ-loop
+    loop-holds
+    field-requires
+    signed-requires
+    mul-t10
+    slice-set-from-out
+    add-at
+    add-i
+    loop-less
+    loop-again
+    same-length
+    returns)

@@ -1,0 +1,107 @@
+-- `grid_file::write_factors`: what was written before, and then the factors passed. The bytes behind the pen are as they were.
+use mathlib.Core.Path.{_≡_, refl, sym, ap, _∙_}
+use mathlib.Core.List.{map}
+use Prim.Native.Nat.{ℕ, _+_, _-_, _*_, _^_, _≤_}
+use native.Mathlib.Omega.{arith}
+use borrow.Author.Needs.{needs}
+use lib.ListN.{length, take, drop, getD}
+use lib.IntN.{pos}
+use mir.Syntax.{w64}
+use mir.Val.{toZ, ofZ}
+use mir.ValLaws.{toZ-ofZ}
+use Rattle.bits.specs.Bits.{number}
+use Rattle.bits.specs.Signed.{ofInt}
+use Rattle.bits.specs.Pen.{written, place, Ready}
+use Rattle.bits.proofs.Writing.{run-start, run-turn, run-end}
+use Rattle.runs.proofs.Runs.{pen-rest}
+use Rattle.grid_file.proofs.Factors.{small-mag, length-coded, coded-at}
+use Rattle.grid_file.proofs.write_factors.Statement.{statement}
+use Rattle.grid_file.proofs.write_factors.Tie as tie
+
+abbrev Inv-loop : tie.InvT-loop
+Inv-loop buf₀ factors count pen₀ i₀ buf pen i =
+    (i ≤ count) × (length buf ≡ length buf₀) × Ready pen × (place pen ≡ place pen₀ + 18 * i)
+    × (written buf pen ≡ written buf₀ pen₀ * 2 ^ (18 * i) + number 18 (take i (map (ofInt 18) (take count factors))))
+    × (drop (pen .at) buf ≡ drop (pen .at) buf₀)
+
+abbrev μ-loop : tie.MeasureT-loop
+μ-loop buf₀ factors count pen₀ i₀ buf pen i = count - i
+
+loop-holds : tie.Need-loop-holds Inv-loop μ-loop
+loop-holds c =
+    let s = c .before in
+    (omega arith, refl, s .pre .0, omega arith, run-start 18 (map (ofInt 18) (take (s .args .count) (s .args .factors .now))) _, refl)
+
+mul-unsigned : tie.Need-mul-unsigned Inv-loop μ-loop
+mul-unsigned c = search needs
+
+shared-slice-copy-out-unsigned : tie.Need-shared-slice-copy-out-unsigned Inv-loop μ-loop
+shared-slice-copy-out-unsigned c = search needs
+
+unsigned-requires : tie.Need-unsigned-requires Inv-loop μ-loop
+unsigned-requires c κs =
+    let s = c .before .before .before .before .before in
+    let i = c .before .before .before .loop .i in
+    let z = getD (s .args .factors .now) i (pos 0) in
+    (search needs, rw (toZ-ofZ w64 z (record { sfits = c .unsigned-arg .given })) (small-mag z (s .pre .1 .0 .1 i (omega arith))))
+
+put-requires : tie.Need-put-requires Inv-loop μ-loop
+put-requires c κs =
+    let l = c .before .before .before .before .loop in
+    (l .inv .2, (search needs, omega arith))
+
+add-i : tie.Need-add-i Inv-loop μ-loop
+add-i c = search needs
+
+loop-less : tie.Need-loop-less Inv-loop μ-loop
+loop-less c = search needs
+
+loop-again : tie.Need-loop-again Inv-loop μ-loop
+loop-again c =
+    let a = c .before .before .before .before .before .before .before .before .before .args in
+    let l = c .before .before .before .before .before .before .before .loop in
+    let u = c .before .before .before .unsigned in
+    let p = c .before .before .put in
+    let e = p .ensures in
+    let z = getD (a .factors .now) (l .i) (pos 0) in
+    let same : toZ w64 (ofZ w64 z) ≡ z = toZ-ofZ w64 z (record { sfits = c .before .before .before .before .unsigned-arg .given }) in
+    let v = u .ensures .0 ∙ ap (ofInt 18) same ∙ sym (coded-at (a .factors .now) (a .count) (omega arith) (l .i) (omega arith)) in (
+      omega arith,
+      p .kept .0 ∙ l .inv .1,
+      e .1 .0 .1,
+      omega (arith, e .1 .0 .0),
+      run-turn 18 (map (ofInt 18) (take (a .count) (a .factors .now))) (written (a .buf .now) (a .from)) (l .i) (u .result) (written (l .buf) (l .pen)) _
+          (rw (length-coded (a .factors .now) (a .count) (omega arith)) (omega arith)) v (l .inv .4) (e .0),
+      pen-rest (l .pen) (p .result) 18 (l .inv .2) (e .1 .0 .1) (e .1 .0 .0) _ (l .buf) _ (e .1 .1) (l .inv .5),
+    )
+
+same-length : tie.Need-same-length Inv-loop μ-loop
+same-length c = search needs
+
+returns : tie.Need-returns Inv-loop μ-loop
+returns c =
+    let a = c .before .before .before .args in
+    let l = c .before .loop in
+    let t = map (ofInt 18) (take (a .count) (a .factors .now)) in
+    let last : l .i ≡ a .count = omega arith in
+    let n : length t ≡ a .count = length-coded (a .factors .now) (a .count) (omega arith) in (
+      rw n at (run-end 18 t (written (a .buf .now) (a .from)) (l .i) _ (last ∙ sym n) (l .inv .4)),
+      ((l .inv .3 ∙ ap (λ (x : ℕ). place (a .from) + 18 * x) last, l .inv .2), l .inv .5),
+    )
+
+pub write-factors-spec : {M : Type 1} → statement M
+write-factors-spec =
+    tie.close
+    (tie.spec
+    Inv-loop
+    μ-loop
+    loop-holds
+    mul-unsigned
+    shared-slice-copy-out-unsigned
+    unsigned-requires
+    put-requires
+    add-i
+    loop-less
+    loop-again
+    same-length
+    returns)
