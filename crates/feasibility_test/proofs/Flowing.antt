@@ -1,6 +1,7 @@
 -- Laws of flows that are carried: a cell more of one contract's flows, and a contract more.
 use mathlib.Core.Path.{_≡_, refl, sym, ap, _∙_}
 use mathlib.Core.Logic.{⊎-elim, _≢_}
+use mathlib.Core.Bool.{true, false}
 use mathlib.Core.List.{List, [], _∷_, _++_}
 use Prim.Native.Nat.{ℕ, zero, suc, _+_, _*_, _^_, _≤_, _<_}
 use native.Mathlib.Nat.{eq-or-lt-of-le}
@@ -10,17 +11,20 @@ use lib.Seq.{getD-set-same, getD-set-other}
 use lib.IntN.{ℤ, pos, natAbs, _+ℤ_, _-ℤ_, _*ℤ_}
 use mir.Syntax.{w64}
 use mir.Val.{toZ, ofZ}
-use Rattle.integers.proofs.Sizes.{natAbs-add, natAbs-sub, natAbs-times}
+use Rattle.integers.proofs.Sizes.{natAbs-add, natAbs-sub, natAbs-times, Each}
 use Rattle.integers.proofs.Machine.{back}
-use Rattle.tariff.proofs.Sizes.{counted-sized}
+use Rattle.tariff.proofs.Sizes.{counted-sized, totalFlow-sized, ofPeriod-in-range}
 use Rattle.tariff.specs.declared.Kind.{Kind}
 use Rattle.tariff.specs.declared.Quantity.{Quantity}
 use Rattle.tariff.specs.declared.Contract.{Contract}
-use Rattle.tariff.specs.Units.{Grid, grid}
-use Rattle.tariff.specs.Contracts.{counted}
+use Rattle.tariff.specs.declared.Period.{Period}
+use Rattle.tariff.specs.Units.{grid, FactorsInRange}
+use Rattle.tariff.specs.Contracts.{counted, samePeriod, ofPeriod, InRange}
 use Rattle.tariff.specs.Feasibility.{flow, totalFlow}
-use Rattle.tariff.proofs.Periods.{sumOver-more}
+use Rattle.tariff.proofs.Periods.{sumOver-more, ofPeriod-same, ofPeriod-other}
 use Rattle.integers.specs.Sums.{sumOver}
+use Rattle.layouts.specs.Files.{listTo}
+use Rattle.layouts.proofs.Lists.{listTo-more, length-listTo, each-listTo}
 use Rattle.feasibility_test.specs.declared.Flows.{Flows}
 use Rattle.feasibility_test.specs.Carried.{Carries}
 
@@ -90,3 +94,24 @@ step-carries n k ls fs cs c f cells done carried = record {
 pub none-carried : (n k : ℕ) (ls : List ℕ) (fs : List ℤ) → k ≤ 64 → Carries (grid n k ls fs) [] (record { flows = replicate 64 (pos 0); count = 0 })
 unfolding totalFlow sumOver
 none-carried n k ls fs h = record { flows-are = λ j b. getD-replicate {A = ℤ} 64 j (pos 0) (pos 0) (omega arith); count-is = refl }
+
+-- ---- through a book: its contracts below i are carried
+module _ (n k i : ℕ) (ls : List ℕ) (fs : List ℤ) (t : Period) (at : ℕ → Contract) (f : Flows) where
+  module _ (each : (j : ℕ) → j < i → InRange n (at j)) (carried : Carries (grid n k ls fs) (ofPeriod t (listTo i at)) f) where
+    within : Each (InRange n) (ofPeriod t (listTo i at)) × (length (ofPeriod t (listTo i at)) ≤ length (listTo i at))
+    within = ofPeriod-in-range n t (listTo i at) (each-listTo (InRange n) i at each)
+
+    pub count-most : f .count ≤ i
+    count-most = omega (arith, carried .count-is, within .1, length-listTo i at)
+
+    pub flow-most : FactorsInRange (grid n k ls fs) → (j : ℕ) → j < k → natAbs (getD (f .flows) j (pos 0)) ≤ 200000000000 * f .count
+    flow-most fr j h = rw (carried .flows-are j h, carried .count-is) (totalFlow-sized (grid n k ls fs) fr (ofPeriod t (listTo i at)) j (within .0) h)
+
+  -- contract i is of the period and counted, or is of the other
+  pub carry-same : (c : Contract) → c ≡ at i → samePeriod (c .period) t ≡ true → Carries (grid n k ls fs) (ofPeriod t (listTo i at) ++ c ∷ []) f
+      → Carries (grid n k ls fs) (ofPeriod t (listTo (i + 1) at)) f
+  carry-same c e b carried = rw (listTo-more i at, ← e, ofPeriod-same t (listTo i at) c b) carried
+
+  pub carry-other : (c : Contract) → c ≡ at i → samePeriod (c .period) t ≡ false → Carries (grid n k ls fs) (ofPeriod t (listTo i at)) f
+      → Carries (grid n k ls fs) (ofPeriod t (listTo (i + 1) at)) f
+  carry-other c e b carried = rw (listTo-more i at, ← e, ofPeriod-other t (listTo i at) c b) carried
