@@ -64,11 +64,17 @@ pub over-is : (limits : List ℕ) (process : Process) (cells : List ℤ) (k : �
     → b ≡ ltZ z (toZ w64 (ofZ w64 (getD cells k (pos 0)))) → over limits process cells k ≡ b
 over-is limits process cells k z b h e t = sym (t ∙ rw (e, back (getD cells k (pos 0)) (omega arith)))
 
+pub difference-is : (x y v : ℤ) (r : ℤ) → natAbs x < 2 ^ 62 → y ≡ r → v ≡ toZ w64 (ofZ w64 x) -ℤ y → v ≡ x -ℤ r
+difference-is x y v r h e d = d ∙ rw (e, back x (omega arith))
+
 -- ---- the lowest of a set that is not empty
+
+pub set-small : (k s : ℕ) (f : ℕ → Bool) → s ≡ setOf k f → k ≤ 64 → s < 2 ^ 64
+set-small k s f e few = let p : 2 ^ k ≤ 2 ^ 64 = pow-mono {i = k} {j = 64} few in omega (arith, set-lt k f)
 
 module _ (k s : ℕ) (f : ℕ → Bool) (e : s ≡ setOf k f) (some-bit : s ≡ 0 → ⊥) (few : k ≤ 64) where
   above-zero : 0 < setOf k f
-  above-zero = rw e at (pos-of-ne-zero s some-bit)
+  above-zero = rw e at (pos-of-ne-zero {n = s} some-bit)
 
   pub lowest-in : trailingZeros 64 s < k
   lowest-in = rw (e, set-trailing k 64 f few above-zero) (set-lowest k f above-zero .inside)
@@ -110,7 +116,7 @@ module _ (n k : ℕ) (ls : List ℕ) (fs : List ℤ) (process : Process) (t : Pe
 
   module _ (few : k ≤ 64) (some-bit : s ≡ 0 → ⊥) (o : Flow) (excess-is : o .0 ≡ getD (f .flows) (trailingZeros 64 s) (pos 0) -ℤ pos (getD ls (trailingZeros 64 s) 0 * percent process * 1000)) where
     above : 0 < overloadSet g process tested
-    above = rw set-is at (pos-of-ne-zero s some-bit)
+    above = rw set-is at (pos-of-ne-zero {n = s} some-bit)
 
     count-is : ones s ≡ overloadCount g process tested
     count-is = ap ones set-is ∙ count-is-ones g process t cs

@@ -1,3 +1,13 @@
+use mathlib.Core.Path.{_≡_, sym, ap, _∙_}
+use Prim.Native.Nat.{ℕ, _*_, _≤_, _<_}
+use native.Mathlib.Omega.{arith}
+use lib.Dec.{lit<}
+use lib.ListN.{getD}
+use lib.Count.{ones, ones-le, trailingZeros}
+use lib.IntN.{ℤ, pos, natAbs, _-ℤ_}
+use Rattle.tariff.specs.Processes.{percent}
+use Rattle.feasibility_test.proofs.Flowing.{kept-sized}
+use Rattle.feasibility_test.proofs.Judging.{over, lowest-in, released-small, difference-is, set-small, pass-answer, fail-answer}
 use borrow.Author.Needs.{needs}
 use Rattle.feasibility_test.proofs.verdict.Statement.{statement}
 use Rattle.feasibility_test.proofs.verdict.Tie as tie
@@ -7,49 +17,69 @@ use Rattle.feasibility_test.proofs.overload_set.Reads as overload-set-r
 use Rattle.tariff.proofs.Flow.minus.Reads as minus-reads
 use Rattle.tariff.proofs.Process.released.Reads as released-reads
 
+-- the lowest is one of the constraints
+inside : (c : tie.Else1) → trailingZeros 64 (c .before .overload-set .result) < c .before .before .before .args .constraints
+inside c =
+    let s = c .before .before .before in
+    lowest-in (s .args .constraints) (c .before .overload-set .result) (over (s .args .limits .now) (s .args .process) (s .args .flows .flows)) (c .before .overload-set .ensures) (c .if1 .left) (s .pre .0 .0)
+
 -- src/lib.rt:126:9
 overload-set-requires : tie.Need-overload-set-requires
 overload-set-requires c κs = search needs
 
 -- src/lib.rt:128:9
 returns : tie.Need-returns
-returns c = ?
+returns c n fs t cs carried =
+    let s = c .before .before .before in
+    pass-answer n (s .args .constraints) (s .args .limits .now) fs (s .args .process) t cs (s .args .flows) carried (c .before .overload-set .result) (c .before .overload-set .ensures) (c .if1 .taken)
 
 -- src/lib.rt:130:17
 cast-count : tie.Need-cast-count
-cast-count c = ?
+cast-count c =
+    let s = c .before .before .before in
+    let small = set-small (s .args .constraints) (c .before .overload-set .result) (over (s .args .limits .now) (s .args .process) (s .args .flows .flows)) (c .before .overload-set .ensures) (s .pre .0 .0) in
+    record { fits = omega (arith, ones-le 64 (c .before .overload-set .result) small) }
 
 -- src/lib.rt:131:18
 cast-lowest : tie.Need-cast-lowest
-cast-lowest c = ?
+cast-lowest c = record { fits = omega (arith, inside c) }
 
 -- src/lib.rt:133:23
 mul-t12 : tie.Need-mul-t12
-mul-t12 c = ?
+mul-t12 c = record { fits = omega (arith, inside (c .before)) }
 
 -- src/lib.rt:133:23
 array-copy-out-t15 : tie.Need-array-copy-out-t15
-array-copy-out-t15 c = ?
+array-copy-out-t15 c = omega (arith, inside (c .before))
 
 -- src/lib.rt:133:61
 mul-released : tie.Need-mul-released
-mul-released c = ?
+mul-released c = record { fits = omega (arith, inside (c .before .before)) }
 
 -- src/lib.rt:133:61
 shared-slice-read-released : tie.Need-shared-slice-read-released
-shared-slice-read-released c = ?
+shared-slice-read-released c = omega (arith, inside (c .before .before .before))
 
 -- src/lib.rt:133:44
 released-requires : tie.Need-released-requires
-released-requires c κs = ?
+released-requires c κs = c .before .before .before .before .before .before .pre .1 _ (inside (c .before .before .before)) .0
 
 -- src/lib.rt:133:9
 minus-requires : tie.Need-minus-requires
-minus-requires c κs = ?
+minus-requires c κs =
+    let s = c .before .before .before .before .before .before .before in
+    let l = trailingZeros 64 (c .before .before .before .before .before .overload-set .result) in
+    let p = s .pre .1 l (inside (c .before .before .before .before)) in
+    omega (arith, kept-sized (getD (s .args .flows .flows) l (pos 0)) 4611686018427387904 (lit< tt) (omega (arith, p .1)), released-small (c .released .result .0) (getD (s .args .limits .now) l 0) (s .args .process) (p .0) (c .released .ensures))
 
 -- src/lib.rt:121:1
 returns-2 : tie.Need-returns-2
-returns-2 c = ?
+returns-2 c n fs t cs carried =
+    let e = c .before .before .before .before .before in
+    let s = e .before .before .before in
+    let l = trailingZeros 64 (e .before .overload-set .result) in
+    fail-answer n (s .args .constraints) (s .args .limits .now) fs (s .args .process) t cs (s .args .flows) carried (e .before .overload-set .result) (e .before .overload-set .ensures) (s .pre .0 .0) (e .if1 .left) (c .minus .result)
+    (difference-is (getD (s .args .flows .flows) l (pos 0)) (c .before .released .result .0) (c .minus .result .0) _ (s .pre .1 l (inside e) .1) (c .before .released .ensures) (c .minus .ensures))
 
 pub verdict-spec : {M : Type 1} → statement M
 verdict-spec =
