@@ -10,7 +10,9 @@ use lib.Dec.{ltb, eqb}
 use lib.ListN.{length, getD, take, length-take}
 use lib.Seq.{getD-take, length-take-le}
 use lib.IntN.{ℤ, pos, natAbs}
-use Rattle.tariff.specs.declared.Checked.the-variants.{Passed}
+use Rattle.tariff.specs.declared.Refusal.{Refusal}
+use Rattle.tariff.specs.declared.Checked.{Checked}
+use Rattle.tariff.specs.declared.Checked.the-variants.{Passed, Refused}
 use Rattle.tariff.specs.Units.{grid, FactorsInRange, LimitsInRange}
 use Rattle.tariff.specs.Refusals.{first}
 use Rattle.tariff.specs.Checks.{some, factorBad, limitBad}
@@ -85,3 +87,7 @@ many-nodes n h = let z : n ≡ 0 → ⊥ = λ e. omega arith in rw (ne-eqb n 0 z
 
 pub some-nodes : (n : ℕ) → (n ≡ 0 → ⊥) → n ≤ 200 → (eqb n 0 || ltb 200 n) ≡ false
 some-nodes n z h = rw (ne-eqb n 0 z, le-ltb 200 n h)
+
+-- what refuses does not pass
+pub refused-passed : (x checked : Checked) (r : Refusal) → x ≡ checked → x ≡ Refused r → checked ≡ Passed → ⊥
+refused-passed x checked r found told passed = let z : _≡_ {A = ℕ} 0 1 = cc in omega arith
