@@ -9,7 +9,7 @@ use native.Mathlib.Nat.{mul-le-mul, mod-eq-of-lt, pos-of-ne-zero}
 use borrow.Author.Tests.{ne-eqb}
 use lib.Count.{ones, trailingZeros}
 use lib.Pow.{pow-lt, pow-mono}
-use lib.ListN.{length, getD}
+use lib.ListN.{getD}
 use lib.IntN.{ℤ, pos, natAbs, _-ℤ_}
 use lib.Signed.{ltZ}
 use mir.Syntax.{w64}

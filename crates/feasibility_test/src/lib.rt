@@ -42,7 +42,7 @@ pub enum TestAnswer {
 
 impl Flows {
     // No contract yet.
-    pub fn none() -> Flows
+    fn none() -> Flows
         ensures { λ r. ⌜ ((n k : ℕ) (ls : List ℕ) (fs : List ℤ) → k ≤ 64 → Carries (grid n k ls fs) [] r) ⌝ }
     {
         Flows {
@@ -52,7 +52,7 @@ impl Flows {
     }
 
     // One contract more: its flow, as it counts, on every constraint.
-    pub fn step(self, c: Contract, constraints: usize, factors: &[i64]) -> Flows
+    fn step(self, c: Contract, constraints: usize, factors: &[i64]) -> Flows
         requires { ⌜ (constraints ≤ 64) × (c .source * constraints + constraints ≤ length (now factors)) × (c .sink * constraints + constraints ≤ length (now factors)) ⌝ }
         requires { ⌜ ((k : ℕ) → k < constraints → natAbs (getD (now factors) (c .source * constraints + k) (pos 0)) ≤ 100000) ⌝ }
         requires { ⌜ ((k : ℕ) → k < constraints → natAbs (getD (now factors) (c .sink * constraints + k) (pos 0)) ≤ 100000) ⌝ }
@@ -67,8 +67,9 @@ impl Flows {
         let mut k = 0;
         while k < constraints {
             let flow = quantity.flow(factors[source + k], factors[sink + k]).counted(kind);
-            let sum = Flow(flows[k]).plus(flow);
-            let total = sum.0;
+            let before = Flow(flows[k]);
+            let after = before.plus(flow);
+            let total = after.0;
             flows[k] = total;
             k += 1;
         }
@@ -109,7 +110,9 @@ fn overload_set(constraints: usize, process: Process, limits: &[u64], flows: Flo
     let mut set = 0u64;
     let mut k = 0;
     while k < constraints {
-        if Flow(cells[k]).exceeds(process.released(limits[k])) {
+        let flow = Flow(cells[k]);
+        let released = process.released(limits[k]);
+        if flow.exceeds(released) {
             set += 1u64 << k;
         }
         k += 1;
@@ -130,7 +133,9 @@ fn verdict(constraints: usize, process: Process, limits: &[u64], flows: Flows) -
     let count = u64::count_ones(set) as usize;
     let lowest = u64::trailing_zeros(set) as usize;
     let cells = flows.flows;
-    let excess = Flow(cells[lowest]).minus(process.released(limits[lowest]));
+    let flow = Flow(cells[lowest]);
+    let released = process.released(limits[lowest]);
+    let excess = flow.minus(released);
     TestAnswer::Fail {
         set,
         count,

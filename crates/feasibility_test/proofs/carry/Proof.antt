@@ -1,12 +1,12 @@
-use mathlib.Core.Path.{_≡_, refl, sym, ap, _∙_, subst}
+-- `carry`: the contracts below i are carried.
+use mathlib.Core.Path.{_≡_, sym, _∙_, subst}
 use mathlib.Core.Logic.{⊎-elim}
 use mathlib.Core.List.{List, []}
-use Prim.Native.Nat.{ℕ, _+_, _-_, _*_, _≤_, _<_}
+use Prim.Native.Nat.{ℕ, _+_, _-_, _≤_, _<_}
 use native.Mathlib.Omega.{arith}
 use borrow.Author.Needs.{needs}
-use Rattle.tariff.specs.declared.Contract.{Contract}
-use Rattle.tariff.specs.Units.{grid, FactorsInRange}
-use Rattle.tariff.specs.Contracts.{samePeriod, ofPeriod, InRange}
+use Rattle.tariff.specs.Units.{grid}
+use Rattle.tariff.specs.Contracts.{ofPeriod, InRange}
 use Rattle.layouts.specs.Files.{listTo}
 use Rattle.layouts.specs.BookFile.{countIn, contractAt}
 use Rattle.book_file.proofs.Accepted.{Accepted, book-accepted}
@@ -15,13 +15,6 @@ use Rattle.feasibility_test.proofs.Checking.{row-fits, factors-in-range
 use Rattle.feasibility_test.proofs.Flowing.{count-most, flow-most, carry-same, carry-other}
 use Rattle.feasibility_test.proofs.carry.Statement.{statement}
 use Rattle.feasibility_test.proofs.carry.Tie as tie
-use Rattle.feasibility_test.proofs.carry.Reads as reads
-use Rattle.feasibility_test.proofs.carry.Lts as lts
-use Rattle.bits.proofs.field.Reads as field-reads
-use Rattle.book_file.proofs.contract_at.Reads as contract-at-reads
-use Rattle.feasibility_test.proofs.Flows.none.Reads as none-reads
-use Rattle.feasibility_test.proofs.Flows.step.Reads as step-reads
-use Rattle.tariff.proofs.Period.same.Reads as same-reads
 
 abbrev Inv-loop : tie.InvT-loop
 Inv-loop nodes constraints factors period book count flows₀ i₀ flows i =
@@ -33,33 +26,27 @@ abbrev μ-loop : tie.MeasureT-loop
 ok : (c : tie.Start Inv-loop μ-loop) → Accepted (c .args .nodes) (c .args .book .now)
 ok c = book-accepted (c .args .nodes) (c .args .book .now) (c .pre .1 .1)
 
--- src/lib.rt:88:17
 field-requires : tie.Need-field-requires Inv-loop μ-loop
 field-requires c κs = omega (arith, ok (c .before) .size)
 
--- src/lib.rt:89:9
 none-requires : tie.Need-none-requires Inv-loop μ-loop
 none-requires c κs = search needs
 
--- src/lib.rt:91:5
 loop-holds : tie.Need-loop-holds Inv-loop μ-loop
 unfolding listTo ofPeriod
 loop-holds c =
     let s = c .before .before .before in
     (omega arith, λ ls. c .none .ensures (s .args .nodes) (s .args .constraints) ls (s .args .factors .now) (s .pre .0 .1))
 
--- src/lib.rt:92:13
 contract-at-requires : tie.Need-contract-at-requires Inv-loop μ-loop
 contract-at-requires c κs =
     let a = ok (c .before .before .before .before .before) in
     let n = c .before .before .before .field .ensures .0 in
     (omega (arith, a .few, n), omega (arith, a .size, n))
 
--- src/lib.rt:94:12
 same-requires : tie.Need-same-requires Inv-loop μ-loop
 same-requires c κs = search needs
 
--- src/lib.rt:95:13
 step-requires : tie.Need-step-requires Inv-loop μ-loop
 step-requires c κs =
     let s = c .before .before .before .before .before .before .before .before in
@@ -81,15 +68,12 @@ step-requires c κs =
       ),
     )
 
--- src/lib.rt:97:9
 add-i : tie.Need-add-i Inv-loop μ-loop
 add-i c = search needs
 
--- src/lib.rt:91:5
 loop-less : tie.Need-loop-less Inv-loop μ-loop
 loop-less c = search needs
 
--- src/lib.rt:91:5
 loop-again : tie.Need-loop-again Inv-loop μ-loop
 loop-again c =
     let s = c .before .before .before .before .before .before .before .before in
@@ -106,7 +90,6 @@ loop-again c =
       (c .if1 .came),
     )
 
--- src/lib.rt:83:1
 returns : tie.Need-returns Inv-loop μ-loop
 returns c ls =
     let s = c .before .before .before .before .before in

@@ -1,4 +1,5 @@
-use mathlib.Core.Path.{_≡_, sym, _∙_}
+-- `check_test`: each return by the tests that led there.
+use mathlib.Core.Path.{sym, _∙_}
 use borrow.Author.Tests.{lt-ltb, le-ltb}
 use Rattle.tariff.proofs.Checks.{first-passes, first-refuses}
 use Rattle.feasibility_test.specs.TestChecks.{testChecks}
@@ -6,33 +7,25 @@ use Rattle.feasibility_test.proofs.Checking.{no-node, many-nodes, some-
 use borrow.Author.Needs.{needs}
 use Rattle.feasibility_test.proofs.check_test.Statement.{statement}
 use Rattle.feasibility_test.proofs.check_test.Tie as tie
-use Rattle.feasibility_test.proofs.check_test.Reads as reads
-use Rattle.feasibility_test.proofs.check_test.Lts as lts
-use Rattle.feasibility_test.proofs.check_tables.Reads as check-tables-reads
 
--- src/lib.rt:168:9
 returns : tie.Need-returns
 unfolding testChecks
 returns c = sym (first-refuses _ _ (no-node _ (c .if1 .taken)))
 
--- src/lib.rt:171:9
 returns-2 : tie.Need-returns-2
 unfolding testChecks
 returns-2 c = sym (first-refuses _ _ (many-nodes _ (c .if2 .taken)))
 
--- src/lib.rt:174:9
 returns-3 : tie.Need-returns-3
 unfolding testChecks
 returns-3 c = let n = c .before in sym (first-passes _ _ (some-nodes _ (n .before .if1 .left) (n .if2 .left)) ∙ first-refuses _ _ (lt-ltb _ _ (c .if3 .taken)))
 
--- src/lib.rt:177:9
 returns-4 : tie.Need-returns-4
 unfolding testChecks
 returns-4 c =
     let n = c .before .before in
     sym (first-passes _ _ (some-nodes _ (n .before .if1 .left) (n .if2 .left)) ∙ first-passes _ _ (le-ltb _ _ (c .before .if3 .left)) ∙ first-refuses _ _ (lt-ltb _ _ (c .if4 .taken)))
 
--- src/lib.rt:180:9
 returns-5 : tie.Need-returns-5
 unfolding testChecks
 returns-5 c =
@@ -40,11 +33,9 @@ returns-5 c =
     sym (first-passes _ _ (some-nodes _ (n .before .if1 .left) (n .if2 .left)) ∙ first-passes _ _ (le-ltb _ _ (c .before .before .if3 .left))
     ∙ first-passes _ _ (le-ltb _ _ (c .before .if4 .left)) ∙ first-refuses _ _ (lt-ltb _ _ (c .if5 .taken)))
 
--- src/lib.rt:182:5
 check-tables-requires : tie.Need-check-tables-requires
 check-tables-requires c κs = search needs
 
--- src/lib.rt:164:1
 returns-6 : tie.Need-returns-6
 unfolding testChecks
 returns-6 c =

@@ -1,3 +1,4 @@
+-- `test_book`.
 use mathlib.Core.Path.{_≡_, sym, _∙_, subst}
 use Prim.Native.Nat.{ℕ, _<_, _^_}
 use native.Mathlib.Omega.{arith}
@@ -9,7 +10,6 @@ use Rattle.tariff.specs.declared.Checked.the-variants.{Passed}
 use Rattle.tariff.specs.Refusals.{first, given}
 use Rattle.tariff.specs.Units.{grid}
 use Rattle.tariff.specs.Contracts.{periodOf, ofPeriod}
-use Rattle.tariff.specs.Processes.{processOf}
 use Rattle.layouts.specs.BookFile.{bookIn, countIn, contractAt}
 use Rattle.book_file.proofs.Accepted.{book-accepted}
 use Rattle.runs.proofs.Answers.{answer-refused, answer-passed}
@@ -21,13 +21,6 @@ use Rattle.feasibility_test.proofs.Flowing.{count-most, flow-most}
 use borrow.Author.Needs.{needs}
 use Rattle.feasibility_test.proofs.test_book.Statement.{statement}
 use Rattle.feasibility_test.proofs.test_book.Tie as tie
-use Rattle.feasibility_test.proofs.test_book.Reads as reads
-use Rattle.feasibility_test.proofs.test_book.Lts as lts
-use Rattle.feasibility_test.proofs.carry.Reads as carry-reads
-use Rattle.feasibility_test.proofs.check_test.Reads as check-test-reads
-use Rattle.feasibility_test.proofs.verdict.Reads as verdict-reads
-use Rattle.tariff.proofs.Period.from_number.Reads as Period-from-number-reads
-use Rattle.tariff.proofs.Process.from_number.Reads as Process-from-number-reads
 
 -- none of the checks refuses
 passed : (c : tie.After-enum-told) → let a = c .before .before .before .before .before .args in first (testChecks (a .nodes) (a .constraints) (a .process) (a .period) (a .limits .now) (a .factors .now) (a .book .now)) ≡ Passed
@@ -55,15 +48,12 @@ sized c k h =
       flow-most (a .nodes) (a .constraints) (countIn (a .book .now)) (a .limits .now) (a .factors .now) (periodOf (a .period)) (contractAt (a .book .now)) (c .carry .result) (b .each) (carried c) fr k h
     )
 
--- src/lib.rt:190:9
 check-test-requires : tie.Need-check-test-requires
 check-test-requires c κs = search needs
 
--- src/lib.rt:191:29
 enum-known-checked : tie.Need-enum-known-checked
 enum-known-checked c = search needs
 
--- src/lib.rt:192:9
 returns : tie.Need-returns
 returns c =
     let k = c .before .before .before .check-test in
@@ -75,26 +65,21 @@ returns c =
 enum-told : tie.Need-enum-told
 enum-told c = search needs
 
--- src/lib.rt:194:52
 from-number-requires : tie.Need-from-number-requires
 from-number-requires c κs = search needs
 
--- src/lib.rt:194:9
 carry-requires : tie.Need-carry-requires
 carry-requires c κs = let o = ok (c .before) in ((o .few-nodes, o .few-constraints, o .factors-long), (o .factors-good, o .book-good))
 
--- src/lib.rt:195:26
 from-number-requires-2 : tie.Need-from-number-requires-2
 from-number-requires-2 c κs = ok (c .before .before) .process-number
 
--- src/lib.rt:195:5
 verdict-requires : tie.Need-verdict-requires
 verdict-requires c κs =
     let a = c .before .before .before .before .before .before .before .before .args in
     let o = ok (c .before .before .before) in
     ((o .few-constraints, o .limits-long), λ k h. (limits-in-range (a .constraints) (a .limits .now) (o .limits-long) (o .limits-good) k h, sized (c .before) k h))
 
--- src/lib.rt:186:1
 returns-2 : tie.Need-returns-2
 returns-2 c =
     let e = c .before .before .before .before in

@@ -1,21 +1,15 @@
-use mathlib.Core.Path.{_≡_, sym, ap, _∙_}
-use Prim.Native.Nat.{ℕ, _*_, _≤_, _<_}
+-- `verdict`.
+use Prim.Native.Nat.{_<_}
 use native.Mathlib.Omega.{arith}
 use lib.Dec.{lit<}
 use lib.ListN.{getD}
-use lib.Count.{ones, ones-le, trailingZeros}
-use lib.IntN.{ℤ, pos, natAbs, _-ℤ_}
-use Rattle.tariff.specs.Processes.{percent}
+use lib.Count.{ones-le, trailingZeros}
+use lib.IntN.{pos}
 use Rattle.feasibility_test.proofs.Flowing.{kept-sized}
 use Rattle.feasibility_test.proofs.Judging.{over, lowest-in, released-small, difference-is, set-small, pass-answer, fail-answer}
 use borrow.Author.Needs.{needs}
 use Rattle.feasibility_test.proofs.verdict.Statement.{statement}
 use Rattle.feasibility_test.proofs.verdict.Tie as tie
-use Rattle.feasibility_test.proofs.verdict.Reads as reads
-use Rattle.feasibility_test.proofs.verdict.Lts as lts
-use Rattle.feasibility_test.proofs.overload_set.Reads as overload-set-reads
-use Rattle.tariff.proofs.Flow.minus.Reads as minus-reads
-use Rattle.tariff.proofs.Process.released.Reads as released-reads
 
 -- the lowest is one of the constraints
 inside : (c : tie.Else1) → trailingZeros 64 (c .before .overload-set .result) < c .before .before .before .args .constraints
@@ -23,48 +17,38 @@ inside c =
     let s = c .before .before .before in
     lowest-in (s .args .constraints) (c .before .overload-set .result) (over (s .args .limits .now) (s .args .process) (s .args .flows .flows)) (c .before .overload-set .ensures) (c .if1 .left) (s .pre .0 .0)
 
--- src/lib.rt:126:9
 overload-set-requires : tie.Need-overload-set-requires
 overload-set-requires c κs = search needs
 
--- src/lib.rt:128:9
 returns : tie.Need-returns
 returns c n fs t cs carried =
     let s = c .before .before .before in
     pass-answer n (s .args .constraints) (s .args .limits .now) fs (s .args .process) t cs (s .args .flows) carried (c .before .overload-set .result) (c .before .overload-set .ensures) (c .if1 .taken)
 
--- src/lib.rt:130:17
 cast-count : tie.Need-cast-count
 cast-count c =
     let s = c .before .before .before in
     let small = set-small (s .args .constraints) (c .before .overload-set .result) (over (s .args .limits .now) (s .args .process) (s .args .flows .flows)) (c .before .overload-set .ensures) (s .pre .0 .0) in
     record { fits = omega (arith, ones-le 64 (c .before .overload-set .result) small) }
 
--- src/lib.rt:131:18
 cast-lowest : tie.Need-cast-lowest
 cast-lowest c = record { fits = omega (arith, inside c) }
 
--- src/lib.rt:133:23
-mul-t12 : tie.Need-mul-t12
-mul-t12 c = record { fits = omega (arith, inside (c .before)) }
+mul-t14 : tie.Need-mul-t14
+mul-t14 c = record { fits = omega (arith, inside (c .before)) }
 
--- src/lib.rt:133:23
-array-copy-out-t15 : tie.Need-array-copy-out-t15
-array-copy-out-t15 c = omega (arith, inside (c .before))
+array-copy-out-t17 : tie.Need-array-copy-out-t17
+array-copy-out-t17 c = omega (arith, inside (c .before))
 
--- src/lib.rt:133:61
 mul-released : tie.Need-mul-released
 mul-released c = record { fits = omega (arith, inside (c .before .before)) }
 
--- src/lib.rt:133:61
 shared-slice-read-released : tie.Need-shared-slice-read-released
 shared-slice-read-released c = omega (arith, inside (c .before .before .before))
 
--- src/lib.rt:133:44
 released-requires : tie.Need-released-requires
 released-requires c κs = c .before .before .before .before .before .before .pre .1 _ (inside (c .before .before .before)) .0
 
--- src/lib.rt:133:9
 minus-requires : tie.Need-minus-requires
 minus-requires c κs =
     let s = c .before .before .before .before .before .before .before in
@@ -72,7 +56,6 @@ minus-requires c κs =
     let p = s .pre .1 l (inside (c .before .before .before .before)) in
     omega (arith, kept-sized (getD (s .args .flows .flows) l (pos 0)) 4611686018427387904 (lit< tt) (omega (arith, p .1)), released-small (c .released .result .0) (getD (s .args .limits .now) l 0) (s .args .process) (p .0) (c .released .ensures))
 
--- src/lib.rt:121:1
 returns-2 : tie.Need-returns-2
 returns-2 c n fs t cs carried =
     let e = c .before .before .before .before .before in
@@ -89,8 +72,8 @@ verdict-spec =
     returns
     cast-count
     cast-lowest
-    mul-t12
-    array-copy-out-t15
+    mul-t14
+    array-copy-out-t17
     mul-released
     shared-slice-read-released
     released-requires

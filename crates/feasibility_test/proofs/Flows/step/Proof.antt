@@ -1,18 +1,14 @@
-use mathlib.Core.Path.{_≡_, refl, sym, ap, _∙_}
-use Prim.Native.Nat.{ℕ, _+_, _-_, _*_, _^_, _≤_, _<_}
+-- `Flows::step`: the cells below k have the contract's flow, the others are as they were.
+use mathlib.Core.Path.{_≡_, refl, sym, _∙_}
+use Prim.Native.Nat.{ℕ, _+_, _-_, _*_, _≤_, _<_}
 use native.Mathlib.Omega.{arith}
-use lib.ListN.{length, take, drop, getD, set, length-set, length-map}
+use lib.ListN.{length, getD, length-set, length-map}
 use lib.Dec.{lit<}
 use borrow.Author.Needs.{needs}
-use lib.IntN.{ℤ, pos, natAbs, _+ℤ_, _-ℤ_, _*ℤ_}
+use lib.IntN.{ℤ, pos, natAbs, _+ℤ_}
 use Rattle.feasibility_test.proofs.Flowing.{part, cell-done, cell-rest, kept-sized, flow-small, part-is, counted-small, sum-is, step-carries}
 use Rattle.feasibility_test.proofs.Flows.step.Statement.{statement}
 use Rattle.feasibility_test.proofs.Flows.step.Tie as tie
-use Rattle.feasibility_test.proofs.Flows.step.Reads as reads
-use Rattle.feasibility_test.proofs.Flows.step.Lts as lts
-use Rattle.tariff.proofs.Flow.counted.Reads as counted-reads
-use Rattle.tariff.proofs.Flow.plus.Reads as plus-reads
-use Rattle.tariff.proofs.Quantity.flow.Reads as flow-reads
 
 abbrev Inv-loop : tie.InvT-loop
 Inv-loop self constraints factors flows₀ source sink quantity kind k₀ flows k =
@@ -21,46 +17,36 @@ Inv-loop self constraints factors flows₀ source sink quantity kind k₀ flows 
 abbrev μ-loop : tie.MeasureT-loop
 μ-loop self constraints factors flows₀ source sink quantity kind k₀ flows k = constraints - k
 
--- src/lib.rt:63:22
 mul-source : tie.Need-mul-source Inv-loop μ-loop
 mul-source c = search needs
 
--- src/lib.rt:64:20
 mul-sink : tie.Need-mul-sink Inv-loop μ-loop
 mul-sink c = search needs
 
--- src/lib.rt:68:9
 full : (c : tie.Start Inv-loop μ-loop) → length (c .args .self .flows) ≡ 64
 full c = sym (length-map (c .args .self .flows) (λ (z : ℤ). z)) ∙ c .good .0 .1 .1 .0 .1 .0 .1
 
 loop-holds : tie.Need-loop-holds Inv-loop μ-loop
 loop-holds c = (omega arith, full (c .before .before .before .before), (λ j h. absurd (omega arith)), (λ j h. refl))
 
--- src/lib.rt:69:46
 add-flow : tie.Need-add-flow Inv-loop μ-loop
 add-flow c = search needs
 
--- src/lib.rt:69:38
 mul-flow : tie.Need-mul-flow Inv-loop μ-loop
 mul-flow c = search needs
 
--- src/lib.rt:69:38
 shared-slice-copy-out-flow : tie.Need-shared-slice-copy-out-flow Inv-loop μ-loop
 shared-slice-copy-out-flow c = search needs
 
--- src/lib.rt:69:67
 add-flow-2 : tie.Need-add-flow-2 Inv-loop μ-loop
 add-flow-2 c = search needs
 
--- src/lib.rt:69:59
 mul-flow-2 : tie.Need-mul-flow-2 Inv-loop μ-loop
 mul-flow-2 c = search needs
 
--- src/lib.rt:69:59
 shared-slice-copy-out-flow-2 : tie.Need-shared-slice-copy-out-flow-2 Inv-loop μ-loop
 shared-slice-copy-out-flow-2 c = search needs
 
--- src/lib.rt:69:24
 flow-requires : tie.Need-flow-requires Inv-loop μ-loop
 flow-requires c κs =
     let s = c .before .before .before .before .before .before .before .before in
@@ -75,7 +61,6 @@ product-small c =
     let a : k < s .args .constraints = c .before .before .before .loop-test .taken in
     flow-small (s .args .factors .now) (s .args .c .source * s .args .constraints) (s .args .c .sink * s .args .constraints) (s .args .c .quantity) (s .args .c .kind) k (s .pre .1 .0 k a) (s .pre .1 .1 .0 k a) _ (c .flow .ensures) (s .pre .1 .1 .1 .0)
 
--- src/lib.rt:69:17
 counted-requires : tie.Need-counted-requires Inv-loop μ-loop
 counted-requires c κs = omega (arith, product-small c)
 
@@ -89,35 +74,27 @@ old c =
     let l = c .before .before .before .before .before .loop in
     rw (l .inv .3 (l .k) (omega arith)) (omega (arith, s .pre .1 .1 .1 .2 (l .k) (c .before .before .before .before .loop-test .taken)))
 
--- src/lib.rt:70:28
-mul-t16 : tie.Need-mul-t16 Inv-loop μ-loop
-mul-t16 c = search needs
+mul-t17 : tie.Need-mul-t17 Inv-loop μ-loop
+mul-t17 c = search needs
 
--- src/lib.rt:70:28
-array-copy-out-t23 : tie.Need-array-copy-out-t23 Inv-loop μ-loop
-array-copy-out-t23 c = search needs
+array-copy-out-t24 : tie.Need-array-copy-out-t24 Inv-loop μ-loop
+array-copy-out-t24 c = search needs
 
--- src/lib.rt:70:17
 plus-requires : tie.Need-plus-requires Inv-loop μ-loop
 plus-requires c κs = let l = c .before .before .before .before .before .before .loop in omega (arith, small (c .before), kept-sized (getD (l .flows) (l .k) (pos 0)) 200000000000000 (lit< tt) (old (c .before)))
 
--- src/lib.rt:72:13
 mul-flows : tie.Need-mul-flows Inv-loop μ-loop
 mul-flows c = search needs
 
--- src/lib.rt:72:13
 array-set-from-flows : tie.Need-array-set-from-flows Inv-loop μ-loop
 array-set-from-flows c = search needs
 
--- src/lib.rt:73:13
 add-k : tie.Need-add-k Inv-loop μ-loop
 add-k c = search needs
 
--- src/lib.rt:68:9
 loop-less : tie.Need-loop-less Inv-loop μ-loop
 loop-less c = search needs
 
--- src/lib.rt:68:9
 loop-again : tie.Need-loop-again Inv-loop μ-loop
 loop-again c =
     let s = c .before .before .before .before .before .before .before .before .before .before .before .before .before in
@@ -132,11 +109,9 @@ loop-again c =
       cell-rest (s .args .self .flows) (l .flows) f (l .k) (l .inv .2) (l .inv .3) _,
     )
 
--- src/lib.rt:77:20
-add-t29 : tie.Need-add-t29 Inv-loop μ-loop
-add-t29 c = search needs
+add-t30 : tie.Need-add-t30 Inv-loop μ-loop
+add-t30 c = search needs
 
--- src/lib.rt:55:5
 returns : tie.Need-returns Inv-loop μ-loop
 returns c n ls cs carried =
     let s = c .before .before .before .before .before .before .before in
@@ -161,13 +136,13 @@ step-spec =
     shared-slice-copy-out-flow-2
     flow-requires
     counted-requires
-    mul-t16
-    array-copy-out-t23
+    mul-t17
+    array-copy-out-t24
     plus-requires
     mul-flows
     array-set-from-flows
     add-k
     loop-less
     loop-again
-    add-t29
+    add-t30
     returns)
