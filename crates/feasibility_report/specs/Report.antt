@@ -1,0 +1,71 @@
+-- The feasibility report's text, for every two files: a heading and six lines, or one line that names the file refused.
+use mathlib.Core.Bool.{Bool, cond}
+use mathlib.Core.List.{List, [], _++_}
+use Prim.Native.Nat.{ℕ, zero, suc}
+use lib.Dec.{eqb}
+use lib.ListN.{length}
+use Rattle.text.specs.Ascii.{ascii}
+use Rattle.text.specs.Decimal.{decimal, decimalZ}
+use Rattle.tariff.specs.declared.Contract.{Contract}
+use Rattle.tariff.specs.declared.Period.{Period}
+use Rattle.tariff.specs.declared.Period.the-variants.{OffPeak, OnPeak}
+use Rattle.tariff.specs.declared.Process.{Process}
+use Rattle.tariff.specs.declared.Process.the-variants.{Annual, TierLt, Monthly}
+use Rattle.tariff.specs.declared.Refusal.{Refusal}
+use Rattle.tariff.specs.Units.{Grid, maxNodes, maxConstraints}
+use Rattle.tariff.specs.Refusals.{first, decided, numberOf}
+use Rattle.tariff.specs.Contracts.{ofPeriod}
+use Rattle.tariff.specs.Feasibility.{excess, overloaded, overloadSet, overloadCount, lowestOverload}
+use Rattle.layouts.specs.GridFile.{gridIn, nodesIn}
+use Rattle.layouts.specs.BookFile.{bookIn}
+use Rattle.grid_file.specs.GridChecks as grid-checks
+use Rattle.book_file.specs.BookChecks.{bookChecks}
+
+-- no report is longer
+abbrev pub longest : ℕ
+longest = 2048
+
+abbrev pub heading : List ℕ
+heading = ascii "period,process,verdict,overloaded,lowest,excess,constraints\n"
+
+abbrev pub periodWord : Period → List ℕ
+periodWord OffPeak = ascii "off-peak"
+periodWord OnPeak = ascii "on-peak"
+
+abbrev pub processWord : Process → List ℕ
+processWord Annual = ascii "annual"
+processWord TierLt = ascii "lt"
+processWord Monthly = ascii "monthly"
+
+-- a blank behind what stands there already
+unfoldable pub blankAfter : List ℕ → List ℕ
+blankAfter text = cond (eqb (length text) 0) [] (ascii " ")
+
+-- the numbers below n that f holds of, separated by blanks
+unfoldable pub numbersTo : ℕ → (ℕ → Bool) → List ℕ
+numbersTo zero f = []
+numbersTo (suc k) f = numbersTo k f ++ cond (f k) (blankAfter (numbersTo k f) ++ decimal k) []
+
+module _ (g : Grid) (process : Process) (cs : List Contract) where
+  -- verdict, count, lowest, excess, constraints
+  unfoldable pub figures : List ℕ
+  figures =
+      cond (eqb (overloadSet g process cs) 0) (ascii "pass,0,,,")
+      (ascii "fail," ++ decimal (overloadCount g process cs) ++ ascii "," ++ decimal (lowestOverload g process cs) ++ ascii "," ++ decimalZ (excess g process cs (lowestOverload g process cs)) ++ ascii ","
+      ++ numbersTo (g .constraints) (overloaded g process cs))
+
+unfoldable pub line : Grid → List Contract → Period → Process → List ℕ
+line g book period process = periodWord period ++ ascii "," ++ processWord process ++ ascii "," ++ figures g process (ofPeriod period book) ++ ascii "\n"
+
+unfoldable pub lines : Grid → List Contract → List ℕ
+lines g book =
+    heading ++ line g book OffPeak Annual ++ line g book OffPeak TierLt ++ line g book OffPeak Monthly ++ line g book OnPeak Annual ++ line g book OnPeak TierLt ++ line g book OnPeak Monthly
+
+-- "On a refusal the only line is `refused,grid,N` or `refused,book,N`"; the files are taken in that order
+unfoldable pub refusedLine : List ℕ → Refusal → List ℕ
+refusedLine file r = ascii "refused," ++ file ++ ascii "," ++ decimal (numberOf r) ++ ascii "\n"
+
+unfoldable pub report : List ℕ → List ℕ → List ℕ
+report gridBytes bookBytes =
+    decided (first (grid-checks.readChecks gridBytes 64 12800)) (refusedLine (ascii "grid"))
+    (decided (first (bookChecks (nodesIn gridBytes) bookBytes)) (refusedLine (ascii "book")) (lines (gridIn gridBytes) (bookIn bookBytes)))

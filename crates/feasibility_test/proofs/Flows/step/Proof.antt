@@ -1,0 +1,148 @@
+-- `Flows::step`: the cells below k have the contract's flow, the others are as they were.
+use mathlib.Core.Path.{_≡_, refl, sym, _∙_}
+use Prim.Native.Nat.{ℕ, _+_, _-_, _*_, _≤_, _<_}
+use native.Mathlib.Omega.{arith}
+use lib.ListN.{length, getD, length-set, length-map}
+use lib.Dec.{lit<}
+use borrow.Author.Needs.{needs}
+use lib.IntN.{ℤ, pos, natAbs, _+ℤ_}
+use Rattle.feasibility_test.proofs.Flowing.{part, cell-done, cell-rest, kept-sized, flow-small, part-is, counted-small, sum-is, step-carries}
+use Rattle.feasibility_test.proofs.Flows.step.Statement.{statement}
+use Rattle.feasibility_test.proofs.Flows.step.Tie as tie
+
+abbrev Inv-loop : tie.InvT-loop
+Inv-loop self constraints factors flows₀ source sink quantity kind k₀ flows k =
+    (k ≤ constraints) × (length flows ≡ 64) × ((j : ℕ) → j < k → getD flows j (pos 0) ≡ getD flows₀ j (pos 0) +ℤ part factors source sink quantity kind j) × ((j : ℕ) → k ≤ j → getD flows j (pos 0) ≡ getD flows₀ j (pos 0))
+
+abbrev μ-loop : tie.MeasureT-loop
+μ-loop self constraints factors flows₀ source sink quantity kind k₀ flows k = constraints - k
+
+mul-source : tie.Need-mul-source Inv-loop μ-loop
+mul-source c = search needs
+
+mul-sink : tie.Need-mul-sink Inv-loop μ-loop
+mul-sink c = search needs
+
+full : (c : tie.Start Inv-loop μ-loop) → length (c .args .self .flows) ≡ 64
+full c = sym (length-map (c .args .self .flows) (λ (z : ℤ). z)) ∙ c .good .0 .1 .1 .0 .1 .0 .1
+
+loop-holds : tie.Need-loop-holds Inv-loop μ-loop
+loop-holds c = (omega arith, full (c .before .before .before .before), (λ j h. absurd (omega arith)), (λ j h. refl))
+
+add-flow : tie.Need-add-flow Inv-loop μ-loop
+add-flow c = search needs
+
+mul-flow : tie.Need-mul-flow Inv-loop μ-loop
+mul-flow c = search needs
+
+shared-slice-copy-out-flow : tie.Need-shared-slice-copy-out-flow Inv-loop μ-loop
+shared-slice-copy-out-flow c = search needs
+
+add-flow-2 : tie.Need-add-flow-2 Inv-loop μ-loop
+add-flow-2 c = search needs
+
+mul-flow-2 : tie.Need-mul-flow-2 Inv-loop μ-loop
+mul-flow-2 c = search needs
+
+shared-slice-copy-out-flow-2 : tie.Need-shared-slice-copy-out-flow-2 Inv-loop μ-loop
+shared-slice-copy-out-flow-2 c = search needs
+
+flow-requires : tie.Need-flow-requires Inv-loop μ-loop
+flow-requires c κs =
+    let s = c .before .before .before .before .before .before .before .before in
+    let k = c .before .before .before .loop .k in
+    let a : k < s .args .constraints = c .before .before .loop-test .taken in
+    (kept-sized (getD (s .args .factors .now) (s .args .c .source * s .args .constraints + k) (pos 0)) 100000 (lit< tt) (s .pre .1 .0 k a), kept-sized (getD (s .args .factors .now) (s .args .c .sink * s .args .constraints + k) (pos 0)) 100000 (lit< tt) (s .pre .1 .1 .0 k a), s .pre .1 .1 .1 .0)
+
+product-small : (c : tie.After-flow Inv-loop μ-loop) → natAbs (c .flow .result .0) ≤ 200000000000
+product-small c =
+    let s = c .before .before .before .before .before .before .before .before .before in
+    let k = c .before .before .before .before .loop .k in
+    let a : k < s .args .constraints = c .before .before .before .loop-test .taken in
+    flow-small (s .args .factors .now) (s .args .c .source * s .args .constraints) (s .args .c .sink * s .args .constraints) (s .args .c .quantity) (s .args .c .kind) k (s .pre .1 .0 k a) (s .pre .1 .1 .0 k a) _ (c .flow .ensures) (s .pre .1 .1 .1 .0)
+
+counted-requires : tie.Need-counted-requires Inv-loop μ-loop
+counted-requires c κs = omega (arith, product-small c)
+
+small : (c : tie.After-counted Inv-loop μ-loop) → natAbs (c .counted .result .0) ≤ 200000000000
+small c = counted-small (c .before .before .before .before .before .before .before .before .before .before .args .c .kind) (c .before .flow .result .0) (c .counted .result .0) (c .counted .ensures) (product-small (c .before))
+
+-- the cell has its old flow still
+old : (c : tie.After-counted Inv-loop μ-loop) → natAbs (getD (c .before .before .before .before .before .loop .flows) (c .before .before .before .before .before .loop .k) (pos 0)) ≤ 200000000000000
+old c =
+    let s = c .before .before .before .before .before .before .before .before .before .before in
+    let l = c .before .before .before .before .before .loop in
+    rw (l .inv .3 (l .k) (omega arith)) (omega (arith, s .pre .1 .1 .1 .2 (l .k) (c .before .before .before .before .loop-test .taken)))
+
+mul-t17 : tie.Need-mul-t17 Inv-loop μ-loop
+mul-t17 c = search needs
+
+array-copy-out-t24 : tie.Need-array-copy-out-t24 Inv-loop μ-loop
+array-copy-out-t24 c = search needs
+
+plus-requires : tie.Need-plus-requires Inv-loop μ-loop
+plus-requires c κs = let l = c .before .before .before .before .before .before .loop in omega (arith, small (c .before), kept-sized (getD (l .flows) (l .k) (pos 0)) 200000000000000 (lit< tt) (old (c .before)))
+
+mul-flows : tie.Need-mul-flows Inv-loop μ-loop
+mul-flows c = search needs
+
+array-set-from-flows : tie.Need-array-set-from-flows Inv-loop μ-loop
+array-set-from-flows c = search needs
+
+add-k : tie.Need-add-k Inv-loop μ-loop
+add-k c = search needs
+
+loop-less : tie.Need-loop-less Inv-loop μ-loop
+loop-less c = search needs
+
+loop-again : tie.Need-loop-again Inv-loop μ-loop
+loop-again c =
+    let s = c .before .before .before .before .before .before .before .before .before .before .before .before .before in
+    let l = c .before .before .before .before .before .before .before .before .loop in
+    let p = c .before .before .before in
+    let a : l .k < s .args .constraints = c .before .before .before .before .before .before .before .loop-test .taken in
+    let f = part (s .args .factors .now) (s .args .c .source * s .args .constraints) (s .args .c .sink * s .args .constraints) (s .args .c .quantity) (s .args .c .kind) in
+    let e = part-is (s .args .factors .now) (s .args .c .source * s .args .constraints) (s .args .c .sink * s .args .constraints) (s .args .c .quantity) (s .args .c .kind) (l .k) (s .pre .1 .0 (l .k) a) (s .pre .1 .1 .0 (l .k) a) _ _ (p .before .flow .ensures) (p .counted .ensures) in (
+      omega arith,
+      length-set (l .flows) (l .k) _ ∙ l .inv .1,
+      cell-done (s .args .self .flows) (l .flows) f (l .k) (l .inv .2) (l .inv .3) _ (omega arith) (sum-is (getD (l .flows) (l .k) (pos 0)) (p .counted .result .0) (c .before .plus .result .0) (f (l .k)) (old p) (small p) (c .before .plus .ensures) e),
+      cell-rest (s .args .self .flows) (l .flows) f (l .k) (l .inv .2) (l .inv .3) _,
+    )
+
+add-t30 : tie.Need-add-t30 Inv-loop μ-loop
+add-t30 c = search needs
+
+returns : tie.Need-returns Inv-loop μ-loop
+returns c n ls cs carried =
+    let s = c .before .before .before .before .before .before .before in
+    let l = c .before .before .loop in
+    let last : s .args .constraints ≤ l .k = c .before .loop-test .left in
+    step-carries n (s .args .constraints) ls (s .args .factors .now) cs (s .args .c) (s .args .self) (l .flows) (λ j h. l .inv .2 j (omega arith)) carried
+
+pub step-spec : {M : Type 1} → statement M
+step-spec =
+    tie.close
+    (tie.spec
+    Inv-loop
+    μ-loop
+    mul-source
+    mul-sink
+    loop-holds
+    add-flow
+    mul-flow
+    shared-slice-copy-out-flow
+    add-flow-2
+    mul-flow-2
+    shared-slice-copy-out-flow-2
+    flow-requires
+    counted-requires
+    mul-t17
+    array-copy-out-t24
+    plus-requires
+    mul-flows
+    array-set-from-flows
+    add-k
+    loop-less
+    loop-again
+    add-t30
+    returns)

@@ -1,0 +1,3 @@
+pub mod Checking
+pub mod Flowing
+pub mod Judging

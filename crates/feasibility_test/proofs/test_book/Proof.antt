@@ -1,0 +1,105 @@
+-- `test_book`.
+use mathlib.Core.Path.{_≡_, sym, _∙_, subst}
+use Prim.Native.Nat.{ℕ, _<_, _^_}
+use native.Mathlib.Omega.{arith}
+use lib.ListN.{getD}
+use lib.IntN.{pos, natAbs}
+use Rattle.tariff.specs.declared.Period.{Period}
+use Rattle.tariff.specs.declared.Process.{Process}
+use Rattle.tariff.specs.declared.Checked.the-variants.{Passed}
+use Rattle.tariff.specs.Refusals.{first, given}
+use Rattle.tariff.specs.Units.{grid}
+use Rattle.tariff.specs.Contracts.{periodOf, ofPeriod}
+use Rattle.layouts.specs.BookFile.{bookIn, countIn, contractAt}
+use Rattle.book_file.proofs.Accepted.{book-accepted}
+use Rattle.runs.proofs.Answers.{answer-refused, answer-passed}
+use Rattle.feasibility_test.specs.TestChecks.{testChecks}
+use Rattle.feasibility_test.specs.Answer.{testOutcome, testValues, Demand3}
+use Rattle.feasibility_test.specs.Carried.{Carries}
+use Rattle.feasibility_test.proofs.Checking.{Tested, tested, refused-passed, limits-in-range, factors-in-range}
+use Rattle.feasibility_test.proofs.Flowing.{count-most, flow-most}
+use borrow.Author.Needs.{needs}
+use Rattle.feasibility_test.proofs.test_book.Statement.{statement}
+use Rattle.feasibility_test.proofs.test_book.Tie as tie
+
+-- none of the checks refuses
+passed : (c : tie.After-enum-told) → let a = c .before .before .before .before .before .args in first (testChecks (a .nodes) (a .constraints) (a .process) (a .period) (a .limits .now) (a .factors .now) (a .book .now)) ≡ Passed
+passed c = sym (c .before .before .check-test .ensures) ∙ c .enum-told .given .1
+
+ok : (c : tie.After-enum-told) → let a = c .before .before .before .before .before .args in Tested (a .nodes) (a .constraints) (a .process) (a .period) (a .limits .now) (a .factors .now) (a .book .now)
+ok c = let a = c .before .before .before .before .before .args in tested (a .nodes) (a .constraints) (a .process) (a .period) (a .limits .now) (a .factors .now) (a .book .now) (passed c)
+
+carried : (c : tie.After-carry) → let a = c .before .before .before .before .before .before .before .args in Carries (grid (a .nodes) (a .constraints) (a .limits .now) (a .factors .now)) (ofPeriod (periodOf (a .period)) (bookIn (a .book .now))) (c .carry .result)
+carried c =
+    let a = c .before .before .before .before .before .before .before .args in
+    subst (λ (t : Period). Carries (grid (a .nodes) (a .constraints) (a .limits .now) (a .factors .now)) (ofPeriod t (bookIn (a .book .now))) (c .carry .result)) (c .before .from-number .ensures) (c .carry .ensures (a .limits .now))
+
+-- a thousand flows at most
+sized : (c : tie.After-carry) (k : ℕ) → k < c .before .before .before .before .before .before .before .args .constraints → natAbs (getD (c .carry .result .flows) k (pos 0)) < 2 ^ 62
+sized c k h =
+    let a = c .before .before .before .before .before .before .before .args in
+    let o = ok (c .before .before) in
+    let b = book-accepted (a .nodes) (a .book .now) (o .book-good) in
+    let fr = factors-in-range (a .nodes) (a .constraints) (a .limits .now) (a .factors .now) (o .factors-long) (o .factors-good) in
+    omega (
+      arith,
+      b .few,
+      count-most (a .nodes) (a .constraints) (countIn (a .book .now)) (a .limits .now) (a .factors .now) (periodOf (a .period)) (contractAt (a .book .now)) (c .carry .result) (b .each) (carried c),
+      flow-most (a .nodes) (a .constraints) (countIn (a .book .now)) (a .limits .now) (a .factors .now) (periodOf (a .period)) (contractAt (a .book .now)) (c .carry .result) (b .each) (carried c) fr k h
+    )
+
+check-test-requires : tie.Need-check-test-requires
+check-test-requires c κs = search needs
+
+enum-known-checked : tie.Need-enum-known-checked
+enum-known-checked c = search needs
+
+returns : tie.Need-returns
+returns c =
+    let k = c .before .before .before .check-test in
+    (
+      answer-refused (k .result) _ (k .ensures) _ (c .before .checked .given .1) _,
+      λ p. absurd (refused-passed (k .result) _ _ (k .ensures) (c .before .checked .given .1) p),
+    )
+
+enum-told : tie.Need-enum-told
+enum-told c = search needs
+
+from-number-requires : tie.Need-from-number-requires
+from-number-requires c κs = search needs
+
+carry-requires : tie.Need-carry-requires
+carry-requires c κs = let o = ok (c .before) in ((o .few-nodes, o .few-constraints, o .factors-long), (o .factors-good, o .book-good))
+
+from-number-requires-2 : tie.Need-from-number-requires-2
+from-number-requires-2 c κs = ok (c .before .before) .process-number
+
+verdict-requires : tie.Need-verdict-requires
+verdict-requires c κs =
+    let a = c .before .before .before .before .before .before .before .before .args in
+    let o = ok (c .before .before .before) in
+    ((o .few-constraints, o .limits-long), λ k h. (limits-in-range (a .constraints) (a .limits .now) (o .limits-long) (o .limits-good) k h, sized (c .before) k h))
+
+returns-2 : tie.Need-returns-2
+returns-2 c =
+    let e = c .before .before .before .before in
+    let a = e .before .before .before .before .before .args in
+    let g = grid (a .nodes) (a .constraints) (a .limits .now) (a .factors .now) in
+    let cs = ofPeriod (periodOf (a .period)) (bookIn (a .book .now)) in
+    let k = e .before .before .check-test in
+    let v = subst (λ (p : Process). (testOutcome (c .verdict .result) ≡ given (testValues g p cs)) × Demand3 g p cs (c .verdict .result)) (c .before .from-number2 .ensures) (c .verdict .ensures (a .nodes) (a .factors .now) (periodOf (a .period)) (bookIn (a .book .now)) (carried (c .before .before))) in
+    (v .0 ∙ answer-passed (k .result) _ (k .ensures) (e .enum-told .given .1) _, λ p. v .1)
+
+pub test-book-spec : {M : Type 1} → statement M
+test-book-spec =
+    tie.close
+    (tie.spec
+    check-test-requires
+    enum-known-checked
+    returns
+    enum-told
+    from-number-requires
+    carry-requires
+    from-number-requires-2
+    verdict-requires
+    returns-2)
