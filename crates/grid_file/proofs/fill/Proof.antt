@@ -40,7 +40,7 @@ write-run-requires c κs =
 factor-count-requires : tie.Need-factor-count-requires
 factor-count-requires c κs =
     let s = c .before .before .before .before .before .before .before .before .before .before .before .before .before .before .before .before .before .before .before .before in
-    (s .pre .0 .0, s .pre .0 .1)
+    (omega (arith, s .pre), omega (arith, s .pre))
 
 write-factors-requires : tie.Need-write-factors-requires
 write-factors-requires c κs =
