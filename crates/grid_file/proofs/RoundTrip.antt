@@ -19,11 +19,11 @@ use Rattle.tariff.specs.Units.{grid}
 use Rattle.tariff.specs.Refusals.{first}
 use Rattle.tariff.proofs.Checks.{first-passes, passed-cons}
 use Rattle.layouts.specs.GridFile.{gridBytes, gridFile, gridIn, nodesIn, constraintsIn, limitsIn, factorsIn}
-use Rattle.layouts.proofs.GridFile.{GridFits, GridWritten, grid-written, grid-file-read}
+use Rattle.layouts.proofs.GridFile.{GridWritten, grid-written, grid-file-read}
 use Rattle.runs.proofs.Tests.{same, last-passes}
 use Rattle.grid_file.specs.GridChecks.{readChecks, writeChecks}
 use Rattle.grid_file.proofs.Factors.{small-mag}
-use Rattle.grid_file.proofs.GridLaws.{Readable, readable, Writable, writable}
+use Rattle.grid_file.proofs.GridLaws.{readable, Writable, writable}
 
 -- ---- read, then written
 

@@ -1,7 +1,6 @@
 -- `grid_file::fill`: the counts, the spare bit, the limits, the factors and the padding, one after the other.
-use mathlib.Core.Path.{_≡_, refl, ap, _∙_}
+use mathlib.Core.Path.{_≡_, refl, _∙_}
 use mathlib.Core.List.{map}
-use Prim.Native.Nat.{_+_, _*_, _/_}
 use native.Mathlib.Omega.{arith}
 use borrow.Author.Needs.{needs}
 use lib.ListN.{length, take}
@@ -41,7 +40,7 @@ write-run-requires c κs =
 factor-count-requires : tie.Need-factor-count-requires
 factor-count-requires c κs =
     let s = c .before .before .before .before .before .before .before .before .before .before .before .before .before .before .before .before .before .before .before .before in
-    (s .pre .0 .0, s .pre .0 .1)
+    (omega (arith, s .pre), omega (arith, s .pre))
 
 write-factors-requires : tie.Need-write-factors-requires
 write-factors-requires c κs =

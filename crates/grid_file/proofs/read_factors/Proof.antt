@@ -1,5 +1,5 @@
 -- `grid_file::read_factors`: the cells passed hold the factors passed, and those behind are as they were.
-use mathlib.Core.Path.{_≡_, sym, ap, _∙_}
+use mathlib.Core.Path.{_≡_, _∙_}
 use Prim.Native.Nat.{_+_, _-_, _*_, _≤_}
 use native.Mathlib.Omega.{arith}
 use borrow.Author.Needs.{needs}
@@ -7,7 +7,6 @@ use lib.ListN.{length, take, drop, length-set}
 use mir.Syntax.{w64}
 use mir.Facts.{toZ-ofZ}
 use Rattle.bits.specs.Signed.{toInt}
-use Rattle.bits.proofs.Fields.{within}
 use Rattle.bits.proofs.Fill.{fill-turn, rest-turn, fill-front}
 use Rattle.grid_file.proofs.Factors.{factorsAt, length-factors, factor-at}
 use Rattle.grid_file.proofs.read_factors.Statement.{statement}
