@@ -138,14 +138,14 @@ module _ (n k : ℕ) (ls : List ℕ) (fs : List ℤ) (process : Process) (t : Pe
 
     pub fail-answer : (testOutcome (Fail s (ones s) (trailingZeros 64 s) o) ≡ given (testValues g process tested)) × Demand3 g process tested (Fail s (ones s) (trailingZeros 64 s) o)
     fail-answer = (
-        ap given values-are,
-        record {
-          pass-is-worst-zero = (λ q. absurd (never q), λ w. absurd (some-bit (set-is ∙ pass-is-empty-set g process t cs .0 (pass-is-worst-zero g process t cs .1 w))));
-          fail-is-a-list = λ s' c' l' o' q. rw (← same-lowest q) (list .0);
-          fail-is-its-shortfall = λ s' c' l' o' q. rw (← same-lowest q) (list .1 ∙ sym over-is-excess ∙ same-over q);
-          fail-is-above-zero = λ s' c' l' o' q. rw (← same-over q, over-is-excess) (fail-names-lowest g process t cs above .1);
-        },
-      )
+      ap given values-are,
+      record {
+        pass-is-worst-zero = (λ q. absurd (never q), λ w. absurd (some-bit (set-is ∙ pass-is-empty-set g process t cs .0 (pass-is-worst-zero g process t cs .1 w))));
+        fail-is-a-list = λ s' c' l' o' q. rw (← same-lowest q) (list .0);
+        fail-is-its-shortfall = λ s' c' l' o' q. rw (← same-lowest q) (list .1 ∙ sym over-is-excess ∙ same-over q);
+        fail-is-above-zero = λ s' c' l' o' q. rw (← same-over q, over-is-excess) (fail-names-lowest g process t cs above .1);
+      },
+    )
       where
         list : PriceList g (oneCent g (lowestOverload g process tested)) × (shortfall g process tested (oneCent g (lowestOverload g process tested)) ≡ excess g process tested (lowestOverload g process tested))
         list = excess-is-a-shortfall g process t cs (lowestOverload g process tested) (fail-names-lowest g process t cs above .0 .inside)

@@ -20,7 +20,12 @@ ghost use Rattle.book_file.specs.BookChecks.{bookChecks};
 ghost use Rattle.feasibility_test.specs.TestChecks.{testChecks};
 ghost use Rattle.feasibility_test.specs.Answer.{testOutcome, testValues, Demand3};
 ghost use Rattle.feasibility_test.specs.Carried.{Carries};
-use tariff::{Checked, Contract, Flow, Period, Process, Refusal};
+use tariff::Checked;
+use tariff::Contract;
+use tariff::Flow;
+use tariff::Period;
+use tariff::Process;
+use tariff::Refusal;
 
 // The flow on all constraints, carried together with the number of contracts counted.
 pub struct Flows {
@@ -66,7 +71,9 @@ impl Flows {
         let kind = c.kind;
         let mut k = 0;
         while k < constraints {
-            let flow = quantity.flow(factors[source + k], factors[sink + k]).counted(kind);
+            let flow = quantity
+                .flow(factors[source + k], factors[sink + k])
+                .counted(kind);
             let before = Flow(flows[k]);
             let after = before.plus(flow);
             let total = after.0;
@@ -145,7 +152,13 @@ fn verdict(constraints: usize, process: Process, limits: &[u64], flows: Flows) -
 }
 
 // The checks of the tables and the book: 9 for each table, 6, 7, then the book's own.
-fn check_tables(nodes: usize, constraints: usize, limits: &[u64], factors: &[i64], book: &[u8]) -> Checked
+fn check_tables(
+    nodes: usize,
+    constraints: usize,
+    limits: &[u64],
+    factors: &[i64],
+    book: &[u8],
+) -> Checked
     requires { ⌜ (nodes ≤ 200) × (constraints ≤ 64) ⌝ }
     ensures { λ r. ⌜ r ≡ first (shortTable (length (now (limits .entry))) constraints ∷ shortTable (length (now (factors .entry))) (nodes * constraints) ∷ limitRange (take constraints (now (limits .entry))) ∷ factorRange (take (nodes * constraints) (now (factors .entry))) ∷ bookChecks nodes (now (book .entry))) ⌝ }
 {
@@ -166,7 +179,15 @@ fn check_tables(nodes: usize, constraints: usize, limits: &[u64], factors: &[i64
 }
 
 // The test's checks: 2, 3, 16, 17, then those of the tables and the book.
-fn check_test(nodes: usize, constraints: usize, process: u64, period: u64, limits: &[u64], factors: &[i64], book: &[u8]) -> Checked
+fn check_test(
+    nodes: usize,
+    constraints: usize,
+    process: u64,
+    period: u64,
+    limits: &[u64],
+    factors: &[i64],
+    book: &[u8],
+) -> Checked
     ensures { λ r. ⌜ r ≡ first (testChecks nodes constraints process period (now (limits .entry)) (now (factors .entry)) (now (book .entry))) ⌝ }
 {
     if nodes == 0 {
@@ -188,7 +209,15 @@ fn check_test(nodes: usize, constraints: usize, process: u64, period: u64, limit
 }
 
 // Tests a book's bytes against grid tables: whether the contracts of one period are simultaneously feasible in a process.
-pub fn test_book(nodes: usize, constraints: usize, process: u64, period: u64, limits: &[u64], factors: &[i64], book: &[u8]) -> TestAnswer
+pub fn test_book(
+    nodes: usize,
+    constraints: usize,
+    process: u64,
+    period: u64,
+    limits: &[u64],
+    factors: &[i64],
+    book: &[u8],
+) -> TestAnswer
     ensures figures { λ r. ⌜ testOutcome r ≡ answered (first (testChecks nodes constraints process period (now (limits .entry)) (now (factors .entry)) (now (book .entry)))) (testValues (grid nodes constraints (now (limits .entry)) (now (factors .entry))) (processOf process) (ofPeriod (periodOf period) (bookIn (now (book .entry))))) ⌝ }
     ensures demand3 { λ r. ⌜ (first (testChecks nodes constraints process period (now (limits .entry)) (now (factors .entry)) (now (book .entry))) ≡ Passed → Demand3 (grid nodes constraints (now (limits .entry)) (now (factors .entry))) (processOf process) (ofPeriod (periodOf period) (bookIn (now (book .entry)))) r) ⌝ }
 {
@@ -196,6 +225,12 @@ pub fn test_book(nodes: usize, constraints: usize, process: u64, period: u64, li
     if let Checked::Refused(refusal) = checked {
         return TestAnswer::Refused(refusal);
     }
-    let flows = carry(nodes, constraints, factors, Period::from_number(period), book);
+    let flows = carry(
+        nodes,
+        constraints,
+        factors,
+        Period::from_number(period),
+        book,
+    );
     verdict(constraints, Process::from_number(process), limits, flows)
 }

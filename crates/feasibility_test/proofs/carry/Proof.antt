@@ -56,8 +56,7 @@ step-requires c κs =
     let each : (j : ℕ) → j < l .i → InRange (s .args .nodes) (contractAt (s .args .book .now) j) = λ j h. o .each j (omega arith) in
     let own : InRange (s .args .nodes) (c .before .before .contract-at .result) = subst (InRange (s .args .nodes)) (sym (c .before .before .contract-at .ensures)) (o .each (l .i) (omega arith)) in
     let fr = factors-in-range (s .args .nodes) (s .args .constraints) [] (s .args .factors .now) (s .pre .0 .2) (s .pre .1 .0) in
-    let most = count-most (s .args .nodes) (s .args .constraints) (l .i) [] (s .args .factors .now) (s .args .period) (contractAt (s .args .book .now)) (l .flows) each (l .inv .1 []) in
-    (
+    let most = count-most (s .args .nodes) (s .args .constraints) (l .i) [] (s .args .factors .now) (s .args .period) (contractAt (s .args .book .now)) (l .flows) each (l .inv .1 []) in (
       (s .pre .0 .1, omega (arith, row-fits (s .args .nodes) (s .args .constraints) _ (own .source-below)), omega (arith, row-fits (s .args .nodes) (s .args .constraints) _ (own .sink-below))),
       (
         λ k h. fr .factor-sized _ k (own .source-below) h,
@@ -79,15 +78,14 @@ loop-again c =
     let s = c .before .before .before .before .before .before .before .before in
     let l = c .before .before .before .before .loop in
     let r = c .before .before .contract-at in
-    let at = contractAt (s .args .book .now) in
-    (
+    let at = contractAt (s .args .book .now) in (
       omega arith,
       λ ls. ⊎-elim
-      (λ w. subst (Carries (grid (s .args .nodes) (s .args .constraints) ls (s .args .factors .now)) (ofPeriod (s .args .period) (listTo (l .i + 1) at))) (sym (w .2))
-      (carry-same (s .args .nodes) (s .args .constraints) (l .i) ls (s .args .factors .now) (s .args .period) at _ (r .result) (r .ensures) (sym (c .before .same .ensures) ∙ w .0 .taken) (w .1 .ensures (s .args .nodes) ls _ (l .inv .1 ls))))
-      (λ w. subst (Carries (grid (s .args .nodes) (s .args .constraints) ls (s .args .factors .now)) (ofPeriod (s .args .period) (listTo (l .i + 1) at))) (sym (w .1))
-      (carry-other (s .args .nodes) (s .args .constraints) (l .i) ls (s .args .factors .now) (s .args .period) at _ (r .result) (r .ensures) (sym (c .before .same .ensures) ∙ w .0 .left) (l .inv .1 ls)))
-      (c .if1 .came),
+          (λ w. subst (Carries (grid (s .args .nodes) (s .args .constraints) ls (s .args .factors .now)) (ofPeriod (s .args .period) (listTo (l .i + 1) at))) (sym (w .2))
+          (carry-same (s .args .nodes) (s .args .constraints) (l .i) ls (s .args .factors .now) (s .args .period) at _ (r .result) (r .ensures) (sym (c .before .same .ensures) ∙ w .0 .taken) (w .1 .ensures (s .args .nodes) ls _ (l .inv .1 ls))))
+          (λ w. subst (Carries (grid (s .args .nodes) (s .args .constraints) ls (s .args .factors .now)) (ofPeriod (s .args .period) (listTo (l .i + 1) at))) (sym (w .1))
+          (carry-other (s .args .nodes) (s .args .constraints) (l .i) ls (s .args .factors .now) (s .args .period) at _ (r .result) (r .ensures) (sym (c .before .same .ensures) ∙ w .0 .left) (l .inv .1 ls)))
+          (c .if1 .came),
     )
 
 returns : tie.Need-returns Inv-loop μ-loop

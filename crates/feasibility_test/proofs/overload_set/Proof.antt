@@ -43,8 +43,7 @@ exceeds-requires : tie.Need-exceeds-requires Inv-loop μ-loop
 exceeds-requires c κs =
     let s = c .before .before .before .before .before .before .before in
     let k = c .before .before .before .before .loop .k in
-    let p = s .pre .1 k (c .before .before .before .loop-test .taken) in
-    (
+    let p = s .pre .1 k (c .before .before .before .loop-test .taken) in (
       omega (arith, kept-sized (getD (s .args .flows .flows) k (pos 0)) 4611686018427387904 (lit< tt) (omega (arith, p .1))),
       omega (arith, released-small (c .released .result .0) (getD (s .args .limits .now) k 0) (s .args .process) (p .0) (c .released .ensures)),
     )

@@ -45,7 +45,7 @@ sized c k h =
       arith,
       b .few,
       count-most (a .nodes) (a .constraints) (countIn (a .book .now)) (a .limits .now) (a .factors .now) (periodOf (a .period)) (contractAt (a .book .now)) (c .carry .result) (b .each) (carried c),
-      flow-most (a .nodes) (a .constraints) (countIn (a .book .now)) (a .limits .now) (a .factors .now) (periodOf (a .period)) (contractAt (a .book .now)) (c .carry .result) (b .each) (carried c) fr k h
+      flow-most (a .nodes) (a .constraints) (countIn (a .book .now)) (a .limits .now) (a .factors .now) (periodOf (a .period)) (contractAt (a .book .now)) (c .carry .result) (b .each) (carried c) fr k h,
     )
 
 check-test-requires : tie.Need-check-test-requires
@@ -56,8 +56,7 @@ enum-known-checked c = search needs
 
 returns : tie.Need-returns
 returns c =
-    let k = c .before .before .before .check-test in
-    (
+    let k = c .before .before .before .check-test in (
       answer-refused (k .result) _ (k .ensures) _ (c .before .checked .given .1) _,
       λ p. absurd (refused-passed (k .result) _ _ (k .ensures) (c .before .checked .given .1) p),
     )
