@@ -43,10 +43,10 @@ exceeds-requires : tie.Need-exceeds-requires Inv-loop μ-loop
 exceeds-requires c κs =
     let s = c .before .before .before .before .before .before .before in
     let k = c .before .before .before .before .loop .k in
-    let p = s .pre .1 k (c .before .before .before .loop-test .taken) in (
-      omega (arith, kept-sized (getD (s .args .flows .flows) k (pos 0)) 4611686018427387904 (lit< tt) (omega (arith, p .1))),
-      omega (arith, released-small (c .released .result .0) (getD (s .args .limits .now) k 0) (s .args .process) (p .0) (c .released .ensures)),
-    )
+    let p = s .pre .1 k (c .before .before .before .loop-test .taken) in
+    let flow = kept-sized (getD (s .args .flows .flows) k (pos 0)) 4611686018427387904 (lit< tt) (omega (arith, p .1)) in
+    let limit = released-small (c .released .result .0) (getD (s .args .limits .now) k 0) (s .args .process) (p .0) (c .released .ensures) in
+    (omega (arith, flow, limit), omega (arith, flow, limit))
 
 is : (c : tie.After-exceeds Inv-loop μ-loop) → let s = c .before .before .before .before .before .before .before .before in over (s .args .limits .now) (s .args .process) (s .args .flows .flows) (c .before .before .before .before .before .loop .k) ≡ c .exceeds .result
 is c =

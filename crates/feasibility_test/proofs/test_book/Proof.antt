@@ -71,7 +71,7 @@ carry-requires : tie.Need-carry-requires
 carry-requires c κs = let o = ok (c .before) in ((o .few-nodes, o .few-constraints, o .factors-long), (o .factors-good, o .book-good))
 
 from-number-requires-2 : tie.Need-from-number-requires-2
-from-number-requires-2 c κs = ok (c .before .before) .process-number
+from-number-requires-2 c κs = let o = ok (c .before .before) in omega (arith, o .process-number, o .period-number)
 
 verdict-requires : tie.Need-verdict-requires
 verdict-requires c κs =

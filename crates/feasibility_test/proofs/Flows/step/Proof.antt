@@ -52,7 +52,9 @@ flow-requires c κs =
     let s = c .before .before .before .before .before .before .before .before in
     let k = c .before .before .before .loop .k in
     let a : k < s .args .constraints = c .before .before .loop-test .taken in
-    (kept-sized (getD (s .args .factors .now) (s .args .c .source * s .args .constraints + k) (pos 0)) 100000 (lit< tt) (s .pre .1 .0 k a), kept-sized (getD (s .args .factors .now) (s .args .c .sink * s .args .constraints + k) (pos 0)) 100000 (lit< tt) (s .pre .1 .1 .0 k a), s .pre .1 .1 .1 .0)
+    let source = kept-sized (getD (s .args .factors .now) (s .args .c .source * s .args .constraints + k) (pos 0)) 100000 (lit< tt) (s .pre .1 .0 k a) in
+    let sink = kept-sized (getD (s .args .factors .now) (s .args .c .sink * s .args .constraints + k) (pos 0)) 100000 (lit< tt) (s .pre .1 .1 .0 k a) in
+    (omega (arith, source, sink), omega (arith, source, sink), s .pre .1 .1 .1 .0)
 
 product-small : (c : tie.After-flow Inv-loop μ-loop) → natAbs (c .flow .result .0) ≤ 200000000000
 product-small c =
