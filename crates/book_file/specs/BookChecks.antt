@@ -1,13 +1,12 @@
--- Document 01, "When input is turned down": the checks of reading and writing a book, in the paper's order, and the reader's answer.
+-- Document 01, "When input is turned down": the checks of reading a book, in the paper's order, and the reader's answer.
 use mathlib.Core.List.{List, [], _∷_, _++_}
 use Prim.Native.Nat.{ℕ, zero, suc, _+_, _*_}
-use lib.ListN.{length, getD}
 use lib.IntN.{pos}
 use Rattle.tariff.specs.declared.Contract.{Contract}
 use Rattle.tariff.specs.Refusals.{Check, Outcome, given, refusedBy}
-use Rattle.tariff.specs.Checks.{nodeCount, contractCount, nodeNumber, sameEnds, quantityRange, kindAndPeriod, holderRange, shortTable}
+use Rattle.tariff.specs.Checks.{nodeCount, contractCount, nodeNumber, sameEnds, quantityRange, shortTable}
 use Rattle.layouts.specs.Files.{shortFile, spareBits, fileLength}
-use Rattle.layouts.specs.BookFile.{bookBytes, countIn, spareIn, contractAt, rowAt}
+use Rattle.layouts.specs.BookFile.{bookBytes, countIn, spareIn, contractAt}
 use Rattle.book_file.specs.declared.BookAnswer.{BookAnswer}
 use Rattle.book_file.specs.declared.BookAnswer.the-variants.{Read, Refused}
 
@@ -33,14 +32,6 @@ bookChecks n s =
 -- reading a book for a grid of n nodes: "2 for that count, then 1 .. Last, 9"
 unfoldable pub readChecks : ℕ → List ℕ → ℕ → List Check
 readChecks n s cells = nodeCount n ∷ bookChecks n s ++ shortTable cells (6 * countIn s) ∷ []
-
--- writing: "contract by contract 17 (here kind or period not 0 or 1), 18 (holder above 1,023), 11, 12, 13"
-unfoldable pub rowChecks : ℕ → List ℕ → ℕ → List Check
-rowChecks n cells i = kindAndPeriod (getD cells (6 * i) 0) (getD cells (6 * i + 1) 0) ∷ holderRange (getD cells (6 * i + 2) 0) ∷ contractChecks n (rowAt cells i)
-
--- writing a book: "2 for the node count, 10, 9, then contract by contract .., and 9 last"
-unfoldable pub writeChecks : ℕ → ℕ → List ℕ → ℕ → List Check
-writeChecks n m cells bytes = nodeCount n ∷ contractCount m ∷ shortTable (length cells) (6 * m) ∷ checksTo m (rowChecks n cells) ++ shortTable bytes (bookBytes m) ∷ []
 
 -- the reader's answer by the paper's figures: how many contracts were read
 abbrev pub bookOutcome : BookAnswer → Outcome

@@ -1,2 +1,1 @@
 pub mod BookChecks
-pub mod Rows

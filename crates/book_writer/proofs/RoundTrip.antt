@@ -16,9 +16,11 @@ use Rattle.tariff.proofs.Checks.{first-passes, first-append, passed-cons, passe
 use Rattle.layouts.specs.BookFile.{countIn, spareIn, contractAt, bookIn, bookFile, cellsOf, rowAt, rowsIn}
 use Rattle.layouts.proofs.Lists.{length-listTo, each-listTo, getD-listTo}
 use Rattle.layouts.proofs.BookFile.{ContractFits, BookWritten, book-written, book-read, cells-rows}
-use Rattle.book_file.specs.BookChecks.{checksTo, checksAt, contractChecks, bookChecks, readChecks, rowChecks, writeChecks}
+use Rattle.book_file.specs.BookChecks.{checksTo, checksAt, contractChecks, bookChecks, readChecks}
+use Rattle.book_writer.specs.WriteChecks.{rowChecks, writeChecks}
 use Rattle.book_file.proofs.Checking.{checks-each, checks-all}
-use Rattle.book_file.proofs.Accepted.{Accepted, read-accepted, Writable, write-accepted, row-contract-fits}
+use Rattle.book_file.proofs.Accepted.{Accepted, read-accepted}
+use Rattle.book_writer.proofs.Accepted.{Writable, write-accepted, row-contract-fits}
 
 -- ---- read, then written
 

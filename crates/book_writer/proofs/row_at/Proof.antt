@@ -3,8 +3,8 @@ use Prim.Native.Nat.{_+_, _*_}
 use lib.ListN.{getD}
 use Rattle.layouts.specs.BookFile.{rowAt}
 use borrow.Author.Needs.{needs}
-use Rattle.book_file.proofs.row_at.Statement.{statement}
-use Rattle.book_file.proofs.row_at.Tie as tie
+use Rattle.book_writer.proofs.row_at.Statement.{statement}
+use Rattle.book_writer.proofs.row_at.Tie as tie
 
 mul-at : tie.Need-mul-at
 mul-at c = search needs

@@ -3,10 +3,11 @@ use mathlib.Core.Path.{_≡_, ap, _∙_}
 use borrow.Author.Tests.{lt-ltb, le-ltb}
 use Rattle.tariff.specs.declared.Contract.{Contract}
 use Rattle.tariff.specs.Refusals.{first}
-use Rattle.book_file.specs.BookChecks.{contractChecks, rowChecks}
+use Rattle.book_file.specs.BookChecks.{contractChecks}
+use Rattle.book_writer.specs.WriteChecks.{rowChecks}
 use borrow.Author.Needs.{needs}
-use Rattle.book_file.proofs.check_row.Statement.{statement}
-use Rattle.book_file.proofs.check_row.Tie as tie
+use Rattle.book_writer.proofs.check_row.Statement.{statement}
+use Rattle.book_writer.proofs.check_row.Tie as tie
 
 mul-if1 : tie.Need-mul-if1
 mul-if1 c = search needs

@@ -6,10 +6,11 @@ use lib.ListN.{length, take, drop, getD, set, length-set}
 use borrow.Author.Needs.{needs}
 use Rattle.tariff.specs.Refusals.{first}
 use Rattle.tariff.specs.declared.Checked.the-variants.{Passed}
-use Rattle.book_file.specs.BookChecks.{checksTo, rowChecks}
+use Rattle.book_file.specs.BookChecks.{checksTo}
+use Rattle.book_writer.specs.WriteChecks.{rowChecks}
 use Rattle.book_file.proofs.Checking.{checks-start, checks-more, checks-stop}
-use Rattle.book_file.proofs.check_rows.Statement.{statement}
-use Rattle.book_file.proofs.check_rows.Tie as tie
+use Rattle.book_writer.proofs.check_rows.Statement.{statement}
+use Rattle.book_writer.proofs.check_rows.Tie as tie
 
 abbrev Inv-loop : tie.InvT-loop
 Inv-loop nodes contracts cells i₀ i =

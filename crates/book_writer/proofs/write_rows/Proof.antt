@@ -8,11 +8,11 @@ use mathlib.Core.List.{List, _++_, flatMap, append-assoc, append-nil}
 use Rattle.layouts.specs.Files.{listTo}
 use Rattle.layouts.specs.BookFile.{rowAt, rowsIn}
 use Rattle.layouts.proofs.Lists.{flatMap-more}
-use Rattle.book_file.specs.Rows.{rowBytes}
+use Rattle.book_writer.specs.Rows.{rowBytes}
 use Rattle.book_file.proofs.Table.{block-front, block-rest, block-length}
-use Rattle.book_file.proofs.Bytes.{length-row-bytes}
-use Rattle.book_file.proofs.write_rows.Statement.{statement}
-use Rattle.book_file.proofs.write_rows.Tie as tie
+use Rattle.book_writer.proofs.Bytes.{length-row-bytes}
+use Rattle.book_writer.proofs.write_rows.Statement.{statement}
+use Rattle.book_writer.proofs.write_rows.Tie as tie
 
 abbrev Inv-loop : tie.InvT-loop
 Inv-loop cells contracts file₀ i₀ file i =

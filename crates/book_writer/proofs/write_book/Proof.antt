@@ -4,11 +4,11 @@ use native.Mathlib.Omega.{arith}
 use lib.ListN.{length}
 use Rattle.tariff.specs.declared.Checked.the-variants.{Passed}
 use Rattle.tariff.specs.Refusals.{first}
-use Rattle.book_file.specs.BookChecks.{writeChecks}
-use Rattle.book_file.proofs.Accepted.{Writable, write-accepted}
+use Rattle.book_writer.specs.WriteChecks.{writeChecks}
+use Rattle.book_writer.proofs.Accepted.{Writable, write-accepted}
 use borrow.Author.Needs.{needs}
-use Rattle.book_file.proofs.write_book.Statement.{statement}
-use Rattle.book_file.proofs.write_book.Tie as tie
+use Rattle.book_writer.proofs.write_book.Statement.{statement}
+use Rattle.book_writer.proofs.write_book.Tie as tie
 
 passed : (c : tie.After-enum-told) → let a = c .before .before .before .before .before .args in first (writeChecks (a .nodes) (a .contracts) (a .book .now) (length (a .file .now))) ≡ Passed
 passed c = sym (c .before .before .check-write .ensures) ∙ c .enum-told .given .1

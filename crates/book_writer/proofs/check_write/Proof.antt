@@ -1,9 +1,9 @@
 -- `check_write`.
 use mathlib.Core.Path.{_≡_, sym, _∙_}
-use Rattle.book_file.proofs.Checking.{w-no-node, w-many-nodes, w-many-contracts, w-short-cells, row-refuses, short-file, all-written}
+use Rattle.book_writer.proofs.Checking.{w-no-node, w-many-nodes, w-many-contracts, w-short-cells, row-refuses, short-file, all-written}
 use borrow.Author.Needs.{needs}
-use Rattle.book_file.proofs.check_write.Statement.{statement}
-use Rattle.book_file.proofs.check_write.Tie as tie
+use Rattle.book_writer.proofs.check_write.Statement.{statement}
+use Rattle.book_writer.proofs.check_write.Tie as tie
 
 returns : tie.Need-returns
 returns c = let s = c .before .before in w-no-node (s .args .nodes) (s .args .contracts) (s .args .cells .now) (s .args .bytes) (c .if1 .taken)

@@ -14,7 +14,7 @@ use Rattle.bits.proofs.Numbers.{digits-high}
 use Rattle.bits.proofs.Files.{total-append, packed-append, packed-lt}
 use Rattle.tariff.specs.declared.Contract.{Contract}
 use Rattle.layouts.specs.BookFile.{contract, contractFields, bookFields, bookFile}
-use Rattle.book_file.specs.Rows.{rowBytes}
+use Rattle.book_writer.specs.Rows.{rowBytes}
 use Rattle.layouts.proofs.BookFile.{ContractFits, kind-bit, period-bit, total-contracts, fit-contracts, book-written}
 use Rattle.tariff.specs.Refusals.{overwrite}
 

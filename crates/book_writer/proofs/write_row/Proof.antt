@@ -4,10 +4,10 @@ use mathlib.Core.List.{List, _++_}
 use Prim.Native.Nat.{ℕ, _+_, _*_}
 use lib.ListN.{take, drop, getD}
 use Rattle.layouts.specs.BookFile.{rowAt}
-use Rattle.book_file.proofs.Bytes.{row-number}
+use Rattle.book_writer.proofs.Bytes.{row-number}
 use borrow.Author.Needs.{needs}
-use Rattle.book_file.proofs.write_row.Statement.{statement}
-use Rattle.book_file.proofs.write_row.Tie as tie
+use Rattle.book_writer.proofs.write_row.Statement.{statement}
+use Rattle.book_writer.proofs.write_row.Tie as tie
 
 mul-at : tie.Need-mul-at
 mul-at c = search needs

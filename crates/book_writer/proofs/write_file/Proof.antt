@@ -5,11 +5,11 @@ use lib.ListN.{length-set}
 use Rattle.layouts.specs.BookFile.{rowAt, rowsIn}
 use Rattle.layouts.proofs.Lists.{length-listTo, each-listTo}
 use Rattle.layouts.proofs.BookFile.{ContractFits}
-use Rattle.book_file.proofs.Accepted.{row-contract-fits}
-use Rattle.book_file.proofs.Bytes.{book-stored}
+use Rattle.book_writer.proofs.Accepted.{row-contract-fits}
+use Rattle.book_writer.proofs.Bytes.{book-stored}
 use borrow.Author.Needs.{needs}
-use Rattle.book_file.proofs.write_file.Statement.{statement}
-use Rattle.book_file.proofs.write_file.Tie as tie
+use Rattle.book_writer.proofs.write_file.Statement.{statement}
+use Rattle.book_writer.proofs.write_file.Tie as tie
 
 cast-file : tie.Need-cast-file
 cast-file c = search needs

@@ -1,0 +1,2 @@
+pub mod WriteChecks
+pub mod Rows
