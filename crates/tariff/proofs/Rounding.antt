@@ -1,4 +1,4 @@
--- An amount's sign and size, and what the quotients of its size say of its cents, whole cents and parts. s is the size.
+-- An amount's sign and size, and what its size says of its cents, whole cents and parts. s is the size.
 use mathlib.Core.Path.{_≡_, refl, sym, ap, _∙_}
 use mathlib.Core.Bool.{true, false}
 use Prim.Native.Nat.{ℕ, suc, _+_, _-_, _/_, _%_, _^_, _≤_, _<_}
@@ -8,9 +8,9 @@ use lib.IntN.{ℤ, pos, negsuc, negℤ, natAbs, _-ℤ_, +ℤ-idl}
 use lib.Signed.{ltZ}
 use mir.Syntax.{w64}
 use mir.Val.{SFits, toZ, ofZ}
+use Rattle.integers.specs.Division.{roundUp}
 use Rattle.integers.proofs.Sizes.{natAbs-sub}
-use Rattle.integers.proofs.Division.{roundUp-even}
-use Rattle.integers.proofs.Machine.{op-fits, op-is}
+use Rattle.integers.proofs.Machine.{cast-back, op-fits, op-is}
 use Rattle.tariff.specs.Settlement.{cents, wholeCents, parts}
 
 -- ---- a machine negation
@@ -21,6 +21,14 @@ module _ {v x : ℤ} (e : v ≡ x) (h : natAbs x < 2 ^ 63) where
 
   pub minus-is : toZ w64 (ofZ w64 (pos 0 -ℤ v)) ≡ negℤ x
   minus-is = op-is _-ℤ_ {v = pos 0} refl e (omega (arith, natAbs-sub (pos 0) x)) ∙ +ℤ-idl (negℤ x)
+
+-- of an unsigned number that is cast
+module _ (q : ℕ) (h : q < 2 ^ 63) where
+  pub cast-minus-fits : SFits w64 (pos 0 -ℤ toZ w64 q)
+  cast-minus-fits = minus-fits (cast-back q h) h
+
+  pub cast-minus-is : toZ w64 (ofZ w64 (pos 0 -ℤ toZ w64 q)) ≡ negℤ (pos q)
+  cast-minus-is = minus-is (cast-back q h) h
 
 -- ---- the sign
 
@@ -35,16 +43,26 @@ pub positive-size : (z : ℤ) → ltZ z (pos 0) ≡ false → z ≡ pos (natAbs 
 positive-size (pos n) e = refl
 positive-size (negsuc n) e = cc
 
+-- ---- cents: the size r in cents, with the sign put back
+
+module _ (z : ℤ) (r : ℕ) (e : r ≡ roundUp (natAbs z) 100000000) where
+  pub negative-cents : ltZ z (pos 0) ≡ true → negℤ (pos r) ≡ cents z
+  negative-cents h = rw e (by z h)
+    where
+      by : (z : ℤ) → ltZ z (pos 0) ≡ true → negℤ (pos (roundUp (natAbs z) 100000000)) ≡ cents z
+      by (pos n) h = absurd (not-below n h)
+      by (negsuc n) h = refl
+
+  pub positive-cents : ltZ z (pos 0) ≡ false → pos r ≡ cents z
+  positive-cents h = rw e (by z h)
+    where
+      by : (z : ℤ) → ltZ z (pos 0) ≡ false → pos (roundUp (natAbs z) 100000000) ≡ cents z
+      by (pos n) h = refl
+      by (negsuc n) h = cc
+
 -- ---- below zero
 
 module _ (z : ℤ) (s : ℕ) (size : s ≡ natAbs z) (e : ltZ z (pos 0) ≡ true) where
-  pub negative-cents : negℤ (pos ((s + 50000000) / 100000000)) ≡ cents z
-  negative-cents = rw size (by z e)
-    where
-      by : (z : ℤ) → ltZ z (pos 0) ≡ true → negℤ (pos ((natAbs z + 50000000) / 100000000)) ≡ cents z
-      by (pos n) e = absurd (not-below n e)
-      by (negsuc n) e = ap (λ (x : ℕ). negℤ (pos x)) (sym (roundUp-even (suc n) 50000000))
-
   pub negative-whole : negℤ (pos ((s + 99999999) / 100000000)) ≡ wholeCents z
   negative-whole = rw size (by z e)
     where
@@ -62,13 +80,6 @@ module _ (z : ℤ) (s : ℕ) (size : s ≡ natAbs z) (e : ltZ z (pos 0) ≡ true
 -- ---- from zero on
 
 module _ (z : ℤ) (s : ℕ) (size : s ≡ natAbs z) (e : ltZ z (pos 0) ≡ false) where
-  pub positive-cents : pos ((s + 50000000) / 100000000) ≡ cents z
-  positive-cents = rw size (by z e)
-    where
-      by : (z : ℤ) → ltZ z (pos 0) ≡ false → pos ((natAbs z + 50000000) / 100000000) ≡ cents z
-      by (pos n) e = ap pos (sym (roundUp-even n 50000000))
-      by (negsuc n) e = cc
-
   pub positive-whole : pos (s / 100000000) ≡ wholeCents z
   positive-whole = rw size (by z e)
     where

@@ -4,6 +4,7 @@ ghost use mathlib.Core.Path.{_≡_};
 ghost use Prim.Native.Nat.{_+_, _*_, _^_, _≤_, _<_};
 ghost use lib.IntN.{pos, natAbs, negℤ, _+ℤ_, _-ℤ_, _*ℤ_};
 ghost use lib.Signed.{ltZ};
+ghost use Rattle.integers.specs.Division.{roundUp};
 ghost use Rattle.tariff.specs.Refusals.{numberOf};
 ghost use Rattle.tariff.specs.Checks.{quantityRange};
 ghost use Rattle.tariff.specs.Contracts.{kindOf, periodOf, samePeriod, counted as countedAs};
@@ -322,12 +323,20 @@ impl Amount {
         }
     }
 
+    // Its size in cents: to the nearest, a half upwards.
+    fn rounded(self) -> u64
+        requires { ⌜ natAbs (self .0) ≤ 6400000000000000000 ⌝ }
+        ensures { λ r. ⌜ (r ≡ roundUp (natAbs (self .0)) 100000000) × (r ≤ 64000000000) ⌝ }
+    {
+        (self.size() + 50000000) / 100000000
+    }
+
     // In cents: to the nearest, a half away from zero.
     pub fn cents(self) -> i64
         requires { ⌜ natAbs (self .0) ≤ 6400000000000000000 ⌝ }
         ensures { λ r. ⌜ (r ≡ centsOf (self .0)) × (natAbs r ≤ 64000000000) ⌝ }
     {
-        let rounded = (self.size() + 50000000) / 100000000;
+        let rounded = self.rounded();
         if self.0 < 0 {
             -(rounded as i64)
         } else {

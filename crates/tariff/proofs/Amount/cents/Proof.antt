@@ -1,7 +1,7 @@
 -- `Amount::cents`: the size to the nearest, with the sign put back.
 use mathlib.Core.Path.{_≡_, refl, _∙_}
 use mathlib.Core.Bool.{true, false}
-use Prim.Native.Nat.{ℕ, _+_, _/_, _≤_}
+use Prim.Native.Nat.{_≤_}
 use native.Mathlib.Omega.{arith}
 use lib.IntN.{pos, natAbs}
 use lib.Signed.{ltZ}
@@ -9,24 +9,18 @@ use borrow.Author.Needs.{needs}
 use Rattle.integers.proofs.Machine.{back, cast-back}
 use Rattle.tariff.specs.Settlement.{cents}
 use Rattle.tariff.proofs.Sizes.{cents-sized}
-use Rattle.tariff.proofs.Rounding.{minus-fits, minus-is, negative-cents, positive-cents}
+use Rattle.tariff.proofs.Rounding.{cast-minus-fits, cast-minus-is, negative-cents, positive-cents}
 use Rattle.tariff.proofs.Amount.cents.Statement.{statement}
 use Rattle.tariff.proofs.Amount.cents.Tie as tie
 
-abbrev quotient : tie.After-size → ℕ
-quotient c = (c .size .result + 50000000) / 100000000
-
-size-requires : tie.Need-size-requires
-size-requires c κs = search needs
-
-add-rounded : tie.Need-add-rounded
-add-rounded c = search needs
+rounded-requires : tie.Need-rounded-requires
+rounded-requires c κs = search needs
 
 cast-result : tie.Need-cast-result
 cast-result c = search needs
 
 sub-result : tie.Need-sub-result
-sub-result c = minus-fits (cast-back (quotient (c .before .before .before)) (omega arith)) (omega arith)
+sub-result c = cast-minus-fits (c .before .before .before .rounded .result) (omega arith)
 
 cast-result-2 : tie.Need-cast-result-2
 cast-result-2 c = search needs
@@ -39,16 +33,16 @@ returns c =
     let f = c .before .before .before in
     let z = f .before .args .self .0 in
     let below : ltZ z (pos 0) ≡ true = rw (back z (omega (arith, f .before .pre))) at (c .if1 .taken) in
-    rw (minus-is (cast-back (quotient f) (omega arith)) (omega arith) ∙ negative-cents z (f .size .result) (f .size .ensures) below) (refl, sized (f .before))
+    rw (cast-minus-is (f .rounded .result) (omega arith) ∙ negative-cents z (f .rounded .result) (f .rounded .ensures .0) below) (refl, sized (f .before))
 
 returns-2 : tie.Need-returns-2
 returns-2 c =
     let f = c .before .before .before in
     let z = f .before .args .self .0 in
     let from : ltZ z (pos 0) ≡ false = rw (back z (omega (arith, f .before .pre))) at (c .if1 .left) in
-    rw (cast-back _ (omega arith) ∙ positive-cents z (f .size .result) (f .size .ensures) from) (refl, sized (f .before))
+    rw (cast-back (f .rounded .result) (omega arith) ∙ positive-cents z (f .rounded .result) (f .rounded .ensures .0) from) (refl, sized (f .before))
 
 pub cents-spec : {M : Type 1} → statement M
 cents-spec =
     tie.close
-    (tie.spec size-requires add-rounded cast-result sub-result cast-result-2 returns returns-2)
+    (tie.spec rounded-requires cast-result sub-result cast-result-2 returns returns-2)

@@ -1,7 +1,7 @@
 -- `Amount::whole`: the size divided, below zero upwards, with the sign put back.
 use mathlib.Core.Path.{_≡_, refl, _∙_}
 use mathlib.Core.Bool.{true, false}
-use Prim.Native.Nat.{ℕ, _+_, _/_, _≤_}
+use Prim.Native.Nat.{_+_, _/_, _≤_}
 use native.Mathlib.Omega.{arith}
 use lib.IntN.{pos, natAbs}
 use lib.Signed.{ltZ}
@@ -9,12 +9,9 @@ use borrow.Author.Needs.{needs}
 use Rattle.integers.proofs.Machine.{back, cast-back}
 use Rattle.tariff.specs.Settlement.{wholeCents}
 use Rattle.tariff.proofs.Sizes.{whole-sized}
-use Rattle.tariff.proofs.Rounding.{minus-fits, minus-is, negative-whole, positive-whole}
+use Rattle.tariff.proofs.Rounding.{cast-minus-fits, cast-minus-is, negative-whole, positive-whole}
 use Rattle.tariff.proofs.Amount.whole.Statement.{statement}
 use Rattle.tariff.proofs.Amount.whole.Tie as tie
-
-abbrev quotient : tie.After-size → ℕ
-quotient c = (c .size .result + 99999999) / 100000000
 
 size-requires : tie.Need-size-requires
 size-requires c κs = search needs
@@ -26,7 +23,7 @@ cast-result : tie.Need-cast-result
 cast-result c = search needs
 
 sub-result : tie.Need-sub-result
-sub-result c = minus-fits (cast-back (quotient (c .before .before .before)) (omega arith)) (omega arith)
+sub-result c = cast-minus-fits ((c .before .before .before .size .result + 99999999) / 100000000) (omega arith)
 
 cast-result-2 : tie.Need-cast-result-2
 cast-result-2 c = search needs
@@ -39,7 +36,7 @@ returns c =
     let f = c .before .before .before in
     let z = f .before .args .self .0 in
     let below : ltZ z (pos 0) ≡ true = rw (back z (omega (arith, f .before .pre))) at (c .if1 .taken) in
-    rw (minus-is (cast-back (quotient f) (omega arith)) (omega arith) ∙ negative-whole z (f .size .result) (f .size .ensures) below) (refl, sized (f .before))
+    rw (cast-minus-is ((f .size .result + 99999999) / 100000000) (omega arith) ∙ negative-whole z (f .size .result) (f .size .ensures) below) (refl, sized (f .before))
 
 returns-2 : tie.Need-returns-2
 returns-2 c =
