@@ -65,7 +65,7 @@ returns-2 c =
     let x = c .before .before .before .before .before .before .before .before .cents in
     let w = c .before .before .before .before .before .whole in
     let p = c .before .before .parts in
-    rw (sum-is (c .before .before .before .before .before .before .before .before), op-is _+ℤ_ (whole-is (c .before .before .before .before .before)) refl (omega (arith, small (c .before .before .before .before .before), c .before .before .before .before .before .before .before .before .before .pre))) (
+    rw (sum-is (c .before .before .before .before .before .before .before .before), op-is _+ℤ_ {u = pos 1} (whole-is (c .before .before .before .before .before)) refl (omega (arith, small (c .before .before .before .before .before), c .before .before .before .before .before .before .before .before .before .pre))) (
       (ap (λ (z : ℤ). a .self .sum +ℤ z) (x .ensures .0), exact-carry (a .self .whole) (w .result) (a .self .parts) (p .result) (a .amount .0) (w .ensures .0) (p .ensures .0) (c .if1 .left)),
       (omega (arith, c .before .before .before .before .before .before .before .before .before .pre, p .ensures .1), omega (arith, natAbs-add (a .self .sum) (x .result), x .ensures .1), small (c .before .before .before .before .before)),
     )
