@@ -23,6 +23,7 @@ use Rattle.tariff.specs.Settlement.{mcc, amount, exactTotal, cents, wholeCents,
 use Rattle.tariff.proofs.Periods.{ofPeriod-same, ofPeriod-other, sumOver-more}
 use Rattle.layouts.specs.Files.{listTo}
 use Rattle.layouts.proofs.Lists.{listTo-cong, map-listTo}
+use Rattle.settlement.specs.declared.SettleAnswer.the-variants.{Settled}
 use Rattle.settlement.specs.Answers.{cellOf, centsCells, centsSum, hourTotal, settleValues}
 use Rattle.settlement.specs.Tables.{Hour, amountBy, hourAmount}
 use Rattle.settlement.proofs.Congestion.{amount-by}
@@ -78,6 +79,10 @@ cents-cond : (b : Bool) (x : ℤ) → cents (cond b x (pos 0)) ≡ cond b (cents
 cents-cond true x = refl
 cents-cond false x = refl
 
+-- whole cents and parts that make the total are its own
+pub split-values : (w : ℤ) (p : ℕ) (total : ℤ) → w *ℤ pos 100000000 +ℤ pos p ≡ total → p < 100000000 → (w ≡ wholeCents total) × (p ≡ parts total)
+split-values w p total e h = rw (← e) (sym (floor-unique w p 100000000 h .0), sym (floor-unique w p 100000000 h .1))
+
 -- ---- an hour's figures, by a table of MCCs
 
 module _ (n k : ℕ) (fs : List ℤ) (ps : List ℕ) (h : Hour n k fs ps) (mccs rest : List ℤ) (e : mccs ≡ listTo n (mcc (grid n k [] fs) ps) ++ rest) (t : Period)
@@ -101,6 +106,21 @@ module _ (n k : ℕ) (fs : List ℤ) (ps : List ℕ) (h : Hour n k fs ps) (mccs 
   unfolding hourTotal exactTotal
   total-is = period-sum t m f (amount (grid n k [] fs) ps) _ by-table
 
--- whole cents and parts that make the total are its own
-pub split-values : (w : ℤ) (p : ℕ) (total : ℤ) → w *ℤ pos 100000000 +ℤ pos p ≡ total → p < 100000000 → (w ≡ wholeCents total) × (p ≡ parts total)
-split-values w p total e h = rw (← e) (sym (floor-unique w p 100000000 h .0), sym (floor-unique w p 100000000 h .1))
+  -- what settling gives: a sum of cents, and whole cents and parts of the exact total
+  module _ (s w : ℤ) (p : ℕ) (sum : s ≡ sumTo m (λ i. cents (hourAmount mccs t (f i)))) (exact : w *ℤ pos 100000000 +ℤ pos p ≡ sumTo m (λ i. hourAmount mccs t (f i)))
+      (small : p < 100000000) where
+    pub exact-is : w *ℤ pos 100000000 +ℤ pos p ≡ hourTotal (grid n k [] fs) ps t (listTo m f)
+    exact-is = exact ∙ sym total-is
+
+    pub values-are : s ∷ w ∷ pos p ∷ [] ≡ settleValues (grid n k [] fs) ps t (listTo m f)
+    unfolding settleValues
+    values-are =
+        let v = split-values w p (hourTotal (grid n k [] fs) ps t (listTo m f)) exact-is small in
+        λ j. (sum ∙ sym sum-is) j ∷ v .0 j ∷ pos (v .1 j) ∷ []
+
+-- an answer of the exact total's figures makes it
+pub exact-of : (S W s w : ℤ) (P p : ℕ) (total : ℤ) → W *ℤ pos 100000000 +ℤ pos P ≡ total → Settled S W P ≡ Settled s w p → w *ℤ pos 100000000 +ℤ pos p ≡ total
+exact-of S W s w P p total e q =
+    let whole : W ≡ w = cc in
+    let part : P ≡ p = cc in
+    rw (← whole, ← part) e

@@ -1,8 +1,8 @@
 // The MCC of all nodes, and settling an hour. All checks come first, in the paper's order; then all is written.
 ghost use mathlib.Core.Path.{_≡_};
-ghost use mathlib.Core.List.{List, [], _∷_, map};
-ghost use Prim.Native.Nat.{ℕ, _+_, _*_, _^_, _≤_, _<_};
-ghost use lib.ListN.{length, getD, take, drop};
+ghost use mathlib.Core.List.{[], _∷_};
+ghost use Prim.Native.Nat.{ℕ, _+_, _*_, _≤_, _<_};
+ghost use lib.ListN.{length, take};
 ghost use lib.IntN.{ℤ, pos, natAbs, _+ℤ_, _*ℤ_};
 ghost use Rattle.integers.specs.Sums.{sumTo};
 ghost use Rattle.tariff.specs.declared.Checked.the-variants.{Passed};
@@ -258,7 +258,7 @@ fn settle_contracts(
     requires { ⌜ MccTable nodes (now mccs) × ((i : ℕ) → i < count → InRange nodes (contractAt (now book) i)) ⌝ }
     requires { ⌜ (count ≤ 1000) × (bookBytes count ≤ length (now book)) × (count ≤ length (now cents)) ⌝ }
     ensures { λ r. ⌜ now (cents .exit) ≡ overwrite (listTo count (λ i. centsOf (hourAmount (now (mccs .entry)) period (contractAt (now (book .entry)) i)))) (now (cents .entry)) ⌝ }
-    ensures { λ r. ⌜ (r .sum ≡ sumTo count (λ i. centsOf (hourAmount (now (mccs .entry)) period (contractAt (now (book .entry)) i)))) × (exactOf r ≡ sumTo count (λ i. hourAmount (now (mccs .entry)) period (contractAt (now (book .entry)) i))) × (r .parts < 100000000) ⌝ }
+    ensures { λ r. ⌜ (r .sum ≡ sumTo count (λ i. centsOf (hourAmount (now (mccs .entry)) period (contractAt (now (book .entry)) i)))) × (exactOf r ≡ sumTo count (λ i. hourAmount (now (mccs .entry)) period (contractAt (now (book .entry)) i))) × Bounded count r ⌝ }
 {
     let mut totals = Totals {
         sum: 0,

@@ -1,37 +1,40 @@
+-- `settlement::find_mcc`: where no check refuses, the figures are in range and the cells suffice.
+use mathlib.Core.Path.{_≡_, refl, sym, _∙_}
+use lib.ListN.{length}
+use Rattle.tariff.specs.declared.Checked.the-variants.{Passed}
+use Rattle.tariff.specs.Refusals.{first}
+use Rattle.settlement.specs.SettleChecks.{mccChecks}
+use Rattle.settlement.proofs.Passing.{mcc-ready}
 use borrow.Author.Needs.{needs}
 use Rattle.settlement.proofs.find_mcc.Statement.{statement}
 use Rattle.settlement.proofs.find_mcc.Tie as tie
-use Rattle.settlement.proofs.find_mcc.Reads as reads
-use Rattle.settlement.proofs.find_mcc.Lts as lts
-use Rattle.settlement.proofs.check_mcc.Reads as check-mcc-reads
-use Rattle.settlement.proofs.fill_mcc.Reads as fill-mcc-reads
 
--- src/lib.rt:215:9
+passed : (c : tie.After-enum-told) → let a = c .before .before .before .before .args in first (mccChecks (a .nodes) (a .constraints) (a .factors .now) (a .prices .now) (length (a .mcc .now))) ≡ Passed
+passed c = sym (c .before .before .check-mcc .ensures) ∙ c .enum-told .given .1
+
 check-mcc-requires : tie.Need-check-mcc-requires
 check-mcc-requires c κs = search needs
 
--- src/lib.rt:216:29
 enum-known-checked : tie.Need-enum-known-checked
 enum-known-checked c = search needs
 
--- src/lib.rt:217:9
 returns : tie.Need-returns
-returns c = ?
+returns c =
+    rw (sym (c .before .before .before .check-mcc .ensures) ∙ c .before .checked .given .1) (refl, refl)
 
 enum-told : tie.Need-enum-told
 enum-told c = search needs
 
--- src/lib.rt:219:5
 fill-mcc-requires : tie.Need-fill-mcc-requires
-fill-mcc-requires c κs = ?
+fill-mcc-requires c κs =
+    let a = c .before .before .before .before .before .args in
+    mcc-ready (a .nodes) (a .constraints) (a .factors .now) (a .prices .now) (length (a .mcc .now)) (passed (c .before))
 
--- src/lib.rt:205:1
 same-length : tie.Need-same-length
 same-length c = search needs
 
--- src/lib.rt:205:1
 returns-2 : tie.Need-returns-2
-returns-2 c = ?
+returns-2 c = rw (passed (c .before .before .before)) (refl, c .before .fill-mcc .ensures)
 
 pub find-mcc-spec : {M : Type 1} → statement M
 find-mcc-spec =

@@ -27,7 +27,6 @@ amountAt mccs t s i = hourAmount mccs t (contractAt s i)
 abbrev centsAt : List ℤ → Period → List ℕ → ℕ → ℤ
 centsAt mccs t s i = centsOf (amountAt mccs t s i)
 
-
 abbrev Inv-loop : tie.InvT-loop
 Inv-loop nodes mccs period book count cents₀ totals₀ i₀ cents totals i =
     (i ≤ count) × (length cents ≡ length cents₀) × (take i cents ≡ take i (listTo count (centsAt mccs period book))) × (drop i cents ≡ drop i cents₀) × (totals .sum ≡ sumTo i (centsAt mccs period book)) × (exactOf totals ≡ sumTo i (amountAt mccs period book)) × Bounded i totals
@@ -106,7 +105,7 @@ returns c =
     let F = centsAt (a .mccs .now) (a .period) (a .book .now) in
     let last : l .i ≡ a .count = omega arith in (
       fill-front (listTo (a .count) F) (l .cents) (a .cents .now) (l .i) (l .inv .2) (l .inv .3) (rw (length-listTo (a .count) F) last),
-      (rw last at (l .inv .4), rw last at (l .inv .5), l .inv .6 .parts-small),
+      (rw last at (l .inv .4), rw last at (l .inv .5), rw last at (l .inv .6)),
     )
 
 pub settle-contracts-spec : {M : Type 1} → statement M
