@@ -1,2 +1,3 @@
 pub mod SettleChecks
 pub mod Answers
+pub mod Tables

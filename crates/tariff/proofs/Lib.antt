@@ -5,3 +5,4 @@ pub mod Sizes
 pub mod Rules
 pub mod Checks
 pub mod Periods
+pub mod Rounding

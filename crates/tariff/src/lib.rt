@@ -4,10 +4,12 @@ ghost use mathlib.Core.Path.{_≡_};
 ghost use Prim.Native.Nat.{_+_, _*_, _^_, _≤_, _<_};
 ghost use lib.IntN.{pos, natAbs, negℤ, _+ℤ_, _-ℤ_, _*ℤ_};
 ghost use lib.Signed.{ltZ};
+ghost use Rattle.integers.specs.Division.{roundUp};
 ghost use Rattle.tariff.specs.Refusals.{numberOf};
 ghost use Rattle.tariff.specs.Checks.{quantityRange};
 ghost use Rattle.tariff.specs.Contracts.{kindOf, periodOf, samePeriod, counted as countedAs};
 ghost use Rattle.tariff.specs.Processes.{percent as percentOf, processOf};
+ghost use Rattle.tariff.specs.Settlement.{cents as centsOf, wholeCents, parts as partsOf};
 
 // Why input is turned down ("When input is turned down"): one case for each of the paper's numbers.
 pub enum Refusal {
@@ -239,6 +241,14 @@ impl Mcc {
         Mcc(-self.0)
     }
 
+    // As a cell of a table.
+    pub fn cell(self) -> i64
+        requires { ⌜ natAbs (self .0) < 2 ^ 63 ⌝ }
+        ensures { λ r. ⌜ r ≡ self .0 ⌝ }
+    {
+        self.0
+    }
+
     // The product rule of amounts (003, 36.2.1): a difference of two MCCs × quantity.
     pub fn times(self, quantity: Quantity) -> Amount
         requires { ⌜ (natAbs (self .0) ≤ 6400000000000) × (quantity .0 ≤ 1000000) ⌝ }
@@ -298,6 +308,65 @@ impl Amount {
         match kind {
             Kind::Obligation => self,
             Kind::Option => { if self.0 < 0 { Amount(0) } else { self } }
+        }
+    }
+
+    // Its size, whatever its sign.
+    fn size(self) -> u64
+        requires { ⌜ natAbs (self .0) < 2 ^ 63 ⌝ }
+        ensures { λ r. ⌜ r ≡ natAbs (self .0) ⌝ }
+    {
+        if self.0 < 0 {
+            (-self.0) as u64
+        } else {
+            self.0 as u64
+        }
+    }
+
+    // Its size in cents: to the nearest, a half upwards.
+    fn rounded(self) -> u64
+        requires { ⌜ natAbs (self .0) ≤ 6400000000000000000 ⌝ }
+        ensures { λ r. ⌜ (r ≡ roundUp (natAbs (self .0)) 100000000) × (r ≤ 64000000000) ⌝ }
+    {
+        (self.size() + 50000000) / 100000000
+    }
+
+    // In cents: to the nearest, a half away from zero.
+    pub fn cents(self) -> i64
+        requires { ⌜ natAbs (self .0) ≤ 6400000000000000000 ⌝ }
+        ensures { λ r. ⌜ (r ≡ centsOf (self .0)) × (natAbs r ≤ 64000000000) ⌝ }
+    {
+        let rounded = self.rounded();
+        if self.0 < 0 {
+            -(rounded as i64)
+        } else {
+            rounded as i64
+        }
+    }
+
+    // The whole cents, rounded down.
+    pub fn whole(self) -> i64
+        requires { ⌜ natAbs (self .0) ≤ 6400000000000000000 ⌝ }
+        ensures { λ r. ⌜ (r ≡ wholeCents (self .0)) × (natAbs r ≤ 64000000000) ⌝ }
+    {
+        let size = self.size();
+        if self.0 < 0 {
+            -(((size + 99999999) / 100000000) as i64)
+        } else {
+            (size / 100000000) as i64
+        }
+    }
+
+    // What is left above the whole cents.
+    pub fn parts(self) -> u64
+        requires { ⌜ natAbs (self .0) ≤ 6400000000000000000 ⌝ }
+        ensures { λ r. ⌜ (r ≡ partsOf (self .0)) × (r < 100000000) ⌝ }
+    {
+        let size = self.size();
+        if self.0 < 0 {
+            99999999 - (size - 1) % 100000000
+        } else {
+            size % 100000000
         }
     }
 }

@@ -1,0 +1,85 @@
+-- `Totals::plus`: what the machine adds is what the amounts add, with or without a carry.
+use mathlib.Core.Path.{_≡_, refl, ap}
+use Prim.Native.Nat.{_+_, _≤_}
+use native.Mathlib.Omega.{arith}
+use borrow.Author.Needs.{needs}
+use lib.IntN.{ℤ, pos, natAbs, _+ℤ_}
+use mir.Syntax.{w64}
+use mir.Val.{toZ, ofZ}
+use Rattle.integers.proofs.Sizes.{natAbs-add}
+use Rattle.integers.proofs.Machine.{op-fits, op-is}
+use Rattle.settlement.proofs.HourSums.{add-fits, add-is, exact-more, exact-carry}
+use Rattle.settlement.proofs.Totals.plus.Statement.{statement}
+use Rattle.settlement.proofs.Totals.plus.Tie as tie
+
+cents-requires : tie.Need-cents-requires
+cents-requires c κs = search needs
+
+-- the machine's sums are those of the numbers
+sum-is : (c : tie.After-cents) → let a = c .before .args in toZ w64 (ofZ w64 (toZ w64 (ofZ w64 (a .self .sum)) +ℤ toZ w64 (ofZ w64 (c .cents .result)))) ≡ a .self .sum +ℤ c .cents .result
+sum-is c = add-is (c .before .args .self .sum) (c .cents .result) (omega (arith, c .before .pre, c .cents .ensures))
+
+whole-is : (c : tie.After-whole) → let a = c .before .before .before .before .args in toZ w64 (ofZ w64 (toZ w64 (ofZ w64 (a .self .whole)) +ℤ toZ w64 (ofZ w64 (c .whole .result)))) ≡ a .self .whole +ℤ c .whole .result
+whole-is c = add-is (c .before .before .before .before .args .self .whole) (c .whole .result) (omega (arith, c .before .before .before .before .pre, c .whole .ensures))
+
+add-sum : tie.Need-add-sum
+add-sum c =
+    add-fits (c .before .before .before .args .self .sum) (c .before .before .cents .result) (omega (arith, c .before .before .before .pre, c .before .before .cents .ensures))
+
+whole-requires : tie.Need-whole-requires
+whole-requires c κs = search needs
+
+add-whole : tie.Need-add-whole
+add-whole c =
+    add-fits (c .before .before .before .before .before .before .args .self .whole) (c .before .before .whole .result) (omega (arith, c .before .before .before .before .before .before .pre, c .before .before .whole .ensures))
+
+parts-requires : tie.Need-parts-requires
+parts-requires c κs = search needs
+
+add-parts : tie.Need-add-parts
+add-parts c = search needs
+
+small : (c : tie.After-whole) → natAbs (c .before .before .before .before .args .self .whole +ℤ c .whole .result +ℤ pos 1) ≤ natAbs (c .before .before .before .before .args .self .whole) + 64000000001
+small c =
+    let W = c .before .before .before .before .args .self .whole in
+    omega (arith, natAbs-add W (c .whole .result), natAbs-add (W +ℤ c .whole .result) (pos 1), c .whole .ensures .1)
+
+add-t10 : tie.Need-add-t10
+add-t10 c =
+    op-fits _+ℤ_ (whole-is (c .before .before .before .before .before)) refl (omega (arith, small (c .before .before .before .before .before), c .before .before .before .before .before .before .before .before .before .pre))
+
+returns : tie.Need-returns
+returns c =
+    let a = c .before .before .before .before .before .before .before .before .before .args in
+    let x = c .before .before .before .before .before .before .before .before .cents in
+    let w = c .before .before .before .before .before .whole in
+    let p = c .before .before .parts in
+    rw (sum-is (c .before .before .before .before .before .before .before .before), whole-is (c .before .before .before .before .before)) (
+      (ap (λ (z : ℤ). a .self .sum +ℤ z) (x .ensures .0), exact-more (a .self .whole) (w .result) (a .self .parts) (p .result) (a .amount .0) (w .ensures .0) (p .ensures .0)),
+      (c .if1 .taken, omega (arith, natAbs-add (a .self .sum) (x .result), x .ensures .1), omega (arith, natAbs-add (a .self .whole) (w .result), w .ensures .1)),
+    )
+
+returns-2 : tie.Need-returns-2
+returns-2 c =
+    let a = c .before .before .before .before .before .before .before .before .before .args in
+    let x = c .before .before .before .before .before .before .before .before .cents in
+    let w = c .before .before .before .before .before .whole in
+    let p = c .before .before .parts in
+    rw (sum-is (c .before .before .before .before .before .before .before .before), op-is _+ℤ_ {u = pos 1} (whole-is (c .before .before .before .before .before)) refl (omega (arith, small (c .before .before .before .before .before), c .before .before .before .before .before .before .before .before .before .pre))) (
+      (ap (λ (z : ℤ). a .self .sum +ℤ z) (x .ensures .0), exact-carry (a .self .whole) (w .result) (a .self .parts) (p .result) (a .amount .0) (w .ensures .0) (p .ensures .0) (c .if1 .left)),
+      (omega (arith, c .before .before .before .before .before .before .before .before .before .pre, p .ensures .1), omega (arith, natAbs-add (a .self .sum) (x .result), x .ensures .1), small (c .before .before .before .before .before)),
+    )
+
+pub plus-spec : {M : Type 1} → statement M
+plus-spec =
+    tie.close
+    (tie.spec
+    cents-requires
+    add-sum
+    whole-requires
+    add-whole
+    parts-requires
+    add-parts
+    add-t10
+    returns
+    returns-2)

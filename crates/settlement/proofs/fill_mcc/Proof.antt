@@ -1,0 +1,85 @@
+-- `settlement::fill_mcc`: the cells passed hold the MCCs passed, and those behind are as they were.
+use mathlib.Core.Path.{_≡_, sym, _∙_}
+use Prim.Native.Nat.{_-_, _≤_, _<_}
+use native.Mathlib.Omega.{arith}
+use lib.ListN.{length, take, drop, length-set}
+use lib.IntN.{pos}
+use mir.Syntax.{w64}
+use mir.Facts.{toZ-ofZ}
+use Rattle.bits.proofs.Fill.{fill-turn, rest-turn, fill-front}
+use Rattle.layouts.proofs.Lists.{length-listTo, getD-listTo}
+use borrow.Author.Needs.{needs}
+use mathlib.Core.List.{[]}
+use Rattle.tariff.specs.Units.{grid}
+use Rattle.tariff.specs.Settlement.{mcc}
+use Rattle.layouts.specs.Files.{listTo}
+use Rattle.settlement.proofs.fill_mcc.Statement.{statement}
+use Rattle.settlement.proofs.fill_mcc.Tie as tie
+
+abbrev Inv-loop : tie.InvT-loop
+Inv-loop nodes constraints factors prices out₀ node₀ out node =
+    (node ≤ nodes) × (length out ≡ length out₀) × (take node out ≡ take node (listTo nodes (mcc (grid nodes constraints [] factors) prices))) × (drop node out ≡ drop node out₀)
+
+abbrev μ-loop : tie.MeasureT-loop
+μ-loop nodes constraints factors prices out₀ node₀ out node = nodes - node
+
+loop-holds : tie.Need-loop-holds Inv-loop μ-loop
+loop-holds c = search needs
+
+node-mcc-requires : tie.Need-node-mcc-requires Inv-loop μ-loop
+node-mcc-requires c κs = search needs
+
+cell-requires : tie.Need-cell-requires Inv-loop μ-loop
+cell-requires c κs = search needs
+
+mul-t10 : tie.Need-mul-t10 Inv-loop μ-loop
+mul-t10 c = search needs
+
+slice-set-from-out : tie.Need-slice-set-from-out Inv-loop μ-loop
+slice-set-from-out c = search needs
+
+add-node : tie.Need-add-node Inv-loop μ-loop
+add-node c = search needs
+
+loop-less : tie.Need-loop-less Inv-loop μ-loop
+loop-less c = search needs
+
+loop-again : tie.Need-loop-again Inv-loop μ-loop
+loop-again c =
+    let a = c .before .before .before .before .before .args in
+    let l = c .before .before .before .loop in
+    let f = mcc (grid (a .nodes) (a .constraints) [] (a .factors .now)) (a .prices .now) in
+    let h : l .node < a .nodes = omega arith in
+    let v = toZ-ofZ {w = w64} (record { sfits = c .cell .ok }) ∙ c .cell .ensures ∙ c .before .node-mcc .ensures .0 ∙ sym (getD-listTo (a .nodes) f (l .node) (pos 0) h) in (
+      omega arith,
+      simp length-set (omega arith),
+      fill-turn (listTo (a .nodes) f) (l .out) (l .node) (l .inv .2) _ (pos 0) (omega arith) (rw (length-listTo (a .nodes) f) h) v,
+      rest-turn (l .out) (a .out .now) (l .node) _ (l .inv .3),
+    )
+
+same-length : tie.Need-same-length Inv-loop μ-loop
+same-length c = search needs
+
+returns : tie.Need-returns Inv-loop μ-loop
+returns c =
+    let a = c .before .before .before .args in
+    let l = c .before .loop in
+    let f = mcc (grid (a .nodes) (a .constraints) [] (a .factors .now)) (a .prices .now) in
+    fill-front (listTo (a .nodes) f) (l .out) (a .out .now) (l .node) (l .inv .2) (l .inv .3) (rw (length-listTo (a .nodes) f) (omega arith))
+
+pub fill-mcc-spec : {M : Type 1} → statement M
+fill-mcc-spec =
+    tie.close
+    (tie.spec
+    Inv-loop
+    μ-loop
+    loop-holds
+    node-mcc-requires
+    cell-requires
+    mul-t10
+    slice-set-from-out
+    add-node
+    loop-less
+    loop-again
+    same-length
+    returns)

@@ -1,0 +1,128 @@
+-- `settlement::settle_contracts`: the cells passed hold the cents of the contracts passed, and the totals are theirs.
+use mathlib.Core.Path.{_≡_, refl, sym, ap, _∙_}
+use Prim.Native.Nat.{ℕ, _-_, _≤_, _<_}
+use native.Mathlib.Omega.{arith}
+use lib.ListN.{length, take, drop, length-set}
+use lib.IntN.{ℤ, pos}
+use mir.Syntax.{w64}
+use mir.Facts.{toZ-ofZ}
+use Rattle.bits.proofs.Fill.{fill-turn, rest-turn, fill-front}
+use Rattle.layouts.proofs.Lists.{length-listTo, getD-listTo}
+use Rattle.settlement.proofs.HourSums.{sum-start, sum-more}
+use borrow.Author.Needs.{needs}
+use mathlib.Core.List.{List}
+use Rattle.integers.specs.Sums.{sumTo}
+use Rattle.tariff.specs.declared.Period.{Period}
+use Rattle.tariff.specs.Settlement.{cents as centsOf}
+use Rattle.layouts.specs.Files.{listTo}
+use Rattle.layouts.specs.BookFile.{contractAt}
+use Rattle.settlement.specs.Tables.{hourAmount, exactOf, Bounded}
+use Rattle.settlement.proofs.settle_contracts.Statement.{statement}
+use Rattle.settlement.proofs.settle_contracts.Tie as tie
+
+-- what contract i adds, and its cents
+abbrev amountAt : List ℤ → Period → List ℕ → ℕ → ℤ
+amountAt mccs t s i = hourAmount mccs t (contractAt s i)
+
+abbrev centsAt : List ℤ → Period → List ℕ → ℕ → ℤ
+centsAt mccs t s i = centsOf (amountAt mccs t s i)
+
+abbrev Inv-loop : tie.InvT-loop
+Inv-loop nodes mccs period book count cents₀ totals₀ i₀ cents totals i =
+    (i ≤ count) × (length cents ≡ length cents₀) × (take i cents ≡ take i (listTo count (centsAt mccs period book))) × (drop i cents ≡ drop i cents₀) × (totals .sum ≡ sumTo i (centsAt mccs period book)) × (exactOf totals ≡ sumTo i (amountAt mccs period book)) × Bounded i totals
+
+abbrev μ-loop : tie.MeasureT-loop
+μ-loop nodes mccs period book count cents₀ totals₀ i₀ cents totals i = count - i
+
+loop-holds : tie.Need-loop-holds Inv-loop μ-loop
+loop-holds c =
+    let a = c .before .args in (
+      omega arith,
+      refl,
+      refl,
+      refl,
+      sum-start (centsAt (a .mccs .now) (a .period) (a .book .now)),
+      sum-start (amountAt (a .mccs .now) (a .period) (a .book .now)),
+      record { parts-small = omega arith; sum-sized = omega arith; whole-sized = omega arith },
+    )
+
+contract-at-requires : tie.Need-contract-at-requires Inv-loop μ-loop
+contract-at-requires c κs = search needs
+
+hour-amount-requires : tie.Need-hour-amount-requires Inv-loop μ-loop
+hour-amount-requires c κs =
+    let s = c .before .before .before .before in
+    (s .pre .0 .0, rw (c .contract-at .ensures) (s .pre .0 .1 (c .before .before .loop .i) (omega arith)))
+
+cents-requires : tie.Need-cents-requires Inv-loop μ-loop
+cents-requires c κs = search needs
+
+mul-t13 : tie.Need-mul-t13 Inv-loop μ-loop
+mul-t13 c = search needs
+
+slice-set-from-cents : tie.Need-slice-set-from-cents Inv-loop μ-loop
+slice-set-from-cents c = search needs
+
+plus-requires : tie.Need-plus-requires Inv-loop μ-loop
+plus-requires c κs = search needs
+
+add-i : tie.Need-add-i Inv-loop μ-loop
+add-i c = search needs
+
+loop-less : tie.Need-loop-less Inv-loop μ-loop
+loop-less c = search needs
+
+loop-again : tie.Need-loop-again Inv-loop μ-loop
+loop-again c =
+    let a = c .before .before .before .before .before .before .before .args in
+    let l = c .before .before .before .before .before .loop in
+    let p = c .plus .ensures in
+    let amount = c .before .before .hour-amount in
+    let F = centsAt (a .mccs .now) (a .period) (a .book .now) in
+    let h : l .i < a .count = omega arith in
+    let is : amount .result .0 ≡ amountAt (a .mccs .now) (a .period) (a .book .now) (l .i) = amount .ensures .0 ∙ ap (hourAmount (a .mccs .now) (a .period)) (c .before .before .before .contract-at .ensures) in
+    let v = toZ-ofZ {w = w64} (record { sfits = c .before .cents .ok }) ∙ c .before .cents .ensures .0 ∙ ap centsOf is ∙ sym (getD-listTo (a .count) F (l .i) (pos 0) h) in (
+      omega arith,
+      simp length-set (omega arith),
+      fill-turn (listTo (a .count) F) (l .cents) (l .i) (l .inv .2) _ (pos 0) (omega arith) (rw (length-listTo (a .count) F) h) v,
+      rest-turn (l .cents) (a .cents .now) (l .i) _ (l .inv .3),
+      sum-more (l .i) F (l .totals .sum) (centsOf (amount .result .0)) (c .plus .result .sum) (l .inv .4) (ap centsOf is) (p .0 .0),
+      sum-more (l .i) (amountAt (a .mccs .now) (a .period) (a .book .now)) (exactOf (l .totals)) (amount .result .0) (exactOf (c .plus .result)) (l .inv .5) is (p .0 .1),
+      record {
+        parts-small = p .1 .0;
+        sum-sized = omega (arith, p .1, l .inv .6);
+        whole-sized = omega (arith, p .1, l .inv .6);
+      },
+    )
+
+same-length : tie.Need-same-length Inv-loop μ-loop
+same-length c = search needs
+
+returns : tie.Need-returns Inv-loop μ-loop
+returns c =
+    let a = c .before .before .before .args in
+    let l = c .before .loop in
+    let F = centsAt (a .mccs .now) (a .period) (a .book .now) in
+    let last : l .i ≡ a .count = omega arith in (
+      fill-front (listTo (a .count) F) (l .cents) (a .cents .now) (l .i) (l .inv .2) (l .inv .3) (rw (length-listTo (a .count) F) last),
+      (rw last at (l .inv .4), rw last at (l .inv .5), rw last at (l .inv .6)),
+    )
+
+pub settle-contracts-spec : {M : Type 1} → statement M
+settle-contracts-spec =
+    tie.close
+    (tie.spec
+    Inv-loop
+    μ-loop
+    loop-holds
+    contract-at-requires
+    hour-amount-requires
+    cents-requires
+    mul-t13
+    slice-set-from-cents
+    plus-requires
+    add-i
+    loop-less
+    loop-again
+    same-length
+    returns)

@@ -1,0 +1,102 @@
+-- `settlement::settle_hour`: where no check refuses, the table of MCCs is the grid's and each contract is in range.
+use mathlib.Core.Path.{_≡_, refl, sym, ap, _∙_}
+use mathlib.Core.List.{List}
+use native.Mathlib.Omega.{arith}
+use lib.ListN.{length}
+use lib.IntN.{ℤ}
+use Rattle.integers.proofs.Machine.{back}
+use Rattle.tariff.specs.declared.Checked.the-variants.{Passed}
+use Rattle.tariff.specs.Refusals.{first, given, overwrite}
+use Rattle.tariff.specs.Contracts.{periodOf}
+use Rattle.layouts.specs.BookFile.{countIn, contractAt}
+use Rattle.settlement.specs.SettleChecks.{settleChecks}
+use Rattle.settlement.specs.Tables.{MccTable}
+use Rattle.settlement.proofs.Passing.{Ready, settle-ready}
+use Rattle.settlement.proofs.Congestion.{mcc-table}
+use Rattle.settlement.proofs.HourSums.{cells-are, values-are, exact-is, exact-of}
+use borrow.Author.Needs.{needs}
+use Rattle.settlement.proofs.settle_hour.Statement.{statement}
+use Rattle.settlement.proofs.settle_hour.Tie as tie
+
+passed : (c : tie.After-enum-told) → let a = c .before .before .before .before .before .args in first (settleChecks (a .nodes) (a .constraints) (a .period) (a .factors .now) (a .prices .now) (a .book .now) (length (a .cents .now))) ≡ Passed
+passed c = sym (c .before .before .check-settle .ensures) ∙ c .enum-told .given .1
+
+ready : (c : tie.After-enum-told) → let a = c .before .before .before .before .before .args in Ready (a .nodes) (a .constraints) (a .period) (a .factors .now) (a .prices .now) (a .book .now) (length (a .cents .now))
+ready c = let a = c .before .before .before .before .before .args in settle-ready (a .nodes) (a .constraints) (a .period) (a .factors .now) (a .prices .now) (a .book .now) (length (a .cents .now)) (passed c)
+
+table : (c : tie.After-fill-mcc) → MccTable (c .before .before .before .before .before .before .before .args .nodes) (c .fill-mcc .last .1 .1 .1 .1 .0)
+table c =
+    let a = c .before .before .before .before .before .before .before .args in
+    mcc-table (a .nodes) (a .constraints) (a .factors .now) (a .prices .now) (ready (c .before .before) .hour) _ _ (c .fill-mcc .ensures)
+
+check-settle-requires : tie.Need-check-settle-requires
+check-settle-requires c κs = search needs
+
+enum-known-checked : tie.Need-enum-known-checked
+enum-known-checked c = search needs
+
+returns : tie.Need-returns
+returns c =
+    rw (sym (c .before .before .before .check-settle .ensures) ∙ c .before .checked .given .1) (refl, (refl, λ e s w p q. cc))
+
+enum-told : tie.Need-enum-told
+enum-told c = search needs
+
+slice-aggregate-fill-mcc : tie.Need-slice-aggregate-fill-mcc
+slice-aggregate-fill-mcc c = search needs
+
+fill-mcc-requires : tie.Need-fill-mcc-requires
+fill-mcc-requires c κs =
+    let o = ready (c .before) in
+    (o .hour, o .hour .nodes-few)
+
+field-requires : tie.Need-field-requires
+field-requires c κs = omega (arith, ready (c .before .before .before) .book .size)
+
+from-number-requires : tie.Need-from-number-requires
+from-number-requires c κs = search needs
+
+slice-aggregate-settle-contracts : tie.Need-slice-aggregate-settle-contracts
+slice-aggregate-settle-contracts c = search needs
+
+settle-contracts-requires : tie.Need-settle-contracts-requires
+settle-contracts-requires c κs =
+    let o = ready (c .before .before .before .before .before .before .before) in
+    let n = c .before .before .before .field .ensures .0 in (
+      (table (c .before .before .before .before .before), rw n (o .book .each)),
+      (omega (arith, o .book .few, n), omega (arith, o .book .size, n), omega (arith, o .room, n)),
+    )
+
+same-length : tie.Need-same-length
+same-length c = search needs
+
+returns-2 : tie.Need-returns-2
+returns-2 c =
+    let f = c .before .before .before .before .before .before in
+    let a = c .before .before .before .before .before .before .before .before .before .before .before .before .before .before .before .args in
+    let r = c .before .before .settle-contracts .result in
+    let n = f .field .ensures .0 in
+    let e = rw (n, c .before .before .before .before .before .from-number .ensures) at (c .before .before .settle-contracts .ensures) in
+    let o = ready (c .before .before .before .before .before .before .before .before .before .before) in
+    let m = c .before .before .before .before .before .before .before .before in
+    rw (back (r .sum) (omega (arith, e .1 .2, o .book .few)), back (r .whole) (omega (arith, e .1 .2, o .book .few)), passed (c .before .before .before .before .before .before .before .before .before .before)) (
+      ap given (values-are (a .nodes) (a .constraints) (a .factors .now) (a .prices .now) (o .hour) (m .fill-mcc .last .1 .1 .1 .1 .0) _ (m .fill-mcc .ensures) (periodOf (a .period)) (countIn (a .book .now)) (contractAt (a .book .now)) (o .book .each) (r .sum) (r .whole) (r .parts) (e .1 .0) (e .1 .1) (e .1 .2 .parts-small)),
+      (e .0 ∙ ap (λ (xs : List ℤ). overwrite xs (a .cents .now)) (cells-are (a .nodes) (a .constraints) (a .factors .now) (a .prices .now) (o .hour) (m .fill-mcc .last .1 .1 .1 .1 .0) _ (m .fill-mcc .ensures) (periodOf (a .period)) (countIn (a .book .now)) (contractAt (a .book .now)) (o .book .each)), λ q s w p z. exact-of _ _ s w _ p _ (exact-is (a .nodes) (a .constraints) (a .factors .now) (a .prices .now) (o .hour) (m .fill-mcc .last .1 .1 .1 .1 .0) _ (m .fill-mcc .ensures) (periodOf (a .period)) (countIn (a .book .now)) (contractAt (a .book .now)) (o .book .each) (r .sum) (r .whole) (r .parts) (e .1 .0) (e .1 .1) (e .1 .2 .parts-small)) z),
+    )
+
+pub settle-hour-spec : {M : Type 1} → statement M
+settle-hour-spec =
+    tie.close
+    (tie.spec
+    check-settle-requires
+    enum-known-checked
+    returns
+    enum-told
+    slice-aggregate-fill-mcc
+    fill-mcc-requires
+    field-requires
+    from-number-requires
+    slice-aggregate-settle-contracts
+    settle-contracts-requires
+    same-length
+    returns-2)
