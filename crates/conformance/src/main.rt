@@ -1,4 +1,6 @@
 // Goes through document 01's checked values and the vectors of the files with the proved entries, and prints each beside what is expected.
+mod settling;
+
 use book_file::BookAnswer;
 use grid_file::GridAnswer;
 use layouts::WriteAnswer;
@@ -6,7 +8,7 @@ ghost use Prim.Native.Nat.{_<_};
 use libc::STDOUT_FILENO;
 use price_file::PriceAnswer;
 
-fn print(s: &[u8]) {
+pub fn print(s: &[u8]) {
     io::write_all(STDOUT_FILENO, s);
 }
 
@@ -35,7 +37,7 @@ fn print_bytes(s: &[u8]) {
     }
 }
 
-fn print_verdict(ok: bool) {
+pub fn print_verdict(ok: bool) {
     if ok {
         print(b" ok\n");
     } else {
@@ -44,7 +46,7 @@ fn print_verdict(ok: bool) {
 }
 
 // A figure beside what is expected.
-fn figure(name: &[u8], got: u64, expected: u64) {
+pub fn figure(name: &[u8], got: u64, expected: u64) {
     print(name);
     print(b": ");
     print_number(got);
@@ -201,4 +203,5 @@ fn main() {
     case_l_grid();
     case_l_book();
     case_l_prices();
+    settling::run();
 }

@@ -1,0 +1,63 @@
+-- `print_signed`.
+use mathlib.Core.Path.{_≡_, sym}
+use mathlib.Core.Bool.{false}
+use Prim.Native.Nat.{_<_, _^_}
+use native.Mathlib.Omega.{arith}
+use borrow.Author.Tests.{ltb-false}
+use lib.IntN.{ℤ, pos, negsuc, natAbs}
+use lib.Seq.{length-take-le}
+use lib.Signed.{mag, ltZ}
+use mir.Facts.{toZ-ofZ}
+use borrow.Author.Needs.{needs}
+use Rattle.conformance.proofs.settling.print_signed.Statement.{statement}
+use Rattle.conformance.proofs.settling.print_signed.Tie as tie
+
+-- a number that is not below -9 × 10^18
+above : (z : ℤ) → mag z < 2 ^ 63 → ltZ z (negsuc 8999999999999999999) ≡ false → natAbs z < 2 ^ 63
+above (pos n) f e = f
+above (negsuc n) f e = omega (arith, ltb-false 8999999999999999999 n e)
+
+slice-aggregate-print : tie.Need-slice-aggregate-print
+slice-aggregate-print c = search needs
+
+print-requires : tie.Need-print-requires
+print-requires c κs = search needs
+
+returns : tie.Need-returns
+returns c = search needs
+
+slice-aggregate-put-signed : tie.Need-slice-aggregate-put-signed
+slice-aggregate-put-signed c = search needs
+
+put-signed-requires : tie.Need-put-signed-requires
+put-signed-requires c κs =
+    let s = c .before .before in
+    (omega arith, rw (toZ-ofZ (s .fits .z)) (above (s .args .z) (s .fits .z .sfits) (rw (toZ-ofZ (s .fits .z)) at (c .before .if1 .left))))
+
+array-share-prefix-digits : tie.Need-array-share-prefix-digits
+array-share-prefix-digits c = search needs
+
+slice-aggregate-print-2 : tie.Need-slice-aggregate-print-2
+slice-aggregate-print-2 c =
+    let d = c .before .before .put-signed in
+    sym (length-take-le (d .result) (d .last .0) (omega (arith, d .ensures .1 .1, d .kept .0)))
+
+print-requires-2 : tie.Need-print-requires-2
+print-requires-2 c κs = search needs
+
+returns-2 : tie.Need-returns-2
+returns-2 c = search needs
+
+pub print-signed-spec : {M : Type 1} → statement M
+print-signed-spec =
+    tie.close
+    (tie.spec
+    slice-aggregate-print
+    print-requires
+    returns
+    slice-aggregate-put-signed
+    put-signed-requires
+    array-share-prefix-digits
+    slice-aggregate-print-2
+    print-requires-2
+    returns-2)
