@@ -1,11 +1,10 @@
 -- The running totals, and the sums of an hour: contract by contract, nothing for the other period's.
 use mathlib.Core.Path.{_≡_, refl, sym, ap, ap₂, _∙_}
 use mathlib.Core.Bool.{Bool, true, false, cond}
-use mathlib.Core.List.{List, [], _∷_, _++_, map}
-use Prim.Native.Nat.{ℕ, zero, suc, _+_, _-_, _*_, _^_, _≤_, _<_}
+use mathlib.Core.List.{List, [], _∷_, _++_}
+use Prim.Native.Nat.{ℕ, zero, suc, _+_, _-_, _^_, _≤_, _<_}
 use native.Mathlib.Numerals.{add-one}
 use native.Mathlib.Omega.{arith}
-use lib.ListN.{length}
 use lib.IntN.{ℤ, pos, natAbs, _+ℤ_, _*ℤ_, +ℤ-idr}
 use mir.Syntax.{w64}
 use mir.Val.{SFits, toZ, ofZ}
@@ -18,14 +17,13 @@ use Rattle.tariff.specs.declared.Contract.{Contract}
 use Rattle.tariff.specs.declared.Period.{Period}
 use Rattle.tariff.specs.Units.{grid}
 use Rattle.tariff.specs.Contracts.{samePeriod, ofPeriod, InRange}
-use Rattle.tariff.specs.Refusals.{Outcome, given}
 use Rattle.tariff.specs.Settlement.{mcc, amount, exactTotal, cents, wholeCents, parts}
 use Rattle.tariff.proofs.Periods.{ofPeriod-same, ofPeriod-other, sumOver-more}
 use Rattle.layouts.specs.Files.{listTo}
 use Rattle.layouts.proofs.Lists.{listTo-cong, map-listTo}
 use Rattle.settlement.specs.declared.SettleAnswer.the-variants.{Settled}
 use Rattle.settlement.specs.Answers.{cellOf, centsCells, centsSum, hourTotal, settleValues}
-use Rattle.settlement.specs.Tables.{Hour, amountBy, hourAmount}
+use Rattle.settlement.specs.Tables.{Hour, hourAmount}
 use Rattle.settlement.proofs.Congestion.{amount-by}
 
 -- ---- a machine sum of two numbers that are kept in an i64
@@ -80,7 +78,7 @@ cents-cond true x = refl
 cents-cond false x = refl
 
 -- whole cents and parts that make the total are its own
-pub split-values : (w : ℤ) (p : ℕ) (total : ℤ) → w *ℤ pos 100000000 +ℤ pos p ≡ total → p < 100000000 → (w ≡ wholeCents total) × (p ≡ parts total)
+split-values : (w : ℤ) (p : ℕ) (total : ℤ) → w *ℤ pos 100000000 +ℤ pos p ≡ total → p < 100000000 → (w ≡ wholeCents total) × (p ≡ parts total)
 split-values w p total e h = rw (← e) (sym (floor-unique w p 100000000 h .0), sym (floor-unique w p 100000000 h .1))
 
 -- ---- an hour's figures, by a table of MCCs
@@ -94,29 +92,31 @@ module _ (n k : ℕ) (fs : List ℤ) (ps : List ℕ) (h : Hour n k fs ps) (mccs 
   cents-by-table : (i : ℕ) → i < m → cents (hourAmount mccs t (f i)) ≡ cond (samePeriod (f i .period) t) (cents (amount (grid n k [] fs) ps (f i))) (pos 0)
   cents-by-table i b = ap cents (by-table i b) ∙ cents-cond (samePeriod (f i .period) t) (amount (grid n k [] fs) ps (f i))
 
-  pub cells-are : listTo m (λ i. cents (hourAmount mccs t (f i))) ≡ centsCells (grid n k [] fs) ps t (listTo m f)
+  cells-are : listTo m (λ i. cents (hourAmount mccs t (f i))) ≡ centsCells (grid n k [] fs) ps t (listTo m f)
   unfolding centsCells cellOf
   cells-are = listTo-cong m _ _ cents-by-table ∙ sym (map-listTo m f (cellOf (grid n k [] fs) ps t))
 
-  pub sum-is : centsSum (grid n k [] fs) ps t (listTo m f) ≡ sumTo m (λ i. cents (hourAmount mccs t (f i)))
+  sum-is : centsSum (grid n k [] fs) ps t (listTo m f) ≡ sumTo m (λ i. cents (hourAmount mccs t (f i)))
   unfolding centsSum
   sum-is = period-sum t m f (λ c. cents (amount (grid n k [] fs) ps c)) _ cents-by-table
 
-  pub total-is : hourTotal (grid n k [] fs) ps t (listTo m f) ≡ sumTo m (λ i. hourAmount mccs t (f i))
+  total-is : hourTotal (grid n k [] fs) ps t (listTo m f) ≡ sumTo m (λ i. hourAmount mccs t (f i))
   unfolding hourTotal exactTotal
   total-is = period-sum t m f (amount (grid n k [] fs) ps) _ by-table
 
-  -- what settling gives: a sum of cents, and whole cents and parts of the exact total
-  module _ (s w : ℤ) (p : ℕ) (sum : s ≡ sumTo m (λ i. cents (hourAmount mccs t (f i)))) (exact : w *ℤ pos 100000000 +ℤ pos p ≡ sumTo m (λ i. hourAmount mccs t (f i)))
-      (small : p < 100000000) where
-    pub exact-is : w *ℤ pos 100000000 +ℤ pos p ≡ hourTotal (grid n k [] fs) ps t (listTo m f)
-    exact-is = exact ∙ sym total-is
+  -- what settling gives: the values, the cells, and whole cents and parts that make the exact total
+  pub record Figures (s w : ℤ) (p : ℕ) : Type 0 where
+    pub values : s ∷ w ∷ pos p ∷ [] ≡ settleValues (grid n k [] fs) ps t (listTo m f)
+    pub cells : listTo m (λ i. cents (hourAmount mccs t (f i))) ≡ centsCells (grid n k [] fs) ps t (listTo m f)
+    pub exact : w *ℤ pos 100000000 +ℤ pos p ≡ hourTotal (grid n k [] fs) ps t (listTo m f)
 
-    pub values-are : s ∷ w ∷ pos p ∷ [] ≡ settleValues (grid n k [] fs) ps t (listTo m f)
-    unfolding settleValues
-    values-are =
-        let v = split-values w p (hourTotal (grid n k [] fs) ps t (listTo m f)) exact-is small in
-        λ j. (sum ∙ sym sum-is) j ∷ v .0 j ∷ pos (v .1 j) ∷ []
+  pub figures : (s w : ℤ) (p : ℕ) → s ≡ sumTo m (λ i. cents (hourAmount mccs t (f i))) → w *ℤ pos 100000000 +ℤ pos p ≡ sumTo m (λ i. hourAmount mccs t (f i))
+      → p < 100000000 → Figures s w p
+  unfolding settleValues
+  figures s w p sum exact small =
+      let all = exact ∙ sym total-is in
+      let v = split-values w p (hourTotal (grid n k [] fs) ps t (listTo m f)) all small in
+      record { values = λ j. (sum ∙ sym sum-is) j ∷ v .0 j ∷ pos (v .1 j) ∷ []; cells = cells-are; exact = all }
 
 -- an answer of the exact total's figures makes it
 pub exact-of : (S W s w : ℤ) (P p : ℕ) (total : ℤ) → W *ℤ pos 100000000 +ℤ pos P ≡ total → Settled S W P ≡ Settled s w p → w *ℤ pos 100000000 +ℤ pos p ≡ total

@@ -1,9 +1,8 @@
 -- The checks of finding the MCC and of settling an hour: what each test says of them, and what holds where none refuses.
-use mathlib.Core.Path.{_≡_, refl, sym, ap, _∙_}
+use mathlib.Core.Path.{_≡_, sym, ap, _∙_}
 use mathlib.Core.Bool.{true, false, _||_}
 use mathlib.Core.List.{List, [], _∷_, _++_}
 use Prim.Native.Nat.{ℕ, _+_, _*_, _≤_, _<_}
-use native.Mathlib.Omega.{arith}
 use borrow.Author.Tests.{ltb-false, lt-ltb, le-ltb}
 use lib.Dec.{ltb, eqb}
 use lib.ListN.{length, getD, take}
@@ -13,7 +12,7 @@ use Rattle.tariff.specs.declared.Refusal.{Refusal}
 use Rattle.tariff.specs.declared.Refusal.the-variants.{ShortTable}
 use Rattle.tariff.specs.declared.Checked.{Checked}
 use Rattle.tariff.specs.declared.Checked.the-variants.{Passed, Refused}
-use Rattle.tariff.specs.Units.{grid, maxNodes, maxConstraints, maxPrice}
+use Rattle.tariff.specs.Units.{maxNodes, maxConstraints, maxPrice}
 use Rattle.tariff.specs.Refusals.{Check, first, decided}
 use Rattle.tariff.specs.Checks.{some, factorBad, priceBad, nodeCount, constraintCount, periodNumber, shortTable, factorRange, priceRange}
 use Rattle.tariff.proofs.Checks.{first-append, passed-cons, passed-append, none-bad}

@@ -1,9 +1,9 @@
 -- `settlement::settle_hour`: where no check refuses, the table of MCCs is the grid's and each contract is in range.
 use mathlib.Core.Path.{_≡_, refl, sym, ap, _∙_}
-use mathlib.Core.List.{List}
+use mathlib.Core.List.{List, [], _∷_}
 use native.Mathlib.Omega.{arith}
 use lib.ListN.{length}
-use lib.IntN.{ℤ}
+use lib.IntN.{ℤ, pos, _+ℤ_, _*ℤ_}
 use Rattle.integers.proofs.Machine.{back}
 use Rattle.tariff.specs.declared.Checked.the-variants.{Passed}
 use Rattle.tariff.specs.Refusals.{first, given, overwrite}
@@ -13,7 +13,7 @@ use Rattle.settlement.specs.SettleChecks.{settleChecks}
 use Rattle.settlement.specs.Tables.{MccTable}
 use Rattle.settlement.proofs.Passing.{Ready, settle-ready}
 use Rattle.settlement.proofs.Congestion.{mcc-table}
-use Rattle.settlement.proofs.HourSums.{cells-are, values-are, exact-is, exact-of}
+use Rattle.settlement.proofs.HourSums.{figures, exact-of}
 use borrow.Author.Needs.{needs}
 use Rattle.settlement.proofs.settle_hour.Statement.{statement}
 use Rattle.settlement.proofs.settle_hour.Tie as tie
@@ -72,16 +72,20 @@ same-length c = search needs
 
 returns-2 : tie.Need-returns-2
 returns-2 c =
-    let f = c .before .before .before .before .before .before in
     let a = c .before .before .before .before .before .before .before .before .before .before .before .before .before .before .before .args in
-    let r = c .before .before .settle-contracts .result in
-    let n = f .field .ensures .0 in
-    let e = rw (n, c .before .before .before .before .before .from-number .ensures) at (c .before .before .settle-contracts .ensures) in
     let o = ready (c .before .before .before .before .before .before .before .before .before .before) in
-    let m = c .before .before .before .before .before .before .before .before in
-    rw (back (r .sum) (omega (arith, e .1 .2, o .book .few)), back (r .whole) (omega (arith, e .1 .2, o .book .few)), passed (c .before .before .before .before .before .before .before .before .before .before)) (
-      ap given (values-are (a .nodes) (a .constraints) (a .factors .now) (a .prices .now) (o .hour) (m .fill-mcc .last .1 .1 .1 .1 .0) _ (m .fill-mcc .ensures) (periodOf (a .period)) (countIn (a .book .now)) (contractAt (a .book .now)) (o .book .each) (r .sum) (r .whole) (r .parts) (e .1 .0) (e .1 .1) (e .1 .2 .parts-small)),
-      (e .0 ∙ ap (λ (xs : List ℤ). overwrite xs (a .cents .now)) (cells-are (a .nodes) (a .constraints) (a .factors .now) (a .prices .now) (o .hour) (m .fill-mcc .last .1 .1 .1 .1 .0) _ (m .fill-mcc .ensures) (periodOf (a .period)) (countIn (a .book .now)) (contractAt (a .book .now)) (o .book .each)), λ q s w p z. exact-of _ _ s w _ p _ (exact-is (a .nodes) (a .constraints) (a .factors .now) (a .prices .now) (o .hour) (m .fill-mcc .last .1 .1 .1 .1 .0) _ (m .fill-mcc .ensures) (periodOf (a .period)) (countIn (a .book .now)) (contractAt (a .book .now)) (o .book .each) (r .sum) (r .whole) (r .parts) (e .1 .0) (e .1 .1) (e .1 .2 .parts-small)) z),
+    let m = c .before .before .before .before .before .before .before .before .fill-mcc in
+    let r = c .before .before .settle-contracts .result in
+    let e = rw (c .before .before .before .before .before .before .field .ensures .0, c .before .before .before .before .before .from-number .ensures) at (c .before .before .settle-contracts .ensures) in
+    let h = figures (a .nodes) (a .constraints) (a .factors .now) (a .prices .now) (o .hour) (m .last .1 .1 .1 .1 .0) _ (m .ensures) (periodOf (a .period)) (countIn (a .book .now)) (contractAt (a .book .now)) (o .book .each) (r .sum) (r .whole) (r .parts) (e .1 .0) (e .1 .1) (e .1 .2 .parts-small) in
+    let sum = back (r .sum) (omega (arith, e .1 .2, o .book .few)) in
+    let whole = back (r .whole) (omega (arith, e .1 .2, o .book .few)) in
+    rw (passed (c .before .before .before .before .before .before .before .before .before .before)) (
+      (λ j. given (sum j ∷ whole j ∷ pos (r .parts) ∷ [])) ∙ ap given (h .values),
+      (
+        e .0 ∙ ap (λ (xs : List ℤ). overwrite xs (a .cents .now)) (h .cells),
+        λ q s w p z. exact-of _ _ s w _ p _ (ap (λ (x : ℤ). x *ℤ pos 100000000 +ℤ pos (r .parts)) whole ∙ h .exact) z,
+      ),
     )
 
 pub settle-hour-spec : {M : Type 1} → statement M
