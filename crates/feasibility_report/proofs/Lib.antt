@@ -1,0 +1,4 @@
+pub mod Putting
+pub mod Members
+pub mod Agree
+pub mod Answering

@@ -1,0 +1,63 @@
+use borrow.Author.Needs.{needs}
+use Rattle.feasibility_report.proofs.put_tested.Statement.{statement}
+use Rattle.feasibility_report.proofs.put_tested.Tie as tie
+use Rattle.feasibility_report.proofs.put_tested.Reads as reads
+use Rattle.feasibility_report.proofs.put_tested.Lts as lts
+use Rattle.book_file.proofs.check_book.Reads as check-book-reads
+use Rattle.feasibility_report.proofs.put_lines.Reads as put-lines-reads
+use Rattle.feasibility_report.proofs.put_refused.Reads as put-refused-reads
+
+-- src/lib.rt:222:11
+check-book-requires : tie.Need-check-book-requires
+check-book-requires c κs = search needs
+
+-- src/lib.rt:223:26
+enum-known-refusal : tie.Need-enum-known-refusal
+enum-known-refusal c = search needs
+
+-- src/lib.rt:223:55
+slice-aggregate-put-refused : tie.Need-slice-aggregate-put-refused
+slice-aggregate-put-refused c = search needs
+
+-- src/lib.rt:223:38
+put-refused-requires : tie.Need-put-refused-requires
+put-refused-requires c κs = search needs
+
+-- src/lib.rt:224:38
+enum-told : tie.Need-enum-told
+enum-told c = search needs
+
+-- src/lib.rt:224:28
+put-lines-requires : tie.Need-put-lines-requires
+put-lines-requires c κs = ?
+
+-- src/lib.rt:210:1
+same-length : tie.Need-same-length
+same-length c = search needs
+
+-- src/lib.rt:210:1
+returns : tie.Need-returns
+returns c = ?
+
+-- src/lib.rt:210:1
+same-length-2 : tie.Need-same-length-2
+same-length-2 c = search needs
+
+-- src/lib.rt:210:1
+returns-2 : tie.Need-returns-2
+returns-2 c = ?
+
+pub put-tested-spec : {M : Type 1} → statement M
+put-tested-spec =
+    tie.close
+    (tie.spec
+    check-book-requires
+    enum-known-refusal
+    slice-aggregate-put-refused
+    put-refused-requires
+    enum-told
+    put-lines-requires
+    same-length
+    returns
+    same-length-2
+    returns-2)
