@@ -2,3 +2,5 @@ pub mod Putting
 pub mod Members
 pub mod Agree
 pub mod Answering
+pub mod Lines
+pub mod Tables

@@ -32,6 +32,13 @@ put-then {entry} {mid} {exit} {a} {b} {at} {next} {last} p fits q = record {
 pub then-text : {entry mid exit a : List ℕ} {at next last : ℕ} → Put entry at a mid next → next ≤ length entry → (b : List ℕ) → exit ≡ pasted mid next b → last ≡ next + length b → Put entry at (a ++ b) exit last
 then-text p fits b e q = put-then p fits (put-as {t = b} refl e q)
 
+pub then-as : {entry mid exit a b t : List ℕ} {at next last : ℕ} → Put entry at a mid next → next ≤ length entry → b ≡ t → exit ≡ pasted mid next t → last ≡ next + length t → Put entry at (a ++ b) exit last
+then-as p fits e q r = put-then p fits (put-as e q r)
+
+-- the first text
+pub put-text-at : (entry : List ℕ) (at : ℕ) (text : List ℕ) {exit : List ℕ} {next : ℕ} → exit ≡ pasted entry at text → next ≡ at + length text → Put entry at text exit next
+put-text-at entry at text p q = record { cells = p; place = q }
+
 -- ---- the words
 
 pub off-peak : (t : ℕ) → t ≡ 0 → periodWord (periodOf t) ++ ascii "," ≡ ascii "off-peak,"

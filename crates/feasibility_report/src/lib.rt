@@ -6,6 +6,7 @@ ghost use Prim.Native.Nat.{ℕ, _+_, _*_, _^_, _≤_, _<_};
 ghost use lib.ListN.{length};
 ghost use lib.IntN.{pos, natAbs};
 ghost use Rattle.text.specs.Ascii.{ascii};
+ghost use Rattle.text.specs.Decimal.{decimal};
 ghost use Rattle.tariff.specs.declared.Checked.the-variants.{Passed};
 ghost use Rattle.tariff.specs.Units.{grid};
 ghost use Rattle.tariff.specs.Contracts.{periodOf};
@@ -84,6 +85,19 @@ fn put_numbers(buf: &mut [u8], at: usize, constraints: usize, set: u64) -> usize
     next
 }
 
+// The verdict where the test fails, how many constraints are overloaded, and the lowest.
+fn put_counts(buf: &mut [u8], at: usize, count: usize, lowest: usize) -> usize
+    requires { ⌜ at + 47 ≤ length (now buf) ⌝ }
+    ensures { λ r. ⌜ Put (now (buf .entry)) at (ascii "fail," ++ decimal count ++ ascii "," ++ decimal lowest ++ ascii ",") (now (buf .exit)) r ⌝ }
+    ensures { λ r. ⌜ r ≤ at + 47 ⌝ }
+{
+    let verdict = text::put_text(buf, at, b"fail,");
+    let counted = text::put_decimal(buf, verdict, count as u64);
+    let comma = text::put_char(buf, counted, b',');
+    let named = text::put_decimal(buf, comma, lowest as u64);
+    text::put_char(buf, named, b',')
+}
+
 // The figures where the test fails: how many constraints are overloaded, the lowest, the excess there, and all of them.
 fn put_failed(
     buf: &mut [u8],
@@ -98,14 +112,10 @@ fn put_failed(
     ensures { λ r. ⌜ Put (now (buf .entry)) at (failed constraints set count lowest (excess .0)) (now (buf .exit)) r ⌝ }
     ensures { λ r. ⌜ r ≤ at + 261 ⌝ }
 {
-    let verdict = text::put_text(buf, at, b"fail,");
-    let counted = text::put_decimal(buf, verdict, count as u64);
-    let comma = text::put_char(buf, counted, b',');
-    let named = text::put_decimal(buf, comma, lowest as u64);
-    let second = text::put_char(buf, named, b',');
-    let over = text::put_signed(buf, second, excess.0);
-    let third = text::put_char(buf, over, b',');
-    put_numbers(buf, third, constraints, set)
+    let counts = put_counts(buf, at, count, lowest);
+    let over = text::put_signed(buf, counts, excess.0);
+    let comma = text::put_char(buf, over, b',');
+    put_numbers(buf, comma, constraints, set)
 }
 
 // The verdict and the figures of the test's answer.
@@ -228,7 +238,7 @@ fn put_tested(
 // The report on two files.
 fn put_report(grid_file: &[u8], book_file: &[u8], buf: &mut [u8]) -> usize
     requires { ⌜ longest ≤ length (now buf) ⌝ }
-    ensures { λ r. ⌜ Put (now (buf .entry)) 0 (report (now (grid_file .entry)) (now (book_file .entry))) (now (buf .exit)) r ⌝ }
+    ensures { λ r. ⌜ Put (now (buf .entry)) 0 (report (now («grid_file» .entry)) (now («book_file» .entry))) (now (buf .exit)) r ⌝ }
 {
     let mut limits = [0u64; 64];
     let mut factors = [0i64; 12800];
@@ -242,8 +252,8 @@ fn put_report(grid_file: &[u8], book_file: &[u8], buf: &mut [u8]) -> usize
 
 // Writes the feasibility report of a grid's file and a book's file into the first bytes of `text`.
 pub fn write_report(grid_file: &[u8], book_file: &[u8], text: &mut [u8]) -> WriteAnswer
-    ensures answer { λ r. ⌜ writeOutcome r ≡ answered (first (shortTable (length (now (text .entry))) longest ∷ [])) (pos (length (report (now (grid_file .entry)) (now (book_file .entry)))) ∷ []) ⌝ }
-    ensures cells { λ r. ⌜ now (text .exit) ≡ cellsAfter (first (shortTable (length (now (text .entry))) longest ∷ [])) (report (now (grid_file .entry)) (now (book_file .entry))) (now (text .entry)) ⌝ }
+    ensures answer { λ r. ⌜ writeOutcome r ≡ answered (first (shortTable (length (now (text .entry))) longest ∷ [])) (pos (length (report (now («grid_file» .entry)) (now («book_file» .entry)))) ∷ []) ⌝ }
+    ensures cells { λ r. ⌜ now (text .exit) ≡ cellsAfter (first (shortTable (length (now (text .entry))) longest ∷ [])) (report (now («grid_file» .entry)) (now («book_file» .entry))) (now (text .entry)) ⌝ }
 {
     if text.len() < 2048 {
         return WriteAnswer::Refused(Refusal::ShortTable);

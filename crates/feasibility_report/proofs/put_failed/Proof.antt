@@ -1,70 +1,57 @@
+-- `put_failed`.
+use mathlib.Core.Path.{sym, ap}
+use mathlib.Core.List.{[], _∷_}
+use native.Mathlib.Omega.{arith}
+use Rattle.integers.proofs.Machine.{back}
+use Rattle.text.specs.Decimal.{decimalZ}
+use Rattle.feasibility_report.specs.Parts.{failed}
+use Rattle.feasibility_report.proofs.Putting.{then-text, then-as, put-then}
+use Rattle.feasibility_report.proofs.Lines.{kept-small}
 use borrow.Author.Needs.{needs}
 use Rattle.feasibility_report.proofs.put_failed.Statement.{statement}
 use Rattle.feasibility_report.proofs.put_failed.Tie as tie
-use Rattle.feasibility_report.proofs.put_failed.Reads as reads
-use Rattle.feasibility_report.proofs.put_failed.Lts as lts
-use Rattle.feasibility_report.proofs.put_numbers.Reads as put-numbers-reads
-use Rattle.text.proofs.put_char.Reads as put-char-reads
-use Rattle.text.proofs.put_decimal.Reads as put-decimal-reads
-use Rattle.text.proofs.put_signed.Reads as put-signed-reads
-use Rattle.text.proofs.put_text.Reads as put-text-reads
 
--- src/lib.rt:101:43
-slice-aggregate-put-text : tie.Need-slice-aggregate-put-text
-slice-aggregate-put-text c = search needs
+put-counts-requires : tie.Need-put-counts-requires
+put-counts-requires c κs = search needs
 
--- src/lib.rt:101:9
-put-text-requires : tie.Need-put-text-requires
-put-text-requires c κs = search needs
+put-signed-requires : tie.Need-put-signed-requires
+put-signed-requires c κs = let s = c .before .before .before .before .before .before .before in (omega arith, kept-small (s .args .excess .0) (s .pre .2))
 
--- src/lib.rt:102:9
-put-decimal-requires : tie.Need-put-decimal-requires
-put-decimal-requires c κs = search needs
-
--- src/lib.rt:103:9
 put-char-requires : tie.Need-put-char-requires
 put-char-requires c κs = search needs
 
--- src/lib.rt:104:9
-put-decimal-requires-2 : tie.Need-put-decimal-requires-2
-put-decimal-requires-2 c κs = search needs
-
--- src/lib.rt:105:9
-put-char-requires-2 : tie.Need-put-char-requires-2
-put-char-requires-2 c κs = search needs
-
--- src/lib.rt:106:9
-put-signed-requires : tie.Need-put-signed-requires
-put-signed-requires c κs = ?
-
--- src/lib.rt:107:9
-put-char-requires-3 : tie.Need-put-char-requires-3
-put-char-requires-3 c κs = search needs
-
--- src/lib.rt:108:5
 put-numbers-requires : tie.Need-put-numbers-requires
-put-numbers-requires c κs = ?
+put-numbers-requires c κs = search needs
 
--- src/lib.rt:88:1
 same-length : tie.Need-same-length
 same-length c = search needs
 
--- src/lib.rt:88:1
 returns : tie.Need-returns
-returns c = ?
+unfolding failed
+returns c =
+    let c3 = c .before .before .before .before in
+    let c2 = c3 .before .before .before .before in
+    let c1 = c2 .before .before .before .before .before in
+    let p1 = c1 .before .before .put-counts in
+    let p2 = c2 .before .before .put-signed in
+    let p3 = c3 .before .before .put-char in
+    let p4 = c .before .before .put-numbers in
+    let s = c1 .before .before .before .before .before in
+    let z = s .args .excess .0 in
+    let f = s .pre .1 in
+    let q2 = then-as (p1 .ensures .0) (omega (arith, f, p1 .ensures .1)) (ap decimalZ (sym (back z (s .pre .2)))) (p2 .ensures .0) (p2 .ensures .1 .0) in
+    let q3 = then-text q2 (omega (arith, f, p1 .ensures .1, p2 .ensures .1 .1)) (44 ∷ []) (p3 .ensures .0) (p3 .ensures .1) in (
+      put-then q3 (omega (arith, f, p1 .ensures .1, p2 .ensures .1 .1, p3 .ensures .1)) (p4 .ensures .0),
+      omega (arith, p1 .ensures .1, p2 .ensures .1 .1, p3 .ensures .1, p4 .ensures .1),
+    )
 
 pub put-failed-spec : {M : Type 1} → statement M
 put-failed-spec =
     tie.close
     (tie.spec
-    slice-aggregate-put-text
-    put-text-requires
-    put-decimal-requires
-    put-char-requires
-    put-decimal-requires-2
-    put-char-requires-2
+    put-counts-requires
     put-signed-requires
-    put-char-requires-3
+    put-char-requires
     put-numbers-requires
     same-length
     returns)

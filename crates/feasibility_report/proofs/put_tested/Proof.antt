@@ -1,3 +1,5 @@
+use mathlib.Core.Path.{sym, _∙_}
+use native.Mathlib.Omega.{arith}
 use borrow.Author.Needs.{needs}
 use Rattle.feasibility_report.proofs.put_tested.Statement.{statement}
 use Rattle.feasibility_report.proofs.put_tested.Tie as tie
@@ -29,7 +31,9 @@ enum-told c = search needs
 
 -- src/lib.rt:224:28
 put-lines-requires : tie.Need-put-lines-requires
-put-lines-requires c κs = ?
+put-lines-requires c κs =
+    let s = c .before .before .before .before .before .before .before in
+    (omega (arith, s .pre .0), λ p t hp ht. s .pre .1 p t hp ht (sym (c .before .before .before .check-book .ensures) ∙ c .before .enum-told .given .1))
 
 -- src/lib.rt:210:1
 same-length : tie.Need-same-length
@@ -37,7 +41,10 @@ same-length c = search needs
 
 -- src/lib.rt:210:1
 returns : tie.Need-returns
-returns c = ?
+returns c =
+    let k = c .before .before .before .before .before .before .before .before .check-book in
+    let told = c .before .before .before .before .before .before .refusal .given .1 in
+    rw (sym (k .ensures) ∙ told) (c .before .before .put-refused .ensures)
 
 -- src/lib.rt:210:1
 same-length-2 : tie.Need-same-length-2
@@ -45,7 +52,10 @@ same-length-2 c = search needs
 
 -- src/lib.rt:210:1
 returns-2 : tie.Need-returns-2
-returns-2 c = ?
+returns-2 c =
+    let k = c .before .before .before .before .before .before .check-book in
+    let told = c .before .before .before .before .enum-told .given .1 in
+    rw (sym (k .ensures) ∙ told) (c .before .before .put-lines .ensures)
 
 pub put-tested-spec : {M : Type 1} → statement M
 put-tested-spec =
