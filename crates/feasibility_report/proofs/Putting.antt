@@ -1,12 +1,13 @@
 -- Laws of texts that are put one behind the other, and of the report's fixed words.
-use mathlib.Core.Path.{_≡_, refl, sym, _∙_}
+use mathlib.Core.Path.{_≡_, refl, sym, ap, _∙_}
 use mathlib.Core.List.{List, [], _∷_, _++_}
 use Prim.Native.Nat.{ℕ, zero, suc, _+_, _≤_}
 use native.Mathlib.Omega.{arith}
-use lib.ListN.{length, length-append}
+use lib.ListN.{length, drop, length-append}
 use Rattle.text.specs.Ascii.{ascii}
 use Rattle.text.specs.Decimal.{pasted}
 use Rattle.text.proofs.Laws.{pasted-none, pasted-more}
+use Rattle.tariff.specs.Refusals.{overwrite}
 use Rattle.tariff.specs.Contracts.{periodOf}
 use Rattle.tariff.specs.Processes.{processOf}
 use Rattle.feasibility_report.specs.Report.{periodWord, processWord}
@@ -38,6 +39,14 @@ then-as p fits e q r = put-then p fits (put-as e q r)
 -- the first text
 pub put-text-at : (entry : List ℕ) (at : ℕ) (text : List ℕ) {exit : List ℕ} {next : ℕ} → exit ≡ pasted entry at text → next ≡ at + length text → Put entry at text exit next
 put-text-at entry at text p q = record { cells = p; place = q }
+
+-- a text at the front
+module _ {entry text exit : List ℕ} {next : ℕ} (p : Put entry 0 text exit next) where
+  pub put-front : exit ≡ overwrite text entry
+  put-front = p .cells ∙ ap (λ (n : ℕ). text ++ drop n entry) {x = 0 + length text} {y = length text} (omega arith)
+
+  pub front-long : next ≡ length text
+  front-long = omega (arith, p .place)
 
 -- ---- the words
 

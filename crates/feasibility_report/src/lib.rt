@@ -153,8 +153,15 @@ fn put_line(
     ensures { λ r. ⌜ Put (now (buf .entry)) at (line (grid nodes constraints (now (limits .entry)) (now (factors .entry))) (bookIn (now (book .entry))) (periodOf period) (processOf process)) (now (buf .exit)) r ⌝ }
     ensures { λ r. ⌜ r ≤ at + 279 ⌝ }
 {
-    let answer =
-        feasibility_test::test_book(nodes, constraints, process, period, limits, factors, book);
+    let answer = feasibility_test::test_book(
+        nodes,
+        constraints,
+        process,
+        period,
+        limits,
+        factors,
+        book,
+    );
     let first = put_period(buf, at, period);
     let second = put_process(buf, first, process);
     let third = put_figures(buf, second, constraints, answer);
@@ -177,9 +184,39 @@ fn put_period_lines(
     ensures { λ r. ⌜ Put (now (buf .entry)) at (periodLines (grid nodes constraints (now (limits .entry)) (now (factors .entry))) (bookIn (now (book .entry))) (periodOf period)) (now (buf .exit)) r ⌝ }
     ensures { λ r. ⌜ r ≤ at + 837 ⌝ }
 {
-    let first = put_line(buf, at, nodes, constraints, 0, period, limits, factors, book);
-    let second = put_line(buf, first, nodes, constraints, 1, period, limits, factors, book);
-    put_line(buf, second, nodes, constraints, 2, period, limits, factors, book)
+    let first = put_line(
+        buf,
+        at,
+        nodes,
+        constraints,
+        0,
+        period,
+        limits,
+        factors,
+        book,
+    );
+    let second = put_line(
+        buf,
+        first,
+        nodes,
+        constraints,
+        1,
+        period,
+        limits,
+        factors,
+        book,
+    );
+    put_line(
+        buf,
+        second,
+        nodes,
+        constraints,
+        2,
+        period,
+        limits,
+        factors,
+        book,
+    )
 }
 
 // The heading and the six lines.

@@ -1,3 +1,4 @@
+-- `put_figures`.
 use mathlib.Core.Path.{ap}
 use native.Mathlib.Omega.{arith}
 use lib.IntN.{natAbs}
@@ -6,60 +7,45 @@ use Rattle.feasibility_report.proofs.Putting.{put-none, put-as, put-sam
 use borrow.Author.Needs.{needs}
 use Rattle.feasibility_report.proofs.put_figures.Statement.{statement}
 use Rattle.feasibility_report.proofs.put_figures.Tie as tie
-use Rattle.feasibility_report.proofs.put_figures.Reads as reads
-use Rattle.feasibility_report.proofs.put_figures.Lts as lts
-use Rattle.feasibility_report.proofs.put_failed.Reads as put-failed-reads
-use Rattle.text.proofs.put_text.Reads as put-text-reads
 
--- src/lib.rt:118:44
 enum-told : tie.Need-enum-told
 enum-told c = search needs
 
--- src/lib.rt:118:53
 slice-aggregate-put-text : tie.Need-slice-aggregate-put-text
 slice-aggregate-put-text c = search needs
 
--- src/lib.rt:118:29
 put-text-requires : tie.Need-put-text-requires
 put-text-requires c κs = search needs
 
--- src/lib.rt:120:13
 enum-known-answer : tie.Need-enum-known-answer
 enum-known-answer c = search needs
 
--- src/lib.rt:124:14
 put-failed-requires : tie.Need-put-failed-requires
 put-failed-requires c κs =
     let s = c .before .before .before .before .before in
     (s .pre .0, omega (arith, s .pre .1), rw (c .before .before .answer .given .1) at (s .pre .2))
 
--- src/lib.rt:125:35
 enum-told-2 : tie.Need-enum-told-2
 enum-told-2 c = search needs
 
--- src/lib.rt:112:1
 same-length : tie.Need-same-length
 same-length c = search needs
 
--- src/lib.rt:112:1
 returns : tie.Need-returns
 returns c =
     let d = c .before .before .put-text in
     let s = c .before .before .before .before .before .before .before .before in
     (put-as (ap (answerFigures (s .args .constraints)) (c .before .before .before .before .before .enum-told .given .1)) (d .ensures .0) (d .ensures .1), omega (arith, d .ensures .1))
 
--- src/lib.rt:112:1
 same-length-2 : tie.Need-same-length-2
 same-length-2 c = search needs
 
--- src/lib.rt:112:1
 returns-2 : tie.Need-returns-2
 returns-2 c =
     let d = c .before .before .put-failed in
     let s = c .before .before .before .before .before .before .before .before in
     (put-same (ap (answerFigures (s .args .constraints)) (c .before .before .before .before .before .answer .given .1)) (d .ensures .0), d .ensures .1)
 
--- src/lib.rt:112:1
 returns-3 : tie.Need-returns-3
 returns-3 c =
     let s = c .before .before .before in

@@ -1,3 +1,4 @@
+-- `put_line`.
 use mathlib.Core.List.{[], _∷_}
 use native.Mathlib.Omega.{arith}
 use Rattle.feasibility_report.proofs.Putting.{put-same, put-then, then-text}
@@ -5,23 +6,13 @@ use Rattle.feasibility_report.proofs.Lines.{ok, over-bound, line-text}
 use borrow.Author.Needs.{needs}
 use Rattle.feasibility_report.proofs.put_line.Statement.{statement}
 use Rattle.feasibility_report.proofs.put_line.Tie as tie
-use Rattle.feasibility_report.proofs.put_line.Reads as reads
-use Rattle.feasibility_report.proofs.put_line.Lts as lts
-use Rattle.feasibility_report.proofs.put_figures.Reads as put-figures-reads
-use Rattle.feasibility_report.proofs.put_period.Reads as put-period-reads
-use Rattle.feasibility_report.proofs.put_process.Reads as put-process-reads
-use Rattle.feasibility_test.proofs.test_book.Reads as test-book-reads
-use Rattle.text.proofs.put_char.Reads as put-char-reads
 
--- src/lib.rt:146:9
 test-book-requires : tie.Need-test-book-requires
 test-book-requires c κs = search needs
 
--- src/lib.rt:148:9
 put-period-requires : tie.Need-put-period-requires
 put-period-requires c κs = search needs
 
--- src/lib.rt:149:9
 put-process-requires : tie.Need-put-process-requires
 put-process-requires c κs =
     let s = c .before .before .before .before .before .before .before .before .before in
@@ -29,28 +20,23 @@ put-process-requires c κs =
     let o = ok (a .nodes) (a .constraints) (a .process) (a .period) (a .limits .now) (a .factors .now) (a .book .now) (s .pre .1) in
     (o .process-number, omega arith)
 
--- src/lib.rt:150:9
 put-figures-requires : tie.Need-put-figures-requires
 put-figures-requires c κs =
     let s = c .before .before .before .before .before .before .before .before .before .before .before .before .before in
     let a = s .args in
     let o = ok (a .nodes) (a .constraints) (a .process) (a .period) (a .limits .now) (a .factors .now) (a .book .now) (s .pre .1) in
-    let r = c .before .before .before .before .before .before .before .before .before .test-book in
-    (
+    let r = c .before .before .before .before .before .before .before .before .before .test-book in (
       o .few-constraints,
       omega arith,
       over-bound (a .nodes) (a .constraints) (a .process) (a .period) (a .limits .now) (a .factors .now) (a .book .now) (s .pre .1) (r .result) (r .ensures .0),
     )
 
--- src/lib.rt:151:5
 put-char-requires : tie.Need-put-char-requires
 put-char-requires c κs = search needs
 
--- src/lib.rt:130:1
 same-length : tie.Need-same-length
 same-length c = search needs
 
--- src/lib.rt:130:1
 returns : tie.Need-returns
 returns c =
     let c3 = c .before .before .before .before in
@@ -64,10 +50,9 @@ returns c =
     let s = c1 .before .before .before .before .before .before .before .before in
     let a = s .args in
     let q2 = put-then (p1 .ensures .0) (omega (arith, s .pre .0, p1 .ensures .1)) (p2 .ensures .0) in
-    let q3 = put-then q2 (omega (arith, s .pre .0, p1 .ensures .1, p2 .ensures .1)) (p3 .ensures .0) in
-    (
+    let q3 = put-then q2 (omega (arith, s .pre .0, p1 .ensures .1, p2 .ensures .1)) (p3 .ensures .0) in (
       put-same (line-text (a .nodes) (a .constraints) (a .process) (a .period) (a .limits .now) (a .factors .now) (a .book .now) (s .pre .1) (r .result) (r .ensures .0))
-      (then-text q3 (omega (arith, s .pre .0, p1 .ensures .1, p2 .ensures .1, p3 .ensures .1)) (10 ∷ []) (p4 .ensures .0) (p4 .ensures .1)),
+          (then-text q3 (omega (arith, s .pre .0, p1 .ensures .1, p2 .ensures .1, p3 .ensures .1)) (10 ∷ []) (p4 .ensures .0) (p4 .ensures .1)),
       omega (arith, p1 .ensures .1, p2 .ensures .1, p3 .ensures .1, p4 .ensures .1),
     )
 

@@ -1,3 +1,4 @@
+-- `put_member`.
 use mathlib.Core.Path.{refl}
 use native.Mathlib.Omega.{arith}
 use lib.ListN.{length}
@@ -7,30 +8,21 @@ use Rattle.feasibility_report.proofs.Members.{two-digits, not-member, f
 use borrow.Author.Needs.{needs}
 use Rattle.feasibility_report.proofs.put_member.Statement.{statement}
 use Rattle.feasibility_report.proofs.put_member.Tie as tie
-use Rattle.feasibility_report.proofs.put_member.Reads as reads
-use Rattle.feasibility_report.proofs.put_member.Lts as lts
-use Rattle.text.proofs.put_char.Reads as put-char-reads
-use Rattle.text.proofs.put_decimal.Reads as put-decimal-reads
 
--- src/lib.rt:50:9
 shr-if1 : tie.Need-shr-if1
 shr-if1 c = search needs
 
--- src/lib.rt:51:9
 returns : tie.Need-returns
 returns c =
     let a = c .before .before .args in
     (put-same (not-member (a .at) (a .next) (a .set) (a .k) (c .if1 .taken)) (put-none (a .buf .now) (a .next)), omega arith)
 
--- src/lib.rt:54:9
 put-decimal-requires : tie.Need-put-decimal-requires
 put-decimal-requires c κs = search needs
 
--- src/lib.rt:54:9
 same-length : tie.Need-same-length
 same-length c = search needs
 
--- src/lib.rt:54:9
 returns-2 : tie.Need-returns-2
 returns-2 c =
     let d = c .before .before .put-decimal in
@@ -39,29 +31,24 @@ returns-2 c =
     let a = s .args in
     (put-as (first-member (a .at) (a .next) (a .set) (a .k) (i .before .if1 .left) (i .if2 .taken)) (d .ensures .0) (d .ensures .1 .0), omega (arith, d .ensures .1 .0, two-digits (a .k) (omega (arith, s .pre .0))))
 
--- src/lib.rt:56:9
 put-char-requires : tie.Need-put-char-requires
 put-char-requires c κs = search needs
 
--- src/lib.rt:57:5
 put-decimal-requires-2 : tie.Need-put-decimal-requires-2
 put-decimal-requires-2 c κs = search needs
 
--- src/lib.rt:45:1
 same-length-2 : tie.Need-same-length-2
 same-length-2 c = search needs
 
--- src/lib.rt:45:1
 returns-3 : tie.Need-returns-3
 returns-3 c =
     let d = c .before .before .put-decimal2 in
     let p = c .before .before .before .before .before .before .put-char in
     let i = c .before .before .before .before .before .before .before .before in
     let s = i .before .before .before in
-    let a = s .args in
-    (
+    let a = s .args in (
       put-same (next-member (a .at) (a .next) (a .set) (a .k) (i .before .if1 .left) (i .if2 .left))
-      (then-text (put-as refl (p .ensures .0) (p .ensures .1)) (omega (arith, p .ensures .1, s .pre .1)) (decimal (a .k)) (d .ensures .0) (d .ensures .1 .0)),
+          (then-text (put-as refl (p .ensures .0) (p .ensures .1)) (omega (arith, p .ensures .1, s .pre .1)) (decimal (a .k)) (d .ensures .0) (d .ensures .1 .0)),
       omega (arith, d .ensures .1 .0, p .ensures .1, two-digits (a .k) (omega (arith, s .pre .0))),
     )
 

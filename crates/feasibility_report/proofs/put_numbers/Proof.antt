@@ -1,3 +1,4 @@
+-- `put_numbers`.
 use mathlib.Core.Path.{_≡_, _∙_}
 use Prim.Native.Nat.{_+_, _-_, _*_, _≤_}
 use native.Mathlib.Omega.{arith}
@@ -9,9 +10,6 @@ use Rattle.feasibility_report.proofs.Members.{numbers-more}
 use borrow.Author.Needs.{needs}
 use Rattle.feasibility_report.proofs.put_numbers.Statement.{statement}
 use Rattle.feasibility_report.proofs.put_numbers.Tie as tie
-use Rattle.feasibility_report.proofs.put_numbers.Reads as reads
-use Rattle.feasibility_report.proofs.put_numbers.Lts as lts
-use Rattle.feasibility_report.proofs.put_member.Reads as put-member-reads
 
 abbrev Inv-loop : tie.InvT-loop
 Inv-loop buf₀ at constraints set next₀ k₀ buf next k =
@@ -20,41 +18,33 @@ Inv-loop buf₀ at constraints set next₀ k₀ buf next k =
 abbrev μ-loop : tie.MeasureT-loop
 μ-loop buf₀ at constraints set next₀ k₀ buf next k = constraints - k
 
--- src/lib.rt:68:5
 loop-holds : tie.Need-loop-holds Inv-loop μ-loop
 unfolding numbersTo
 loop-holds c = (omega arith, omega arith, put-none (c .before .args .buf .now) (c .before .args .at), omega arith)
 
--- src/lib.rt:69:9
 put-member-requires : tie.Need-put-member-requires Inv-loop μ-loop
 put-member-requires c κs = search needs
 
--- src/lib.rt:70:9
 add-k : tie.Need-add-k Inv-loop μ-loop
 add-k c = search needs
 
--- src/lib.rt:68:5
 loop-less : tie.Need-loop-less Inv-loop μ-loop
 loop-less c = search needs
 
--- src/lib.rt:68:5
 loop-again : tie.Need-loop-again Inv-loop μ-loop
 loop-again c =
     let m = c .before .before .put-member in
     let l = c .before .before .before .before .before .loop in
-    let s = c .before .before .before .before .before .before .before in
-    (
+    let s = c .before .before .before .before .before .before .before in (
       omega arith,
       m .kept .0 ∙ l .inv .1,
       put-same (numbers-more (s .args .at) (l .next) (s .args .set) (l .k) (l .inv .2 .place)) (put-then (l .inv .2) (omega (arith, l .inv .3, s .pre)) (m .ensures .0)),
       omega (arith, m .ensures .1, l .inv .3),
     )
 
--- src/lib.rt:61:1
 same-length : tie.Need-same-length Inv-loop μ-loop
 same-length c = search needs
 
--- src/lib.rt:61:1
 returns : tie.Need-returns Inv-loop μ-loop
 returns c =
     let l = c .before .loop in

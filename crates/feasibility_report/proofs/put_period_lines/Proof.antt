@@ -1,30 +1,23 @@
+-- `put_period_lines`.
 use native.Mathlib.Omega.{arith}
 use Rattle.feasibility_report.specs.Parts.{periodLines}
 use Rattle.feasibility_report.proofs.Putting.{put-then}
 use borrow.Author.Needs.{needs}
 use Rattle.feasibility_report.proofs.put_period_lines.Statement.{statement}
 use Rattle.feasibility_report.proofs.put_period_lines.Tie as tie
-use Rattle.feasibility_report.proofs.put_period_lines.Reads as reads
-use Rattle.feasibility_report.proofs.put_period_lines.Lts as lts
-use Rattle.feasibility_report.proofs.put_line.Reads as put-line-reads
 
--- src/lib.rt:170:9
 put-line-requires : tie.Need-put-line-requires
 put-line-requires c κs = let s = c .before .before .before .before in (omega (arith, s .pre .0), s .pre .1 0 (omega arith))
 
--- src/lib.rt:171:9
 put-line-requires-2 : tie.Need-put-line-requires-2
 put-line-requires-2 c κs = let s = c .before .before .before .before .before .before .before .before in (omega arith, s .pre .1 1 (omega arith))
 
--- src/lib.rt:172:5
 put-line-requires-3 : tie.Need-put-line-requires-3
 put-line-requires-3 c κs = let s = c .before .before .before .before .before .before .before .before .before .before .before .before in (omega arith, s .pre .1 2 (omega arith))
 
--- src/lib.rt:155:1
 same-length : tie.Need-same-length
 same-length c = search needs
 
--- src/lib.rt:155:1
 returns : tie.Need-returns
 unfolding periodLines
 returns c =

@@ -1,56 +1,42 @@
+-- `put_tested`.
 use mathlib.Core.Path.{sym, _∙_}
 use native.Mathlib.Omega.{arith}
 use borrow.Author.Needs.{needs}
 use Rattle.feasibility_report.proofs.put_tested.Statement.{statement}
 use Rattle.feasibility_report.proofs.put_tested.Tie as tie
-use Rattle.feasibility_report.proofs.put_tested.Reads as reads
-use Rattle.feasibility_report.proofs.put_tested.Lts as lts
-use Rattle.book_file.proofs.check_book.Reads as check-book-reads
-use Rattle.feasibility_report.proofs.put_lines.Reads as put-lines-reads
-use Rattle.feasibility_report.proofs.put_refused.Reads as put-refused-reads
 
--- src/lib.rt:222:11
 check-book-requires : tie.Need-check-book-requires
 check-book-requires c κs = search needs
 
--- src/lib.rt:223:26
 enum-known-refusal : tie.Need-enum-known-refusal
 enum-known-refusal c = search needs
 
--- src/lib.rt:223:55
 slice-aggregate-put-refused : tie.Need-slice-aggregate-put-refused
 slice-aggregate-put-refused c = search needs
 
--- src/lib.rt:223:38
 put-refused-requires : tie.Need-put-refused-requires
 put-refused-requires c κs = search needs
 
--- src/lib.rt:224:38
 enum-told : tie.Need-enum-told
 enum-told c = search needs
 
--- src/lib.rt:224:28
 put-lines-requires : tie.Need-put-lines-requires
 put-lines-requires c κs =
     let s = c .before .before .before .before .before .before .before in
     (omega (arith, s .pre .0), λ p t hp ht. s .pre .1 p t hp ht (sym (c .before .before .before .check-book .ensures) ∙ c .before .enum-told .given .1))
 
--- src/lib.rt:210:1
 same-length : tie.Need-same-length
 same-length c = search needs
 
--- src/lib.rt:210:1
 returns : tie.Need-returns
 returns c =
     let k = c .before .before .before .before .before .before .before .before .check-book in
     let told = c .before .before .before .before .before .before .refusal .given .1 in
     rw (sym (k .ensures) ∙ told) (c .before .before .put-refused .ensures)
 
--- src/lib.rt:210:1
 same-length-2 : tie.Need-same-length-2
 same-length-2 c = search needs
 
--- src/lib.rt:210:1
 returns-2 : tie.Need-returns-2
 returns-2 c =
     let k = c .before .before .before .before .before .before .check-book in
