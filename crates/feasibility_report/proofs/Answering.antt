@@ -1,0 +1,123 @@
+-- What the answers of the test and of the grid's reader say, taken apart.
+use mathlib.Core.Path.{_≡_, refl, sym, ap, _∙_}
+use mathlib.Core.Bool.{Bool, true, false, cond}
+use mathlib.Core.List.{List, [], _∷_, _++_}
+use Prim.Native.Nat.{ℕ, _+_, _*_, _^_, _≤_, _<_}
+use native.Mathlib.Nat.{pos-of-ne-zero}
+use native.Mathlib.Omega.{arith}
+use borrow.Author.Tests.{eqb-false}
+use lib.Dec.{eqb}
+use lib.ListN.{length}
+use lib.IntN.{ℤ, pos, natAbs}
+use Rattle.integers.proofs.Sizes.{Each}
+use Rattle.text.specs.Ascii.{ascii}
+use Rattle.text.specs.Decimal.{decimal, decimalZ}
+use Rattle.tariff.specs.declared.Contract.{Contract}
+use Rattle.tariff.specs.declared.Flow.{Flow}
+use Rattle.tariff.specs.declared.Process.{Process}
+use Rattle.tariff.specs.declared.Refusal.{Refusal}
+use Rattle.tariff.specs.declared.Refusal.the-variants.{ShortFile, NodeCount, ConstraintCount, SpareBits, FileLength, LimitRange, FactorRange, Padding, ShortTable, ContractCount, NodeNumber, SameEnds, QuantityRange, PriceCount, PriceRange, ProcessNumber, PeriodOrKind, HolderRange}
+use Rattle.tariff.specs.declared.Checked.{Checked}
+use Rattle.tariff.specs.declared.Checked.the-variants.{Passed, Refused}
+use Rattle.tariff.specs.Refusals.{Outcome, numberOf, given, refusedBy, decided, answered}
+use Rattle.tariff.specs.Units.{Grid, FactorsInRange, LimitsInRange}
+use Rattle.tariff.specs.Contracts.{InRange}
+use Rattle.tariff.specs.Feasibility.{excess, overloaded, overloadSet, overloadCount, lowestOverload}
+use Rattle.tariff.proofs.Overloads.{fails-lowest}
+use Rattle.tariff.proofs.Sizes.{excess-sized}
+use Rattle.feasibility_test.specs.declared.TestAnswer.{TestAnswer}
+use Rattle.feasibility_test.specs.declared.TestAnswer.the-variants.{Pass, Fail, Refused as NotTested}
+use Rattle.feasibility_test.specs.Answer.{testOutcome, testValues}
+use Rattle.grid_file.specs.declared.GridAnswer.{GridAnswer}
+use Rattle.grid_file.specs.declared.GridAnswer.the-variants.{Read, Refused as NotRead}
+use Rattle.grid_file.specs.GridChecks.{gridOutcome}
+use Rattle.feasibility_report.specs.Report.{numbersTo, figures, refusedLine}
+use Rattle.feasibility_report.specs.Parts.{inSet, failed, answerFigures, overBy}
+use Rattle.feasibility_report.proofs.Members.{numbers-set}
+
+-- no refusal has the number 0
+numbered : (r : Refusal) → numberOf r ≡ 0 → ⊥
+numbered ShortFile e = omega arith
+numbered NodeCount e = omega arith
+numbered ConstraintCount e = omega arith
+numbered SpareBits e = omega arith
+numbered FileLength e = omega arith
+numbered LimitRange e = omega arith
+numbered FactorRange e = omega arith
+numbered Padding e = omega arith
+numbered ShortTable e = omega arith
+numbered ContractCount e = omega arith
+numbered NodeNumber e = omega arith
+numbered SameEnds e = omega arith
+numbered QuantityRange e = omega arith
+numbered PriceCount e = omega arith
+numbered PriceRange e = omega arith
+numbered ProcessNumber e = omega arith
+numbered PeriodOrKind e = omega arith
+numbered HolderRange e = omega arith
+
+never-given : (r : Refusal) (vs : List ℤ) → refusedBy r ≡ given vs → ⊥
+never-given r vs e = numbered r (ap (λ (o : Outcome). o .number) e)
+
+-- ---- the test's answer
+
+module _ (g : Grid) (process : Process) (cs : List Contract) where
+  -- the figures where the test fails
+  abbrev values : List ℤ
+  values = pos (overloadSet g process cs) ∷ pos (overloadCount g process cs) ∷ pos (lowestOverload g process cs) ∷ excess g process cs (lowestOverload g process cs) ∷ []
+
+  record Failed (set count lowest : ℕ) (over : ℤ) : Type 0 where
+    set-is : set ≡ overloadSet g process cs
+    count-is : count ≡ overloadCount g process cs
+    lowest-is : lowest ≡ lowestOverload g process cs
+    over-is : over ≡ excess g process cs (lowestOverload g process cs)
+    some-set : eqb (overloadSet g process cs) 0 ≡ false
+
+  fail-values : (b : Bool) → eqb (overloadSet g process cs) 0 ≡ b → (set count lowest : ℕ) (over : ℤ) → pos set ∷ pos count ∷ pos lowest ∷ over ∷ [] ≡ cond b [] values → Failed set count lowest over
+  fail-values true t set count lowest over e = let z : _≡_ {A = ℕ} 0 1 = cc in absurd (omega arith)
+  fail-values false t set count lowest over e = record { set-is = cc; count-is = cc; lowest-is = cc; over-is = cc; some-set = t }
+
+  fail-told : (set count lowest : ℕ) (over : ℤ) → given (pos set ∷ pos count ∷ pos lowest ∷ over ∷ []) ≡ given (testValues g process cs) → Failed set count lowest over
+  unfolding testValues
+  fail-told set count lowest over e = fail-values (eqb (overloadSet g process cs) 0) refl set count lowest over (ap (λ (o : Outcome). o .values) e)
+
+  pass-values : (b : Bool) → [] ≡ cond b [] values → b ≡ true
+  pass-values true e = refl
+  pass-values false e = let z : _≡_ {A = ℕ} 0 1 = cc in absurd (omega arith)
+
+  pass-told : given [] ≡ given (testValues g process cs) → eqb (overloadSet g process cs) 0 ≡ true
+  unfolding testValues
+  pass-told e = pass-values (eqb (overloadSet g process cs) 0) (ap (λ (o : Outcome). o .values) e)
+
+  numbers-are : (set : ℕ) → set ≡ overloadSet g process cs → numbersTo (g .constraints) (inSet set) ≡ numbersTo (g .constraints) (overloaded g process cs)
+  unfolding overloadSet
+  numbers-are set e = ap (λ (s : ℕ). numbersTo (g .constraints) (inSet s)) e ∙ numbers-set (g .constraints) (overloaded g process cs)
+
+  pub answer-figures : (r : TestAnswer) → testOutcome r ≡ given (testValues g process cs) → answerFigures (g .constraints) r ≡ figures g process cs
+  unfolding figures failed
+  answer-figures Pass e = rw (pass-told e)
+  answer-figures (Fail set count lowest over) e =
+      let f = fail-told set count lowest (over .0) e in
+      rw (f .some-set)
+      (λ t. ascii "fail," ++ decimal (f .count-is t) ++ ascii "," ++ decimal (f .lowest-is t) ++ ascii "," ++ decimalZ (f .over-is t) ++ ascii "," ++ numbers-are set (f .set-is) t)
+  answer-figures (NotTested r) e = absurd (never-given r _ e)
+
+  -- the excess is small enough for an i64
+  pub over-small : FactorsInRange g → LimitsInRange g → Each (InRange (g .nodes)) cs → length cs ≤ 1000 → (r : TestAnswer) → testOutcome r ≡ given (testValues g process cs) → natAbs (overBy r) < 2 ^ 63
+  over-small fs ls each few Pass e = omega arith
+  over-small fs ls each few (Fail set count lowest over) e =
+      let f = fail-told set count lowest (over .0) e in
+      let inside = fails-lowest g process cs (pos-of-ne-zero {n = overloadSet g process cs} (eqb-false (overloadSet g process cs) 0 (f .some-set))) .inside in
+      rw (f .over-is) (omega (arith, excess-sized g fs ls process cs (lowestOverload g process cs) each inside))
+  over-small fs ls each few (NotTested r) e = absurd (never-given r _ e)
+
+-- ---- the grid reader's answer
+
+pub read-refused : (checked : Checked) (vs : List ℤ) (r : Refusal) (a : GridAnswer) → gridOutcome a ≡ answered checked vs → a ≡ NotRead r → (file rest : List ℕ) → decided checked (refusedLine file) rest ≡ refusedLine file r
+unfolding refusedLine
+read-refused Passed vs r a e told file rest = absurd (never-given r vs (ap gridOutcome (sym told) ∙ e))
+read-refused (Refused q) vs r a e told file rest = ap (λ (n : ℕ). ascii "refused," ++ file ++ ascii "," ++ decimal n ++ ascii "\n") (sym (ap (λ (o : Outcome). o .number) (ap gridOutcome (sym told) ∙ e)))
+
+pub read-told : (checked : Checked) (m j n k : ℕ) (a : GridAnswer) → gridOutcome a ≡ answered checked (pos m ∷ pos j ∷ []) → a ≡ Read n k → (checked ≡ Passed) × (n ≡ m) × (k ≡ j)
+read-told Passed m j n k a e told = let q : pos n ∷ pos k ∷ [] ≡ pos m ∷ pos j ∷ [] = ap (λ (o : Outcome). o .values) (ap gridOutcome (sym told) ∙ e) in (refl, cc, cc)
+read-told (Refused q) m j n k a e told = absurd (never-given q (pos n ∷ pos k ∷ []) (sym (ap gridOutcome (sym told) ∙ e)))

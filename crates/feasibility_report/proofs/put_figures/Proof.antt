@@ -1,0 +1,68 @@
+-- `put_figures`.
+use mathlib.Core.Path.{ap}
+use native.Mathlib.Omega.{arith}
+use lib.IntN.{natAbs}
+use Rattle.feasibility_report.specs.Parts.{answerFigures, overBy}
+use Rattle.feasibility_report.proofs.Putting.{put-none, put-as, put-same}
+use borrow.Author.Needs.{needs}
+use Rattle.feasibility_report.proofs.put_figures.Statement.{statement}
+use Rattle.feasibility_report.proofs.put_figures.Tie as tie
+
+enum-told : tie.Need-enum-told
+enum-told c = search needs
+
+slice-aggregate-put-text : tie.Need-slice-aggregate-put-text
+slice-aggregate-put-text c = search needs
+
+put-text-requires : tie.Need-put-text-requires
+put-text-requires c κs = search needs
+
+enum-known-answer : tie.Need-enum-known-answer
+enum-known-answer c = search needs
+
+put-failed-requires : tie.Need-put-failed-requires
+put-failed-requires c κs =
+    let s = c .before .before .before .before .before in
+    (s .pre .0, omega (arith, s .pre .1), rw (c .before .before .answer .given .1) at (s .pre .2))
+
+enum-told-2 : tie.Need-enum-told-2
+enum-told-2 c = search needs
+
+same-length : tie.Need-same-length
+same-length c = search needs
+
+returns : tie.Need-returns
+returns c =
+    let d = c .before .before .put-text in
+    let s = c .before .before .before .before .before .before .before .before in
+    (put-as (ap (answerFigures (s .args .constraints)) (c .before .before .before .before .before .enum-told .given .1)) (d .ensures .0) (d .ensures .1), omega (arith, d .ensures .1))
+
+same-length-2 : tie.Need-same-length-2
+same-length-2 c = search needs
+
+returns-2 : tie.Need-returns-2
+returns-2 c =
+    let d = c .before .before .put-failed in
+    let s = c .before .before .before .before .before .before .before .before in
+    (put-same (ap (answerFigures (s .args .constraints)) (c .before .before .before .before .before .answer .given .1)) (d .ensures .0), d .ensures .1)
+
+returns-3 : tie.Need-returns-3
+returns-3 c =
+    let s = c .before .before .before in
+    (put-same (ap (answerFigures (s .args .constraints)) (c .enum-told2 .given .1)) (put-none (s .args .buf .now) (s .args .at)), omega arith)
+
+pub put-figures-spec : {M : Type 1} → statement M
+put-figures-spec =
+    tie.close
+    (tie.spec
+    enum-told
+    slice-aggregate-put-text
+    put-text-requires
+    enum-known-answer
+    put-failed-requires
+    enum-told-2
+    same-length
+    returns
+    same-length-2
+    returns-2
+    returns-3)

@@ -1,0 +1,67 @@
+-- `put_numbers`.
+use mathlib.Core.Path.{_≡_, _∙_}
+use Prim.Native.Nat.{_+_, _-_, _*_, _≤_}
+use native.Mathlib.Omega.{arith}
+use lib.ListN.{length}
+use Rattle.feasibility_report.specs.Report.{numbersTo}
+use Rattle.feasibility_report.specs.Parts.{Put, inSet}
+use Rattle.feasibility_report.proofs.Putting.{put-none, put-same, put-then}
+use Rattle.feasibility_report.proofs.Members.{numbers-more}
+use borrow.Author.Needs.{needs}
+use Rattle.feasibility_report.proofs.put_numbers.Statement.{statement}
+use Rattle.feasibility_report.proofs.put_numbers.Tie as tie
+
+abbrev Inv-loop : tie.InvT-loop
+Inv-loop buf₀ at constraints set next₀ k₀ buf next k =
+    (k ≤ constraints) × (length buf ≡ length buf₀) × Put buf₀ at (numbersTo k (inSet set)) buf next × (next ≤ at + 3 * k)
+
+abbrev μ-loop : tie.MeasureT-loop
+μ-loop buf₀ at constraints set next₀ k₀ buf next k = constraints - k
+
+loop-holds : tie.Need-loop-holds Inv-loop μ-loop
+unfolding numbersTo
+loop-holds c = (omega arith, omega arith, put-none (c .before .args .buf .now) (c .before .args .at), omega arith)
+
+put-member-requires : tie.Need-put-member-requires Inv-loop μ-loop
+put-member-requires c κs = search needs
+
+add-k : tie.Need-add-k Inv-loop μ-loop
+add-k c = search needs
+
+loop-less : tie.Need-loop-less Inv-loop μ-loop
+loop-less c = search needs
+
+loop-again : tie.Need-loop-again Inv-loop μ-loop
+loop-again c =
+    let m = c .before .before .put-member in
+    let l = c .before .before .before .before .before .loop in
+    let s = c .before .before .before .before .before .before .before in (
+      omega arith,
+      m .kept .0 ∙ l .inv .1,
+      put-same (numbers-more (s .args .at) (l .next) (s .args .set) (l .k) (l .inv .2 .place)) (put-then (l .inv .2) (omega (arith, l .inv .3, s .pre)) (m .ensures .0)),
+      omega (arith, m .ensures .1, l .inv .3),
+    )
+
+same-length : tie.Need-same-length Inv-loop μ-loop
+same-length c = search needs
+
+returns : tie.Need-returns Inv-loop μ-loop
+returns c =
+    let l = c .before .loop in
+    let s = c .before .before .before in
+    let last : l .k ≡ s .args .constraints = omega arith in
+    (rw last at (l .inv .2), omega (arith, l .inv .3, s .pre))
+
+pub put-numbers-spec : {M : Type 1} → statement M
+put-numbers-spec =
+    tie.close
+    (tie.spec
+    Inv-loop
+    μ-loop
+    loop-holds
+    put-member-requires
+    add-k
+    loop-less
+    loop-again
+    same-length
+    returns)

@@ -1,0 +1,36 @@
+-- `put_period_lines`.
+use native.Mathlib.Omega.{arith}
+use Rattle.feasibility_report.specs.Parts.{periodLines}
+use Rattle.feasibility_report.proofs.Putting.{put-then}
+use borrow.Author.Needs.{needs}
+use Rattle.feasibility_report.proofs.put_period_lines.Statement.{statement}
+use Rattle.feasibility_report.proofs.put_period_lines.Tie as tie
+
+put-line-requires : tie.Need-put-line-requires
+put-line-requires c κs = let s = c .before .before .before .before in (omega (arith, s .pre .0), s .pre .1 0 (omega arith))
+
+put-line-requires-2 : tie.Need-put-line-requires-2
+put-line-requires-2 c κs = let s = c .before .before .before .before .before .before .before .before in (omega arith, s .pre .1 1 (omega arith))
+
+put-line-requires-3 : tie.Need-put-line-requires-3
+put-line-requires-3 c κs = let s = c .before .before .before .before .before .before .before .before .before .before .before .before in (omega arith, s .pre .1 2 (omega arith))
+
+same-length : tie.Need-same-length
+same-length c = search needs
+
+returns : tie.Need-returns
+unfolding periodLines
+returns c =
+    let c2 = c .before .before .before .before in
+    let c1 = c2 .before .before .before .before in
+    let p1 = c1 .before .before .put-line in
+    let p2 = c2 .before .before .put-line2 in
+    let p3 = c .before .before .put-line3 in
+    let s = c1 .before .before .before .before .before .before .before in
+    let q2 = put-then (p1 .ensures .0) (omega (arith, s .pre .0, p1 .ensures .1)) (p2 .ensures .0) in
+    (put-then q2 (omega (arith, s .pre .0, p1 .ensures .1, p2 .ensures .1)) (p3 .ensures .0), omega (arith, p1 .ensures .1, p2 .ensures .1, p3 .ensures .1))
+
+pub put-period-lines-spec : {M : Type 1} → statement M
+put-period-lines-spec =
+    tie.close
+    (tie.spec put-line-requires put-line-requires-2 put-line-requires-3 same-length returns)

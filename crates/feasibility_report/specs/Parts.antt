@@ -1,0 +1,50 @@
+-- The report's parts as they are put one behind the other: a text put at a place, a set's members, and the figures of the test's answer.
+use mathlib.Core.Path.{_≡_}
+use mathlib.Core.Bool.{Bool, cond}
+use mathlib.Core.List.{List, [], _++_}
+use Prim.Native.Nat.{ℕ, _+_, _/_, _%_, _^_}
+use lib.Dec.{eqb}
+use lib.ListN.{length}
+use lib.IntN.{ℤ, pos}
+use Rattle.text.specs.Ascii.{ascii}
+use Rattle.text.specs.Decimal.{decimal, decimalZ, pasted}
+use Rattle.tariff.specs.declared.Contract.{Contract}
+use Rattle.tariff.specs.declared.Flow.{Flow}
+use Rattle.tariff.specs.declared.Period.{Period}
+use Rattle.tariff.specs.declared.Process.the-variants.{Annual, TierLt, Monthly}
+use Rattle.tariff.specs.Units.{Grid}
+use Rattle.feasibility_test.specs.declared.TestAnswer.{TestAnswer}
+use Rattle.feasibility_test.specs.declared.TestAnswer.the-variants.{Pass, Fail, Refused}
+use Rattle.feasibility_report.specs.Report.{numbersTo, line}
+
+-- a buffer that has become another by a text put at a place, and the place behind it
+pub record Put (entry : List ℕ) (at : ℕ) (text exit : List ℕ) (next : ℕ) : Type 0 where
+  pub cells : exit ≡ pasted entry at text
+  pub place : next ≡ at + length text
+
+-- bit k of a set
+abbrev pub inSet : ℕ → ℕ → Bool
+inSet set k = eqb (set / 2 ^ k % 2) 1
+
+-- member k of a list of numbers that begins at place `at`, put at place `next`: a blank before it unless it is the first
+unfoldable pub member : ℕ → ℕ → ℕ → List ℕ
+member at next k = cond (eqb next at) [] (ascii " ") ++ decimal k
+
+unfoldable pub failed : ℕ → ℕ → ℕ → ℕ → ℤ → List ℕ
+failed constraints set count lowest over =
+    ascii "fail," ++ decimal count ++ ascii "," ++ decimal lowest ++ ascii "," ++ decimalZ over ++ ascii "," ++ numbersTo constraints (inSet set)
+
+-- the figures of an answer; a refusal has none
+abbrev pub answerFigures : ℕ → TestAnswer → List ℕ
+answerFigures constraints Pass = ascii "pass,0,,,"
+answerFigures constraints (Fail set count lowest over) = failed constraints set count lowest (over .0)
+answerFigures constraints (Refused r) = []
+
+abbrev pub overBy : TestAnswer → ℤ
+overBy Pass = pos 0
+overBy (Fail set count lowest over) = over .0
+overBy (Refused r) = pos 0
+
+-- the lines of one period
+unfoldable pub periodLines : Grid → List Contract → Period → List ℕ
+periodLines g book period = line g book period Annual ++ line g book period TierLt ++ line g book period Monthly
