@@ -1,4 +1,5 @@
 // Goes through document 01's checked values and the vectors of the files with the proved entries, and prints each beside what is expected.
+mod reporting;
 mod settling;
 
 use book_file::BookAnswer;
@@ -204,4 +205,5 @@ fn main() {
     case_l_book();
     case_l_prices();
     settling::run();
+    reporting::run();
 }
