@@ -1,4 +1,4 @@
--- What the answers of the test and of the grid's reader say, taken apart.
+-- What the answers of the test, of the grid's reader and of the report say, taken apart.
 use mathlib.Core.Path.{_≡_, refl, sym, ap, _∙_}
 use mathlib.Core.Bool.{Bool, true, false, cond}
 use mathlib.Core.List.{List, [], _∷_, _++_}
@@ -7,7 +7,7 @@ use native.Mathlib.Nat.{pos-of-ne-zero}
 use native.Mathlib.Omega.{arith}
 use borrow.Author.Tests.{eqb-false}
 use lib.Dec.{eqb}
-use lib.ListN.{length}
+use lib.ListN.{length, drop, length-append}
 use lib.IntN.{ℤ, pos, natAbs}
 use Rattle.integers.proofs.Sizes.{Each}
 use Rattle.text.specs.Ascii.{ascii}
@@ -19,12 +19,15 @@ use Rattle.tariff.specs.declared.Refusal.{Refusal}
 use Rattle.tariff.specs.declared.Refusal.the-variants.{ShortFile, NodeCount, ConstraintCount, SpareBits, FileLength, LimitRange, FactorRange, Padding, ShortTable, ContractCount, NodeNumber, SameEnds, QuantityRange, PriceCount, PriceRange, ProcessNumber, PeriodOrKind, HolderRange}
 use Rattle.tariff.specs.declared.Checked.{Checked}
 use Rattle.tariff.specs.declared.Checked.the-variants.{Passed, Refused}
-use Rattle.tariff.specs.Refusals.{Outcome, numberOf, given, refusedBy, decided, answered}
+use Rattle.tariff.specs.Refusals.{Outcome, numberOf, given, refusedBy, decided, answered, cellsAfter}
 use Rattle.tariff.specs.Units.{Grid, FactorsInRange, LimitsInRange}
 use Rattle.tariff.specs.Contracts.{InRange}
 use Rattle.tariff.specs.Feasibility.{excess, overloaded, overloadSet, overloadCount, lowestOverload}
 use Rattle.tariff.proofs.Overloads.{fails-lowest}
 use Rattle.tariff.proofs.Sizes.{excess-sized}
+use Rattle.layouts.specs.declared.WriteAnswer.{WriteAnswer}
+use Rattle.layouts.specs.declared.WriteAnswer.the-variants.{Written}
+use Rattle.layouts.specs.Files.{writeOutcome}
 use Rattle.feasibility_test.specs.declared.TestAnswer.{TestAnswer}
 use Rattle.feasibility_test.specs.declared.TestAnswer.the-variants.{Pass, Fail, Refused as NotTested}
 use Rattle.feasibility_test.specs.Answer.{testOutcome, testValues}
@@ -121,3 +124,13 @@ read-refused (Refused q) vs r a e told file rest = ap (λ (n : ℕ). ascii "refu
 pub read-told : (checked : Checked) (m j n k : ℕ) (a : GridAnswer) → gridOutcome a ≡ answered checked (pos m ∷ pos j ∷ []) → a ≡ Read n k → (checked ≡ Passed) × (n ≡ m) × (k ≡ j)
 read-told Passed m j n k a e told = let q : pos n ∷ pos k ∷ [] ≡ pos m ∷ pos j ∷ [] = ap (λ (o : Outcome). o .values) (ap gridOutcome (sym told) ∙ e) in (refl, cc, cc)
 read-told (Refused q) m j n k a e told = absurd (never-given q (pos n ∷ pos k ∷ []) (sym (ap gridOutcome (sym told) ∙ e)))
+
+-- ---- the report's own answer
+
+-- what is written fits into the buffer
+pub written-fits : (checked : Checked) (text entry exit : List ℕ) (r : WriteAnswer) (n : ℕ) → writeOutcome r ≡ answered checked (pos (length text) ∷ []) → exit ≡ cellsAfter checked text entry → r ≡ Written n → n ≤ length exit
+written-fits Passed text entry exit r n e cells told =
+    let q : pos n ∷ [] ≡ pos (length text) ∷ [] = ap (λ (o : Outcome). o .values) (ap writeOutcome (sym told) ∙ e) in
+    let m : n ≡ length text = cc in
+    rw cells (omega (arith, length-append text (drop (length text) entry)))
+written-fits (Refused q) text entry exit r n e cells told = absurd (never-given q (pos n ∷ []) (sym (ap writeOutcome (sym told) ∙ e)))
