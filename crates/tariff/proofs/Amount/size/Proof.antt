@@ -1,10 +1,9 @@
 -- `Amount::size`: below zero it is that of the negation.
-use mathlib.Core.Path.{_≡_, refl, ap, _∙_}
+use mathlib.Core.Path.{_≡_, ap, _∙_}
 use native.Mathlib.Omega.{arith}
-use lib.IntN.{ℤ, pos, natAbs, _-ℤ_}
+use lib.IntN.{pos, natAbs, _-ℤ_}
 use mir.Syntax.{w64}
 use mir.Val.{toZ, ofZ}
-use borrow.Author.Needs.{needs}
 use Rattle.integers.proofs.Machine.{back}
 use Rattle.tariff.proofs.Rounding.{minus-fits, minus-is, negative-size, positive-size}
 use Rattle.tariff.proofs.Amount.size.Statement.{statement}
