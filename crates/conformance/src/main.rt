@@ -1,70 +1,10 @@
-// Goes through document 01's checked values and the vectors of the files with the proved entries, and prints each beside what is expected.
-mod reporting;
-mod settling;
-
+// Goes through the vectors of the three files with the proved entries, and prints each beside what is expected.
 use book_file::BookAnswer;
 use grid_file::GridAnswer;
 use layouts::WriteAnswer;
-ghost use Prim.Native.Nat.{_<_};
-use libc::STDOUT_FILENO;
 use price_file::PriceAnswer;
-
-pub fn print(s: &[u8]) {
-    io::write_all(STDOUT_FILENO, s);
-}
-
-fn print_number(n: u64) {
-    let mut digits = [0u8; 20];
-    let end = text::put_decimal(&mut digits, 0, n);
-    print(&digits[..end]);
-}
-
-fn hex_digit(n: u8) -> u8
-    requires { ⌜ n < 16 ⌝ }
-{
-    if n < 10 { 48 + n } else { 87 + n }
-}
-
-fn print_byte(b: u8) {
-    let two = [hex_digit(b / 16), hex_digit(b % 16), b' '];
-    print(&two);
-}
-
-fn print_bytes(s: &[u8]) {
-    let mut i = 0;
-    while i < s.len() {
-        print_byte(s[i]);
-        i += 1;
-    }
-}
-
-pub fn print_verdict(ok: bool) {
-    if ok {
-        print(b" ok\n");
-    } else {
-        print(b" WRONG\n");
-    }
-}
-
-// A figure beside what is expected.
-pub fn figure(name: &[u8], got: u64, expected: u64) {
-    print(name);
-    print(b": ");
-    print_number(got);
-    print(b", expected ");
-    print_number(expected);
-    print_verdict(got == expected);
-}
-
-// Bytes beside those that are expected.
-fn bytes(name: &[u8], got: &[u8], expected: &[u8]) {
-    print(name);
-    print(b": ");
-    print_bytes(got);
-    print(b"expected ");
-    print_bytes(expected);
-    print_verdict(check::same(got, expected));
-}
+use printing::bytes;
+use printing::figure;
 
 // The refusal of reading a grid, 0 for none.
 fn grid_refusal(file: &[u8]) -> u64 {
@@ -204,6 +144,4 @@ fn main() {
     case_l_grid();
     case_l_book();
     case_l_prices();
-    settling::run();
-    reporting::run();
 }

@@ -4,8 +4,8 @@ use Prim.Native.Nat.{ℕ, _+_, _-_, _*_, _^_, _≤_, _<_}
 use native.Mathlib.Omega.{arith}
 use lib.ListN.{length, take, drop, getD, set, length-set}
 use borrow.Author.Needs.{needs}
-use Rattle.conformance.proofs.print_bytes.Statement.{statement}
-use Rattle.conformance.proofs.print_bytes.Tie as tie
+use Rattle.printing.proofs.print_bytes.Statement.{statement}
+use Rattle.printing.proofs.print_bytes.Tie as tie
 
 abbrev Inv-loop : tie.InvT-loop
 Inv-loop s i₀ i =

@@ -9,8 +9,8 @@ use lib.Seq.{length-take-le}
 use lib.Signed.{mag, ltZ}
 use mir.Facts.{toZ-ofZ}
 use borrow.Author.Needs.{needs}
-use Rattle.conformance.proofs.settling.print_signed.Statement.{statement}
-use Rattle.conformance.proofs.settling.print_signed.Tie as tie
+use Rattle.printing.proofs.print_signed.Statement.{statement}
+use Rattle.printing.proofs.print_signed.Tie as tie
 
 -- a number that is not below -9 × 10^18
 above : (z : ℤ) → mag z < 2 ^ 63 → ltZ z (negsuc 8999999999999999999) ≡ false → natAbs z < 2 ^ 63

@@ -1,30 +1,8 @@
 // The MCC and settlement: P1, P2 and P9 and case L by the code, the manual's direction vector, and the extremes both ways.
-use crate::figure;
-use crate::print;
-use crate::print_verdict;
+use printing::figure;
+use printing::signed_figure;
 use settlement::MccAnswer;
 use settlement::SettleAnswer;
-
-// A signed figure, one below the range of any figure here apart.
-fn print_signed(z: i64) {
-    if z < -9000000000000000000 {
-        print(b"below every figure");
-        return;
-    }
-    let mut digits = [0u8; 21];
-    let end = text::put_signed(&mut digits, 0, z);
-    print(&digits[..end]);
-}
-
-// A signed figure beside what is expected.
-fn signed_figure(name: &[u8], got: i64, expected: i64) {
-    print(name);
-    print(b": ");
-    print_signed(got);
-    print(b", expected ");
-    print_signed(expected);
-    print_verdict(got == expected);
-}
 
 // Three cells beside what is expected.
 fn three(name: &[u8], got: [i64; 3], a: i64, b: i64, c: i64) {
@@ -150,7 +128,7 @@ fn extreme(name: &[u8], source: u64, sink: u64, cents_expected: i64, sum_expecte
     }
 }
 
-pub fn run() {
+fn main() {
     p1();
     case_l_hour();
     one_contract(

@@ -3,8 +3,8 @@ use mathlib.Core.Path.{sym}
 use native.Mathlib.Omega.{arith}
 use lib.Seq.{length-take-le}
 use borrow.Author.Needs.{needs}
-use Rattle.conformance.proofs.print_number.Statement.{statement}
-use Rattle.conformance.proofs.print_number.Tie as tie
+use Rattle.printing.proofs.print_number.Statement.{statement}
+use Rattle.printing.proofs.print_number.Tie as tie
 
 slice-aggregate-put-decimal : tie.Need-slice-aggregate-put-decimal
 slice-aggregate-put-decimal c = search needs

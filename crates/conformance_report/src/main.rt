@@ -1,7 +1,7 @@
 // The feasibility report on the books of P4 to P7: case L's grid with another first limit, and one on-peak obligation.
-use crate::figure;
-use crate::print;
 use layouts::WriteAnswer;
+use printing::figure;
+use printing::print;
 
 fn report(name: &[u8], first_limit: u64, quantity: u64) {
     let mut grid = [0u8; 23];
@@ -26,7 +26,7 @@ fn report(name: &[u8], first_limit: u64, quantity: u64) {
     }
 }
 
-pub fn run() {
+fn main() {
     report(b"P4, first limit 6,000, quantity 10,000\n", 6000, 10000);
     report(b"P5, first limit 6,000, quantity 10,001\n", 6000, 10001);
     report(b"P6, first limit 8,000, quantity 10,000\n", 8000, 10000);
