@@ -1,22 +1,21 @@
 -- What is known of a book that its own checks accept.
-use mathlib.Core.Path.{_≡_, refl, sym, ap, _∙_}
-use mathlib.Core.Bool.{Bool, true, false, not, _||_}
-use mathlib.Core.List.{List, [], _∷_, _++_}
+use mathlib.Core.Path.{_≡_, refl}
+use mathlib.Core.Bool.{Bool, true, false, _||_}
+use mathlib.Core.List.{List, [], _∷_}
 use Prim.Native.Nat.{ℕ, _+_, _*_, _≤_, _<_}
-use native.Mathlib.Omega.{arith}
-use borrow.Author.Tests.{ltb-false, leb-false, eqb-true, eqb-false, not-false}
+use borrow.Author.Tests.{ltb-false, leb-false, eqb-true, not-false}
 use lib.Dec.{leb, ltb, eqb}
 use lib.ListN.{length}
 use Rattle.integers.proofs.Sizes.{Each}
 use Rattle.tariff.specs.declared.Contract.{Contract}
 use Rattle.tariff.specs.declared.Checked.the-variants.{Passed}
 use Rattle.tariff.specs.Contracts.{InRange}
-use Rattle.tariff.specs.Refusals.{Check, first}
+use Rattle.tariff.specs.Refusals.{first}
 use Rattle.tariff.specs.Checks.{shortTable}
 use Rattle.tariff.proofs.Checks.{passed-cons, passed-append}
 use Rattle.layouts.specs.BookFile.{countIn, spareIn, contractAt, bookIn}
 use Rattle.layouts.proofs.Lists.{each-listTo}
-use Rattle.book_file.specs.BookChecks.{checksTo, checksAt, contractChecks, bookChecks, readChecks}
+use Rattle.book_file.specs.BookChecks.{checksAt, contractChecks, bookChecks, readChecks}
 use Rattle.book_file.proofs.Checking.{checks-each}
 
 pub neither : (a b : Bool) → (a || b) ≡ false → (a ≡ false) × (b ≡ false)

@@ -1,6 +1,6 @@
 -- A book's file there and back, over what the entries ensure: bytes that no check of the reader refuses are the file of the contracts that are read from
 -- them, and a file that is written is not refused and gives the table's rows.
-use mathlib.Core.Path.{_≡_, refl, sym, ap, _∙_}
+use mathlib.Core.Path.{_≡_, sym, ap, _∙_}
 use mathlib.Core.Bool.{false}
 use mathlib.Core.List.{List, [], _∷_, _++_, flatMap}
 use Prim.Native.Nat.{ℕ, _+_, _*_, _≤_, _<_}
@@ -10,13 +10,13 @@ use lib.ListN.{length, getD, take}
 use Rattle.bits.proofs.Numbers.{Below}
 use Rattle.tariff.specs.declared.Contract.{Contract}
 use Rattle.tariff.specs.declared.Checked.the-variants.{Passed}
-use Rattle.tariff.specs.Refusals.{Check, first}
+use Rattle.tariff.specs.Refusals.{first}
 use Rattle.tariff.specs.Checks.{nodeCount, shortTable}
 use Rattle.tariff.proofs.Checks.{first-passes, first-append, passed-cons, passed-append}
 use Rattle.layouts.specs.BookFile.{countIn, spareIn, contractAt, bookIn, bookFile, cellsOf, rowAt, rowsIn}
 use Rattle.layouts.proofs.Lists.{length-listTo, each-listTo, getD-listTo}
 use Rattle.layouts.proofs.BookFile.{ContractFits, BookWritten, book-written, book-read, cells-rows}
-use Rattle.book_file.specs.BookChecks.{checksTo, checksAt, contractChecks, bookChecks, readChecks}
+use Rattle.book_file.specs.BookChecks.{checksTo, checksAt, bookChecks, readChecks}
 use Rattle.book_writer.specs.WriteChecks.{rowChecks, writeChecks}
 use Rattle.book_file.proofs.Checking.{checks-each, checks-all}
 use Rattle.book_file.proofs.Accepted.{Accepted, read-accepted}

@@ -1,5 +1,5 @@
 -- Document 01, "When input is turned down": the checks of testing a book's bytes against grid tables, in the paper's order.
-use mathlib.Core.List.{List, [], _∷_}
+use mathlib.Core.List.{List, _∷_}
 use Prim.Native.Nat.{ℕ, _*_}
 use lib.ListN.{length, take}
 use lib.IntN.{ℤ}

@@ -1,6 +1,6 @@
 -- Laws of floor division and of rounding by a positive number.
 use mathlib.Core.Path.{_≡_, refl, ap, _∙_, sym}
-use Prim.Native.Nat.{ℕ, zero, suc, _+_, _-_, _*_, _/_, _%_, _<_, _≤_}
+use Prim.Native.Nat.{ℕ, zero, suc, _+_, _-_, _*_, _/_, _<_, _≤_}
 use native.Mathlib.Nat.{mod-lt, div-add-mod', le-div-iff-mul-le, div-lt-iff-lt-mul, mul-div-mul-left, mul-add, div-eq-of-lt}
 use native.Mathlib.Omega.{arith}
 use lib.Arith.{digits-div, digits-mod, comp-comp}

@@ -1,5 +1,5 @@
 -- Document 01, "The three files": what they share. Fields are packed most significant bit first; zero bits fill the last byte.
-use mathlib.Core.Bool.{Bool, not}
+use mathlib.Core.Bool.{not}
 use mathlib.Core.List.{List, [], _∷_, _++_}
 use Prim.Native.Nat.{ℕ, zero, suc, _+_, _-_, _*_, _/_}
 use lib.Dec.{ltb, eqb}

@@ -14,8 +14,8 @@ use Rattle.bits.proofs.Numbers.{Below}
 use Rattle.tariff.specs.declared.Checked.the-variants.{Passed}
 use Rattle.tariff.specs.Refusals.{first}
 use Rattle.tariff.proofs.Checks.{first-passes, passed-cons}
-use Rattle.layouts.specs.PriceFile.{priceBytes, priceFile, periodIn, countIn, pricesIn, padIn}
-use Rattle.layouts.proofs.PriceFile.{PriceFits, PriceWritten, prices-written, prices-read}
+use Rattle.layouts.specs.PriceFile.{priceFile, periodIn, pricesIn}
+use Rattle.layouts.proofs.PriceFile.{PriceWritten, prices-written, prices-read}
 use Rattle.runs.proofs.Tests.{same, same-of, last-passes}
 use Rattle.price_file.specs.PriceChecks.{readChecks, writeChecks}
 use Rattle.price_file.proofs.PriceLaws.{Writable, writable}

@@ -6,3 +6,4 @@ pub mod Rules
 pub mod Checks
 pub mod Periods
 pub mod Rounding
+pub mod Answers

@@ -1,22 +1,21 @@
 -- The overload set as one number: its bits, its count of ones, its trailing zeros, and what they say of the test.
-use mathlib.Core.Path.{_≡_, refl, sym, ap, ap₂, _∙_}
-use mathlib.Core.Logic.{_↔_, _⊎_, inl, inr, ⊎-elim}
+use mathlib.Core.Path.{_≡_, refl, sym, ap, _∙_}
+use mathlib.Core.Logic.{_↔_}
 use mathlib.Core.Bool.{Bool, true, false, cond}
 use mathlib.Core.List.{List}
 use Prim.Native.Nat.{ℕ, zero, suc, _+_, _*_, _/_, _%_, _^_, _≤_, _<_}
-use native.Mathlib.Nat.{pow-suc, mul-comm, two-pow-succ, eq-or-lt-of-le}
+use native.Mathlib.Nat.{pow-suc}
 use native.Mathlib.Omega.{arith}
 use lib.Arith.{digits-div, digits-mod}
 use lib.Pow.{pow-pos, shr-shr}
-use lib.Count.{ones, ones-cat, trailingZeros, under}
-use lib.Dec.{T}
+use lib.Count.{ones, ones-cat, trailingZeros}
 use lib.IntN.{ℤ, pos, _-ℤ_}
 use lib.Signed.{_≤ℤ_, _<ℤ_, ltZ, ltZ-yes, ltZ-no, clashℤ}
 use Rattle.integers.proofs.Linear.{⊖of, ⊖s}
 use Rattle.tariff.specs.declared.Contract.{Contract}
 use Rattle.tariff.specs.declared.Process.{Process}
 use Rattle.tariff.specs.Units.{Grid}
-use Rattle.tariff.specs.Feasibility.{setOf, countOf, lowestOf, totalFlow, released, Passes, excess, overloaded, overloadSet, overloadCount, lowestOverload}
+use Rattle.tariff.specs.Feasibility.{setOf, countOf, lowestOf, totalFlow, released, Passes, excess, overloaded, overloadSet, lowestOverload}
 
 bit : Bool → ℕ
 bit b = cond b 1 0

@@ -1,10 +1,9 @@
 -- Laws of a period's contracts: nothing of the other period is among them, and they are taken in the book's order.
-use mathlib.Core.Path.{_≡_, refl, sym, ap, _∙_}
+use mathlib.Core.Path.{_≡_, refl, ap, _∙_}
 use mathlib.Core.Bool.{Bool, true, false, cond}
 use mathlib.Core.List.{List, [], _∷_, _++_}
-use Prim.Native.Nat.{ℕ, _+_}
-use lib.IntN.{ℤ, pos, _+ℤ_, +ℤ-idr}
-use lib.ListN.{length, length-append}
+use Prim.Native.Nat.{_+_}
+use lib.IntN.{ℤ, _+ℤ_, +ℤ-idr}
 use Rattle.integers.specs.Sums.{sumOver}
 use Rattle.integers.proofs.Sums.{sumOver-append}
 use Rattle.integers.proofs.Sizes.{Each}

@@ -1,15 +1,12 @@
 -- Every machine quantity fits where it is kept: bounds of each figure of the rules, for figures within their ranges.
-use mathlib.Core.Path.{_≡_, refl}
 use mathlib.Core.Bool.{Bool, true, false, cond}
 use mathlib.Core.List.{List, [], _∷_}
-use Prim.Native.Nat.{ℕ, suc, _+_, _*_, _/_, _≤_, _<_}
-use native.Mathlib.Nat.{mul-le-mul, le-trans, mul-le-mul-left, div-lt-iff-lt-mul, div-le-of-le-mul}
+use Prim.Native.Nat.{ℕ, suc, _+_, _*_, _≤_, _<_}
+use native.Mathlib.Nat.{mul-le-mul, le-trans}
 use native.Mathlib.Omega.{arith}
 use lib.ListN.{length}
-use lib.IntN.{ℤ, pos, negsuc, natAbs, _+ℤ_, _-ℤ_, _*ℤ_}
-use Rattle.integers.specs.Sums.{sumTo, sumOver}
-use Rattle.integers.specs.Division.{floorDiv, roundUp, roundAway}
-use Rattle.integers.proofs.Sizes.{natAbs-add, natAbs-sub, natAbs-neg, natAbs-times, natAbs-max0, natAbs-sumTo, Each, natAbs-sumOver}
+use lib.IntN.{ℤ, pos, negsuc, natAbs, _-ℤ_, _*ℤ_}
+use Rattle.integers.proofs.Sizes.{natAbs-sub, natAbs-neg, natAbs-times, natAbs-max0, natAbs-sumTo, Each, natAbs-sumOver}
 use Rattle.integers.proofs.Division.{natAbs-roundAway}
 use Rattle.tariff.specs.declared.Kind.{Kind}
 use Rattle.tariff.specs.declared.Kind.the-variants.{Obligation, Option}
@@ -17,7 +14,7 @@ use Rattle.tariff.specs.declared.Contract.{Contract}
 use Rattle.tariff.specs.declared.Period.{Period}
 use Rattle.tariff.specs.declared.Process.{Process}
 use Rattle.tariff.specs.declared.Process.the-variants.{Annual, TierLt, Monthly}
-use Rattle.tariff.specs.Units.{Grid, factor, limit, price, maxConstraints, FactorsInRange, LimitsInRange, PricesInRange}
+use Rattle.tariff.specs.Units.{Grid, factor, price, maxConstraints, FactorsInRange, LimitsInRange, PricesInRange}
 use Rattle.tariff.specs.Contracts.{counted, samePeriod, ofPeriod, InRange}
 use Rattle.tariff.specs.Processes.{percent}
 use Rattle.tariff.specs.Settlement.{congestion, mcc, amount, exactTotal, cents, wholeCents}

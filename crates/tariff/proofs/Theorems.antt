@@ -1,10 +1,9 @@
 -- THE THEOREMS over document 01's definitions, each for every grid, book, period and process. Statements only: the proofs are in Worst.antt,
 -- Overloads.antt and Periods.antt.
-use mathlib.Core.Path.{_≡_, refl}
+use mathlib.Core.Path.{_≡_}
 use mathlib.Core.Logic.{_↔_}
 use mathlib.Core.List.{List, []}
 use Prim.Native.Nat.{ℕ, _<_, _≤_}
-use native.Mathlib.Omega.{arith}
 use lib.Count.{ones, trailingZeros}
 use lib.IntN.{ℤ, pos}
 use lib.Signed.{_≤ℤ_, _<ℤ_}

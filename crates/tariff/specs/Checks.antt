@@ -1,5 +1,5 @@
 -- Document 01, "When input is turned down": the conditions on counts, numbers and figures, each with its refusal. Those on a file's bytes are in layouts.
-use mathlib.Core.Bool.{Bool, true, false, _||_}
+use mathlib.Core.Bool.{Bool, false, _||_}
 use mathlib.Core.List.{List, [], _∷_}
 use Prim.Native.Nat.{ℕ}
 use lib.Dec.{leb, ltb, eqb}

@@ -1,6 +1,6 @@
 -- Document 01, "The rules": congestion components, amounts, cents and the exact total.
 use mathlib.Core.List.{List}
-use Prim.Native.Nat.{ℕ, zero, suc, _+_, _-_, _*_, _/_, _%_}
+use Prim.Native.Nat.{ℕ, _-_, _*_}
 use lib.IntN.{ℤ, pos, negℤ, _-ℤ_, _*ℤ_}
 use Rattle.integers.specs.Sums.{sumTo, sumOver}
 use Rattle.integers.specs.Division.{floorDiv, floorMod, roundAway}

@@ -1,0 +1,48 @@
+-- What an answer says of its checks: values given mean that none refuses, and a refusal's number is the first one's.
+use mathlib.Core.Path.{_≡_, refl, sym, ap}
+use mathlib.Core.List.{List}
+use native.Mathlib.Omega.{arith}
+use lib.IntN.{ℤ}
+use Rattle.tariff.specs.declared.Refusal.{Refusal}
+use Rattle.tariff.specs.declared.Refusal.the-variants.{ShortFile, NodeCount, ConstraintCount, SpareBits, FileLength, LimitRange, FactorRange, Padding, ShortTable, ContractCount, NodeNumber, SameEnds, QuantityRange, PriceCount, PriceRange, ProcessNumber, PeriodOrKind, HolderRange}
+use Rattle.tariff.specs.declared.Checked.{Checked}
+use Rattle.tariff.specs.declared.Checked.the-variants.{Passed, Refused}
+use Rattle.tariff.specs.Refusals.{Outcome, numberOf, given, refusedBy, decided, answered}
+
+-- no refusal has the number 0
+pub numbered : (r : Refusal) → numberOf r ≡ 0 → ⊥
+numbered ShortFile e = omega arith
+numbered NodeCount e = omega arith
+numbered ConstraintCount e = omega arith
+numbered SpareBits e = omega arith
+numbered FileLength e = omega arith
+numbered LimitRange e = omega arith
+numbered FactorRange e = omega arith
+numbered Padding e = omega arith
+numbered ShortTable e = omega arith
+numbered ContractCount e = omega arith
+numbered NodeNumber e = omega arith
+numbered SameEnds e = omega arith
+numbered QuantityRange e = omega arith
+numbered PriceCount e = omega arith
+numbered PriceRange e = omega arith
+numbered ProcessNumber e = omega arith
+numbered PeriodOrKind e = omega arith
+numbered HolderRange e = omega arith
+
+pub never-given : (r : Refusal) (vs : List ℤ) → refusedBy r ≡ given vs → ⊥
+never-given r vs e = numbered r (ap (λ (o : Outcome). o .number) e)
+
+-- values were given: no check refuses, and they are the operation's
+pub given-told : (checked : Checked) (vs ws : List ℤ) → given ws ≡ answered checked vs → (checked ≡ Passed) × (ws ≡ vs)
+given-told Passed vs ws e = (refl, ap (λ (o : Outcome). o .values) e)
+given-told (Refused q) vs ws e = absurd (never-given q ws (sym e))
+
+-- a refusal was given: its number is that of the first check that holds, and what hangs on the checks is the refusal's side
+pub refused-number : (checked : Checked) (vs : List ℤ) (r : Refusal) → refusedBy r ≡ answered checked vs → numberOf r ≡ decided checked numberOf 0
+refused-number Passed vs r e = absurd (never-given r vs e)
+refused-number (Refused q) vs r e = ap (λ (o : Outcome). o .number) e
+
+pub refused-side : {A : Type 0} (checked : Checked) (vs : List ℤ) (r : Refusal) → refusedBy r ≡ answered checked vs → (a b : A) → decided checked (λ q. a) b ≡ a
+refused-side Passed vs r e a b = absurd (never-given r vs e)
+refused-side (Refused q) vs r e a b = refl
