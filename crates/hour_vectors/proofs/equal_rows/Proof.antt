@@ -4,8 +4,8 @@ use Prim.Native.Nat.{ℕ, _+_, _-_, _*_, _^_, _≤_, _<_}
 use native.Mathlib.Omega.{arith}
 use lib.ListN.{length, take, drop, getD, set, length-set}
 use borrow.Author.Needs.{needs}
-use Rattle.conformance_hour.proofs.equal_rows.Statement.{statement}
-use Rattle.conformance_hour.proofs.equal_rows.Tie as tie
+use Rattle.hour_vectors.proofs.equal_rows.Statement.{statement}
+use Rattle.hour_vectors.proofs.equal_rows.Tie as tie
 
 abbrev Inv-loop : tie.InvT-loop
 Inv-loop source sink cells₀ i₀ cells i =

@@ -3,8 +3,8 @@ use mathlib.Core.Path.{sym}
 use native.Mathlib.Omega.{arith}
 use lib.Seq.{length-take-le}
 use borrow.Author.Needs.{needs}
-use Rattle.conformance_report.proofs.report.Statement.{statement}
-use Rattle.conformance_report.proofs.report.Tie as tie
+use Rattle.report_vectors.proofs.report.Statement.{statement}
+use Rattle.report_vectors.proofs.report.Tie as tie
 
 slice-aggregate-write-grid : tie.Need-slice-aggregate-write-grid
 slice-aggregate-write-grid c = search needs

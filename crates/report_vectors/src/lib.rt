@@ -26,7 +26,7 @@ fn report(name: &[u8], first_limit: u64, quantity: u64) {
     }
 }
 
-fn main() {
+pub fn go_through() {
     report(b"P4, first limit 6,000, quantity 10,000\n", 6000, 10000);
     report(b"P5, first limit 6,000, quantity 10,001\n", 6000, 10001);
     report(b"P6, first limit 8,000, quantity 10,000\n", 8000, 10000);

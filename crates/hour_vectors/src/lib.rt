@@ -128,7 +128,7 @@ fn extreme(name: &[u8], source: u64, sink: u64, cents_expected: i64, sum_expecte
     }
 }
 
-fn main() {
+pub fn go_through() {
     p1();
     case_l_hour();
     one_contract(

@@ -4,8 +4,8 @@ use Prim.Native.Nat.{ℕ, _+_, _-_, _*_, _^_, _≤_, _<_}
 use native.Mathlib.Omega.{arith}
 use lib.ListN.{length, take, drop, getD, set, length-set}
 use borrow.Author.Needs.{needs}
-use Rattle.conformance_hour.proofs.end_factors.Statement.{statement}
-use Rattle.conformance_hour.proofs.end_factors.Tie as tie
+use Rattle.hour_vectors.proofs.end_factors.Statement.{statement}
+use Rattle.hour_vectors.proofs.end_factors.Tie as tie
 
 abbrev Inv-loop : tie.InvT-loop
 Inv-loop factors₀ i₀ factors i =
