@@ -1,5 +1,5 @@
 -- Laws of `field` and `fields`: where a field lies, a run of fields, and a field gathered from bytes.
-use mathlib.Core.Path.{_≡_, sym, ap, ap₂, _∙_}
+use mathlib.Core.Path.{_≡_, refl, sym, ap, ap₂, _∙_}
 use Prim.Native.Nat.{ℕ, suc, _+_, _-_, _*_, _/_, _%_, _^_, _≤_, _<_}
 use native.Mathlib.Nat.{mul-le-mul-left, mul-suc, mod-lt, mod-one}
 use native.Mathlib.Omega.{arith}
@@ -68,6 +68,17 @@ window-more s f i acc h e = rw (number-more 8 (drop f s) i (rw length-drop (omeg
 
 pub window-fits : (s : List ℕ) (f i k acc : ℕ) → Below 8 s → i ≤ k → acc ≡ number 8 (take i (drop f s)) → acc < 2 ^ (8 * k)
 window-fits s f i k acc b h e = rw e (number-fits 8 (drop f s) i k (below-drop 8 f s b) h)
+
+-- four bytes, summed flat
+pub window-four : (s : List ℕ) (f : ℕ) → f + 4 ≤ length s
+    → getD s f 0 * 16777216 + getD s (f + 1) 0 * 65536 + getD s (f + 2) 0 * 256 + getD s (f + 3) 0 ≡ number 8 (take 4 (drop f s))
+window-four s f h =
+    let one = window-more s f 0 0 (omega arith) refl in
+    let two = window-more s f 1 _ (omega arith) one in
+    let three = window-more s f 2 _ (omega arith) two in
+    let four = window-more s f 3 _ (omega arith) three in
+    let same : f + 0 ≡ f = omega arith in
+    omega (arith, rw same at four)
 
 -- k gathered bytes, shifted and masked
 pub field-code : (s : List ℕ) (o w k acc : ℕ) → Below 8 s → o % 8 + w ≤ 8 * k → o / 8 + k ≤ length s → acc ≡ number 8 (take k (drop (o / 8) s))

@@ -1,11 +1,12 @@
 -- A pen writes fields one after the other into bytes: what it has written, where it stands, and what holds of it between two fields.
+use mathlib.Core.Path.{_≡_}
 use Prim.Native.Nat.{ℕ, _+_, _*_, _^_, _≤_, _<_}
 use mathlib.Core.List.{List}
-use lib.ListN.{take}
+use lib.ListN.{take, drop}
 use Rattle.bits.specs.Bits.{number}
 use Rattle.bits.specs.declared.Pen.{Pen}
 
--- the bytes before its place, and the bits that it holds, which fill no byte yet
+-- the bytes before its place, and the bits that it holds, which are not stored yet
 unfoldable pub written : List ℕ → Pen → ℕ
 written s p = number 8 (take (p .at) s) * 2 ^ (p .held) + p .bits
 
@@ -13,7 +14,12 @@ written s p = number 8 (take (p .at) s) * 2 ^ (p .held) + p .bits
 abbrev pub place : Pen → ℕ
 place p = 8 * p .at + p .held
 
--- a pen between two fields holds less than a byte
+-- a pen between two fields holds less than four bytes
 pub record Ready (p : Pen) : Type 0 where
-  pub few : p .held ≤ 7
+  pub few : p .held ≤ 31
   pub fit : p .bits < 2 ^ (p .held)
+
+-- a pen that goes on: it never goes back, and the bytes from its new place on stay as they are
+pub record GoesOn (entry : List ℕ) (p : Pen) (exit : List ℕ) (r : Pen) : Type 0 where
+  pub onward : p .at ≤ r .at
+  pub rest : drop (r .at) exit ≡ drop (r .at) entry

@@ -1,10 +1,11 @@
 // Bit fields of any width at any bit offset of a slice of bytes, the most significant bit first: read, written, and taken as two's complement.
 ghost use mathlib.Core.Path.{_≡_};
+ghost use mathlib.Core.List.{_++_};
 ghost use Prim.Native.Nat.{_+_, _-_, _*_, _/_, _%_, _^_, _≤_, _<_};
 ghost use lib.Signed.{mag};
 ghost use lib.ListN.{length, take, drop};
-ghost use Rattle.bits.specs.Bits.{number, field as fieldOf};
-ghost use Rattle.bits.specs.Pen.{written, place, Ready};
+ghost use Rattle.bits.specs.Bits.{number, digits, field as fieldOf};
+ghost use Rattle.bits.specs.Pen.{written, place, Ready, GoesOn};
 ghost use Rattle.bits.specs.Signed.{ofInt, toInt};
 
 // One byte more: `acc` is the number of `i` bytes from `first` on, and the result that of `i + 1`.
@@ -31,16 +32,24 @@ pub fn window(s: &[u8], first: usize, count: usize) -> u64
     acc
 }
 
+// Four bytes from `first` on. The sum is written out flat, so that the compiler makes one load of it.
+fn window4(s: &[u8], first: usize) -> u64
+    requires { ⌜ first + 4 ≤ length (now s) ⌝ }
+    ensures { λ r. ⌜ r ≡ number 8 (take 4 (drop first (now (s .entry)))) ⌝ }
+{
+    let a = s[first] as u64;
+    let b = s[first + 1] as u64;
+    let c = s[first + 2] as u64;
+    let d = s[first + 3] as u64;
+    a * 16777216 + b * 65536 + c * 256 + d
+}
+
 // Five bytes from `first` on, with no loop: a field of 32 bits lies in five bytes.
 pub fn window5(s: &[u8], first: usize) -> u64
     requires { ⌜ first + 5 ≤ length (now s) ⌝ }
     ensures { λ r. ⌜ r ≡ number 8 (take 5 (drop first (now (s .entry)))) ⌝ }
 {
-    let a = more(s, first, 0, 0);
-    let b = more(s, first, 1, a);
-    let c = more(s, first, 2, b);
-    let d = more(s, first, 3, c);
-    more(s, first, 4, d)
+    more(s, first, 4, window4(s, first))
 }
 
 // Six bytes from `first` on, with no loop: a record of 48 bits.
@@ -48,12 +57,7 @@ pub fn window6(s: &[u8], first: usize) -> u64
     requires { ⌜ first + 6 ≤ length (now s) ⌝ }
     ensures { λ r. ⌜ r ≡ number 8 (take 6 (drop first (now (s .entry)))) ⌝ }
 {
-    let a = more(s, first, 0, 0);
-    let b = more(s, first, 1, a);
-    let c = more(s, first, 2, b);
-    let d = more(s, first, 3, c);
-    let e = more(s, first, 4, d);
-    more(s, first, 5, e)
+    more(s, first, 5, window5(s, first))
 }
 
 // The `width` bits of `v` above its `low` lowest.
@@ -103,18 +107,52 @@ fn join(a: u64, held: usize, v: u64, width: usize) -> u64
     a * (1u64 << width) + v
 }
 
-// Writes `v` as the next `width` bits. The bytes from the pen's new place on stay as they are.
+// Stores the four bytes of a number of 32 bits at place `at`.
+fn store4(buf: &mut [u8], at: usize, v: u64)
+    requires { ⌜ at + 4 ≤ length (now buf) ⌝ }
+    ensures { λ r. ⌜ now (buf .exit) ≡ take at (now (buf .entry)) ++ digits 8 4 v ++ drop (at + 4) (now (buf .entry)) ⌝ }
+{
+    buf[at] = part(v, 24, 8) as u8;
+    buf[at + 1] = part(v, 16, 8) as u8;
+    buf[at + 2] = part(v, 8, 8) as u8;
+    buf[at + 3] = part(v, 0, 8) as u8;
+}
+
+// Writes `v` as the next `width` bits: four bytes leave the pen at once, as soon as it holds them.
 pub fn put(buf: &mut [u8], pen: Pen, v: u64, width: usize) -> Pen
     requires { ⌜ Ready pen ⌝ }
     requires { ⌜ (v < 2 ^ width) × (width ≤ 32) ⌝ }
     requires { ⌜ place pen + width ≤ 8 * length (now buf) ⌝ }
     ensures { λ r. ⌜ written (now (buf .exit)) r ≡ written (now (buf .entry)) pen * 2 ^ width + v ⌝ }
     ensures { λ r. ⌜ (place r ≡ place pen + width) × Ready r ⌝ }
-    ensures { λ r. ⌜ drop (r .at) (now (buf .exit)) ≡ drop (r .at) (now (buf .entry)) ⌝ }
+    ensures { λ r. ⌜ GoesOn (now (buf .entry)) pen (now (buf .exit)) r ⌝ }
+{
+    let at = pen.at;
+    let held = pen.held + width;
+    let bits = join(pen.bits, pen.held, v, width);
+    if held < 32 {
+        return Pen { at, held, bits };
+    }
+    let rest = held - 32;
+    store4(buf, at, part(bits, rest, 32));
+    Pen {
+        at: at + 4,
+        held: rest,
+        bits: part(bits, 0, rest),
+    }
+}
+
+// Stores the whole bytes that a pen holds.
+fn shed(buf: &mut [u8], pen: Pen) -> Pen
+    requires { ⌜ Ready pen ⌝ }
+    requires { ⌜ place pen ≤ 8 * length (now buf) ⌝ }
+    ensures { λ r. ⌜ written (now (buf .exit)) r ≡ written (now (buf .entry)) pen ⌝ }
+    ensures { λ r. ⌜ (place r ≡ place pen) × (r .held ≤ 7) × Ready r ⌝ }
+    ensures { λ r. ⌜ GoesOn (now (buf .entry)) pen (now (buf .exit)) r ⌝ }
 {
     let mut at = pen.at;
-    let mut held = pen.held + width;
-    let mut bits = join(pen.bits, pen.held, v, width);
+    let mut held = pen.held;
+    let mut bits = pen.bits;
     while 8 <= held {
         held -= 8;
         buf[at] = part(bits, held, 8) as u8;
@@ -122,6 +160,19 @@ pub fn put(buf: &mut [u8], pen: Pen, v: u64, width: usize) -> Pen
         at += 1;
     }
     Pen { at, held, bits }
+}
+
+// Writes `v` as the last `width` bits: no whole byte stays in the pen.
+pub fn put_last(buf: &mut [u8], pen: Pen, v: u64, width: usize) -> Pen
+    requires { ⌜ Ready pen ⌝ }
+    requires { ⌜ (v < 2 ^ width) × (width ≤ 32) ⌝ }
+    requires { ⌜ place pen + width ≤ 8 * length (now buf) ⌝ }
+    ensures { λ r. ⌜ written (now (buf .exit)) r ≡ written (now (buf .entry)) pen * 2 ^ width + v ⌝ }
+    ensures { λ r. ⌜ (place r ≡ place pen + width) × (r .held ≤ 7) × Ready r ⌝ }
+    ensures { λ r. ⌜ GoesOn (now (buf .entry)) pen (now (buf .exit)) r ⌝ }
+{
+    let last = put(buf, pen, v, width);
+    shed(buf, last)
 }
 
 // The integer that `v` is in two's complement of `width` bits.

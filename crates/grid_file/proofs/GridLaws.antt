@@ -138,11 +138,11 @@ writable n k limits factors bytes e =
 -- the counts, the spare bit, the limits, the factors and the padding, one after the other
 pub grid-penned : (n k : ℕ) (limits : List ℕ) (factors : List ℤ) (first buf : List ℕ) (p : Pen) → k ≤ length limits → n * k ≤ length factors
     → Penned ((((bits 8 n ∷ bits 7 k ∷ bits 1 0 ∷ []) ++ map (bits 27) (take k limits)) ++ map (bits 18) (map (ofInt 18) (take (n * k) factors))) ++ bits (padFor (gridBits n k)) 0 ∷ []) first buf p
-    → Below 8 buf → gridBytes n k ≤ length buf → buf ≡ overwrite (gridFile (grid n k limits factors)) first
+    → p .held ≤ 7 → Below 8 buf → gridBytes n k ≤ length buf → buf ≡ overwrite (gridFile (grid n k limits factors)) first
 unfolding gridFile gridFields
-grid-penned n k limits factors first buf p long longer h b le =
+grid-penned n k limits factors first buf p long longer h few b le =
     let A = map (bits 27) (take k limits) in
     let B = map (bits 18) (map (ofInt 18) (take (n * k) factors)) in
     let P = bits (padFor (gridBits n k)) 0 ∷ [] in
-    penned-end _ first buf p (gridBytes n k) h b
+    penned-end _ first buf p (gridBytes n k) h few b
     (rw (total-append (A ++ B) P, total-append A B, total-run 27 (take k limits), total-run 18 (map (ofInt 18) (take (n * k) factors)), length-take-le k limits long, length-coded factors (n * k) longer) (omega arith)) le

@@ -6,7 +6,7 @@ ghost use lib.ListN.{length, getD, take, drop};
 ghost use lib.IntN.{pos, natAbs};
 ghost use Rattle.bits.specs.Bits.{number, fields};
 ghost use Rattle.bits.specs.Signed.{ofInt, toInt};
-ghost use Rattle.bits.specs.Pen.{written, place, Ready};
+ghost use Rattle.bits.specs.Pen.{written, place, Ready, GoesOn};
 ghost use Rattle.tariff.specs.Units.{grid, maxLimit, maxFactor};
 ghost use Rattle.tariff.specs.Refusals.{first, answered, cellsAfter, overwrite};
 ghost use Rattle.tariff.specs.Checks.{some, factorBad, nodeCount, limitRange, factorRange, shortTable};
@@ -236,14 +236,14 @@ fn check_write(
     Checked::Passed
 }
 
-// Writes each of the first `count` factors as the next 18 bits. The bytes from the pen's new place on stay as they are.
+// Writes each of the first `count` factors as the next 18 bits.
 fn write_factors(buf: &mut [u8], from: Pen, factors: &[i64], count: usize) -> Pen
     requires { ⌜ Ready from ⌝ }
     requires { ⌜ (count ≤ length (now factors)) × ((k : ℕ) → k < count → natAbs (getD (now factors) k (pos 0)) ≤ maxFactor) ⌝ }
     requires { ⌜ place from + 18 * count ≤ 8 * length (now buf) ⌝ }
     ensures { λ r. ⌜ written (now (buf .exit)) r ≡ written (now (buf .entry)) from * 2 ^ (18 * count) + number 18 (map (ofInt 18) (take count (now (factors .entry)))) ⌝ }
     ensures { λ r. ⌜ (place r ≡ place from + 18 * count) × Ready r ⌝ }
-    ensures { λ r. ⌜ drop (r .at) (now (buf .exit)) ≡ drop (r .at) (now (buf .entry)) ⌝ }
+    ensures { λ r. ⌜ GoesOn (now (buf .entry)) from (now (buf .exit)) r ⌝ }
 {
     let mut pen = from;
     let mut i = 0;
@@ -274,7 +274,7 @@ fn fill(nodes: usize, constraints: usize, limits: &[u64], factors: &[i64], file:
     let past_spare = bits::put(file, past_constraints, 0, 1);
     let past_limits = runs::write_run(file, past_spare, limits, constraints, 27);
     let past_factors = write_factors(file, past_limits, factors, factor_count(nodes, constraints));
-    bits::put(file, past_factors, 0, 8 * size - used);
+    bits::put_last(file, past_factors, 0, 8 * size - used);
     size
 }
 

@@ -60,9 +60,9 @@ writable t k prices bytes e =
 
 -- the period, the count, the prices and the padding, one after the other
 pub prices-penned : (t k : ℕ) (ps first buf : List ℕ) (p : Pen) → length ps ≡ k
-    → Penned (((bits 1 t ∷ bits 7 k ∷ []) ++ map (bits 19) ps) ++ bits (padFor (priceBits k)) 0 ∷ []) first buf p → Below 8 buf → priceBytes k ≤ length buf
+    → Penned (((bits 1 t ∷ bits 7 k ∷ []) ++ map (bits 19) ps) ++ bits (padFor (priceBits k)) 0 ∷ []) first buf p → p .held ≤ 7 → Below 8 buf → priceBytes k ≤ length buf
     → buf ≡ overwrite (priceFile t k ps) first
 unfolding priceFile priceFields
-prices-penned t k ps first buf p long h b le =
-    penned-end _ first buf p (priceBytes k) h b
+prices-penned t k ps first buf p long h few b le =
+    penned-end _ first buf p (priceBytes k) h few b
     (rw (total-append (map (bits 19) ps) (bits (padFor (priceBits k)) 0 ∷ []), total-run 19 ps, long) (omega arith)) le

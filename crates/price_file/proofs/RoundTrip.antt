@@ -23,7 +23,6 @@ use Rattle.price_file.proofs.PriceLaws.{Writable, writable}
 -- ---- read, then written
 
 pub read-then-written : (k : ℕ) (s : List ℕ) (cells : ℕ) → Below 8 s → first (readChecks k s cells) ≡ Passed → priceFile (periodIn s) k (pricesIn k s) ≡ s
-unfolding readChecks
 read-then-written k s cells b e =
     let count = passed-cons _ _ (passed-cons _ _ (passed-cons _ _ e .1) .1) in
     let size = passed-cons _ _ (count .1) in
@@ -56,7 +55,6 @@ module _ (t k : ℕ) (prices : List ℕ) (bytes : ℕ) (e : first (writeChecks t
 
   -- each check of the reader is one that the writer made, or is settled by the file
   not-refused : (cells : ℕ) → k ≤ cells → first (readChecks k (priceFile t k (take k prices)) cells) ≡ Passed
-  unfolding readChecks writeChecks
   not-refused cells h =
       let s = priceFile t k (take k prices) in
       let three = passed-cons _ _ (passed-cons _ _ e .1) in

@@ -115,7 +115,7 @@ fn fill(period: u64, constraints: usize, prices: &[u64], file: &mut [u8]) -> usi
     let past_period = bits::put(file, start, period, 1);
     let past_count = bits::put(file, past_period, constraints as u64, 7);
     let past_prices = runs::write_run(file, past_count, prices, constraints, 19);
-    bits::put(file, past_prices, 0, 8 * size - used);
+    bits::put_last(file, past_prices, 0, 8 * size - used);
     size
 }
 

@@ -17,12 +17,6 @@ use Rattle.tariff.specs.Refusals.{overwrite}
 use Rattle.tariff.proofs.Checks.{some-good, some-bad}
 use Rattle.runs.specs.Runs.{above}
 
--- what is equal from i on is equal from j on
-pub drop-later : {A : Type 0} (xs ys : List A) (i j : ℕ) → i ≤ j → drop i xs ≡ drop i ys → drop j xs ≡ drop j ys
-drop-later xs ys i j h e =
-    let k : j ≡ i + (j - i) = omega arith in
-    rw (k, ← drop-drop (j - i) i xs, ← drop-drop (j - i) i ys) (ap (drop (j - i)) e)
-
 -- a field that is read is the run's
 pub run-at : (s : List ℕ) (o w n i at v : ℕ) → i < n → o + w * n ≤ 8 * length s → at ≡ o + w * i → v ≡ field s at w → v ≡ getD (fields s o w n) i 0
 run-at s o w n i at v h le a e = e ∙ ap (λ (x : ℕ). field s x w) a ∙ sym (field-of-run s o w n i h le)
@@ -60,9 +54,3 @@ module _ (s : List ℕ) (o w n : ℕ) (out out₀ : List ℕ) (i : ℕ) (done : 
 
   pub read-end : i ≡ n → out ≡ overwrite (fields s o w n) out₀
   read-end e = fill-front (fields s o w n) out out₀ i done rest (e ∙ sym (length-fields s o w n))
-
--- ---- a pen that goes on: what stands from its new place on is what stood there before
-
-pub pen-rest : (p r : Pen) (w : ℕ) → Ready p → Ready r → place r ≡ place p + w → (later now first : List ℕ)
-    → drop (r .at) later ≡ drop (r .at) now → drop (p .at) now ≡ drop (p .at) first → drop (r .at) later ≡ drop (r .at) first
-pen-rest p r w a b e later now first step rest = step ∙ drop-later now first (p .at) (r .at) (omega (arith, a .few, b .few)) rest

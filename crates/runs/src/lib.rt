@@ -3,7 +3,7 @@ ghost use mathlib.Core.Path.{_≡_};
 ghost use Prim.Native.Nat.{ℕ, _+_, _*_, _^_, _≤_, _<_};
 ghost use lib.ListN.{length, getD, take, drop};
 ghost use Rattle.bits.specs.Bits.{number, fields};
-ghost use Rattle.bits.specs.Pen.{written, place, Ready};
+ghost use Rattle.bits.specs.Pen.{written, place, Ready, GoesOn};
 ghost use Rattle.tariff.specs.Checks.{some};
 ghost use Rattle.tariff.specs.Refusals.{overwrite};
 ghost use Rattle.runs.specs.Runs.{above};
@@ -58,14 +58,14 @@ pub fn cell_above(cells: &[u64], count: usize, most: u64) -> bool
     false
 }
 
-// Writes each of the first `count` cells as the next `width` bits. The bytes from the pen's new place on stay as they are.
+// Writes each of the first `count` cells as the next `width` bits.
 pub fn write_run(buf: &mut [u8], from: Pen, cells: &[u64], count: usize, width: usize) -> Pen
     requires { ⌜ Ready from ⌝ }
     requires { ⌜ (width ≤ 32) × (count ≤ length (now cells)) × ((k : ℕ) → k < count → getD (now cells) k 0 < 2 ^ width) ⌝ }
     requires { ⌜ place from + width * count ≤ 8 * length (now buf) ⌝ }
     ensures { λ r. ⌜ written (now (buf .exit)) r ≡ written (now (buf .entry)) from * 2 ^ (width * count) + number width (take count (now (cells .entry))) ⌝ }
     ensures { λ r. ⌜ (place r ≡ place from + width * count) × Ready r ⌝ }
-    ensures { λ r. ⌜ drop (r .at) (now (buf .exit)) ≡ drop (r .at) (now (buf .entry)) ⌝ }
+    ensures { λ r. ⌜ GoesOn (now (buf .entry)) from (now (buf .exit)) r ⌝ }
 {
     let mut pen = from;
     let mut i = 0;

@@ -1,88 +1,72 @@
--- `bits::put`: a turn stores the eight highest bits that are held. What is written does not change, and the bytes behind it are as they were.
-use mathlib.Core.Path.{_≡_, _∙_}
-use Prim.Native.Nat.{_<_, _≤_, _+_, _*_, _^_}
+-- `bits::put`.
+use mathlib.Core.Path.{refl, _∙_}
+use Prim.Native.Nat.{_+_, _≤_}
 use native.Mathlib.Omega.{arith}
-use lib.ListN.{length, take, drop, length-set}
+use lib.ListN.{length}
 use borrow.Author.Needs.{needs}
-use Rattle.bits.specs.Bits.{number}
 use Rattle.bits.specs.Pen.{written}
-use Rattle.bits.proofs.Writing.{put-turn, put-more}
-use Rattle.bits.proofs.Fill.{rest-turn}
+use Rattle.bits.proofs.Writing.{word-turn, word-rest, put-more}
 use Rattle.bits.proofs.put.Statement.{statement}
 use Rattle.bits.proofs.put.Tie as tie
 
-abbrev Inv-loop : tie.InvT-loop
-Inv-loop buf₀ v width at₀ held₀ bits₀ buf at held bits =
-    (drop at buf ≡ drop at buf₀) × (length buf ≡ length buf₀) × (8 * at + held ≡ 8 * at₀ + held₀) × (held ≤ held₀) × (bits < 2 ^ held)
-    × (number 8 (take at buf) * 2 ^ held + bits ≡ number 8 (take at₀ buf₀) * 2 ^ held₀ + bits₀)
-
-abbrev μ-loop : tie.MeasureT-loop
-μ-loop buf₀ v width at₀ held₀ bits₀ buf at held bits = held
-
-add-held : tie.Need-add-held Inv-loop μ-loop
+add-held : tie.Need-add-held
 add-held c = search needs
 
-join-requires : tie.Need-join-requires Inv-loop μ-loop
+join-requires : tie.Need-join-requires
 join-requires c κs = search needs
 
-loop-holds : tie.Need-loop-holds Inv-loop μ-loop
-loop-holds c = search needs
-
-part-requires : tie.Need-part-requires Inv-loop μ-loop
-part-requires c κs = search needs
-
-cast-buf : tie.Need-cast-buf Inv-loop μ-loop
-cast-buf c = search needs
-
-slice-write-buf : tie.Need-slice-write-buf Inv-loop μ-loop
-slice-write-buf c = search needs
-
-part-requires-2 : tie.Need-part-requires-2 Inv-loop μ-loop
-part-requires-2 c κs = search needs
-
-add-at : tie.Need-add-at Inv-loop μ-loop
-add-at c = search needs
-
-loop-less : tie.Need-loop-less Inv-loop μ-loop
-loop-less c = search needs
-
-loop-again : tie.Need-loop-again Inv-loop μ-loop
-loop-again c =
-    let l = c .before .before .before .loop in (
-      rest-turn (l .buf) _ (l .at) _ (l .inv .0),
-      simp length-set (omega arith),
-      omega arith,
-      omega arith,
-      c .part2 .ensures .1,
-      put-turn (l .buf) (l .at) (l .held) (l .bits) _ _ (omega arith) (omega arith) (l .inv .4) (c .before .part .ensures .0) (c .part2 .ensures .0) ∙ l .inv .5,
-    )
-
-same-length : tie.Need-same-length Inv-loop μ-loop
-same-length c = search needs
-
-returns : tie.Need-returns Inv-loop μ-loop
+returns : tie.Need-returns
 unfolding written
 returns c =
-    let a = c .before .before .before .before .before .args in (
-      c .before .loop .inv .5 ∙ put-more _ (a .pen .held) (a .pen .bits) _ (a .v) (a .width) (c .before .before .join .ensures .0),
-      ((omega arith, record { few = omega arith; fit = c .before .loop .inv .4 }), c .before .loop .inv .0),
+    let a = c .before .before .before .before .args in
+    let j = c .before .join in (
+      put-more _ (a .pen .held) (a .pen .bits) _ (a .v) (a .width) (j .ensures .0),
+      ((omega arith, record { few = omega (arith, c .if1 .taken); fit = j .ensures .1 }), record { onward = omega arith; rest = refl }),
+    )
+
+part-requires : tie.Need-part-requires
+part-requires c κs = search needs
+
+store4-requires : tie.Need-store4-requires
+store4-requires c κs = search needs
+
+add-t14 : tie.Need-add-t14
+add-t14 c = search needs
+
+part-requires-2 : tie.Need-part-requires-2
+part-requires-2 c κs = search needs
+
+same-length : tie.Need-same-length
+same-length c = search needs
+
+returns-2 : tie.Need-returns-2
+unfolding written
+returns-2 c =
+    let s = c .before .before .before .before .before .before .before .before .before .before in
+    let a = s .args in
+    let i = c .before .before .before .before .before .before in
+    let j = i .before .join in
+    let w = c .before .before .before .before .part in
+    let st = c .before .before .before .store4 in
+    let room : a .pen .at + 4 ≤ length (a .buf .now) = omega (arith, s .pre, i .if1 .left) in (
+      word-turn (a .buf .now) _ (a .pen .at) (w .result) room (st .ensures) (a .pen .held + a .width) (j .result) (c .part2 .result) (omega (arith, i .if1 .left)) (j .ensures .1) (w .ensures .1) (w .ensures .0) (c .part2 .ensures .0)
+          ∙ put-more _ (a .pen .held) (a .pen .bits) _ (a .v) (a .width) (j .ensures .0),
+      (
+        (omega (arith, i .if1 .left), record { few = omega (arith, s .pre); fit = c .part2 .ensures .1 }),
+        record { onward = omega arith; rest = word-rest (a .buf .now) _ (a .pen .at) (w .result) room (st .ensures) },
+      ),
     )
 
 pub put-spec : {M : Type 1} → statement M
 put-spec =
     tie.close
     (tie.spec
-    Inv-loop
-    μ-loop
     add-held
     join-requires
-    loop-holds
+    returns
     part-requires
-    cast-buf
-    slice-write-buf
+    store4-requires
+    add-t14
     part-requires-2
-    add-at
-    loop-less
-    loop-again
     same-length
-    returns)
+    returns-2)

@@ -7,7 +7,7 @@ use lib.ListN.{length, take}
 use lib.Pow.{pow-pos}
 use lib.Seq.{length-take-le}
 use Rattle.bits.specs.Signed.{ofInt}
-use Rattle.runs.proofs.Penned.{penned-start, penned-put, penned-run}
+use Rattle.runs.proofs.Penned.{penned-start, penned-put, penned-last, penned-run}
 use Rattle.grid_file.proofs.Factors.{length-coded}
 use Rattle.grid_file.proofs.GridLaws.{grid-penned}
 use Rattle.grid_file.proofs.fill.Statement.{statement}
@@ -53,16 +53,16 @@ write-factors-requires c κs =
     let m = c .factor-count in
     (w .ensures .1 .0 .1, ((omega (arith, s .pre, m .ensures), λ k h. s .pre .1 .1 k (omega (arith, m .ensures))), omega (arith, s .pre, u .ensures, a1 .kept .0, a2 .kept .0, a3 .kept .0, a1 .ensures .1 .0 .0, a2 .ensures .1 .0 .0, a3 .ensures .1 .0 .0, w .kept .0, w .ensures .1 .0 .0, m .ensures)))
 
-mul-put : tie.Need-mul-put
-mul-put c =
+mul-put-last : tie.Need-mul-put-last
+mul-put-last c =
     let u = c .before .before .before .before .before .before .before .before .before .before .before .before .before .before .before .before .before .before .before .before .before .before .used-bits in
     omega (arith, u .ensures)
 
-sub-put : tie.Need-sub-put
-sub-put c = search needs
+sub-put-last : tie.Need-sub-put-last
+sub-put-last c = search needs
 
-put-requires-4 : tie.Need-put-requires-4
-put-requires-4 c κs =
+put-last-requires : tie.Need-put-last-requires
+put-last-requires c κs =
     let s = c .before .before .before .before .before .before .before .before .before .before .before .before .before .before .before .before .before .before .before .before .before .before .before .before .before in
     let u = c .before .before .before .before .before .before .before .before .before .before .before .before .before .before .before .before .before .before .before .before .before .before .used-bits in
     let a1 = c .before .before .before .before .before .before .before .before .before .before .before .before .before .before .before .before .before .before .before .before .put in
@@ -80,7 +80,7 @@ same-length c =
     let a3 = c .before .before .before .before .before .before .before .before .before .before .before .before .before .before .before .put3 in
     let w = c .before .before .before .before .before .before .before .before .before .before .before .write-run in
     let f = c .before .before .before .before .before .before .write-factors in
-    let p = c .before .before .put4 in
+    let p = c .before .before .put-last in
     p .kept .0 ∙ f .kept .0 ∙ w .kept .0 ∙ a3 .kept .0 ∙ a2 .kept .0 ∙ a1 .kept .0
 
 returns : tie.Need-returns
@@ -93,7 +93,7 @@ returns c =
     let w = c .before .before .before .before .before .before .before .before .before .before .before .write-run in
     let m = c .before .before .before .before .before .before .before .factor-count in
     let f = c .before .before .before .before .before .before .write-factors in
-    let p = c .before .before .put4 in
+    let p = c .before .before .put-last in
     let a = s .args in
     let ls = take (a .constraints) (a .limits .now) in
     let fs = map (ofInt 18) (take (m .result) (a .factors .now)) in
@@ -104,9 +104,9 @@ returns c =
     let three = penned-put two 1 _ _ 0 (a3 .ensures) in
     let four = penned-run three 27 _ _ ls (a .constraints) long (w .ensures) in
     let five = penned-run four 18 _ _ fs (m .result) longer (f .ensures) in
-    let six = penned-put five _ _ _ 0 (p .ensures) in (
+    let six = penned-last five _ _ _ 0 (p .ensures) in (
       rw (u .ensures .0),
-      grid-penned (a .nodes) (a .constraints) (a .limits .now) (a .factors .now) (a .file .now) _ _ (omega (arith, s .pre)) (omega (arith, s .pre)) (rw (m .ensures .0, u .ensures .0) at six) (λ i. c .slice-known7 .given i .fits)
+      grid-penned (a .nodes) (a .constraints) (a .limits .now) (a .factors .now) (a .file .now) _ _ (omega (arith, s .pre)) (omega (arith, s .pre)) (rw (m .ensures .0, u .ensures .0) at six) (p .ensures .1 .0 .1) (λ i. c .slice-known7 .given i .fits)
           (omega (arith, s .pre, a1 .kept .0, a2 .kept .0, a3 .kept .0, w .kept .0, f .kept .0, p .kept .0)),
     )
 
@@ -122,8 +122,8 @@ fill-spec =
     write-run-requires
     factor-count-requires
     write-factors-requires
-    mul-put
-    sub-put
-    put-requires-4
+    mul-put-last
+    sub-put-last
+    put-last-requires
     same-length
     returns)

@@ -4,16 +4,15 @@ use mathlib.Core.List.{map}
 use Prim.Native.Nat.{ℕ, _+_, _-_, _*_, _^_, _≤_}
 use native.Mathlib.Omega.{arith}
 use borrow.Author.Needs.{needs}
-use lib.ListN.{length, take, drop, getD}
+use lib.ListN.{length, take, getD}
 use lib.IntN.{pos}
 use mir.Syntax.{w64}
 use mir.Val.{toZ, ofZ}
 use mir.ValLaws.{toZ-ofZ}
 use Rattle.bits.specs.Bits.{number}
 use Rattle.bits.specs.Signed.{ofInt}
-use Rattle.bits.specs.Pen.{written, place, Ready}
-use Rattle.bits.proofs.Writing.{run-start, run-turn, run-end}
-use Rattle.runs.proofs.Runs.{pen-rest}
+use Rattle.bits.specs.Pen.{written, place, Ready, GoesOn}
+use Rattle.bits.proofs.Writing.{stays, goes-on, run-start, run-turn, run-end}
 use Rattle.grid_file.proofs.Factors.{small-mag, length-coded, coded-at}
 use Rattle.grid_file.proofs.write_factors.Statement.{statement}
 use Rattle.grid_file.proofs.write_factors.Tie as tie
@@ -22,7 +21,7 @@ abbrev Inv-loop : tie.InvT-loop
 Inv-loop buf₀ factors count pen₀ i₀ buf pen i =
     (i ≤ count) × (length buf ≡ length buf₀) × Ready pen × (place pen ≡ place pen₀ + 18 * i)
     × (written buf pen ≡ written buf₀ pen₀ * 2 ^ (18 * i) + number 18 (take i (map (ofInt 18) (take count factors))))
-    × (drop (pen .at) buf ≡ drop (pen .at) buf₀)
+    × GoesOn buf₀ pen₀ buf pen
 
 abbrev μ-loop : tie.MeasureT-loop
 μ-loop buf₀ factors count pen₀ i₀ buf pen i = count - i
@@ -30,7 +29,7 @@ abbrev μ-loop : tie.MeasureT-loop
 loop-holds : tie.Need-loop-holds Inv-loop μ-loop
 loop-holds c =
     let s = c .before in
-    (omega arith, refl, s .pre .0, omega arith, run-start 18 (map (ofInt 18) (take (s .args .count) (s .args .factors .now))) _, refl)
+    (omega arith, refl, s .pre .0, omega arith, run-start 18 (map (ofInt 18) (take (s .args .count) (s .args .factors .now))) _, stays _ _)
 
 mul-unsigned : tie.Need-mul-unsigned Inv-loop μ-loop
 mul-unsigned c = search needs
@@ -72,7 +71,7 @@ loop-again c =
       omega (arith, e .1 .0 .0),
       run-turn 18 (map (ofInt 18) (take (a .count) (a .factors .now))) (written (a .buf .now) (a .from)) (l .i) (u .result) (written (l .buf) (l .pen)) _
           (rw (length-coded (a .factors .now) (a .count) (omega arith)) (omega arith)) v (l .inv .4) (e .0),
-      pen-rest (l .pen) (p .result) 18 (l .inv .2) (e .1 .0 .1) (e .1 .0 .0) _ (l .buf) _ (e .1 .1) (l .inv .5),
+      goes-on (l .inv .5) (e .1 .1),
     )
 
 same-length : tie.Need-same-length Inv-loop μ-loop

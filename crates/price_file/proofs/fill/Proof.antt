@@ -4,7 +4,7 @@ use native.Mathlib.Omega.{arith}
 use lib.ListN.{length, take}
 use lib.Seq.{length-take-le}
 use lib.Pow.{pow-pos}
-use Rattle.runs.proofs.Penned.{penned-start, penned-put, penned-run}
+use Rattle.runs.proofs.Penned.{penned-start, penned-put, penned-last, penned-run}
 use Rattle.price_file.proofs.PriceLaws.{prices-penned}
 use borrow.Author.Needs.{needs}
 use Rattle.price_file.proofs.fill.Statement.{statement}
@@ -37,14 +37,14 @@ write-run-requires c κs =
       ),
     )
 
-mul-put : tie.Need-mul-put
-mul-put c = search needs
+mul-put-last : tie.Need-mul-put-last
+mul-put-last c = search needs
 
-sub-put : tie.Need-sub-put
-sub-put c = search needs
+sub-put-last : tie.Need-sub-put-last
+sub-put-last c = search needs
 
-put-requires-3 : tie.Need-put-requires-3
-put-requires-3 c κs =
+put-last-requires : tie.Need-put-last-requires
+put-last-requires c κs =
     let s = c .before .before .before .before .before .before .before .before .before .before .before .before .before .before .before in
     let e = c .before .before .before .before .before .before .before .before .before .before .before .put in
     let g = c .before .before .before .before .before .before .before .put2 in
@@ -66,15 +66,15 @@ returns c =
     let e = c .before .before .before .before .before .before .before .before .before .before .before .before .before .before .put in
     let g = c .before .before .before .before .before .before .before .before .before .before .put2 in
     let w = c .before .before .before .before .before .before .write-run in
-    let z = c .before .before .put3 in
+    let z = c .before .before .put-last in
     let ps = take (a .constraints) (a .prices .now) in
     let long : length ps ≡ a .constraints = length-take-le (a .constraints) (a .prices .now) (omega (arith, s .pre)) in
     let one = penned-put (penned-start (a .file .now) _ (record { few = omega arith; fit = omega arith }) refl) 1 _ _ (a .period) (e .ensures) in
     let two = penned-put one 7 _ _ (a .constraints) (g .ensures) in
     let three = penned-run two 19 _ _ ps (a .constraints) long (w .ensures) in
-    let four = penned-put three _ _ _ 0 (z .ensures) in (
+    let four = penned-last three _ _ _ 0 (z .ensures) in (
       refl,
-      prices-penned (a .period) (a .constraints) ps (a .file .now) _ _ long four (λ i. c .slice-known5 .given i .fits)
+      prices-penned (a .period) (a .constraints) ps (a .file .now) _ _ long four (z .ensures .1 .0 .1) (λ i. c .slice-known5 .given i .fits)
           (omega (arith, s .pre, e .kept .0, g .kept .0, w .kept .0, z .kept .0)),
     )
 
@@ -88,8 +88,8 @@ fill-spec =
     put-requires
     put-requires-2
     write-run-requires
-    mul-put
-    sub-put
-    put-requires-3
+    mul-put-last
+    sub-put-last
+    put-last-requires
     same-length
     returns)

@@ -2,14 +2,14 @@
 use mathlib.Core.Path.{_≡_, refl, sym, ap, _∙_}
 use Prim.Native.Nat.{ℕ, _+_, _-_, _*_, _^_, _≤_}
 use native.Mathlib.Omega.{arith}
-use lib.ListN.{length, take, drop, getD}
+use lib.ListN.{length, take, getD}
 use borrow.Author.Needs.{needs}
 use lib.Seq.{getD-take, length-take-le}
 use Rattle.bits.specs.Bits.{number}
-use Rattle.bits.specs.Pen.{written, place, Ready}
+use Rattle.bits.specs.Pen.{written, place, Ready, GoesOn}
 use Rattle.bits.proofs.Fields.{within}
-use Rattle.bits.proofs.Writing.{run-start, run-turn, run-end}
-use Rattle.runs.proofs.Runs.{cell-in, pen-rest}
+use Rattle.bits.proofs.Writing.{stays, goes-on, run-start, run-turn, run-end}
+use Rattle.runs.proofs.Runs.{cell-in}
 use Rattle.runs.proofs.write_run.Statement.{statement}
 use Rattle.runs.proofs.write_run.Tie as tie
 
@@ -17,7 +17,7 @@ abbrev Inv-loop : tie.InvT-loop
 Inv-loop buf₀ cells count width pen₀ i₀ buf pen i =
     (i ≤ count) × (length buf ≡ length buf₀) × Ready pen × (place pen ≡ place pen₀ + width * i)
     × (written buf pen ≡ written buf₀ pen₀ * 2 ^ (width * i) + number width (take i (take count cells)))
-    × (drop (pen .at) buf ≡ drop (pen .at) buf₀)
+    × GoesOn buf₀ pen₀ buf pen
 
 abbrev μ-loop : tie.MeasureT-loop
 μ-loop buf₀ cells count width pen₀ i₀ buf pen i = count - i
@@ -25,7 +25,7 @@ abbrev μ-loop : tie.MeasureT-loop
 loop-holds : tie.Need-loop-holds Inv-loop μ-loop
 loop-holds c =
     let s = c .before .before in
-    (omega arith, refl, s .pre .0, omega arith, run-start (s .args .width) (take (s .args .count) (s .args .cells .now)) _, refl)
+    (omega arith, refl, s .pre .0, omega arith, run-start (s .args .width) (take (s .args .count) (s .args .cells .now)) _, stays _ _)
 
 mul-put : tie.Need-mul-put Inv-loop μ-loop
 mul-put c = search needs
@@ -58,7 +58,7 @@ loop-again c =
       omega (arith, e .1 .0 .0),
       run-turn (a .width) (take (a .count) (a .cells .now)) (written (a .buf .now) (a .from)) (l .i) (getD (a .cells .now) (l .i) 0) (written (l .buf) (l .pen)) _
           (cell-in (a .cells .now) (a .count) (l .i) (omega arith) (omega arith)) (sym (getD-take (a .count) (a .cells .now) (l .i) 0 (omega arith))) (l .inv .4) (e .0),
-      pen-rest (l .pen) (p .result) (a .width) (l .inv .2) (e .1 .0 .1) (e .1 .0 .0) _ (l .buf) _ (e .1 .1) (l .inv .5),
+      goes-on (l .inv .5) (e .1 .1),
     )
 
 same-length : tie.Need-same-length Inv-loop μ-loop
