@@ -1,5 +1,5 @@
 -- Cells past those that the counts name do not matter: two grids that agree below their counts have the same figures and the same lines.
-use mathlib.Core.Path.{_≡_, refl, sym, ap, ap₂, _∙_}
+use mathlib.Core.Path.{_≡_, refl, ap, ap₂, _∙_}
 use mathlib.Core.Bool.{Bool, true, false, cond}
 use mathlib.Core.List.{List, [], _∷_, _++_}
 use Prim.Native.Nat.{ℕ, zero, suc, _+_, _*_, _^_, _<_}
@@ -21,7 +21,7 @@ use Rattle.tariff.specs.Units.{Grid, grid}
 use Rattle.tariff.specs.Contracts.{counted, ofPeriod, InRange}
 use Rattle.tariff.specs.Processes.{percent}
 use Rattle.tariff.specs.Feasibility.{setOf, countOf, lowestOf, flow, totalFlow, released, excess, overloaded, overloadSet, overloadCount, lowestOverload}
-use Rattle.tariff.proofs.Overloads.{Lowest, fails-lowest}
+use Rattle.tariff.proofs.Overloads.{fails-lowest}
 use Rattle.tariff.proofs.Sizes.{ofPeriod-in-range}
 use Rattle.feasibility_test.proofs.Checking.{cell-fits}
 use Rattle.feasibility_report.specs.Report.{periodWord, processWord, heading, numbersTo, figures, line, lines}

@@ -1,66 +1,37 @@
--- What the answers of the test, of the grid's reader and of the report say, taken apart.
+-- What the answers of the test and of the grid's reader say, taken apart.
 use mathlib.Core.Path.{_≡_, refl, sym, ap, _∙_}
 use mathlib.Core.Bool.{Bool, true, false, cond}
 use mathlib.Core.List.{List, [], _∷_, _++_}
-use Prim.Native.Nat.{ℕ, _+_, _*_, _^_, _≤_, _<_}
+use Prim.Native.Nat.{ℕ, _^_, _≤_, _<_}
 use native.Mathlib.Nat.{pos-of-ne-zero}
 use native.Mathlib.Omega.{arith}
 use borrow.Author.Tests.{eqb-false}
 use lib.Dec.{eqb}
-use lib.ListN.{length, drop, length-append}
+use lib.ListN.{length}
 use lib.IntN.{ℤ, pos, natAbs}
 use Rattle.integers.proofs.Sizes.{Each}
 use Rattle.text.specs.Ascii.{ascii}
 use Rattle.text.specs.Decimal.{decimal, decimalZ}
 use Rattle.tariff.specs.declared.Contract.{Contract}
-use Rattle.tariff.specs.declared.Flow.{Flow}
 use Rattle.tariff.specs.declared.Process.{Process}
-use Rattle.tariff.specs.declared.Refusal.{Refusal}
-use Rattle.tariff.specs.declared.Refusal.the-variants.{ShortFile, NodeCount, ConstraintCount, SpareBits, FileLength, LimitRange, FactorRange, Padding, ShortTable, ContractCount, NodeNumber, SameEnds, QuantityRange, PriceCount, PriceRange, ProcessNumber, PeriodOrKind, HolderRange}
 use Rattle.tariff.specs.declared.Checked.{Checked}
-use Rattle.tariff.specs.declared.Checked.the-variants.{Passed, Refused}
-use Rattle.tariff.specs.Refusals.{Outcome, numberOf, given, refusedBy, decided, answered, cellsAfter}
+use Rattle.tariff.specs.declared.Checked.the-variants.{Passed}
+use Rattle.tariff.specs.Refusals.{Outcome, given, answered}
 use Rattle.tariff.specs.Units.{Grid, FactorsInRange, LimitsInRange}
 use Rattle.tariff.specs.Contracts.{InRange}
 use Rattle.tariff.specs.Feasibility.{excess, overloaded, overloadSet, overloadCount, lowestOverload}
+use Rattle.tariff.proofs.Answers.{never-given, given-told}
 use Rattle.tariff.proofs.Overloads.{fails-lowest}
 use Rattle.tariff.proofs.Sizes.{excess-sized}
-use Rattle.layouts.specs.declared.WriteAnswer.{WriteAnswer}
-use Rattle.layouts.specs.declared.WriteAnswer.the-variants.{Written}
-use Rattle.layouts.specs.Files.{writeOutcome}
 use Rattle.feasibility_test.specs.declared.TestAnswer.{TestAnswer}
 use Rattle.feasibility_test.specs.declared.TestAnswer.the-variants.{Pass, Fail, Refused as NotTested}
 use Rattle.feasibility_test.specs.Answer.{testOutcome, testValues}
 use Rattle.grid_file.specs.declared.GridAnswer.{GridAnswer}
-use Rattle.grid_file.specs.declared.GridAnswer.the-variants.{Read, Refused as NotRead}
+use Rattle.grid_file.specs.declared.GridAnswer.the-variants.{Read}
 use Rattle.grid_file.specs.GridChecks.{gridOutcome}
-use Rattle.feasibility_report.specs.Report.{numbersTo, figures, refusedLine}
+use Rattle.feasibility_report.specs.Report.{numbersTo, figures}
 use Rattle.feasibility_report.specs.Parts.{inSet, failed, answerFigures, overBy}
 use Rattle.feasibility_report.proofs.Members.{numbers-set}
-
--- no refusal has the number 0
-numbered : (r : Refusal) → numberOf r ≡ 0 → ⊥
-numbered ShortFile e = omega arith
-numbered NodeCount e = omega arith
-numbered ConstraintCount e = omega arith
-numbered SpareBits e = omega arith
-numbered FileLength e = omega arith
-numbered LimitRange e = omega arith
-numbered FactorRange e = omega arith
-numbered Padding e = omega arith
-numbered ShortTable e = omega arith
-numbered ContractCount e = omega arith
-numbered NodeNumber e = omega arith
-numbered SameEnds e = omega arith
-numbered QuantityRange e = omega arith
-numbered PriceCount e = omega arith
-numbered PriceRange e = omega arith
-numbered ProcessNumber e = omega arith
-numbered PeriodOrKind e = omega arith
-numbered HolderRange e = omega arith
-
-never-given : (r : Refusal) (vs : List ℤ) → refusedBy r ≡ given vs → ⊥
-never-given r vs e = numbered r (ap (λ (o : Outcome). o .number) e)
 
 -- ---- the test's answer
 
@@ -116,21 +87,8 @@ module _ (g : Grid) (process : Process) (cs : List Contract) where
 
 -- ---- the grid reader's answer
 
-pub read-refused : (checked : Checked) (vs : List ℤ) (r : Refusal) (a : GridAnswer) → gridOutcome a ≡ answered checked vs → a ≡ NotRead r → (file rest : List ℕ) → decided checked (refusedLine file) rest ≡ refusedLine file r
-unfolding refusedLine
-read-refused Passed vs r a e told file rest = absurd (never-given r vs (ap gridOutcome (sym told) ∙ e))
-read-refused (Refused q) vs r a e told file rest = ap (λ (n : ℕ). ascii "refused," ++ file ++ ascii "," ++ decimal n ++ ascii "\n") (sym (ap (λ (o : Outcome). o .number) (ap gridOutcome (sym told) ∙ e)))
-
 pub read-told : (checked : Checked) (m j n k : ℕ) (a : GridAnswer) → gridOutcome a ≡ answered checked (pos m ∷ pos j ∷ []) → a ≡ Read n k → (checked ≡ Passed) × (n ≡ m) × (k ≡ j)
-read-told Passed m j n k a e told = let q : pos n ∷ pos k ∷ [] ≡ pos m ∷ pos j ∷ [] = ap (λ (o : Outcome). o .values) (ap gridOutcome (sym told) ∙ e) in (refl, cc, cc)
-read-told (Refused q) m j n k a e told = absurd (never-given q (pos n ∷ pos k ∷ []) (sym (ap gridOutcome (sym told) ∙ e)))
-
--- ---- the report's own answer
-
--- what is written fits into the buffer
-pub written-fits : (checked : Checked) (text entry exit : List ℕ) (r : WriteAnswer) (n : ℕ) → writeOutcome r ≡ answered checked (pos (length text) ∷ []) → exit ≡ cellsAfter checked text entry → r ≡ Written n → n ≤ length exit
-written-fits Passed text entry exit r n e cells told =
-    let q : pos n ∷ [] ≡ pos (length text) ∷ [] = ap (λ (o : Outcome). o .values) (ap writeOutcome (sym told) ∙ e) in
-    let m : n ≡ length text = cc in
-    rw cells (omega (arith, length-append text (drop (length text) entry)))
-written-fits (Refused q) text entry exit r n e cells told = absurd (never-given q (pos n ∷ []) (sym (ap writeOutcome (sym told) ∙ e)))
+read-told checked m j n k a e told =
+    let g = given-told checked (pos m ∷ pos j ∷ []) (pos n ∷ pos k ∷ []) (ap gridOutcome (sym told) ∙ e) in
+    let q : pos n ∷ pos k ∷ [] ≡ pos m ∷ pos j ∷ [] = g .1 in
+    (g .0, cc, cc)

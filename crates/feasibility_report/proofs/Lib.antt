@@ -1,4 +1,4 @@
-pub mod Putting
+pub mod Words
 pub mod Members
 pub mod Agree
 pub mod Answering

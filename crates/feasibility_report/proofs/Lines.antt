@@ -1,14 +1,9 @@
 -- Laws of a line and of all lines: what the test's answer says of them.
-use mathlib.Core.Path.{_≡_, sym, _∙_}
+use mathlib.Core.Path.{_≡_, sym}
 use mathlib.Core.List.{List, _++_, append-assoc}
-use Prim.Native.Nat.{ℕ, _^_, _≤_, _<_}
+use Prim.Native.Nat.{ℕ, _^_, _<_}
 use native.Mathlib.Omega.{arith}
-use lib.ListN.{length}
 use lib.IntN.{ℤ, natAbs}
-use mir.Syntax.{w64}
-use mir.Val.{toZ, ofZ}
-use Rattle.integers.proofs.Sizes.{Each}
-use Rattle.integers.proofs.Machine.{back}
 use Rattle.text.specs.Ascii.{ascii}
 use Rattle.tariff.specs.declared.Contract.{Contract}
 use Rattle.tariff.specs.declared.Checked.the-variants.{Passed}
@@ -16,7 +11,7 @@ use Rattle.tariff.specs.declared.Period.the-variants.{OffPeak, OnPeak}
 use Rattle.tariff.specs.declared.Process.the-variants.{Annual, TierLt, Monthly}
 use Rattle.tariff.specs.Refusals.{first, given, answered}
 use Rattle.tariff.specs.Units.{Grid, grid}
-use Rattle.tariff.specs.Contracts.{periodOf, ofPeriod, InRange}
+use Rattle.tariff.specs.Contracts.{periodOf, ofPeriod}
 use Rattle.tariff.specs.Processes.{processOf}
 use Rattle.tariff.proofs.Sizes.{ofPeriod-in-range}
 use Rattle.layouts.specs.BookFile.{bookIn}
@@ -29,10 +24,6 @@ use Rattle.feasibility_test.proofs.Checking.{Tested, tested, factors-in-range, 
 use Rattle.feasibility_report.specs.Report.{heading, periodWord, processWord, line, lines}
 use Rattle.feasibility_report.specs.Parts.{answerFigures, overBy, periodLines}
 use Rattle.feasibility_report.proofs.Answering.{answer-figures, over-small}
-
--- what is kept in an i64 keeps its size
-pub kept-small : (z : ℤ) → natAbs z < 2 ^ 63 → natAbs (toZ w64 (ofZ w64 z)) < 2 ^ 63
-kept-small z h = rw (back z h) h
 
 -- ---- one line
 

@@ -1,29 +1,19 @@
 -- Laws of the numbers in a set as text.
-use mathlib.Core.Path.{_≡_, refl, sym, ap, ap₂, _∙_}
+use mathlib.Core.Path.{_≡_, refl, sym, ap, ap₂}
 use mathlib.Core.Bool.{Bool, true, false, cond}
-use mathlib.Core.List.{List, [], _∷_, _++_}
-use Prim.Native.Nat.{ℕ, zero, suc, _+_, _/_, _%_, _^_, _≤_, _<_}
+use mathlib.Core.List.{List, [], _++_}
+use Prim.Native.Nat.{ℕ, zero, suc, _+_, _/_, _%_, _^_, _<_}
 use native.Mathlib.Numerals.{add-one}
 use native.Mathlib.Omega.{arith}
-use borrow.Author.Tests.{ltb-true, ltb-false, eqb-true, eqb-false, eq-eqb, ne-eqb}
-use lib.Dec.{ltb, eqb}
-use lib.ListN.{length, length-append}
+use borrow.Author.Tests.{eqb-true, eqb-false, eq-eqb, ne-eqb}
+use lib.Dec.{eqb}
+use lib.ListN.{length}
 use Rattle.text.specs.Ascii.{ascii}
 use Rattle.text.specs.Decimal.{decimal}
-use Rattle.text.proofs.Laws.{one-digit, next-digit}
 use Rattle.tariff.specs.Feasibility.{setOf}
 use Rattle.tariff.proofs.Overloads.{set-bit}
 use Rattle.feasibility_report.specs.Report.{numbersTo, blankAfter}
 use Rattle.feasibility_report.specs.Parts.{inSet, member}
-
--- a number below 100 has at most two digits
-pub two-digits : (k : ℕ) → k < 100 → length (decimal k) ≤ 2
-two-digits k h = by (ltb k 10) refl
-  where
-    by : (b : Bool) → ltb k 10 ≡ b → length (decimal k) ≤ 2
-    by true e = rw (one-digit k (ltb-true k 10 e)) (omega arith)
-    by false e =
-        rw (next-digit k (omega arith) (ltb-false k 10 e), one-digit (k / 10) (omega arith), length-append ((48 + k / 10) ∷ []) ((48 + k % 10) ∷ [])) (omega arith)
 
 -- ---- one number more
 

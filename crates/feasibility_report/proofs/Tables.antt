@@ -1,18 +1,19 @@
 -- The tables that the grid's reader has filled: the rules see the grid of the file in them, and the test's checks pass on them.
 use mathlib.Core.Path.{_≡_, refl, sym, ap, _∙_}
-use mathlib.Core.List.{List, [], _∷_, _++_}
-use Prim.Native.Nat.{ℕ, _+_, _*_, _≤_, _<_}
+use mathlib.Core.List.{List, [], _∷_}
+use Prim.Native.Nat.{ℕ, _*_, _≤_}
 use native.Mathlib.Omega.{arith}
 use borrow.Author.Tests.{le-ltb}
-use lib.ListN.{length, getD, take, drop, length-append, List·getD-append}
+use lib.ListN.{length, take, drop, length-append, List·getD-append}
 use lib.IntN.{ℤ, pos}
 use lib.Seq.{take-at}
 use Rattle.text.specs.Ascii.{ascii}
+use Rattle.refusal_line.specs.RefusedLine.{refusedLine}
+use Rattle.refusal_line.proofs.Lines.{refused-line}
 use Rattle.tariff.specs.declared.Refusal.{Refusal}
 use Rattle.tariff.specs.declared.Checked.{Checked}
 use Rattle.tariff.specs.declared.Checked.the-variants.{Passed, Refused}
 use Rattle.tariff.specs.Refusals.{first, decided, answered, overwrite, cellsAfter}
-use Rattle.tariff.specs.Checks.{some, limitBad, factorBad}
 use Rattle.tariff.specs.Units.{grid}
 use Rattle.tariff.proofs.Checks.{first-passes, passed-cons}
 use Rattle.layouts.specs.GridFile.{gridIn, nodesIn, constraintsIn, limitsIn, factorsIn}
@@ -25,15 +26,15 @@ use Rattle.grid_file.proofs.GridLaws.{Readable, readable}
 use Rattle.book_file.specs.BookChecks.{bookChecks}
 use Rattle.book_file.proofs.Accepted.{book-accepted, all-in-range}
 use Rattle.feasibility_test.specs.TestChecks.{testChecks}
-use Rattle.feasibility_report.specs.Report.{refusedLine, lines, report}
+use Rattle.feasibility_report.specs.Report.{lines, report}
 use Rattle.feasibility_report.proofs.Agree.{lines-same}
-use Rattle.feasibility_report.proofs.Answering.{read-refused, read-told}
+use Rattle.feasibility_report.proofs.Answering.{read-told}
 
 module _ (s : List ℕ) (ls₀ : List ℕ) (fs₀ : List ℤ) (cells : length ls₀ ≡ 64) (places : length fs₀ ≡ 12800) where
   -- the reader refuses
   pub report-refused : (a : GridAnswer) (vs : List ℤ) (r : Refusal) → gridOutcome a ≡ answered (first (readChecks s (length ls₀) (length fs₀))) vs → a ≡ NotRead r → (book : List ℕ) → report s book ≡ refusedLine (ascii "grid") r
   unfolding report
-  report-refused a vs r e told book = read-refused (first (readChecks s 64 12800)) vs r a (rw (cells, places) at e) told (ascii "grid") _
+  report-refused a vs r e told book = refused-line (first (readChecks s 64 12800)) vs r (ap gridOutcome (sym told) ∙ rw (cells, places) at e) (ascii "grid") _
 
   module _ (passed : first (readChecks s 64 12800) ≡ Passed) where
     ok : Readable s 64 12800

@@ -1,26 +1,18 @@
--- The report's parts as they are put one behind the other: a text put at a place, a set's members, and the figures of the test's answer.
-use mathlib.Core.Path.{_≡_}
+-- The report's parts as they are put one behind the other: a set's members, and the figures of the test's answer.
 use mathlib.Core.Bool.{Bool, cond}
 use mathlib.Core.List.{List, [], _++_}
-use Prim.Native.Nat.{ℕ, _+_, _/_, _%_, _^_}
+use Prim.Native.Nat.{ℕ, _/_, _%_, _^_}
 use lib.Dec.{eqb}
-use lib.ListN.{length}
 use lib.IntN.{ℤ, pos}
 use Rattle.text.specs.Ascii.{ascii}
-use Rattle.text.specs.Decimal.{decimal, decimalZ, pasted}
+use Rattle.text.specs.Decimal.{decimal, decimalZ}
 use Rattle.tariff.specs.declared.Contract.{Contract}
-use Rattle.tariff.specs.declared.Flow.{Flow}
 use Rattle.tariff.specs.declared.Period.{Period}
 use Rattle.tariff.specs.declared.Process.the-variants.{Annual, TierLt, Monthly}
 use Rattle.tariff.specs.Units.{Grid}
 use Rattle.feasibility_test.specs.declared.TestAnswer.{TestAnswer}
 use Rattle.feasibility_test.specs.declared.TestAnswer.the-variants.{Pass, Fail, Refused}
 use Rattle.feasibility_report.specs.Report.{numbersTo, line}
-
--- a buffer that has become another by a text put at a place, and the place behind it
-pub record Put (entry : List ℕ) (at : ℕ) (text exit : List ℕ) (next : ℕ) : Type 0 where
-  pub cells : exit ≡ pasted entry at text
-  pub place : next ≡ at + length text
 
 -- bit k of a set
 abbrev pub inSet : ℕ → ℕ → Bool

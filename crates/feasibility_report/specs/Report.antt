@@ -6,14 +6,14 @@ use lib.Dec.{eqb}
 use lib.ListN.{length}
 use Rattle.text.specs.Ascii.{ascii}
 use Rattle.text.specs.Decimal.{decimal, decimalZ}
+use Rattle.refusal_line.specs.RefusedLine.{refusedLine}
 use Rattle.tariff.specs.declared.Contract.{Contract}
 use Rattle.tariff.specs.declared.Period.{Period}
 use Rattle.tariff.specs.declared.Period.the-variants.{OffPeak, OnPeak}
 use Rattle.tariff.specs.declared.Process.{Process}
 use Rattle.tariff.specs.declared.Process.the-variants.{Annual, TierLt, Monthly}
-use Rattle.tariff.specs.declared.Refusal.{Refusal}
-use Rattle.tariff.specs.Units.{Grid, maxNodes, maxConstraints}
-use Rattle.tariff.specs.Refusals.{first, decided, numberOf}
+use Rattle.tariff.specs.Units.{Grid}
+use Rattle.tariff.specs.Refusals.{first, decided}
 use Rattle.tariff.specs.Contracts.{ofPeriod}
 use Rattle.tariff.specs.Feasibility.{excess, overloaded, overloadSet, overloadCount, lowestOverload}
 use Rattle.layouts.specs.GridFile.{gridIn, nodesIn}
@@ -61,10 +61,7 @@ unfoldable pub lines : Grid → List Contract → List ℕ
 lines g book =
     heading ++ line g book OffPeak Annual ++ line g book OffPeak TierLt ++ line g book OffPeak Monthly ++ line g book OnPeak Annual ++ line g book OnPeak TierLt ++ line g book OnPeak Monthly
 
--- "On a refusal the only line is `refused,grid,N` or `refused,book,N`"; the files are taken in that order
-unfoldable pub refusedLine : List ℕ → Refusal → List ℕ
-refusedLine file r = ascii "refused," ++ file ++ ascii "," ++ decimal (numberOf r) ++ ascii "\n"
-
+-- on a refusal the only line names the file: grid, then book
 unfoldable pub report : List ℕ → List ℕ → List ℕ
 report gridBytes bookBytes =
     decided (first (grid-checks.readChecks gridBytes 64 12800)) (refusedLine (ascii "grid"))

@@ -1,12 +1,13 @@
 // The feasibility report's text, rendered into a lent buffer. Each function puts a part of it at a place and gives the place behind it.
 ghost use mathlib.Core.Path.{_≡_};
 ghost use mathlib.Core.Bool.{cond};
-ghost use mathlib.Core.List.{List, [], _∷_, _++_};
-ghost use Prim.Native.Nat.{ℕ, _+_, _*_, _^_, _≤_, _<_};
+ghost use mathlib.Core.List.{[], _∷_, _++_};
+ghost use Prim.Native.Nat.{ℕ, _+_, _^_, _≤_, _<_};
 ghost use lib.ListN.{length};
 ghost use lib.IntN.{pos, natAbs};
 ghost use Rattle.text.specs.Ascii.{ascii};
-ghost use Rattle.text.specs.Decimal.{decimal};
+ghost use Rattle.text.specs.Decimal.{decimal, Put};
+ghost use Rattle.refusal_line.specs.RefusedLine.{refusedLine};
 ghost use Rattle.tariff.specs.declared.Checked.the-variants.{Passed};
 ghost use Rattle.tariff.specs.Units.{grid};
 ghost use Rattle.tariff.specs.Contracts.{periodOf};
@@ -17,8 +18,8 @@ ghost use Rattle.layouts.specs.Files.{writeOutcome};
 ghost use Rattle.layouts.specs.BookFile.{bookIn};
 ghost use Rattle.book_file.specs.BookChecks.{bookChecks};
 ghost use Rattle.feasibility_test.specs.TestChecks.{testChecks};
-ghost use Rattle.feasibility_report.specs.Report.{periodWord, processWord, numbersTo, line, lines, refusedLine, report, longest};
-ghost use Rattle.feasibility_report.specs.Parts.{Put, inSet, member, failed, answerFigures, overBy, periodLines};
+ghost use Rattle.feasibility_report.specs.Report.{periodWord, processWord, numbersTo, line, lines, report, longest};
+ghost use Rattle.feasibility_report.specs.Parts.{inSet, member, failed, answerFigures, overBy, periodLines};
 use feasibility_test::TestAnswer;
 use grid_file::GridAnswer;
 use layouts::WriteAnswer;
@@ -56,7 +57,7 @@ fn put_process(buf: &mut [u8], at: usize, process: u64) -> usize
 
 // Constraint k, if it is in the set, at place `next` of a list that begins at place `at`.
 fn put_member(buf: &mut [u8], at: usize, next: usize, set: u64, k: usize) -> usize
-    requires { ⌜ (k < 64) × (next + 21 ≤ length (now buf)) ⌝ }
+    requires { ⌜ (k < 64) × (next + 3 ≤ length (now buf)) ⌝ }
     ensures { λ r. ⌜ Put (now (buf .entry)) next (cond (inSet set k) (member at next k) []) (now (buf .exit)) r ⌝ }
     ensures { λ r. ⌜ r ≤ next + 3 ⌝ }
 {
@@ -72,7 +73,7 @@ fn put_member(buf: &mut [u8], at: usize, next: usize, set: u64, k: usize) -> usi
 
 // The set's constraints, from the lowest on, separated by blanks.
 fn put_numbers(buf: &mut [u8], at: usize, constraints: usize, set: u64) -> usize
-    requires { ⌜ (constraints ≤ 64) × (at + 212 ≤ length (now buf)) ⌝ }
+    requires { ⌜ (constraints ≤ 64) × (at + 192 ≤ length (now buf)) ⌝ }
     ensures { λ r. ⌜ Put (now (buf .entry)) at (numbersTo constraints (inSet set)) (now (buf .exit)) r ⌝ }
     ensures { λ r. ⌜ r ≤ at + 192 ⌝ }
 {
@@ -108,7 +109,7 @@ fn put_failed(
     lowest: usize,
     excess: Flow,
 ) -> usize
-    requires { ⌜ (constraints ≤ 64) × (at + 281 ≤ length (now buf)) × (natAbs (excess .0) < 2 ^ 63) ⌝ }
+    requires { ⌜ (constraints ≤ 64) × (at + 261 ≤ length (now buf)) × (natAbs (excess .0) < 2 ^ 63) ⌝ }
     ensures { λ r. ⌜ Put (now (buf .entry)) at (failed constraints set count lowest (excess .0)) (now (buf .exit)) r ⌝ }
     ensures { λ r. ⌜ r ≤ at + 261 ⌝ }
 {
@@ -120,7 +121,7 @@ fn put_failed(
 
 // The verdict and the figures of the test's answer.
 fn put_figures(buf: &mut [u8], at: usize, constraints: usize, answer: TestAnswer) -> usize
-    requires { ⌜ (constraints ≤ 64) × (at + 281 ≤ length (now buf)) × (natAbs (overBy answer) < 2 ^ 63) ⌝ }
+    requires { ⌜ (constraints ≤ 64) × (at + 261 ≤ length (now buf)) × (natAbs (overBy answer) < 2 ^ 63) ⌝ }
     ensures { λ r. ⌜ Put (now (buf .entry)) at (answerFigures constraints answer) (now (buf .exit)) r ⌝ }
     ensures { λ r. ⌜ r ≤ at + 261 ⌝ }
 {
@@ -148,7 +149,7 @@ fn put_line(
     factors: &[i64],
     book: &[u8],
 ) -> usize
-    requires { ⌜ at + 299 ≤ length (now buf) ⌝ }
+    requires { ⌜ at + 279 ≤ length (now buf) ⌝ }
     requires { ⌜ first (testChecks nodes constraints process period (now limits) (now factors) (now book)) ≡ Passed ⌝ }
     ensures { λ r. ⌜ Put (now (buf .entry)) at (line (grid nodes constraints (now (limits .entry)) (now (factors .entry))) (bookIn (now (book .entry))) (periodOf period) (processOf process)) (now (buf .exit)) r ⌝ }
     ensures { λ r. ⌜ r ≤ at + 279 ⌝ }
@@ -179,7 +180,7 @@ fn put_period_lines(
     factors: &[i64],
     book: &[u8],
 ) -> usize
-    requires { ⌜ at + 857 ≤ length (now buf) ⌝ }
+    requires { ⌜ at + 837 ≤ length (now buf) ⌝ }
     requires { ⌜ ((process : ℕ) → process ≤ 2 → first (testChecks nodes constraints process period (now limits) (now factors) (now book)) ≡ Passed) ⌝ }
     ensures { λ r. ⌜ Put (now (buf .entry)) at (periodLines (grid nodes constraints (now (limits .entry)) (now (factors .entry))) (bookIn (now (book .entry))) (periodOf period)) (now (buf .exit)) r ⌝ }
     ensures { λ r. ⌜ r ≤ at + 837 ⌝ }
@@ -241,18 +242,6 @@ fn put_lines(
     put_period_lines(buf, middle, nodes, constraints, 1, limits, factors, book)
 }
 
-// The one line of a refusal.
-fn put_refused(buf: &mut [u8], file: &[u8], refusal: Refusal) -> usize
-    requires { ⌜ (longest ≤ length (now buf)) × (length (now file) ≤ 8) ⌝ }
-    ensures { λ r. ⌜ Put (now (buf .entry)) 0 (refusedLine (now (file .entry)) refusal) (now (buf .exit)) r ⌝ }
-{
-    let first = text::put_text(buf, 0, b"refused,");
-    let second = text::put_text(buf, first, file);
-    let third = text::put_char(buf, second, b',');
-    let fourth = text::put_decimal(buf, third, refusal.number());
-    text::put_char(buf, fourth, b'\n')
-}
-
 // The report on a book against a grid in tables.
 fn put_tested(
     buf: &mut [u8],
@@ -267,7 +256,7 @@ fn put_tested(
     ensures { λ r. ⌜ Put (now (buf .entry)) 0 (decided (first (bookChecks nodes (now (book .entry)))) (refusedLine (ascii "book")) (lines (grid nodes constraints (now (limits .entry)) (now (factors .entry))) (bookIn (now (book .entry))))) (now (buf .exit)) r ⌝ }
 {
     match book_file::check_book(nodes, book) {
-        Checked::Refused(refusal) => put_refused(buf, b"book", refusal),
+        Checked::Refused(refusal) => refusal_line::put_refused(buf, b"book", refusal),
         Checked::Passed => put_lines(buf, nodes, constraints, limits, factors, book),
     }
 }
@@ -280,7 +269,7 @@ fn put_report(grid_file: &[u8], book_file: &[u8], buf: &mut [u8]) -> usize
     let mut limits = [0u64; 64];
     let mut factors = [0i64; 12800];
     match grid_file::read_grid(grid_file, &mut limits, &mut factors) {
-        GridAnswer::Refused(refusal) => put_refused(buf, b"grid", refusal),
+        GridAnswer::Refused(refusal) => refusal_line::put_refused(buf, b"grid", refusal),
         GridAnswer::Read { nodes, constraints } => {
             put_tested(buf, nodes, constraints, &limits, &factors, book_file)
         }

@@ -54,6 +54,49 @@ pub length-decimal : (n : ℕ) → length (decimal n) ≤ 20
 unfolding decimal
 length-decimal n = length-digits 20 n
 
+-- at least one digit
+pub some-decimal : (n : ℕ) → 1 ≤ length (decimal n)
+unfolding decimal digitsIn
+some-decimal n = by (ltb n 10)
+  where
+    by : (b : Bool) → 1 ≤ length (cond b ((48 + n) ∷ []) (digitsIn 19 (n / 10) ++ (48 + n % 10) ∷ []))
+    by true = omega arith
+    by false = rw length-append (omega arith)
+
+-- a number below 10^d has at most d digits
+digits-below : (f d n : ℕ) → n < 10 ^ suc d → length (digitsIn f n) ≤ suc d
+unfolding digitsIn
+digits-below zero d n h = omega arith
+digits-below (suc f) zero n h = by (ltb n 10) refl
+  where
+    by : (b : Bool) → ltb n 10 ≡ b → length (cond b ((48 + n) ∷ []) (digitsIn f (n / 10) ++ (48 + n % 10) ∷ [])) ≤ 1
+    by true e = omega arith
+    by false e = absurd (omega (arith, ltb-false n 10 e))
+digits-below (suc f) (suc d) n h = by (ltb n 10) (digits-below f d (n / 10) (tenth (10 ^ suc d) n (rw pow-suc at h)))
+  where
+    tenth : (p n : ℕ) → n < p * 10 → n / 10 < p
+    tenth p n h = omega arith
+
+    by : (b : Bool) → length (digitsIn f (n / 10)) ≤ suc d → length (cond b ((48 + n) ∷ []) (digitsIn f (n / 10) ++ (48 + n % 10) ∷ [])) ≤ suc (suc d)
+    by true e = omega arith
+    by false e = rw length-append (omega arith)
+
+pub decimal-below : (d n : ℕ) → 1 ≤ d → n < 10 ^ d → length (decimal n) ≤ d
+unfolding decimal
+decimal-below zero n some h = absurd (omega arith)
+decimal-below (suc d) n some h = digits-below 20 d n h
+
+-- and a sign
+pub decimalZ-below : (d : ℕ) (z : ℤ) → 1 ≤ d → natAbs z < 10 ^ d → length (decimalZ z) ≤ suc d
+unfolding decimalZ
+decimalZ-below d (pos n) some h = omega (arith, decimal-below d n some h)
+decimalZ-below d (negsuc n) some h = omega (arith, decimal-below d (suc n) some h)
+
+pub length-decimalZ : (z : ℤ) → length (decimalZ z) ≤ 21
+unfolding decimalZ
+length-decimalZ (pos n) = omega (arith, length-decimal n)
+length-decimalZ (negsuc n) = omega (arith, length-decimal (suc n))
+
 -- ---- texts put one behind the other
 
 module _ (buf : List ℕ) (at : ℕ) (a : List ℕ) (fits : at + length a ≤ length buf) where

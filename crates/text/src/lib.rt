@@ -32,7 +32,7 @@ pub fn put_char(buf: &mut [u8], at: usize, c: u8) -> usize
 
 // Puts the decimal digits of `n` at place `at`, and gives the place behind them.
 pub fn put_decimal(buf: &mut [u8], at: usize, n: u64) -> usize
-    requires { ⌜ at + 20 ≤ length (now buf) ⌝ }
+    requires { ⌜ at + length (decimal n) ≤ length (now buf) ⌝ }
     ensures { λ r. ⌜ now (buf .exit) ≡ pasted (now (buf .entry)) at (decimal n) ⌝ }
     ensures { λ r. ⌜ (r ≡ at + length (decimal n)) × (r ≤ at + 20) ⌝ }
 {
@@ -48,7 +48,7 @@ pub fn put_decimal(buf: &mut [u8], at: usize, n: u64) -> usize
 
 // Puts a signed figure at place `at`, and gives the place behind it.
 pub fn put_signed(buf: &mut [u8], at: usize, z: i64) -> usize
-    requires { ⌜ (at + 21 ≤ length (now buf)) × (natAbs z < 2 ^ 63) ⌝ }
+    requires { ⌜ (at + length (decimalZ z) ≤ length (now buf)) × (natAbs z < 2 ^ 63) ⌝ }
     ensures { λ r. ⌜ now (buf .exit) ≡ pasted (now (buf .entry)) at (decimalZ z) ⌝ }
     ensures { λ r. ⌜ (r ≡ at + length (decimalZ z)) × (r ≤ at + 21) ⌝ }
 {

@@ -1,13 +1,14 @@
 -- `main`: what was written fits into the buffer.
-use mathlib.Core.Path.{sym}
+use mathlib.Core.Path.{sym, ap, _∙_}
 use mathlib.Core.List.{[], _∷_}
 use Prim.Native.Nat.{_≤_}
 use lib.ListN.{length, take, replicate}
 use lib.Seq.{length-take-le}
 use Rattle.tariff.specs.Refusals.{first}
 use Rattle.tariff.specs.Checks.{shortTable}
+use Rattle.layouts.specs.Files.{writeOutcome}
 use Rattle.feasibility_report.specs.Report.{report, longest}
-use Rattle.feasibility_report.proofs.Answering.{written-fits}
+use Rattle.refusal_line.proofs.Lines.{written-fits}
 use borrow.Author.Needs.{needs}
 use Rattle.feasibility.proofs.main.Statement.{statement}
 use Rattle.feasibility.proofs.main.Tie as tie
@@ -57,7 +58,7 @@ inside c =
     let w = c .before .before .before .before .write-report in
     let b = c .before .before .before .before .before .before .before .before .before .read-file2 in
     let g = c .before .before .before .before .before .before .before .before .before .before .before .before .before .read-file in
-    written-fits (first (shortTable 2048 longest ∷ [])) (report (take (g .result) (g .last .1 .0)) (take (b .result) (b .last .1 .0))) (replicate 2048 0) _ (w .result) _ (w .ensures .0) (w .ensures .1) (c .before .answer .given .1)
+    written-fits (first (shortTable 2048 longest ∷ [])) (report (take (g .result) (g .last .1 .0)) (take (b .result) (b .last .1 .0))) (replicate 2048 0) _ _ (ap writeOutcome (sym (c .before .answer .given .1)) ∙ w .ensures .0) (w .ensures .1)
 
 array-share-prefix-text : tie.Need-array-share-prefix-text
 array-share-prefix-text c = inside c

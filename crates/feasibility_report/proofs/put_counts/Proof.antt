@@ -3,7 +3,8 @@ use mathlib.Core.Path.{refl}
 use mathlib.Core.List.{[], _∷_}
 use native.Mathlib.Omega.{arith}
 use Rattle.text.specs.Decimal.{decimal}
-use Rattle.feasibility_report.proofs.Putting.{put-as, then-text}
+use Rattle.text.proofs.Laws.{length-decimal}
+use Rattle.text.proofs.Putting.{put-as, then-text}
 use borrow.Author.Needs.{needs}
 use Rattle.feasibility_report.proofs.put_counts.Statement.{statement}
 use Rattle.feasibility_report.proofs.put_counts.Tie as tie
@@ -15,13 +16,13 @@ put-text-requires : tie.Need-put-text-requires
 put-text-requires c κs = search needs
 
 put-decimal-requires : tie.Need-put-decimal-requires
-put-decimal-requires c κs = search needs
+put-decimal-requires c κs = omega (arith, length-decimal (c .before .before .before .before .before .before .before .args .count))
 
 put-char-requires : tie.Need-put-char-requires
 put-char-requires c κs = search needs
 
 put-decimal-requires-2 : tie.Need-put-decimal-requires-2
-put-decimal-requires-2 c κs = search needs
+put-decimal-requires-2 c κs = omega (arith, length-decimal (c .before .before .before .before .before .before .before .before .before .before .before .before .before .before .before .args .lowest))
 
 put-char-requires-2 : tie.Need-put-char-requires-2
 put-char-requires-2 c κs = search needs

@@ -5,8 +5,8 @@ use native.Mathlib.Omega.{arith}
 use Rattle.integers.proofs.Machine.{back}
 use Rattle.text.specs.Decimal.{decimalZ}
 use Rattle.feasibility_report.specs.Parts.{failed}
-use Rattle.feasibility_report.proofs.Putting.{then-text, then-as, put-then}
-use Rattle.feasibility_report.proofs.Lines.{kept-small}
+use Rattle.text.proofs.Laws.{length-decimalZ}
+use Rattle.text.proofs.Putting.{then-text, then-as, put-then}
 use borrow.Author.Needs.{needs}
 use Rattle.feasibility_report.proofs.put_failed.Statement.{statement}
 use Rattle.feasibility_report.proofs.put_failed.Tie as tie
@@ -15,7 +15,7 @@ put-counts-requires : tie.Need-put-counts-requires
 put-counts-requires c κs = search needs
 
 put-signed-requires : tie.Need-put-signed-requires
-put-signed-requires c κs = let s = c .before .before .before .before .before .before .before in (omega arith, kept-small (s .args .excess .0) (s .pre .2))
+put-signed-requires c κs = let s = c .before .before .before .before .before .before .before in rw (back (s .args .excess .0) (s .pre .2)) (omega (arith, length-decimalZ (s .args .excess .0)), s .pre .2)
 
 put-char-requires : tie.Need-put-char-requires
 put-char-requires c κs = search needs

@@ -1,9 +1,8 @@
 -- `put_figures`.
 use mathlib.Core.Path.{ap}
 use native.Mathlib.Omega.{arith}
-use lib.IntN.{natAbs}
-use Rattle.feasibility_report.specs.Parts.{answerFigures, overBy}
-use Rattle.feasibility_report.proofs.Putting.{put-none, put-as, put-same}
+use Rattle.feasibility_report.specs.Parts.{answerFigures}
+use Rattle.text.proofs.Putting.{put-none, put-as, put-same}
 use borrow.Author.Needs.{needs}
 use Rattle.feasibility_report.proofs.put_figures.Statement.{statement}
 use Rattle.feasibility_report.proofs.put_figures.Tie as tie

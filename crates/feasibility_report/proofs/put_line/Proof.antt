@@ -1,7 +1,7 @@
 -- `put_line`.
 use mathlib.Core.List.{[], _∷_}
 use native.Mathlib.Omega.{arith}
-use Rattle.feasibility_report.proofs.Putting.{put-same, put-then, then-text}
+use Rattle.text.proofs.Putting.{put-same, put-then, then-text}
 use Rattle.feasibility_report.proofs.Lines.{ok, over-bound, line-text}
 use borrow.Author.Needs.{needs}
 use Rattle.feasibility_report.proofs.put_line.Statement.{statement}

@@ -1,7 +1,7 @@
 -- `put_lines`.
 use native.Mathlib.Omega.{arith}
 use Rattle.feasibility_report.specs.Report.{heading}
-use Rattle.feasibility_report.proofs.Putting.{put-text-at, put-same, put-then}
+use Rattle.text.proofs.Putting.{put-text-at, put-same, put-then}
 use Rattle.feasibility_report.proofs.Lines.{lines-text}
 use borrow.Author.Needs.{needs}
 use Rattle.feasibility_report.proofs.put_lines.Statement.{statement}

@@ -3,9 +3,10 @@ use mathlib.Core.Path.{_≡_, _∙_}
 use Prim.Native.Nat.{_+_, _-_, _*_, _≤_}
 use native.Mathlib.Omega.{arith}
 use lib.ListN.{length}
+use Rattle.text.specs.Decimal.{Put}
 use Rattle.feasibility_report.specs.Report.{numbersTo}
-use Rattle.feasibility_report.specs.Parts.{Put, inSet}
-use Rattle.feasibility_report.proofs.Putting.{put-none, put-same, put-then}
+use Rattle.feasibility_report.specs.Parts.{inSet}
+use Rattle.text.proofs.Putting.{put-none, put-same, put-then}
 use Rattle.feasibility_report.proofs.Members.{numbers-more}
 use borrow.Author.Needs.{needs}
 use Rattle.feasibility_report.proofs.put_numbers.Statement.{statement}

@@ -1,6 +1,7 @@
 -- `put_period`.
 use native.Mathlib.Omega.{arith}
-use Rattle.feasibility_report.proofs.Putting.{put-as, off-peak, on-peak}
+use Rattle.text.proofs.Putting.{put-as}
+use Rattle.feasibility_report.proofs.Words.{off-peak, on-peak}
 use borrow.Author.Needs.{needs}
 use Rattle.feasibility_report.proofs.put_period.Statement.{statement}
 use Rattle.feasibility_report.proofs.put_period.Tie as tie

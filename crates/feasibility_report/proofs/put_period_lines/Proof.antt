@@ -1,7 +1,7 @@
 -- `put_period_lines`.
 use native.Mathlib.Omega.{arith}
 use Rattle.feasibility_report.specs.Parts.{periodLines}
-use Rattle.feasibility_report.proofs.Putting.{put-then}
+use Rattle.text.proofs.Putting.{put-then}
 use borrow.Author.Needs.{needs}
 use Rattle.feasibility_report.proofs.put_period_lines.Statement.{statement}
 use Rattle.feasibility_report.proofs.put_period_lines.Tie as tie

@@ -1,6 +1,7 @@
 -- `put_process`.
 use native.Mathlib.Omega.{arith}
-use Rattle.feasibility_report.proofs.Putting.{put-as, annual, tier-lt, monthly}
+use Rattle.text.proofs.Putting.{put-as}
+use Rattle.feasibility_report.proofs.Words.{annual, tier-lt, monthly}
 use borrow.Author.Needs.{needs}
 use Rattle.feasibility_report.proofs.put_process.Statement.{statement}
 use Rattle.feasibility_report.proofs.put_process.Tie as tie

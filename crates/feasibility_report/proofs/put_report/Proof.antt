@@ -5,7 +5,7 @@ use Prim.Native.Nat.{ℕ}
 use native.Mathlib.Omega.{arith}
 use lib.ListN.{length, replicate, length-replicate}
 use lib.IntN.{ℤ, pos}
-use Rattle.feasibility_report.proofs.Putting.{put-same}
+use Rattle.text.proofs.Putting.{put-same}
 use Rattle.feasibility_report.proofs.Tables.{report-refused, read-passes, report-read}
 use borrow.Author.Needs.{needs}
 use Rattle.feasibility_report.proofs.put_report.Statement.{statement}

@@ -1,10 +1,10 @@
 -- `write_report`.
 use mathlib.Core.Path.{refl, ap, _∙_}
-use mathlib.Core.List.{List, [], _∷_}
+use mathlib.Core.List.{[], _∷_}
 use Prim.Native.Nat.{ℕ}
 use lib.ListN.{length}
 use lib.IntN.{pos}
-use Rattle.feasibility_report.proofs.Putting.{put-front, front-long}
+use Rattle.text.proofs.Putting.{put-front, front-long}
 use borrow.Author.Tests.{lt-ltb, le-ltb}
 use Rattle.tariff.specs.Refusals.{given}
 use Rattle.tariff.specs.Checks.{shortTable}

@@ -7,7 +7,10 @@ use borrow.Author.Tests.{ltb-false}
 use lib.IntN.{ℤ, pos, negsuc, natAbs}
 use lib.Seq.{length-take-le}
 use lib.Signed.{mag, ltZ}
+use mir.Syntax.{w64}
+use mir.Val.{toZ, ofZ}
 use mir.Facts.{toZ-ofZ}
+use Rattle.text.proofs.Laws.{length-decimalZ}
 use borrow.Author.Needs.{needs}
 use Rattle.printing.proofs.print_signed.Statement.{statement}
 use Rattle.printing.proofs.print_signed.Tie as tie
@@ -32,7 +35,7 @@ slice-aggregate-put-signed c = search needs
 put-signed-requires : tie.Need-put-signed-requires
 put-signed-requires c κs =
     let s = c .before .before in
-    (omega arith, rw (toZ-ofZ (s .fits .z)) (above (s .args .z) (s .fits .z .sfits) (rw (toZ-ofZ (s .fits .z)) at (c .before .if1 .left))))
+    (omega (arith, length-decimalZ (toZ w64 (ofZ w64 (s .args .z)))), rw (toZ-ofZ (s .fits .z)) (above (s .args .z) (s .fits .z .sfits) (rw (toZ-ofZ (s .fits .z)) at (c .before .if1 .left))))
 
 array-share-prefix-digits : tie.Need-array-share-prefix-digits
 array-share-prefix-digits c = search needs

@@ -1,10 +1,10 @@
 -- `put_decimal`.
-use mathlib.Core.Path.{_≡_, refl, sym, ap, _∙_}
+use mathlib.Core.Path.{refl, sym, ap, _∙_}
 use mathlib.Core.List.{List}
 use native.Mathlib.Omega.{arith}
 use lib.ListN.{length, length-set}
 use Rattle.text.specs.Decimal.{decimal, pasted}
-use Rattle.text.proofs.Laws.{one-digit, next-digit, length-decimal, length-next, pasted-one, pasted-next}
+use Rattle.text.proofs.Laws.{one-digit, next-digit, length-decimal, some-decimal, length-next, pasted-one, pasted-next}
 use borrow.Author.Needs.{needs}
 use Prim.Native.Nat.{ℕ, _+_, _/_, _%_, _<_}
 use borrow.Fn.Kinds.{In}
@@ -42,7 +42,7 @@ put-decimal-slice-write-buf : (t : ℕ) → put-decimal-lts.Need-slice-write-buf
   put-decimal-below t,
   put-decimal.Post,
 ) (put-decimal-at t) put-decimal.Post
-put-decimal-slice-write-buf t c = search needs
+put-decimal-slice-write-buf t c = let s = c .before .before in omega (arith, s .pre .1, some-decimal (s .args .n))
 
 put-decimal-add-result : (t : ℕ) → put-decimal-lts.Need-add-result (
   put-decimal-below t,
@@ -54,7 +54,9 @@ put-decimal-put-decimal-requires : (t : ℕ) → put-decimal-lts.Need-put-decima
   put-decimal-below t,
   put-decimal.Post,
 ) (put-decimal-at t) put-decimal.Post
-put-decimal-put-decimal-requires t c κs = let s = c .before .before .before in (omega (arith, s .pre .0), s .pre .1)
+put-decimal-put-decimal-requires t c κs =
+    let s = c .before .before .before in
+    (omega (arith, s .pre .0), omega (arith, s .pre .1, length-next (s .args .n) (s .fits .n .fits) (c .before .if1 .left)))
 
 put-decimal-add-buf-2 : (t : ℕ) → put-decimal-lts.Need-add-buf-2 (
   put-decimal-below t,
@@ -96,7 +98,7 @@ put-decimal-returns : (t : ℕ) → put-decimal-lts.Need-returns (
 ) (put-decimal-at t) put-decimal.Post
 put-decimal-returns t c =
     let s = c .before .before in
-    rw (one-digit (s .args .n) (c .if1 .taken)) (pasted-one (s .args .buf .now) (s .args .at) (48 + s .args .n) (omega (arith, s .pre .1)), (refl, omega arith))
+    rw (one-digit (s .args .n) (c .if1 .taken)) (pasted-one (s .args .buf .now) (s .args .at) (48 + s .args .n) (omega (arith, s .pre .1, some-decimal (s .args .n))), (refl, omega arith))
 
 put-decimal-same-length-2 : (t : ℕ) → put-decimal-lts.Need-same-length-2 (
   put-decimal-below t,

@@ -1,10 +1,10 @@
 -- `put_text`.
 use mathlib.Core.Path.{_≡_, refl, sym, ap, _∙_}
-use Prim.Native.Nat.{ℕ, _+_, _-_, _*_, _^_, _≤_, _<_}
+use Prim.Native.Nat.{ℕ, _+_, _-_, _≤_}
 use native.Mathlib.Omega.{arith}
-use lib.ListN.{length, take, drop, getD, set, length-set}
+use lib.ListN.{length, take, getD, length-set}
 use borrow.Author.Needs.{needs}
-use mathlib.Core.List.{List, [], _∷_, _++_}
+use mathlib.Core.List.{List}
 use Rattle.text.specs.Decimal.{pasted}
 use Rattle.text.proofs.Laws.{pasted-none, pasted-next}
 use lib.Seq.{take-suc, take-all, length-take-le}

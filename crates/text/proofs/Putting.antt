@@ -1,17 +1,11 @@
--- Laws of texts that are put one behind the other, and of the report's fixed words.
+-- Laws of texts that are put one behind the other.
 use mathlib.Core.Path.{_≡_, refl, sym, ap, _∙_}
-use mathlib.Core.List.{List, [], _∷_, _++_}
-use Prim.Native.Nat.{ℕ, zero, suc, _+_, _≤_}
+use mathlib.Core.List.{List, [], _++_}
+use Prim.Native.Nat.{ℕ, _+_, _≤_}
 use native.Mathlib.Omega.{arith}
 use lib.ListN.{length, drop, length-append}
-use Rattle.text.specs.Ascii.{ascii}
-use Rattle.text.specs.Decimal.{pasted}
+use Rattle.text.specs.Decimal.{pasted, Put}
 use Rattle.text.proofs.Laws.{pasted-none, pasted-more}
-use Rattle.tariff.specs.Refusals.{overwrite}
-use Rattle.tariff.specs.Contracts.{periodOf}
-use Rattle.tariff.specs.Processes.{processOf}
-use Rattle.feasibility_report.specs.Report.{periodWord, processWord}
-use Rattle.feasibility_report.specs.Parts.{Put}
 
 pub put-none : (buf : List ℕ) (at : ℕ) → Put buf at [] buf at
 put-none buf at = record { cells = sym (pasted-none buf at); place = omega arith }
@@ -42,32 +36,8 @@ put-text-at entry at text p q = record { cells = p; place = q }
 
 -- a text at the front
 module _ {entry text exit : List ℕ} {next : ℕ} (p : Put entry 0 text exit next) where
-  pub put-front : exit ≡ overwrite text entry
+  pub put-front : exit ≡ text ++ drop (length text) entry
   put-front = p .cells ∙ ap (λ (n : ℕ). text ++ drop n entry) {x = 0 + length text} {y = length text} (omega arith)
 
   pub front-long : next ≡ length text
   front-long = omega (arith, p .place)
-
--- ---- the words
-
-pub off-peak : (t : ℕ) → t ≡ 0 → periodWord (periodOf t) ++ ascii "," ≡ ascii "off-peak,"
-off-peak zero e = refl
-off-peak (suc t) e = absurd (omega arith)
-
-pub on-peak : (t : ℕ) → (t ≡ 0 → ⊥) → periodWord (periodOf t) ++ ascii "," ≡ ascii "on-peak,"
-on-peak zero z = absurd (z refl)
-on-peak (suc t) z = refl
-
-pub annual : (p : ℕ) → p ≡ 0 → processWord (processOf p) ++ ascii "," ≡ ascii "annual,"
-annual zero e = refl
-annual (suc p) e = absurd (omega arith)
-
-pub tier-lt : (p : ℕ) → p ≡ 1 → processWord (processOf p) ++ ascii "," ≡ ascii "lt,"
-tier-lt zero e = absurd (omega arith)
-tier-lt (suc zero) e = refl
-tier-lt (suc (suc p)) e = absurd (omega arith)
-
-pub monthly : (p : ℕ) → (p ≡ 0 → ⊥) → (p ≡ 1 → ⊥) → processWord (processOf p) ++ ascii "," ≡ ascii "monthly,"
-monthly zero z o = absurd (z refl)
-monthly (suc zero) z o = absurd (o refl)
-monthly (suc (suc p)) z o = refl

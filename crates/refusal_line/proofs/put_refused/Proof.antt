@@ -1,14 +1,24 @@
 -- `put_refused`.
 use mathlib.Core.Path.{sym, ap}
 use mathlib.Core.List.{[], _∷_}
+use Prim.Native.Nat.{_≤_}
 use native.Mathlib.Omega.{arith}
+use lib.ListN.{length}
 use Rattle.text.specs.Ascii.{ascii}
 use Rattle.text.specs.Decimal.{decimal}
-use Rattle.feasibility_report.specs.Report.{refusedLine}
-use Rattle.feasibility_report.proofs.Putting.{put-text-at, then-text, then-as}
+use Rattle.refusal_line.specs.RefusedLine.{refusedLine}
+use Rattle.text.proofs.Putting.{put-text-at, then-text, then-as}
+use Rattle.refusal_line.proofs.Lines.{number-short}
 use borrow.Author.Needs.{needs}
-use Rattle.feasibility_report.proofs.put_refused.Statement.{statement}
-use Rattle.feasibility_report.proofs.put_refused.Tie as tie
+use Rattle.refusal_line.proofs.put_refused.Statement.{statement}
+use Rattle.refusal_line.proofs.put_refused.Tie as tie
+
+short : (c : tie.After-number) → length (decimal (c .number .result)) ≤ 2
+short c =
+    let c2 = c .before .before .before .before .before .before in
+    let c1 = c2 .before .before .before .before in
+    let s = c1 .before .before .before .before .before .before .before in
+    number-short (c .number .result) (s .args .refusal) (c .number .ensures)
 
 slice-aggregate-put-text : tie.Need-slice-aggregate-put-text
 slice-aggregate-put-text c = search needs
@@ -26,10 +36,10 @@ number-requires : tie.Need-number-requires
 number-requires c κs = search needs
 
 put-decimal-requires : tie.Need-put-decimal-requires
-put-decimal-requires c κs = search needs
+put-decimal-requires c κs = omega (arith, short c)
 
 put-char-requires-2 : tie.Need-put-char-requires-2
-put-char-requires-2 c κs = search needs
+put-char-requires-2 c κs = omega (arith, short (c .before .before .before .before))
 
 same-length : tie.Need-same-length
 same-length c = search needs
@@ -52,7 +62,7 @@ returns c =
     let q2 = then-text q1 (omega (arith, s .pre, p1 .ensures .1)) (s .args .file .now) (p2 .ensures .0) (p2 .ensures .1) in
     let q3 = then-text q2 (omega (arith, s .pre, p1 .ensures .1, p2 .ensures .1)) (44 ∷ []) (p3 .ensures .0) (p3 .ensures .1) in
     let q4 = then-as q3 (omega (arith, s .pre, p1 .ensures .1, p2 .ensures .1, p3 .ensures .1)) (ap decimal (sym (n .ensures))) (p4 .ensures .0) (p4 .ensures .1 .0) in
-    then-text q4 (omega (arith, s .pre, p1 .ensures .1, p2 .ensures .1, p3 .ensures .1, p4 .ensures .1 .1)) (10 ∷ []) (p5 .ensures .0) (p5 .ensures .1)
+    then-text q4 (omega (arith, s .pre, p1 .ensures .1, p2 .ensures .1, p3 .ensures .1, p4 .ensures .1 .0, short (c4 .before .before .before))) (10 ∷ []) (p5 .ensures .0) (p5 .ensures .1)
 
 pub put-refused-spec : {M : Type 1} → statement M
 put-refused-spec =
