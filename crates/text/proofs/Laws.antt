@@ -11,7 +11,7 @@ use lib.Dec.{ltb}
 use lib.IntN.{ℤ, pos, negsuc, natAbs, _-ℤ_}
 use lib.Signed.{ltZ}
 use lib.ListN.{length, set, take, drop, length-append, length-drop, take-append-drop}
-use lib.Seq.{take-at, drop-at, drop-drop, length-take-le, set-split}
+use lib.Seq.{take-at, take-take, take-append-le, drop-at, drop-drop, length-take-le, set-split}
 use Rattle.text.specs.Decimal.{digitsIn, decimal, decimalZ, pasted}
 
 -- ---- digits
@@ -97,6 +97,28 @@ unfolding decimalZ
 length-decimalZ (pos n) = omega (arith, length-decimal n)
 length-decimalZ (negsuc n) = omega (arith, length-decimal (suc n))
 
+-- a number of two digits or more has one digit more than its tenth
+pub length-next : (n : ℕ) → n < 2 ^ 64 → 10 ≤ n → length (decimal n) ≡ length (decimal (n / 10)) + 1
+length-next n f h = ap length (next-digit n f h) ∙ length-append (decimal (n / 10)) ((48 + n % 10) ∷ [])
+
+pub length-one : (n : ℕ) → n < 10 → length (decimal n) ≡ 1
+length-one n h = ap length (one-digit n h)
+
+pub length-two : (n : ℕ) → 10 ≤ n → n < 100 → length (decimal n) ≡ 2
+length-two n g h = omega (arith, length-next n (omega arith) g, length-one (n / 10) (omega arith))
+
+pub length-three : (n : ℕ) → 100 ≤ n → n < 1000 → length (decimal n) ≡ 3
+length-three n g h = omega (arith, length-next n (omega arith) (omega arith), length-two (n / 10) (omega arith) (omega arith))
+
+pub length-four : (n : ℕ) → 1000 ≤ n → n < 10000 → length (decimal n) ≡ 4
+length-four n g h = omega (arith, length-next n (omega arith) (omega arith), length-three (n / 10) (omega arith) (omega arith))
+
+-- four digits more
+pub length-more : (n : ℕ) → n < 2 ^ 64 → 10000 ≤ n → length (decimal n) ≡ length (decimal (n / 10000)) + 4
+length-more n f h =
+    let q : n / 10 / 10 / 10 / 10 ≡ n / 10000 = omega arith in
+    omega (arith, length-next n f (omega arith), length-next (n / 10) (omega arith) (omega arith), length-next (n / 10 / 10) (omega arith) (omega arith), length-next (n / 10 / 10 / 10) (omega arith) (omega arith), ap (λ (x : ℕ). length (decimal x)) q)
+
 -- ---- texts put one behind the other
 
 module _ (buf : List ℕ) (at : ℕ) (a : List ℕ) (fits : at + length a ≤ length buf) where
@@ -132,9 +154,40 @@ pasted-next buf next at at′ c a h e p =
     let fits : at + length a ≤ length buf = omega arith in
     rw (e, p) (pasted-one (pasted buf at a) (at + length a) c (rw (length-pasted buf at a fits) h) ∙ pasted-more buf at a fits (c ∷ []))
 
--- a number of two digits or more has one digit more than its tenth
-pub length-next : (n : ℕ) → n < 2 ^ 64 → 10 ≤ n → length (decimal n) ≡ length (decimal (n / 10)) + 1
-length-next n f h = ap length (next-digit n f h) ∙ length-append (decimal (n / 10)) ((48 + n % 10) ∷ [])
+-- a text put before one that was put
+pub pasted-before : (buf : List ℕ) (at : ℕ) (a b : List ℕ) → at + length a + length b ≤ length buf → pasted (pasted buf (at + length a) b) at a ≡ pasted buf at (a ++ b)
+pasted-before buf at a b fits =
+    (λ t. start t ++ a ++ tail t)
+    ∙ sym (append-assoc (take at buf ++ a) b rest)
+    ∙ (λ t. append-assoc (take at buf) a b t ++ rest)
+    ∙ ap (λ (x : ℕ). take at buf ++ (a ++ b) ++ drop x buf) {x = i + length b} {y = at + length (a ++ b)} (omega (arith, length-append a b))
+  where
+    i : ℕ
+    i = at + length a
+
+    rest : List ℕ
+    rest = drop (i + length b) buf
+
+    long : length (take i buf) ≡ i
+    long = length-take-le i buf (omega arith)
+
+    start : take at (pasted buf i b) ≡ take at buf
+    start =
+        take-append-le at (take i buf ++ b) rest (omega (arith, length-append (take i buf) b, long))
+        ∙ take-append-le at (take i buf) b (omega (arith, long))
+        ∙ take-take at i buf (omega arith)
+
+    tail : drop i (pasted buf i b) ≡ b ++ rest
+    tail = ap (drop i) (append-assoc (take i buf) b rest) ∙ drop-at (take i buf) (b ++ rest) i long
+
+-- the last digit stored, and then the others
+pub digit-stored : (buf : List ℕ) (at place n : ℕ) → n < 2 ^ 64 → 10 ≤ n → place ≡ at + length (decimal (n / 10)) → place < length buf
+    → pasted (set buf place (48 + n % 10)) at (decimal (n / 10)) ≡ pasted buf at (decimal n)
+digit-stored buf at place n f h p fits =
+    ap (λ (l : List ℕ). pasted l at (decimal (n / 10))) (pasted-one buf place (48 + n % 10) fits)
+    ∙ ap (λ (x : ℕ). pasted (pasted buf x ((48 + n % 10) ∷ [])) at (decimal (n / 10))) p
+    ∙ pasted-before buf at (decimal (n / 10)) ((48 + n % 10) ∷ []) (omega arith)
+    ∙ ap (pasted buf at) (sym (next-digit n f h))
 
 -- ---- signed figures
 
