@@ -55,24 +55,20 @@ pub kept-sized : (x : ℤ) (B : ℕ) → B < 2 ^ 63 → natAbs x ≤ B → natAb
 kept-sized x B b h = rw (back x (omega arith)) h
 
 module _ (fs : List ℤ) (source sink : ℕ) (q : Quantity) (d : Kind) (k : ℕ) (a : natAbs (getD fs (source + k) (pos 0)) ≤ 100000) (b : natAbs (getD fs (sink + k) (pos 0)) ≤ 100000) where
-  -- z is the product that the machine gives, and y that product as it counts
+  -- y is what the machine gives
   abbrev spread : ℤ
   spread = toZ w64 (ofZ w64 (getD fs (source + k) (pos 0))) -ℤ toZ w64 (ofZ w64 (getD fs (sink + k) (pos 0)))
 
-  pub flow-is : (z : ℤ) → z ≡ spread *ℤ pos (q .0) → z ≡ (getD fs (source + k) (pos 0) -ℤ getD fs (sink + k) (pos 0)) *ℤ pos (q .0)
-  flow-is z e = e ∙ rw (back (getD fs (source + k) (pos 0)) (omega arith), back (getD fs (sink + k) (pos 0)) (omega arith))
-
-  pub flow-small : (z : ℤ) → z ≡ spread *ℤ pos (q .0) → q .0 ≤ 1000000 → natAbs z ≤ 200000000000
-  flow-small z e h =
-      let w : natAbs (getD fs (source + k) (pos 0) -ℤ getD fs (sink + k) (pos 0)) ≤ 200000 = omega (arith, natAbs-sub (getD fs (source + k) (pos 0)) (getD fs (sink + k) (pos 0))) in
-      rw (flow-is z e) (natAbs-times (getD fs (source + k) (pos 0) -ℤ getD fs (sink + k) (pos 0)) (pos (q .0)) w h)
-
-  pub part-is : (z y : ℤ) → z ≡ spread *ℤ pos (q .0) → y ≡ counted d z → y ≡ part fs source sink q d k
+  pub part-is : (y : ℤ) → y ≡ counted d (spread *ℤ pos (q .0)) → y ≡ part fs source sink q d k
   unfolding part
-  part-is z y e c = c ∙ ap (counted d) (flow-is z e)
+  part-is y e = e ∙ rw (back (getD fs (source + k) (pos 0)) (omega arith), back (getD fs (sink + k) (pos 0)) (omega arith))
 
-pub counted-small : (d : Kind) (z y : ℤ) → y ≡ counted d z → natAbs z ≤ 200000000000 → natAbs y ≤ 200000000000
-counted-small d z y e h = rw e (omega (arith, counted-sized d z))
+  pub part-small : (y : ℤ) → y ≡ counted d (spread *ℤ pos (q .0)) → q .0 ≤ 1000000 → natAbs y ≤ 200000000000
+  unfolding part
+  part-small y e h =
+      let w : natAbs (getD fs (source + k) (pos 0) -ℤ getD fs (sink + k) (pos 0)) ≤ 200000 = omega (arith, natAbs-sub (getD fs (source + k) (pos 0)) (getD fs (sink + k) (pos 0))) in
+      let product = (getD fs (source + k) (pos 0) -ℤ getD fs (sink + k) (pos 0)) *ℤ pos (q .0) in
+      rw (part-is y e) (omega (arith, counted-sized d product, natAbs-times (getD fs (source + k) (pos 0) -ℤ getD fs (sink + k) (pos 0)) (pos (q .0)) w h))
 
 -- v is the sum that the machine gives
 pub sum-is : (x y v p : ℤ) → natAbs x ≤ 200000000000000 → natAbs y ≤ 200000000000 → v ≡ toZ w64 (ofZ w64 x) +ℤ y → y ≡ p → toZ w64 (ofZ w64 v) ≡ x +ℤ p

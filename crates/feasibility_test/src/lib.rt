@@ -71,9 +71,7 @@ impl Flows {
         let kind = c.kind;
         let mut k = 0;
         while k < constraints {
-            let flow = quantity
-                .flow(factors[source + k], factors[sink + k])
-                .counted(kind);
+            let flow = quantity.counted_flow(kind, factors[source + k], factors[sink + k]);
             let before = Flow(flows[k]);
             let after = before.plus(flow);
             let total = after.0;
@@ -88,7 +86,13 @@ impl Flows {
 }
 
 // The flows of a book's contracts of one period, those of the other period left out.
-fn carry(nodes: usize, constraints: usize, factors: &[i64], period: Period, book: &[u8]) -> Flows
+pub fn carry(
+    nodes: usize,
+    constraints: usize,
+    factors: &[i64],
+    period: Period,
+    book: &[u8],
+) -> Flows
     requires { ⌜ (nodes ≤ 200) × (constraints ≤ 64) × (nodes * constraints ≤ length (now factors)) ⌝ }
     requires { ⌜ (some factorBad (take (nodes * constraints) (now factors)) ≡ false) × (first (bookChecks nodes (now book)) ≡ Passed) ⌝ }
     ensures { λ r. ⌜ ((ls : List ℕ) → Carries (grid nodes constraints ls (now (factors .entry))) (ofPeriod period (bookIn (now (book .entry)))) r) ⌝ }
@@ -128,7 +132,7 @@ fn overload_set(constraints: usize, process: Process, limits: &[u64], flows: Flo
 }
 
 // The answer: pass where the set is empty, else the set, its count of ones, its trailing zeros and the excess there.
-fn verdict(constraints: usize, process: Process, limits: &[u64], flows: Flows) -> TestAnswer
+pub fn verdict(constraints: usize, process: Process, limits: &[u64], flows: Flows) -> TestAnswer
     requires { ⌜ (constraints ≤ 64) × (constraints ≤ length (now limits)) ⌝ }
     requires { ⌜ ((k : ℕ) → k < constraints → (getD (now limits) k 0 ≤ 100000000) × (natAbs (getD (flows .flows) k (pos 0)) < 2 ^ 62)) ⌝ }
     ensures { λ r. ⌜ ((n : ℕ) (fs : List ℤ) (t : Period) (cs : List Contract) → Carries (grid n constraints (now (limits .entry)) fs) (ofPeriod t cs) flows → (testOutcome r ≡ given (testValues (grid n constraints (now (limits .entry)) fs) process (ofPeriod t cs))) × Demand3 (grid n constraints (now (limits .entry)) fs) process (ofPeriod t cs) r) ⌝ }

@@ -1,11 +1,13 @@
 -- What the tests in the code say of the definitions: kinds and periods by number, options by sign.
 use mathlib.Core.Path.{_≡_, refl}
-use Prim.Native.Nat.{ℕ, zero, suc, _<_}
+use Prim.Native.Nat.{ℕ, zero, suc, _*_, _<_}
+use native.Mathlib.Nat.{mul-zero, mul-suc, add-suc}
 use native.Mathlib.Omega.{arith}
 use borrow.Author.Tests.{ltb-true}
-use lib.IntN.{ℤ, pos, negsuc}
+use lib.IntN.{ℤ, pos, negsuc, natAbs, _*ℤ_}
 use mathlib.Core.Bool.{true, false}
-use lib.Signed.{ltZ}
+use lib.Dec.{T}
+use lib.Signed.{ltZ, nonNeg}
 use Rattle.tariff.specs.declared.Kind.the-variants.{Option}
 use Rattle.tariff.specs.declared.Period.the-variants.{OnPeak}
 use Rattle.tariff.specs.Contracts.{kindOf, periodOf, counted}
@@ -25,3 +27,17 @@ option-negative (negsuc n) e = refl
 pub option-positive : (z : ℤ) → ltZ z (pos 0) ≡ false → z ≡ counted Option z
 option-positive (pos n) e = refl
 option-positive (negsuc n) e = cc
+
+-- an option's flow by the spread of its factors: nothing where that is negative, the product where it is not
+pub spread-negative : (d : ℤ) (q : ℕ) → ltZ d (pos 0) ≡ true → pos 0 ≡ counted Option (d *ℤ pos q)
+spread-negative (pos n) q e = let no : n < 0 = ltb-true n 0 e in absurd (omega arith)
+spread-negative (negsuc n) zero e = rw (mul-zero (suc n)) refl
+spread-negative (negsuc n) (suc q) e = rw (mul-suc (suc n) q, add-suc (suc n * q) n) refl
+
+pub spread-positive : (d : ℤ) (q : ℕ) → ltZ d (pos 0) ≡ false → pos (natAbs d * q) ≡ counted Option (d *ℤ pos q)
+spread-positive (pos n) q e = refl
+spread-positive (negsuc n) q e = cc
+
+pub not-negative : (d : ℤ) → ltZ d (pos 0) ≡ false → T (nonNeg d)
+not-negative (pos n) e = tt
+not-negative (negsuc n) e = let no : _≡_ {A = ℕ} 0 1 = cc in absurd (omega arith)

@@ -193,6 +193,30 @@ impl Quantity {
         let q = self.0 as i64;
         Flow((source - sink) * q)
     }
+
+    // The product rule of an option's flow, which counts only where it is positive: two numbers of 32 bits are multiplied there.
+    fn option_flow(self, source: i64, sink: i64) -> Flow
+        requires { ⌜ (natAbs source ≤ 100000) × (natAbs sink ≤ 100000) × (self .0 ≤ 1000000) ⌝ }
+        ensures { λ r. ⌜ r .0 ≡ countedAs Kind.Option ((source -ℤ sink) *ℤ pos (self .0)) ⌝ }
+    {
+        let spread = source - sink;
+        if spread < 0 {
+            return Flow(0);
+        }
+        let rise = (spread as u32) as u64;
+        Flow((rise * self.0) as i64)
+    }
+
+    // The flow from source to sink as it counts.
+    pub fn counted_flow(self, kind: Kind, source: i64, sink: i64) -> Flow
+        requires { ⌜ (natAbs source ≤ 100000) × (natAbs sink ≤ 100000) × (self .0 ≤ 1000000) ⌝ }
+        ensures { λ r. ⌜ r .0 ≡ countedAs kind ((source -ℤ sink) *ℤ pos (self .0)) ⌝ }
+    {
+        match kind {
+            Kind::Obligation => self.flow(source, sink),
+            Kind::Option => self.option_flow(source, sink),
+        }
+    }
 }
 
 // Cents per MWh.
@@ -211,7 +235,8 @@ impl Price {
         requires { ⌜ (natAbs factor ≤ 100000) × (self .0 ≤ 500000) ⌝ }
         ensures { λ r. ⌜ r .0 ≡ factor *ℤ pos (self .0) ⌝ }
     {
-        let p = self.0 as i64;
+        // Through 32 bits, so that the compiler knows how small it is.
+        let p = (self.0 as u32) as i64;
         Mcc(factor * p)
     }
 }

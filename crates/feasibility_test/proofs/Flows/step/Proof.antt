@@ -6,7 +6,7 @@ use lib.ListN.{length, getD, length-set, length-map}
 use lib.Dec.{lit<}
 use borrow.Author.Needs.{needs}
 use lib.IntN.{ℤ, pos, natAbs, _+ℤ_}
-use Rattle.feasibility_test.proofs.Flowing.{part, cell-done, cell-rest, kept-sized, flow-small, part-is, counted-small, sum-is, step-carries}
+use Rattle.feasibility_test.proofs.Flowing.{part, cell-done, cell-rest, kept-sized, part-is, part-small, sum-is, step-carries}
 use Rattle.feasibility_test.proofs.Flows.step.Statement.{statement}
 use Rattle.feasibility_test.proofs.Flows.step.Tie as tie
 
@@ -29,26 +29,26 @@ full c = sym (length-map (c .args .self .flows) (λ (z : ℤ). z)) ∙ c .good .
 loop-holds : tie.Need-loop-holds Inv-loop μ-loop
 loop-holds c = (omega arith, full (c .before .before .before .before), (λ j h. absurd (omega arith)), (λ j h. refl))
 
-add-flow : tie.Need-add-flow Inv-loop μ-loop
-add-flow c = search needs
+add-counted-flow : tie.Need-add-counted-flow Inv-loop μ-loop
+add-counted-flow c = search needs
 
-mul-flow : tie.Need-mul-flow Inv-loop μ-loop
-mul-flow c = search needs
+mul-counted-flow : tie.Need-mul-counted-flow Inv-loop μ-loop
+mul-counted-flow c = search needs
 
-shared-slice-copy-out-flow : tie.Need-shared-slice-copy-out-flow Inv-loop μ-loop
-shared-slice-copy-out-flow c = search needs
+shared-slice-copy-out-counted-flow : tie.Need-shared-slice-copy-out-counted-flow Inv-loop μ-loop
+shared-slice-copy-out-counted-flow c = search needs
 
-add-flow-2 : tie.Need-add-flow-2 Inv-loop μ-loop
-add-flow-2 c = search needs
+add-counted-flow-2 : tie.Need-add-counted-flow-2 Inv-loop μ-loop
+add-counted-flow-2 c = search needs
 
-mul-flow-2 : tie.Need-mul-flow-2 Inv-loop μ-loop
-mul-flow-2 c = search needs
+mul-counted-flow-2 : tie.Need-mul-counted-flow-2 Inv-loop μ-loop
+mul-counted-flow-2 c = search needs
 
-shared-slice-copy-out-flow-2 : tie.Need-shared-slice-copy-out-flow-2 Inv-loop μ-loop
-shared-slice-copy-out-flow-2 c = search needs
+shared-slice-copy-out-counted-flow-2 : tie.Need-shared-slice-copy-out-counted-flow-2 Inv-loop μ-loop
+shared-slice-copy-out-counted-flow-2 c = search needs
 
-flow-requires : tie.Need-flow-requires Inv-loop μ-loop
-flow-requires c κs =
+counted-flow-requires : tie.Need-counted-flow-requires Inv-loop μ-loop
+counted-flow-requires c κs =
     let s = c .before .before .before .before .before .before .before .before in
     let k = c .before .before .before .loop .k in
     let a : k < s .args .constraints = c .before .before .loop-test .taken in
@@ -56,34 +56,28 @@ flow-requires c κs =
     let sink = kept-sized (getD (s .args .factors .now) (s .args .c .sink * s .args .constraints + k) (pos 0)) 100000 (lit< tt) (s .pre .1 .1 .0 k a) in
     (omega (arith, source, sink), omega (arith, source, sink), s .pre .1 .1 .1 .0)
 
-product-small : (c : tie.After-flow Inv-loop μ-loop) → natAbs (c .flow .result .0) ≤ 200000000000
-product-small c =
+small : (c : tie.After-counted-flow Inv-loop μ-loop) → natAbs (c .counted-flow .result .0) ≤ 200000000000
+small c =
     let s = c .before .before .before .before .before .before .before .before .before in
     let k = c .before .before .before .before .loop .k in
     let a : k < s .args .constraints = c .before .before .before .loop-test .taken in
-    flow-small (s .args .factors .now) (s .args .c .source * s .args .constraints) (s .args .c .sink * s .args .constraints) (s .args .c .quantity) (s .args .c .kind) k (s .pre .1 .0 k a) (s .pre .1 .1 .0 k a) _ (c .flow .ensures) (s .pre .1 .1 .1 .0)
-
-counted-requires : tie.Need-counted-requires Inv-loop μ-loop
-counted-requires c κs = omega (arith, product-small c)
-
-small : (c : tie.After-counted Inv-loop μ-loop) → natAbs (c .counted .result .0) ≤ 200000000000
-small c = counted-small (c .before .before .before .before .before .before .before .before .before .before .args .c .kind) (c .before .flow .result .0) (c .counted .result .0) (c .counted .ensures) (product-small (c .before))
+    part-small (s .args .factors .now) (s .args .c .source * s .args .constraints) (s .args .c .sink * s .args .constraints) (s .args .c .quantity) (s .args .c .kind) k (s .pre .1 .0 k a) (s .pre .1 .1 .0 k a) _ (c .counted-flow .ensures) (s .pre .1 .1 .1 .0)
 
 -- the cell has its old flow still
-old : (c : tie.After-counted Inv-loop μ-loop) → natAbs (getD (c .before .before .before .before .before .loop .flows) (c .before .before .before .before .before .loop .k) (pos 0)) ≤ 200000000000000
+old : (c : tie.After-counted-flow Inv-loop μ-loop) → natAbs (getD (c .before .before .before .before .loop .flows) (c .before .before .before .before .loop .k) (pos 0)) ≤ 200000000000000
 old c =
-    let s = c .before .before .before .before .before .before .before .before .before .before in
-    let l = c .before .before .before .before .before .loop in
-    rw (l .inv .3 (l .k) (omega arith)) (omega (arith, s .pre .1 .1 .1 .2 (l .k) (c .before .before .before .before .loop-test .taken)))
+    let s = c .before .before .before .before .before .before .before .before .before in
+    let l = c .before .before .before .before .loop in
+    rw (l .inv .3 (l .k) (omega arith)) (omega (arith, s .pre .1 .1 .1 .2 (l .k) (c .before .before .before .loop-test .taken)))
 
-mul-t17 : tie.Need-mul-t17 Inv-loop μ-loop
-mul-t17 c = search needs
+mul-t16 : tie.Need-mul-t16 Inv-loop μ-loop
+mul-t16 c = search needs
 
-array-copy-out-t24 : tie.Need-array-copy-out-t24 Inv-loop μ-loop
-array-copy-out-t24 c = search needs
+array-copy-out-t23 : tie.Need-array-copy-out-t23 Inv-loop μ-loop
+array-copy-out-t23 c = search needs
 
 plus-requires : tie.Need-plus-requires Inv-loop μ-loop
-plus-requires c κs = let l = c .before .before .before .before .before .before .loop in omega (arith, small (c .before), kept-sized (getD (l .flows) (l .k) (pos 0)) 200000000000000 (lit< tt) (old (c .before)))
+plus-requires c κs = let l = c .before .before .before .before .before .loop in omega (arith, small (c .before), kept-sized (getD (l .flows) (l .k) (pos 0)) 200000000000000 (lit< tt) (old (c .before)))
 
 mul-flows : tie.Need-mul-flows Inv-loop μ-loop
 mul-flows c = search needs
@@ -99,20 +93,20 @@ loop-less c = search needs
 
 loop-again : tie.Need-loop-again Inv-loop μ-loop
 loop-again c =
-    let s = c .before .before .before .before .before .before .before .before .before .before .before .before .before in
-    let l = c .before .before .before .before .before .before .before .before .loop in
+    let s = c .before .before .before .before .before .before .before .before .before .before .before .before in
+    let l = c .before .before .before .before .before .before .before .loop in
     let p = c .before .before .before in
-    let a : l .k < s .args .constraints = c .before .before .before .before .before .before .before .loop-test .taken in
+    let a : l .k < s .args .constraints = c .before .before .before .before .before .before .loop-test .taken in
     let f = part (s .args .factors .now) (s .args .c .source * s .args .constraints) (s .args .c .sink * s .args .constraints) (s .args .c .quantity) (s .args .c .kind) in
-    let e = part-is (s .args .factors .now) (s .args .c .source * s .args .constraints) (s .args .c .sink * s .args .constraints) (s .args .c .quantity) (s .args .c .kind) (l .k) (s .pre .1 .0 (l .k) a) (s .pre .1 .1 .0 (l .k) a) _ _ (p .before .flow .ensures) (p .counted .ensures) in (
+    let e = part-is (s .args .factors .now) (s .args .c .source * s .args .constraints) (s .args .c .sink * s .args .constraints) (s .args .c .quantity) (s .args .c .kind) (l .k) (s .pre .1 .0 (l .k) a) (s .pre .1 .1 .0 (l .k) a) _ (p .counted-flow .ensures) in (
       omega arith,
       length-set (l .flows) (l .k) _ ∙ l .inv .1,
-      cell-done (s .args .self .flows) (l .flows) f (l .k) (l .inv .2) (l .inv .3) _ (omega arith) (sum-is (getD (l .flows) (l .k) (pos 0)) (p .counted .result .0) (c .before .plus .result .0) (f (l .k)) (old p) (small p) (c .before .plus .ensures) e),
+      cell-done (s .args .self .flows) (l .flows) f (l .k) (l .inv .2) (l .inv .3) _ (omega arith) (sum-is (getD (l .flows) (l .k) (pos 0)) (p .counted-flow .result .0) (c .before .plus .result .0) (f (l .k)) (old p) (small p) (c .before .plus .ensures) e),
       cell-rest (s .args .self .flows) (l .flows) f (l .k) (l .inv .2) (l .inv .3) _,
     )
 
-add-t30 : tie.Need-add-t30 Inv-loop μ-loop
-add-t30 c = search needs
+add-t29 : tie.Need-add-t29 Inv-loop μ-loop
+add-t29 c = search needs
 
 returns : tie.Need-returns Inv-loop μ-loop
 returns c n ls cs carried =
@@ -130,21 +124,20 @@ step-spec =
     mul-source
     mul-sink
     loop-holds
-    add-flow
-    mul-flow
-    shared-slice-copy-out-flow
-    add-flow-2
-    mul-flow-2
-    shared-slice-copy-out-flow-2
-    flow-requires
-    counted-requires
-    mul-t17
-    array-copy-out-t24
+    add-counted-flow
+    mul-counted-flow
+    shared-slice-copy-out-counted-flow
+    add-counted-flow-2
+    mul-counted-flow-2
+    shared-slice-copy-out-counted-flow-2
+    counted-flow-requires
+    mul-t16
+    array-copy-out-t23
     plus-requires
     mul-flows
     array-set-from-flows
     add-k
     loop-less
     loop-again
-    add-t30
+    add-t29
     returns)

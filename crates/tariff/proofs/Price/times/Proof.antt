@@ -16,11 +16,14 @@ small c = lt-of-le-of-lt (natAbs-times (c .args .factor) (pos (c .args .self .0)
 cast-p : tie.Need-cast-p
 cast-p c = search needs
 
-mul-t4 : tie.Need-mul-t4
-mul-t4 c = let s = c .before in op-fits _*ℤ_ (back (s .args .factor) (omega (arith, s .pre))) (cast-back (s .args .self .0) (omega (arith, s .pre))) (small s)
+cast-p-2 : tie.Need-cast-p-2
+cast-p-2 c = search needs
+
+mul-t5 : tie.Need-mul-t5
+mul-t5 c = let s = c .before in op-fits _*ℤ_ (back (s .args .factor) (omega (arith, s .pre))) (cast-back (s .args .self .0) (omega (arith, s .pre))) (small s)
 
 returns : tie.Need-returns
 returns c = let s = c .before in op-is _*ℤ_ (back (s .args .factor) (omega (arith, s .pre))) (cast-back (s .args .self .0) (omega (arith, s .pre))) (small s)
 
 pub times-spec : {M : Type 1} → statement M
-times-spec = tie.close (tie.spec cast-p mul-t4 returns)
+times-spec = tie.close (tie.spec cast-p cast-p-2 mul-t5 returns)
