@@ -9,7 +9,7 @@ use Rattle.tariff.specs.declared.Contract.{Contract}
 use Rattle.tariff.specs.declared.Checked.the-variants.{Passed}
 use Rattle.tariff.specs.declared.Period.the-variants.{OffPeak, OnPeak}
 use Rattle.tariff.specs.declared.Process.the-variants.{Annual, TierLt, Monthly}
-use Rattle.tariff.specs.Refusals.{first, given, answered}
+use Rattle.tariff.specs.Refusals.{first, given}
 use Rattle.tariff.specs.Units.{Grid, grid}
 use Rattle.tariff.specs.Contracts.{periodOf, ofPeriod}
 use Rattle.tariff.specs.Processes.{processOf}
@@ -34,10 +34,7 @@ module _ (n k p t : ℕ) (ls : List ℕ) (fs : List ℤ) (book : List ℕ) (pass
   accepted : Accepted n book
   accepted = book-accepted n book (ok .book-good)
 
-  module _ (r : TestAnswer) (e : testOutcome r ≡ answered (first (testChecks n k p t ls fs book)) (testValues (grid n k ls fs) (processOf p) (ofPeriod (periodOf t) (bookIn book)))) where
-    told : testOutcome r ≡ given (testValues (grid n k ls fs) (processOf p) (ofPeriod (periodOf t) (bookIn book)))
-    told = rw passed at e
-
+  module _ (r : TestAnswer) (told : testOutcome r ≡ given (testValues (grid n k ls fs) (processOf p) (ofPeriod (periodOf t) (bookIn book)))) where
     pub over-bound : natAbs (overBy r) < 2 ^ 63
     over-bound =
         let w = ofPeriod-in-range n (periodOf t) (bookIn book) (all-in-range n book accepted) in

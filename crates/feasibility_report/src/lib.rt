@@ -10,7 +10,7 @@ ghost use Rattle.text.specs.Decimal.{decimal, Put};
 ghost use Rattle.refusal_line.specs.RefusedLine.{refusedLine};
 ghost use Rattle.tariff.specs.declared.Checked.the-variants.{Passed};
 ghost use Rattle.tariff.specs.Units.{grid};
-ghost use Rattle.tariff.specs.Contracts.{periodOf};
+ghost use Rattle.tariff.specs.Contracts.{periodOf, ofPeriod};
 ghost use Rattle.tariff.specs.Processes.{processOf};
 ghost use Rattle.tariff.specs.Refusals.{first, decided, answered, cellsAfter};
 ghost use Rattle.tariff.specs.Checks.{shortTable};
@@ -18,13 +18,17 @@ ghost use Rattle.layouts.specs.Files.{writeOutcome};
 ghost use Rattle.layouts.specs.BookFile.{bookIn};
 ghost use Rattle.book_file.specs.BookChecks.{bookChecks};
 ghost use Rattle.feasibility_test.specs.TestChecks.{testChecks};
+ghost use Rattle.feasibility_test.specs.Carried.{Carries};
 ghost use Rattle.feasibility_report.specs.Report.{periodWord, processWord, numbersTo, line, lines, report, longest};
 ghost use Rattle.feasibility_report.specs.Parts.{inSet, member, failed, answerFigures, overBy, periodLines};
+use feasibility_test::Flows;
 use feasibility_test::TestAnswer;
 use grid_file::GridAnswer;
 use layouts::WriteAnswer;
 use tariff::Checked;
 use tariff::Flow;
+use tariff::Period;
+use tariff::Process;
 use tariff::Refusal;
 
 // The period's word and a comma.
@@ -137,7 +141,7 @@ fn put_figures(buf: &mut [u8], at: usize, constraints: usize, answer: TestAnswer
     }
 }
 
-// The line of one period and process, from the test of the book.
+// The line of one period and process, from the flows of the period's contracts. `factors` and `book` are here for the contract alone.
 fn put_line(
     buf: &mut [u8],
     at: usize,
@@ -148,28 +152,23 @@ fn put_line(
     limits: &[u64],
     factors: &[i64],
     book: &[u8],
+    flows: Flows,
 ) -> usize
     requires { ⌜ at + 279 ≤ length (now buf) ⌝ }
     requires { ⌜ first (testChecks nodes constraints process period (now limits) (now factors) (now book)) ≡ Passed ⌝ }
+    requires { ⌜ Carries (grid nodes constraints (now limits) (now factors)) (ofPeriod (periodOf period) (bookIn (now book))) flows ⌝ }
     ensures { λ r. ⌜ Put (now (buf .entry)) at (line (grid nodes constraints (now (limits .entry)) (now (factors .entry))) (bookIn (now (book .entry))) (periodOf period) (processOf process)) (now (buf .exit)) r ⌝ }
     ensures { λ r. ⌜ r ≤ at + 279 ⌝ }
 {
-    let answer = feasibility_test::test_book(
-        nodes,
-        constraints,
-        process,
-        period,
-        limits,
-        factors,
-        book,
-    );
+    let tested = Process::from_number(process);
+    let answer = feasibility_test::verdict(constraints, tested, limits, flows);
     let first = put_period(buf, at, period);
     let second = put_process(buf, first, process);
     let third = put_figures(buf, second, constraints, answer);
     text::put_char(buf, third, b'\n')
 }
 
-// The three lines of one period.
+// The three lines of one period. Its flows are summed once.
 fn put_period_lines(
     buf: &mut [u8],
     at: usize,
@@ -185,6 +184,8 @@ fn put_period_lines(
     ensures { λ r. ⌜ Put (now (buf .entry)) at (periodLines (grid nodes constraints (now (limits .entry)) (now (factors .entry))) (bookIn (now (book .entry))) (periodOf period)) (now (buf .exit)) r ⌝ }
     ensures { λ r. ⌜ r ≤ at + 837 ⌝ }
 {
+    let tested = Period::from_number(period);
+    let flows = feasibility_test::carry(nodes, constraints, factors, tested, book);
     let first = put_line(
         buf,
         at,
@@ -195,6 +196,7 @@ fn put_period_lines(
         limits,
         factors,
         book,
+        flows,
     );
     let second = put_line(
         buf,
@@ -206,6 +208,7 @@ fn put_period_lines(
         limits,
         factors,
         book,
+        flows,
     );
     put_line(
         buf,
@@ -217,6 +220,7 @@ fn put_period_lines(
         limits,
         factors,
         book,
+        flows,
     )
 }
 

@@ -19,14 +19,17 @@ use Rattle.tariff.specs.declared.Quantity.{Quantity}
 use Rattle.tariff.specs.declared.Contract.{Contract}
 use Rattle.tariff.specs.declared.Period.{Period}
 use Rattle.tariff.specs.Units.{grid, FactorsInRange}
-use Rattle.tariff.specs.Contracts.{counted, samePeriod, ofPeriod, InRange}
+use Rattle.tariff.specs.Contracts.{counted, periodOf, samePeriod, ofPeriod, InRange}
 use Rattle.tariff.specs.Feasibility.{flow, totalFlow}
 use Rattle.tariff.proofs.Periods.{sumOver-more, ofPeriod-same, ofPeriod-other}
 use Rattle.integers.specs.Sums.{sumOver}
 use Rattle.layouts.specs.Files.{listTo}
+use Rattle.layouts.specs.BookFile.{bookIn, countIn, contractAt}
 use Rattle.layouts.proofs.Lists.{listTo-more, length-listTo, each-listTo}
+use Rattle.book_file.proofs.Accepted.{book-accepted}
 use Rattle.feasibility_test.specs.declared.Flows.{Flows}
 use Rattle.feasibility_test.specs.Carried.{Carries}
+use Rattle.feasibility_test.proofs.Checking.{Tested, factors-in-range}
 
 -- the flow on constraint j of a contract whose rows of factors begin at source and sink, as it counts
 unfoldable pub part : List ℤ → ℕ → ℕ → Quantity → Kind → ℕ → ℤ
@@ -111,3 +114,16 @@ module _ (n k i : ℕ) (ls : List ℕ) (fs : List ℤ) (t : Period) (at : ℕ �
   pub carry-other : (c : Contract) → c ≡ at i → samePeriod (c .period) t ≡ false → Carries (grid n k ls fs) (ofPeriod t (listTo i at)) f
       → Carries (grid n k ls fs) (ofPeriod t (listTo (i + 1) at)) f
   carry-other c e b carried = rw (listTo-more i at, ← e, ofPeriod-other t (listTo i at) c b) carried
+
+-- ---- a book that the checks accept: a thousand flows at most
+pub carried-sized : (n k p t : ℕ) (ls : List ℕ) (fs : List ℤ) (book : List ℕ) → Tested n k p t ls fs book → (f : Flows)
+    → Carries (grid n k ls fs) (ofPeriod (periodOf t) (bookIn book)) f → (j : ℕ) → j < k → natAbs (getD (f .flows) j (pos 0)) < 2 ^ 62
+carried-sized n k p t ls fs book ok f carried j h =
+    let b = book-accepted n book (ok .book-good) in
+    let fr = factors-in-range n k ls fs (ok .factors-long) (ok .factors-good) in
+    omega (
+      arith,
+      b .few,
+      count-most n k (countIn book) ls fs (periodOf t) (contractAt book) f (b .each) carried,
+      flow-most n k (countIn book) ls fs (periodOf t) (contractAt book) f (b .each) carried fr j h,
+    )

@@ -1,23 +1,19 @@
 -- `test_book`.
 use mathlib.Core.Path.{_≡_, sym, _∙_, subst}
-use Prim.Native.Nat.{ℕ, _<_, _^_}
 use native.Mathlib.Omega.{arith}
-use lib.ListN.{getD}
-use lib.IntN.{pos, natAbs}
 use Rattle.tariff.specs.declared.Period.{Period}
 use Rattle.tariff.specs.declared.Process.{Process}
 use Rattle.tariff.specs.declared.Checked.the-variants.{Passed}
 use Rattle.tariff.specs.Refusals.{first, given}
 use Rattle.tariff.specs.Units.{grid}
 use Rattle.tariff.specs.Contracts.{periodOf, ofPeriod}
-use Rattle.layouts.specs.BookFile.{bookIn, countIn, contractAt}
-use Rattle.book_file.proofs.Accepted.{book-accepted}
+use Rattle.layouts.specs.BookFile.{bookIn}
 use Rattle.runs.proofs.Answers.{answer-refused, answer-passed}
 use Rattle.feasibility_test.specs.TestChecks.{testChecks}
 use Rattle.feasibility_test.specs.Answer.{testOutcome, testValues, Demand3}
 use Rattle.feasibility_test.specs.Carried.{Carries}
-use Rattle.feasibility_test.proofs.Checking.{Tested, tested, refused-passed, limits-in-range, factors-in-range}
-use Rattle.feasibility_test.proofs.Flowing.{count-most, flow-most}
+use Rattle.feasibility_test.proofs.Checking.{Tested, tested, refused-passed, limits-in-range}
+use Rattle.feasibility_test.proofs.Flowing.{carried-sized}
 use borrow.Author.Needs.{needs}
 use Rattle.feasibility_test.proofs.test_book.Statement.{statement}
 use Rattle.feasibility_test.proofs.test_book.Tie as tie
@@ -33,20 +29,6 @@ carried : (c : tie.After-carry) → let a = c .before .before .before .before .b
 carried c =
     let a = c .before .before .before .before .before .before .before .args in
     subst (λ (t : Period). Carries (grid (a .nodes) (a .constraints) (a .limits .now) (a .factors .now)) (ofPeriod t (bookIn (a .book .now))) (c .carry .result)) (c .before .from-number .ensures) (c .carry .ensures (a .limits .now))
-
--- a thousand flows at most
-sized : (c : tie.After-carry) (k : ℕ) → k < c .before .before .before .before .before .before .before .args .constraints → natAbs (getD (c .carry .result .flows) k (pos 0)) < 2 ^ 62
-sized c k h =
-    let a = c .before .before .before .before .before .before .before .args in
-    let o = ok (c .before .before) in
-    let b = book-accepted (a .nodes) (a .book .now) (o .book-good) in
-    let fr = factors-in-range (a .nodes) (a .constraints) (a .limits .now) (a .factors .now) (o .factors-long) (o .factors-good) in
-    omega (
-      arith,
-      b .few,
-      count-most (a .nodes) (a .constraints) (countIn (a .book .now)) (a .limits .now) (a .factors .now) (periodOf (a .period)) (contractAt (a .book .now)) (c .carry .result) (b .each) (carried c),
-      flow-most (a .nodes) (a .constraints) (countIn (a .book .now)) (a .limits .now) (a .factors .now) (periodOf (a .period)) (contractAt (a .book .now)) (c .carry .result) (b .each) (carried c) fr k h,
-    )
 
 check-test-requires : tie.Need-check-test-requires
 check-test-requires c κs = search needs
@@ -77,7 +59,7 @@ verdict-requires : tie.Need-verdict-requires
 verdict-requires c κs =
     let a = c .before .before .before .before .before .before .before .before .args in
     let o = ok (c .before .before .before) in
-    ((o .few-constraints, o .limits-long), λ k h. (limits-in-range (a .constraints) (a .limits .now) (o .limits-long) (o .limits-good) k h, sized (c .before) k h))
+    ((o .few-constraints, o .limits-long), λ k h. (limits-in-range (a .constraints) (a .limits .now) (o .limits-long) (o .limits-good) k h, carried-sized (a .nodes) (a .constraints) (a .process) (a .period) (a .limits .now) (a .factors .now) (a .book .now) o (c .before .carry .result) (carried (c .before)) k h))
 
 returns-2 : tie.Need-returns-2
 returns-2 c =
