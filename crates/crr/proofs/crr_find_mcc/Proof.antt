@@ -31,7 +31,8 @@ returns c =
     let refusal = c .before .before .refusal .given in
     let checked = first (mccChecks (a .nodes) (a .constraints) (a .factors .now) (a .prices .now) (length (a .mcc .now))) in
     let told = sym (ap mccOutcome (refusal .1)) ∙ f .ensures .0 in
-    (refused-answers checked _ (refusal .0 .0) told (c .number .ensures), f .ensures .1)
+    let answer = refused-answers checked _ (refusal .0 .0) told (c .number .ensures) in
+    (answer, f .ensures .1)
 
 same-length-2 : tie.Need-same-length-2
 same-length-2 c = search needs
@@ -43,7 +44,8 @@ returns-2 c =
     let given = c .enum-told .given in
     let checked = first (mccChecks (a .nodes) (a .constraints) (a .factors .now) (a .prices .now) (length (a .mcc .now))) in
     let told = sym (ap mccOutcome (given .1)) ∙ f .ensures .0 in
-    (given-answers checked _ _ told, f .ensures .1)
+    let answer = given-answers checked _ _ told in
+    (answer, f .ensures .1)
 
 pub crr-find-mcc-spec : {M : Type 1} → statement M
 crr-find-mcc-spec =

@@ -31,7 +31,9 @@ returns c =
     let refusal = c .before .before .refusal .given in
     let checked = first (readChecks (a .nodes) (a .file .now) (length (a .book .now))) in
     let told = sym (ap bookOutcome (refusal .1)) ∙ f .ensures .0 in
-    (refused-answers checked _ (refusal .0 .0) told (c .number .ensures), (f .ensures .1, refused-keeps checked _ (refusal .0 .0) told (countIn (a .file .now)) (a .contracts .now)))
+    let answer = refused-answers checked _ (refusal .0 .0) told (c .number .ensures) in
+    let contracts-cell = refused-keeps checked _ (refusal .0 .0) told (countIn (a .file .now)) (a .contracts .now) in
+    (answer, (f .ensures .1, contracts-cell))
 
 same-length-2 : tie.Need-same-length-2
 same-length-2 c = search needs
@@ -43,7 +45,9 @@ returns-2 c =
     let given = c .before .m .given in
     let checked = first (readChecks (a .nodes) (a .file .now) (length (a .book .now))) in
     let told = sym (ap bookOutcome (given .1)) ∙ f .ensures .0 in
-    (given-answers checked _ _ told, (f .ensures .1, given-count checked _ _ told 0 (a .contracts .now)))
+    let answer = given-answers checked _ _ told in
+    let contracts-cell = given-count checked _ _ told 0 (a .contracts .now) in
+    (answer, (f .ensures .1, contracts-cell))
 
 pub crr-read-book-spec : {M : Type 1} → statement M
 crr-read-book-spec =

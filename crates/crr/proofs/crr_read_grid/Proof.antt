@@ -34,7 +34,10 @@ returns c =
     let refusal = c .before .before .refusal .given in
     let checked = first (readChecks (a .file .now) (length (a .limits .now)) (length (a .factors .now))) in
     let told = sym (ap gridOutcome (refusal .1)) ∙ f .ensures .0 in
-    (refused-answers checked _ (refusal .0 .0) told (c .number .ensures), (f .ensures .1 .0, (f .ensures .1 .1, (refused-keeps checked _ (refusal .0 .0) told (nodesIn (a .file .now)) (a .nodes .now), refused-keeps checked _ (refusal .0 .0) told (constraintsIn (a .file .now)) (a .constraints .now)))))
+    let answer = refused-answers checked _ (refusal .0 .0) told (c .number .ensures) in
+    let nodes-cell = refused-keeps checked _ (refusal .0 .0) told (nodesIn (a .file .now)) (a .nodes .now) in
+    let constraints-cell = refused-keeps checked _ (refusal .0 .0) told (constraintsIn (a .file .now)) (a .constraints .now) in
+    (answer, (f .ensures .1 .0, (f .ensures .1 .1, (nodes-cell, constraints-cell))))
 
 same-length-3 : tie.Need-same-length-3
 same-length-3 c = search needs
@@ -49,7 +52,10 @@ returns-2 c =
     let given = c .before .n .given in
     let checked = first (readChecks (a .file .now) (length (a .limits .now)) (length (a .factors .now))) in
     let told = sym (ap gridOutcome (given .1)) ∙ f .ensures .0 in
-    (given-answers checked _ _ told, (f .ensures .1 .0, (f .ensures .1 .1, (given-count checked _ _ told 0 (a .nodes .now), given-count checked _ _ told 1 (a .constraints .now)))))
+    let answer = given-answers checked _ _ told in
+    let nodes-cell = given-count checked _ _ told 0 (a .nodes .now) in
+    let constraints-cell = given-count checked _ _ told 1 (a .constraints .now) in
+    (answer, (f .ensures .1 .0, (f .ensures .1 .1, (nodes-cell, constraints-cell))))
 
 pub crr-read-grid-spec : {M : Type 1} → statement M
 crr-read-grid-spec =

@@ -32,7 +32,9 @@ returns c =
     let refusal = c .before .before .refusal .given in
     let checked = first (readChecks (a .constraints) (a .file .now) (length (a .prices .now))) in
     let told = sym (ap priceOutcome (refusal .1)) ∙ f .ensures .0 in
-    (refused-answers checked _ (refusal .0 .0) told (c .number .ensures), (f .ensures .1, refused-keeps checked _ (refusal .0 .0) told (periodIn (a .file .now)) (a .period .now)))
+    let answer = refused-answers checked _ (refusal .0 .0) told (c .number .ensures) in
+    let period-cell = refused-keeps checked _ (refusal .0 .0) told (periodIn (a .file .now)) (a .period .now) in
+    (answer, (f .ensures .1, period-cell))
 
 same-length-2 : tie.Need-same-length-2
 same-length-2 c = search needs
@@ -44,7 +46,9 @@ returns-2 c =
     let given = c .before .t .given in
     let checked = first (readChecks (a .constraints) (a .file .now) (length (a .prices .now))) in
     let told = sym (ap priceOutcome (given .1)) ∙ f .ensures .0 in
-    (given-answers checked _ _ told, (f .ensures .1, given-count checked _ _ told 0 (a .period .now)))
+    let answer = given-answers checked _ _ told in
+    let period-cell = given-count checked _ _ told 0 (a .period .now) in
+    (answer, (f .ensures .1, period-cell))
 
 pub crr-read-prices-spec : {M : Type 1} → statement M
 crr-read-prices-spec =

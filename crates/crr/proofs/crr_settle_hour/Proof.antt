@@ -42,7 +42,11 @@ returns c =
     let g = grid (a .nodes) (a .constraints) [] (a .factors .now) in
     let cs = bookIn (a .book .now) in
     let total = hourTotal g (a .prices .now) (periodOf (a .period)) cs in
-    (refused-answers checked _ (refusal .0 .0) told (c .number .ensures), (f .ensures .1 .0, (refused-keeps checked _ (refusal .0 .0) told (centsSum g (a .prices .now) (periodOf (a .period)) cs) (a .sum .now), (refused-keeps checked _ (refusal .0 .0) told (wholeCents total) (a .whole .now), refused-keeps checked _ (refusal .0 .0) told (parts total) (a .parts .now)))))
+    let answer = refused-answers checked _ (refusal .0 .0) told (c .number .ensures) in
+    let sum-cell = refused-keeps checked _ (refusal .0 .0) told (centsSum g (a .prices .now) (periodOf (a .period)) cs) (a .sum .now) in
+    let whole-cell = refused-keeps checked _ (refusal .0 .0) told (wholeCents total) (a .whole .now) in
+    let parts-cell = refused-keeps checked _ (refusal .0 .0) told (parts total) (a .parts .now) in
+    (answer, (f .ensures .1 .0, (sum-cell, (whole-cell, parts-cell))))
 
 same-length-2 : tie.Need-same-length-2
 same-length-2 c = search needs
@@ -56,7 +60,11 @@ returns-2 c =
     let fits = c .known-told2 .given in
     let checked = first (settleChecks (a .nodes) (a .constraints) (a .period) (a .factors .now) (a .prices .now) (a .book .now) (length (a .cents .now))) in
     let told = sym (ap settleOutcome (given .1)) ∙ f .ensures .0 in
-    (given-answers checked _ _ told, (f .ensures .1 .0, (toZ-ofZ {w = w64} (record { sfits = fits .0 .1 }) ∙ given-signed checked _ _ told 0 (a .sum .now), (toZ-ofZ {w = w64} (record { sfits = fits .1 .0 .1 }) ∙ given-signed checked _ _ told 1 (a .whole .now), given-count checked _ _ told 2 (a .parts .now)))))
+    let answer = given-answers checked _ _ told in
+    let sum-cell = toZ-ofZ {w = w64} (record { sfits = fits .0 .1 }) ∙ given-signed checked _ _ told 0 (a .sum .now) in
+    let whole-cell = toZ-ofZ {w = w64} (record { sfits = fits .1 .0 .1 }) ∙ given-signed checked _ _ told 1 (a .whole .now) in
+    let parts-cell = given-count checked _ _ told 2 (a .parts .now) in
+    (answer, (f .ensures .1 .0, (sum-cell, (whole-cell, parts-cell))))
 
 pub crr-settle-hour-spec : {M : Type 1} → statement M
 crr-settle-hour-spec =

@@ -45,7 +45,12 @@ returns c =
     let vs = testValues g process cs in
     let told = sym (ap testOutcome (refusal .1)) ∙ f .ensures .0 in
     let r = refusal .0 .0 in
-    (refused-answers checked vs r told (c .number .ensures), (refused-keeps checked vs r told (testCells g process cs .set) (a .set .now), (refused-keeps checked vs r told (testCells g process cs .count) (a .count .now), (refused-keeps checked vs r told (testCells g process cs .lowest) (a .lowest .now), (refused-keeps checked vs r told (testCells g process cs .over) (a .excess .now), λ h. absurd (some-refuses checked vs r told h))))))
+    let answer = refused-answers checked vs r told (c .number .ensures) in
+    let set-cell = refused-keeps checked vs r told (testCells g process cs .set) (a .set .now) in
+    let count-cell = refused-keeps checked vs r told (testCells g process cs .count) (a .count .now) in
+    let lowest-cell = refused-keeps checked vs r told (testCells g process cs .lowest) (a .lowest .now) in
+    let excess-cell = refused-keeps checked vs r told (testCells g process cs .over) (a .excess .now) in
+    (answer, (set-cell, (count-cell, (lowest-cell, (excess-cell, λ h. absurd (some-refuses checked vs r told h))))))
 
 returns-2 : tie.Need-returns-2
 returns-2 c =
@@ -58,7 +63,12 @@ returns-2 c =
     let vs = testValues g process cs in
     let told = sym (ap testOutcome (c .enum-told .given .1)) ∙ f .ensures .0 in
     let same = pass-cells g process cs (given-values checked vs [] told) in
-    (given-answers checked vs [] told, (given-cell checked vs [] told (testCells g process cs .set) (a .set .now) (ap (λ (t : TestCells). t .set) same), (given-cell checked vs [] told (testCells g process cs .count) (a .count .now) (ap (λ (t : TestCells). t .count) same), (given-cell checked vs [] told (testCells g process cs .lowest) (a .lowest .now) (ap (λ (t : TestCells). t .lowest) same), (given-cell checked vs [] told (testCells g process cs .over) (a .excess .now) (ap (λ (t : TestCells). t .over) same), λ h. pass-demand3 g process cs (f .result) (c .enum-told .given .1) (f .ensures .1 h))))))
+    let answer = given-answers checked vs [] told in
+    let set-cell = given-cell checked vs [] told (testCells g process cs .set) (a .set .now) (ap (λ (t : TestCells). t .set) same) in
+    let count-cell = given-cell checked vs [] told (testCells g process cs .count) (a .count .now) (ap (λ (t : TestCells). t .count) same) in
+    let lowest-cell = given-cell checked vs [] told (testCells g process cs .lowest) (a .lowest .now) (ap (λ (t : TestCells). t .lowest) same) in
+    let excess-cell = given-cell checked vs [] told (testCells g process cs .over) (a .excess .now) (ap (λ (t : TestCells). t .over) same) in
+    (answer, (set-cell, (count-cell, (lowest-cell, (excess-cell, λ h. pass-demand3 g process cs (f .result) (c .enum-told .given .1) (f .ensures .1 h))))))
 
 returns-3 : tie.Need-returns-3
 returns-3 c =
@@ -79,7 +89,12 @@ returns-3 c =
     let figures = given-values checked vs ws told in
     let same = fail-cells g process cs set count lowest (over .0) figures in
     let back = toZ-ofZ {w = w64} (record { sfits = c .struct-told .given .0 .1 }) in
-    (given-answers checked vs ws told, (given-cell checked vs ws told (testCells g process cs .set) (a .set .now) (ap (λ (t : TestCells). t .set) same), (given-cell checked vs ws told (testCells g process cs .count) (a .count .now) (ap (λ (t : TestCells). t .count) same), (given-cell checked vs ws told (testCells g process cs .lowest) (a .lowest .now) (ap (λ (t : TestCells). t .lowest) same), (given-cell checked vs ws told (testCells g process cs .over) (a .excess .now) (back ∙ ap (λ (t : TestCells). t .over) same), λ h. rw back (fail-demand3 g process cs (f .result) set count lowest over (fail .1) (fail-set g process cs set count lowest (over .0) figures) (f .ensures .1 h)))))))
+    let answer = given-answers checked vs ws told in
+    let set-cell = given-cell checked vs ws told (testCells g process cs .set) (a .set .now) (ap (λ (t : TestCells). t .set) same) in
+    let count-cell = given-cell checked vs ws told (testCells g process cs .count) (a .count .now) (ap (λ (t : TestCells). t .count) same) in
+    let lowest-cell = given-cell checked vs ws told (testCells g process cs .lowest) (a .lowest .now) (ap (λ (t : TestCells). t .lowest) same) in
+    let excess-cell = given-cell checked vs ws told (testCells g process cs .over) (a .excess .now) (back ∙ ap (λ (t : TestCells). t .over) same) in
+    (answer, (set-cell, (count-cell, (lowest-cell, (excess-cell, λ h. rw back (fail-demand3 g process cs (f .result) set count lowest over (fail .1) (fail-set g process cs set count lowest (over .0) figures) (f .ensures .1 h)))))))
 
 pub crr-test-book-spec : {M : Type 1} → statement M
 crr-test-book-spec =

@@ -33,7 +33,9 @@ returns c =
     let refusal = c .before .before .refusal .given in
     let checked = first (shortTable (length (a .text .now)) longest ∷ []) in
     let told = sym (ap writeOutcome (refusal .1)) ∙ f .ensures .0 in
-    (refused-answers checked _ (refusal .0 .0) told (c .number .ensures), (f .ensures .1, refused-keeps checked _ (refusal .0 .0) told (length (report (a .grid-file .now) (a .book-file .now))) (a .bytes .now)))
+    let answer = refused-answers checked _ (refusal .0 .0) told (c .number .ensures) in
+    let bytes-cell = refused-keeps checked _ (refusal .0 .0) told (length (report (a .grid-file .now) (a .book-file .now))) (a .bytes .now) in
+    (answer, (f .ensures .1, bytes-cell))
 
 same-length-2 : tie.Need-same-length-2
 same-length-2 c = search needs
@@ -45,7 +47,9 @@ returns-2 c =
     let given = c .before .written .given in
     let checked = first (shortTable (length (a .text .now)) longest ∷ []) in
     let told = sym (ap writeOutcome (given .1)) ∙ f .ensures .0 in
-    (given-answers checked _ _ told, (f .ensures .1, given-count checked _ _ told 0 (a .bytes .now)))
+    let answer = given-answers checked _ _ told in
+    let bytes-cell = given-count checked _ _ told 0 (a .bytes .now) in
+    (answer, (f .ensures .1, bytes-cell))
 
 pub crr-write-report-spec : {M : Type 1} → statement M
 crr-write-report-spec =
