@@ -75,8 +75,8 @@ pub extern "C" fn crr_write_grid(
 {
     match grid_file::write_grid(nodes, constraints, limits, factors, file) {
         WriteAnswer::Refused(refusal) => refusal.number(),
-        WriteAnswer::Written { bytes: written } => {
-            *bytes = written;
+        WriteAnswer::Written { bytes: grid_bytes } => {
+            *bytes = grid_bytes;
             0
         }
     }
@@ -118,8 +118,8 @@ pub extern "C" fn crr_write_book(
 {
     match book_writer::write_book(nodes, contracts, book, file) {
         WriteAnswer::Refused(refusal) => refusal.number(),
-        WriteAnswer::Written { bytes: written } => {
-            *bytes = written;
+        WriteAnswer::Written { bytes: book_bytes } => {
+            *bytes = book_bytes;
             0
         }
     }
@@ -161,8 +161,8 @@ pub extern "C" fn crr_write_prices(
 {
     match price_file::write_prices(period, constraints, prices, file) {
         WriteAnswer::Refused(refusal) => refusal.number(),
-        WriteAnswer::Written { bytes: written } => {
-            *bytes = written;
+        WriteAnswer::Written { bytes: price_bytes } => {
+            *bytes = price_bytes;
             0
         }
     }
@@ -282,8 +282,10 @@ pub extern "C" fn crr_write_report(
 {
     match feasibility_report::write_report(grid_file, book_file, text) {
         WriteAnswer::Refused(refusal) => refusal.number(),
-        WriteAnswer::Written { bytes: written } => {
-            *bytes = written;
+        WriteAnswer::Written {
+            bytes: report_bytes,
+        } => {
+            *bytes = report_bytes;
             0
         }
     }

@@ -19,8 +19,8 @@ enum-known-refusal c = search needs
 number-requires : tie.Need-number-requires
 number-requires c κs = search needs
 
-enum-known-written : tie.Need-enum-known-written
-enum-known-written c = search needs
+enum-known-book-bytes : tie.Need-enum-known-book-bytes
+enum-known-book-bytes c = search needs
 
 same-length : tie.Need-same-length
 same-length c = search needs
@@ -43,7 +43,7 @@ returns-2 : tie.Need-returns-2
 returns-2 c =
     let f = c .before .before .before .before .before .write-book in
     let a = c .before .before .before .before .before .before .before .before .before .args in
-    let given = c .before .written .given in
+    let given = c .before .book-bytes .given in
     let checked = first (writeChecks (a .nodes) (a .contracts) (a .book .now) (length (a .file .now))) in
     let told = sym (ap writeOutcome (given .1)) ∙ f .ensures .0 in
     let answer = given-answers checked _ _ told in
@@ -57,7 +57,7 @@ crr-write-book-spec =
     write-book-requires
     enum-known-refusal
     number-requires
-    enum-known-written
+    enum-known-book-bytes
     same-length
     returns
     same-length-2

@@ -20,8 +20,8 @@ enum-known-refusal c = search needs
 number-requires : tie.Need-number-requires
 number-requires c κs = search needs
 
-enum-known-written : tie.Need-enum-known-written
-enum-known-written c = search needs
+enum-known-report-bytes : tie.Need-enum-known-report-bytes
+enum-known-report-bytes c = search needs
 
 same-length : tie.Need-same-length
 same-length c = search needs
@@ -44,7 +44,7 @@ returns-2 : tie.Need-returns-2
 returns-2 c =
     let f = c .before .before .before .before .before .write-report in
     let a = c .before .before .before .before .before .before .before .before .before .before .args in
-    let given = c .before .written .given in
+    let given = c .before .report-bytes .given in
     let checked = first (shortTable (length (a .text .now)) longest ∷ []) in
     let told = sym (ap writeOutcome (given .1)) ∙ f .ensures .0 in
     let answer = given-answers checked _ _ told in
@@ -58,7 +58,7 @@ crr-write-report-spec =
     write-report-requires
     enum-known-refusal
     number-requires
-    enum-known-written
+    enum-known-report-bytes
     same-length
     returns
     same-length-2
