@@ -3,8 +3,9 @@
  * hour by hour.
  *
  * The library is libcrr.a (`rt staticlib crr` builds it), for 64-bit machines:
- * x86-64 Linux. It allocates nothing, keeps no state, does no input or output and
- * uses no floating point, so any number of threads may call it at once.
+ * x86-64 Linux. It allocates nothing, keeps no state and does no input or output,
+ * so any number of threads may call it at once. There is no floating point in it.
+ * crr_write_report holds a grid's tables, about 105,000 bytes, on the stack.
  *
  *
  * UNITS. All figures are whole numbers.
@@ -51,8 +52,8 @@
  *   - Every pointer is non-null, also where the length is 0, and aligned for its
  *     type.
  *   - The length cells from the pointer on are one object's, readable, and
- *     writable where the parameter is not const. Cells lent for an answer hold a
- *     value of their type, of any size, before the call.
+ *     writable where the parameter is not const. What is lent to be written need
+ *     not be set before the call: any bytes there will do.
  *   - What is passed to be written, buffer or figure, overlaps nothing else that
  *     is passed in the same call. Buffers that are only read may overlap.
  *   - No other thread writes what is passed, or reads what is passed to be
@@ -63,6 +64,10 @@
 
 #include <stddef.h>
 #include <stdint.h>
+
+#if defined(SIZE_MAX) && SIZE_MAX != UINT64_MAX
+#error "crr.h is for 64-bit machines"
+#endif
 
 #ifdef __cplusplus
 extern "C" {
