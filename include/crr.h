@@ -1,0 +1,301 @@
+/*
+ * crr.h: congestion revenue rights (CRRs), tested against a grid and settled
+ * hour by hour.
+ *
+ * The library is libcrr.a (`rt staticlib crr` builds it), for 64-bit machines:
+ * x86-64 Linux. It allocates nothing, keeps no state and does no input or output,
+ * so any number of threads may call it at once. There is no floating point in it.
+ * crr_write_report holds a grid's tables, about 105,000 bytes, on the stack.
+ *
+ *
+ * UNITS. All figures are whole numbers.
+ *
+ *   quantity       thousandths of a MW, 1 to 1,000,000
+ *   limit          thousandths of a MW, 0 to 100,000,000
+ *   shift factor   hundred-thousandths, -100,000 to 100,000
+ *   shadow price   cents per MWh, 0 to 500,000
+ *   flow, excess   10^-8 MW
+ *   MCC            10^-5 cents per MWh (marginal cost of congestion)
+ *   parts          10^-8 cents, 0 to 99,999,999
+ *   period         0 off-peak, 1 on-peak
+ *   process        0 annual, 1 Tier LT, 2 monthly: 75, 60 and 100 percent of each
+ *                  limit is released
+ *
+ * Nodes, constraints and contracts are numbered from 0.
+ *
+ *
+ * TABLES. Each may be longer than is needed: only the first cells are read or
+ * written.
+ *
+ *   limits    one cell for each constraint
+ *   factors   one cell for each node and constraint; the factor of node n on
+ *             constraint k is in cell n * constraints + k
+ *   prices    one cell for each constraint
+ *   book      six cells for each contract: kind (0 obligation, 1 option), period,
+ *             holder (0 to 1,023), source, sink, quantity
+ *   mcc       one cell for each node
+ *   cents     one cell for each contract
+ *
+ *
+ * ANSWERS. Every function returns 0, or the number of the refusal (below). Its
+ * checks run in the order that its comment lists, and the first that fails gives
+ * the number. On a refusal nothing that was lent has changed: no cell of any
+ * buffer, and no figure. On success only what the comment names is written: the
+ * first cells of a buffer, and the figures; a buffer's other cells stay as they
+ * are. Every function answers on every input of the right form; none needs its
+ * input checked beforehand.
+ *
+ *
+ * WHAT CALLERS OWE. A buffer is passed as a pointer and a length in cells, not in
+ * bytes.
+ *
+ *   - Every pointer is non-null, also where the length is 0, and aligned for its
+ *     type.
+ *   - The length cells from the pointer on are one object's, readable, and
+ *     writable where the parameter is not const. What is lent to be written need
+ *     not be set before the call: any bytes there will do.
+ *   - What is passed to be written, buffer or figure, overlaps nothing else that
+ *     is passed in the same call. Buffers that are only read may overlap.
+ *   - No other thread writes what is passed, or reads what is passed to be
+ *     written, during the call.
+ */
+#ifndef CRR_H
+#define CRR_H
+
+#include <stddef.h>
+#include <stdint.h>
+
+#if defined(SIZE_MAX) && SIZE_MAX != UINT64_MAX
+#error "crr.h is for 64-bit machines"
+#endif
+
+#ifdef __cplusplus
+extern "C" {
+#endif
+
+/* Sizes: the most that is accepted. */
+#define CRR_MAX_NODES 200
+#define CRR_MAX_CONSTRAINTS 64
+#define CRR_MAX_CONTRACTS 1000
+
+/* The longest files. One byte more is never accepted. */
+#define CRR_MAX_GRID_BYTES 29018
+#define CRR_MAX_BOOK_BYTES 6002
+#define CRR_MAX_PRICE_BYTES 153
+
+/* What crr_write_statement and crr_write_report ask for, whatever they write. */
+#define CRR_STATEMENT_BYTES 26078
+#define CRR_REPORT_BYTES 2048
+
+/* Periods and processes. */
+#define CRR_OFF_PEAK 0
+#define CRR_ON_PEAK 1
+#define CRR_ANNUAL 0
+#define CRR_TIER_LT 1
+#define CRR_MONTHLY 2
+
+/*
+ * Refusals, by number. Each comes for its own condition only.
+ */
+#define CRR_OK 0               /* no refusal */
+#define CRR_SHORT_FILE 1       /* a file of fewer bytes than its header: two (grid, book) or one (prices) */
+#define CRR_NODE_COUNT 2       /* nodes 0 or above 200 */
+#define CRR_CONSTRAINT_COUNT 3 /* constraints above 64 */
+#define CRR_SPARE_BITS 4       /* a spare bit of a file's header is set */
+#define CRR_FILE_LENGTH 5      /* a file's length differs from what its counts fix */
+#define CRR_LIMIT_RANGE 6      /* a limit above 100,000,000 */
+#define CRR_FACTOR_RANGE 7     /* a factor below -100,000 or above 100,000 */
+#define CRR_PADDING 8          /* a padding bit at a file's end is set */
+#define CRR_SHORT_TABLE 9      /* a lent table, or a place for an answer, of too few cells */
+#define CRR_CONTRACT_COUNT 10  /* more than 1,000 contracts */
+#define CRR_NODE_NUMBER 11     /* a source or sink not below the node count */
+#define CRR_SAME_ENDS 12       /* a contract's source equals its sink */
+#define CRR_QUANTITY_RANGE 13  /* quantity 0 or above 1,000,000 */
+#define CRR_PRICE_COUNT 14     /* the price file's constraint count differs from the one stated */
+#define CRR_PRICE_RANGE 15     /* a price above 500,000 */
+#define CRR_PROCESS_NUMBER 16  /* process not 0 to 2 */
+#define CRR_PERIOD_OR_KIND 17  /* a period not 0 or 1; writing a book, a kind or period not 0 or 1 */
+#define CRR_HOLDER_RANGE 18    /* holder above 1,023 */
+
+/*
+ * Reads a grid's file.
+ *
+ * On success writes the file's limits and factors to the first cells of both
+ * tables, and the counts to *nodes and *constraints.
+ *
+ * Refusals, in this order: 1, 2, 3, 4, 5, 6, 7, 8, and 9 if the limits or the
+ * factors don't fit.
+ */
+uint64_t crr_read_grid(const uint8_t *file, size_t file_len,
+                       uint64_t *limits, size_t limits_len,
+                       int64_t *factors, size_t factors_len,
+                       size_t *nodes, size_t *constraints);
+
+/*
+ * Writes a grid's file from the first cells of its tables.
+ *
+ * On success writes the file to the first bytes of file, and its length to
+ * *bytes. The longest has CRR_MAX_GRID_BYTES.
+ *
+ * Refusals, in this order: 2, 3, 9 (limits, factors), 6, 7, and 9 if the bytes
+ * don't fit.
+ */
+uint64_t crr_write_grid(size_t nodes, size_t constraints,
+                        const uint64_t *limits, size_t limits_len,
+                        const int64_t *factors, size_t factors_len,
+                        uint8_t *file, size_t file_len,
+                        size_t *bytes);
+
+/*
+ * Reads a book's file, for a grid of so many nodes.
+ *
+ * On success writes six cells for each contract to the first cells of book, and
+ * the number of contracts to *contracts.
+ *
+ * Refusals, in this order: 2, 1, 10, 4, 5, then contract by contract 11, 12, 13,
+ * and 9 if the contracts don't fit.
+ */
+uint64_t crr_read_book(size_t nodes,
+                       const uint8_t *file, size_t file_len,
+                       uint64_t *book, size_t book_len,
+                       size_t *contracts);
+
+/*
+ * Writes a book's file, for a grid of so many nodes, from the first 6 * contracts
+ * cells of book.
+ *
+ * On success writes the file to the first bytes of file, and its length to
+ * *bytes. The longest has CRR_MAX_BOOK_BYTES.
+ *
+ * Refusals, in this order: 2, 10, 9 (book), then contract by contract 17, 18, 11,
+ * 12, 13, and 9 if the bytes don't fit.
+ */
+uint64_t crr_write_book(size_t nodes, size_t contracts,
+                        const uint64_t *book, size_t book_len,
+                        uint8_t *file, size_t file_len,
+                        size_t *bytes);
+
+/*
+ * Reads a price file, for a grid of so many constraints.
+ *
+ * On success writes one price for each constraint to the first cells of prices,
+ * and the hour's period to *period.
+ *
+ * Refusals, in this order: 3, 1, 14, 5, 15, 8, and 9 if the prices don't fit.
+ */
+uint64_t crr_read_prices(size_t constraints,
+                         const uint8_t *file, size_t file_len,
+                         uint64_t *prices, size_t prices_len,
+                         uint64_t *period);
+
+/*
+ * Writes a price file from the first cells of prices.
+ *
+ * On success writes the file to the first bytes of file, and its length to
+ * *bytes. The longest has CRR_MAX_PRICE_BYTES.
+ *
+ * Refusals, in this order: 17, 3, 9 (prices), 15, and 9 if the bytes don't fit.
+ */
+uint64_t crr_write_prices(uint64_t period, size_t constraints,
+                          const uint64_t *prices, size_t prices_len,
+                          uint8_t *file, size_t file_len,
+                          size_t *bytes);
+
+/*
+ * The simultaneous feasibility test: whether the contracts of one period, of a
+ * book's file, are feasible on a grid in a process.
+ *
+ * On success the answer is 0 both for a pass and for a fail. *set tells them
+ * apart: it is 0 exactly on pass. On fail writes to *set the overloaded
+ * constraints (bit k is constraint k), to *count how many they are, to *lowest
+ * the lowest of them, and to *excess by how much its flow exceeds its released
+ * limit, which is above 0. On pass writes 0 to all four.
+ *
+ * *set is 0 exactly when no list of shadow prices makes the net payment of the
+ * period's contracts exceed the congestion rent. On fail, prices of 1 cent at
+ * *lowest and 0 elsewhere do, by *excess in 10^-8 cents for an hour.
+ *
+ * Refusals, in this order: 2, 3, 16, 17, 9 (limits, factors), 6, 7, then the
+ * book's own: 1, 10, 4, 5, and contract by contract 11, 12, 13.
+ */
+uint64_t crr_test_book(size_t nodes, size_t constraints,
+                       uint64_t process, uint64_t period,
+                       const uint64_t *limits, size_t limits_len,
+                       const int64_t *factors, size_t factors_len,
+                       const uint8_t *book, size_t book_len,
+                       uint64_t *set, size_t *count, size_t *lowest,
+                       int64_t *excess);
+
+/*
+ * Finds the MCC of all nodes: minus the sum over constraints of factor * price.
+ *
+ * On success writes one MCC for each node to the first cells of mcc.
+ *
+ * Refusals, in this order: 2, 3, 9 (factors, prices, mcc), 7, 15.
+ */
+uint64_t crr_find_mcc(size_t nodes, size_t constraints,
+                      const int64_t *factors, size_t factors_len,
+                      const uint64_t *prices, size_t prices_len,
+                      int64_t *mcc, size_t mcc_len);
+
+/*
+ * Settles an hour of a period, for the contracts of a book's file. A contract's
+ * exact amount is (MCC of sink - MCC of source) * quantity; an option's is 0 when
+ * that is negative. Positive is paid, negative charged.
+ *
+ * On success writes one cell for each contract to the first cells of cents: its
+ * amount to the nearest cent, a half away from zero; 0 for the other period's
+ * contracts. Writes to *sum the cells added, and the exact total of the period's
+ * contracts, summed before rounding, as *whole cents, rounded down, and *parts.
+ * A total of -83,000,000 is -1 whole cents and 17,000,000 parts.
+ *
+ * Refusals, in this order: 2, 3, 17, 9 (factors, prices), 7, 15, then the book's
+ * own: 1, 10, 4, 5, and contract by contract 11, 12, 13; last 9 if the cents
+ * don't fit.
+ */
+uint64_t crr_settle_hour(size_t nodes, size_t constraints, uint64_t period,
+                         const int64_t *factors, size_t factors_len,
+                         const uint64_t *prices, size_t prices_len,
+                         const uint8_t *book, size_t book_len,
+                         int64_t *cents, size_t cents_len,
+                         int64_t *sum, int64_t *whole, uint64_t *parts);
+
+/*
+ * Writes the feasibility report on a grid's file and a book's file: a heading and
+ * a line for each period and process, or the one line `refused,grid,N` or
+ * `refused,book,N`. ASCII, each line ended by one line feed, no 0 byte at the end.
+ *
+ * On success writes the report to the first bytes of text, and its length to
+ * *bytes.
+ *
+ * Refusals: 9 if text has fewer than CRR_REPORT_BYTES bytes. What is wrong with a
+ * file is told by the report's line, and the answer is 0.
+ */
+uint64_t crr_write_report(const uint8_t *grid_file, size_t grid_file_len,
+                          const uint8_t *book_file, size_t book_file_len,
+                          uint8_t *text, size_t text_len,
+                          size_t *bytes);
+
+/*
+ * Writes the hour statement on a grid's file, a book's file and a price file: a
+ * heading, a line for each contract of the hour's period, the sum and the exact
+ * total, or the one line `refused,grid,N`, `refused,book,N` or `refused,prices,N`.
+ * ASCII, each line ended by one line feed, no 0 byte at the end.
+ *
+ * On success writes the statement to the first bytes of text, and its length to
+ * *bytes.
+ *
+ * Refusals: 9 if text has fewer than CRR_STATEMENT_BYTES bytes. What is wrong with
+ * a file is told by the statement's line, and the answer is 0.
+ */
+uint64_t crr_write_statement(const uint8_t *grid_file, size_t grid_file_len,
+                             const uint8_t *book_file, size_t book_file_len,
+                             const uint8_t *price_file, size_t price_file_len,
+                             uint8_t *text, size_t text_len,
+                             size_t *bytes);
+
+#ifdef __cplusplus
+}
+#endif
+
+#endif
