@@ -18,9 +18,9 @@ const HEADING: [u8; 27] = *b"contract,holder,kind,cents\n";
 
 // A contract's number and its holder, each with a comma.
 fn put_numbers(buf: &mut [u8], at: usize, number: u64, holder: u64) -> usize
-    requires { ⌜ (number < 1000) × (holder < 1024) × (at + 9 ≤ length (now buf)) ⌝ }
+    requires { ⌜ at + length (decimal number) + length (decimal holder) + 2 ≤ length (now buf) ⌝ }
     ensures { λ r. ⌜ Put (now (buf .entry)) at (decimal number ++ ascii "," ++ decimal holder ++ ascii ",") (now (buf .exit)) r ⌝ }
-    ensures { λ r. ⌜ r ≤ at + 9 ⌝ }
+    ensures { λ r. ⌜ r ≡ at + length (decimal number) + length (decimal holder) + 2 ⌝ }
 {
     let first = text::put_decimal(buf, at, number);
     let comma = text::put_char(buf, first, b',');

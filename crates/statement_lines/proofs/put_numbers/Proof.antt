@@ -3,22 +3,21 @@ use mathlib.Core.List.{[], _∷_}
 use native.Mathlib.Omega.{arith}
 use Rattle.text.specs.Decimal.{decimal}
 use Rattle.text.proofs.Putting.{put-text-at, then-text}
-use Rattle.statement_lines.proofs.Figures.{three-digits, four-digits}
 use borrow.Author.Needs.{needs}
 use Rattle.statement_lines.proofs.put_numbers.Statement.{statement}
 use Rattle.statement_lines.proofs.put_numbers.Tie as tie
 
 put-decimal-requires : tie.Need-put-decimal-requires
-put-decimal-requires c κs = let s = c .before .before in omega (arith, three-digits (s .args .number) (s .pre .0))
+put-decimal-requires c κs = search needs
 
 put-char-requires : tie.Need-put-char-requires
-put-char-requires c κs = let s = c .before .before .before .before .before .before in omega (arith, three-digits (s .args .number) (s .pre .0))
+put-char-requires c κs = search needs
 
 put-decimal-requires-2 : tie.Need-put-decimal-requires-2
-put-decimal-requires-2 c κs = let s = c .before .before .before .before .before .before .before .before .before .before in omega (arith, three-digits (s .args .number) (s .pre .0), four-digits (s .args .holder) (s .pre .1))
+put-decimal-requires-2 c κs = search needs
 
 put-char-requires-2 : tie.Need-put-char-requires-2
-put-char-requires-2 c κs = let s = c .before .before .before .before .before .before .before .before .before .before .before .before .before .before in omega (arith, three-digits (s .args .number) (s .pre .0), four-digits (s .args .holder) (s .pre .1))
+put-char-requires-2 c κs = search needs
 
 same-length : tie.Need-same-length
 same-length c = search needs
@@ -31,14 +30,12 @@ returns c =
     let p1 = c .before .before .before .before .before .before .before .before .before .before .before .before .before .before .put-decimal in
     let s = c .before .before .before .before .before .before .before .before .before .before .before .before .before .before .before .before .before in
     let a = s .args in
-    let f = s .pre .2 in
-    let n = three-digits (a .number) (s .pre .0) in
-    let h = four-digits (a .holder) (s .pre .1) in
+    let f = s .pre in
     let q1 = put-text-at (a .buf .now) (a .at) (decimal (a .number)) (p1 .ensures .0) (p1 .ensures .1 .0) in
-    let q2 = then-text q1 (omega (arith, f, n, p1 .ensures .1 .0)) (44 ∷ []) (p2 .ensures .0) (p2 .ensures .1) in
-    let q3 = then-text q2 (omega (arith, f, n, p1 .ensures .1 .0, p2 .ensures .1)) (decimal (a .holder)) (p3 .ensures .0) (p3 .ensures .1 .0) in (
-      then-text q3 (omega (arith, f, n, h, p1 .ensures .1 .0, p2 .ensures .1, p3 .ensures .1 .0)) (44 ∷ []) (p4 .ensures .0) (p4 .ensures .1),
-      omega (arith, n, h, p1 .ensures .1 .0, p2 .ensures .1, p3 .ensures .1 .0, p4 .ensures .1),
+    let q2 = then-text q1 (omega (arith, f, p1 .ensures .1 .0)) (44 ∷ []) (p2 .ensures .0) (p2 .ensures .1) in
+    let q3 = then-text q2 (omega (arith, f, p1 .ensures .1 .0, p2 .ensures .1)) (decimal (a .holder)) (p3 .ensures .0) (p3 .ensures .1 .0) in (
+      then-text q3 (omega (arith, f, p1 .ensures .1 .0, p2 .ensures .1, p3 .ensures .1 .0)) (44 ∷ []) (p4 .ensures .0) (p4 .ensures .1),
+      omega (arith, p1 .ensures .1 .0, p2 .ensures .1, p3 .ensures .1 .0, p4 .ensures .1),
     )
 
 pub put-numbers-spec : {M : Type 1} → statement M
