@@ -21,6 +21,7 @@ ghost use Rattle.feasibility_test.specs.TestChecks.{testChecks};
 ghost use Rattle.settlement.specs.SettleChecks.{mccChecks, settleChecks};
 ghost use Rattle.settlement.specs.Answers.{centsCells, centsSum, hourTotal};
 ghost use Rattle.feasibility_report.specs.Report.{report, longest};
+ghost use Rattle.statement_text.specs.Statement.{statement, longest as longestStatement};
 ghost use Rattle.crr.specs.Cells.{numberAfter, cellAfter};
 ghost use Rattle.crr.specs.TestCells.{testCells, CellsDemand3};
 use book_file::BookAnswer;
@@ -286,6 +287,30 @@ pub extern "C" fn crr_write_report(
             bytes: report_bytes,
         } => {
             *bytes = report_bytes;
+            0
+        }
+    }
+}
+
+// Writes the hour statement of a grid's, a book's and a price file into the first bytes of `text`, and gives its length.
+#[no_mangle]
+pub extern "C" fn crr_write_statement(
+    grid_file: &[u8],
+    book_file: &[u8],
+    price_file: &[u8],
+    text: &mut [u8],
+    bytes: &mut usize,
+) -> u64
+    ensures answer { λ r. ⌜ r ≡ numberAfter (first (shortTable (length (now (text .entry))) longestStatement ∷ [])) ⌝ }
+    ensures text { λ r. ⌜ now (text .exit) ≡ cellsAfter (first (shortTable (length (now (text .entry))) longestStatement ∷ [])) (statement (now («grid_file» .entry)) (now («book_file» .entry)) (now («price_file» .entry))) (now (text .entry)) ⌝ }
+    ensures bytes { λ r. ⌜ now (bytes .exit) ≡ cellAfter (first (shortTable (length (now (text .entry))) longestStatement ∷ [])) (length (statement (now («grid_file» .entry)) (now («book_file» .entry)) (now («price_file» .entry)))) (now (bytes .entry)) ⌝ }
+{
+    match statement_text::write_statement(grid_file, book_file, price_file, text) {
+        WriteAnswer::Refused(refusal) => refusal.number(),
+        WriteAnswer::Written {
+            bytes: statement_bytes,
+        } => {
+            *bytes = statement_bytes;
             0
         }
     }

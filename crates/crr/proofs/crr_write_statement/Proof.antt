@@ -1,0 +1,65 @@
+-- `crr_write_statement`.
+use mathlib.Core.Path.{sym, ap, _∙_}
+use mathlib.Core.List.{[], _∷_}
+use lib.ListN.{length}
+use Rattle.tariff.specs.Refusals.{first}
+use Rattle.tariff.specs.Checks.{shortTable}
+use Rattle.layouts.specs.Files.{writeOutcome}
+use Rattle.statement_text.specs.Statement.{statement as statementOf, longest}
+use Rattle.crr.proofs.Cells.{refused-answers, refused-keeps, given-answers, given-count}
+use borrow.Author.Needs.{needs}
+use Rattle.crr.proofs.crr_write_statement.Statement.{statement}
+use Rattle.crr.proofs.crr_write_statement.Tie as tie
+
+write-statement-requires : tie.Need-write-statement-requires
+write-statement-requires c κs = search needs
+
+enum-known-refusal : tie.Need-enum-known-refusal
+enum-known-refusal c = search needs
+
+number-requires : tie.Need-number-requires
+number-requires c κs = search needs
+
+enum-known-statement-bytes : tie.Need-enum-known-statement-bytes
+enum-known-statement-bytes c = search needs
+
+same-length : tie.Need-same-length
+same-length c = search needs
+
+returns : tie.Need-returns
+returns c =
+    let f = c .before .before .before .before .before .before .write-statement in
+    let a = c .before .before .before .before .before .before .before .before .before .before .before .before .args in
+    let refusal = c .before .before .refusal .given in
+    let checked = first (shortTable (length (a .text .now)) longest ∷ []) in
+    let told = sym (ap writeOutcome (refusal .1)) ∙ f .ensures .0 in
+    let answer = refused-answers checked _ (refusal .0 .0) told (c .number .ensures) in
+    let bytes-cell = refused-keeps checked _ (refusal .0 .0) told (length (statementOf (a .grid-file .now) (a .book-file .now) (a .price-file .now))) (a .bytes .now) in
+    (answer, (f .ensures .1, bytes-cell))
+
+same-length-2 : tie.Need-same-length-2
+same-length-2 c = search needs
+
+returns-2 : tie.Need-returns-2
+returns-2 c =
+    let f = c .before .before .before .before .before .write-statement in
+    let a = c .before .before .before .before .before .before .before .before .before .before .before .args in
+    let given = c .before .statement-bytes .given in
+    let checked = first (shortTable (length (a .text .now)) longest ∷ []) in
+    let told = sym (ap writeOutcome (given .1)) ∙ f .ensures .0 in
+    let answer = given-answers checked _ _ told in
+    let bytes-cell = given-count checked _ _ told 0 (a .bytes .now) in
+    (answer, (f .ensures .1, bytes-cell))
+
+pub crr-write-statement-spec : {M : Type 1} → statement M
+crr-write-statement-spec =
+    tie.close
+    (tie.spec
+    write-statement-requires
+    enum-known-refusal
+    number-requires
+    enum-known-statement-bytes
+    same-length
+    returns
+    same-length-2
+    returns-2)

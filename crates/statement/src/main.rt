@@ -1,0 +1,23 @@
+// Writes the hour statement of grid.bin, book.bin and prices.bin, in the folder that it is started in, to standard output.
+use layouts::WriteAnswer;
+use libc::STDOUT_FILENO;
+
+// The buffers hold one byte more than the longest file allowed, so that the length of a longer one is refused.
+fn main() {
+    let mut grid = [0u8; 29019];
+    let mut book = [0u8; 6003];
+    let mut prices = [0u8; 154];
+    let mut text = [0u8; 26078];
+    let grid_bytes = files::read_file(b"grid.bin", &mut grid);
+    let book_bytes = files::read_file(b"book.bin", &mut book);
+    let price_bytes = files::read_file(b"prices.bin", &mut prices);
+    let answer = statement_text::write_statement(
+        &grid[..grid_bytes],
+        &book[..book_bytes],
+        &prices[..price_bytes],
+        &mut text,
+    );
+    if let WriteAnswer::Written { bytes } = answer {
+        io::write_all(STDOUT_FILENO, &text[..bytes]);
+    }
+}

@@ -1,0 +1,48 @@
+-- Document 01, "The hour statement": its lines. Lines end in one line feed; figures are those of text/specs.
+use mathlib.Core.Bool.{cond}
+use mathlib.Core.List.{List, [], _∷_, _++_}
+use Prim.Native.Nat.{ℕ, suc}
+use lib.IntN.{ℤ}
+use Rattle.text.specs.Ascii.{ascii}
+use Rattle.text.specs.Decimal.{decimal, decimalZ}
+use Rattle.tariff.specs.declared.Kind.{Kind}
+use Rattle.tariff.specs.declared.Kind.the-variants.{Obligation, Option}
+use Rattle.tariff.specs.declared.Period.{Period}
+use Rattle.tariff.specs.declared.Contract.{Contract}
+use Rattle.tariff.specs.Units.{Grid}
+use Rattle.tariff.specs.Contracts.{samePeriod}
+use Rattle.tariff.specs.Settlement.{amount, cents, wholeCents, parts}
+use Rattle.settlement.specs.Answers.{centsSum, hourTotal}
+
+-- "The first line is the fixed text"
+abbrev pub heading : List ℕ
+heading = ascii "contract,holder,kind,cents\n"
+
+abbrev pub kindWord : Kind → List ℕ
+kindWord Obligation = ascii "OBL"
+kindWord Option = ascii "OPT"
+
+-- of contract i: "its number, holder, OBL or OPT, cents"
+unfoldable pub contractLine : ℕ → Contract → ℤ → List ℕ
+contractLine i c z = decimal i ++ ascii "," ++ decimal (c .holder) ++ ascii "," ++ kindWord (c .kind) ++ ascii "," ++ decimalZ z ++ ascii "\n"
+
+-- "one line for each contract of the hour's period": none for the other period's
+unfoldable pub lineOf : Period → ℕ → Contract → ℤ → List ℕ
+lineOf t i c z = cond (samePeriod (c .period) t) (contractLine i c z) []
+
+-- "`sum` with the rounded cents added"
+unfoldable pub sumLine : ℤ → List ℕ
+sumLine sum = ascii "sum," ++ decimalZ sum ++ ascii "\n"
+
+-- "`exact` with whole cents and parts"
+unfoldable pub exactLine : ℤ → ℕ → List ℕ
+exactLine whole part = ascii "exact," ++ decimalZ whole ++ ascii "," ++ decimal part ++ ascii "\n"
+
+module _ (g : Grid) (p : List ℕ) (t : Period) where
+  -- the lines of contracts that are numbered from i on, in the book's order
+  unfoldable pub contractLines : ℕ → List Contract → List ℕ
+  contractLines i [] = []
+  contractLines i (c ∷ cs) = lineOf t i c (cents (amount g p c)) ++ contractLines (suc i) cs
+
+  unfoldable pub lines : List Contract → List ℕ
+  lines book = heading ++ contractLines 0 book ++ sumLine (centsSum g p t book) ++ exactLine (wholeCents (hourTotal g p t book)) (parts (hourTotal g p t book))

@@ -1,0 +1,4 @@
+pub mod Agree
+pub mod Settling
+pub mod Prices
+pub mod Grids
