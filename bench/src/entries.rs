@@ -1,8 +1,8 @@
 //! Each public entry on given inputs, proved and plain: first compared, then timed.
 
 use crate::inputs::{Inputs, Size};
-use crate::library::{self, Overload, Totals};
-use crate::plain;
+use crate::library;
+use crate::plain::{self, Overload, Totals};
 use crate::timing::{side_by_side, Times};
 use std::hint::black_box;
 
@@ -144,15 +144,28 @@ fn write_prices(inputs: &Inputs) -> Result<Times, String> {
 fn test_book(inputs: &Inputs) -> Result<Times, String> {
     let Size { nodes, constraints, .. } = inputs.size;
     let (limits, factors, book) = (&inputs.limits, &inputs.factors, &inputs.book_file);
-    let mut overload = Overload::default();
+    let Overload { mut set, mut count, mut lowest, mut excess } = Overload::default();
     for (process, period) in [(0, 0), (0, 1), (1, 0), (1, 1), (2, 0), (2, 1)] {
-        let proved = library::test_book(nodes, constraints, process, period, limits, factors, book, &mut overload);
+        let proved =
+            library::test_book(nodes, constraints, process, period, limits, factors, book, &mut set, &mut count, &mut lowest, &mut excess);
         let plain = plain::test_book(nodes, constraints, process, period, limits, factors, book);
-        agree(&(proved, Ok(overload)), &(0, plain))?;
+        agree(&(proved, Ok(Overload { set, count, lowest, excess })), &(0, plain))?;
     }
     Ok(side_by_side(
         &mut || {
-            black_box(library::test_book(nodes, constraints, 0, 1, limits, black_box(factors), book, &mut overload));
+            black_box(library::test_book(
+                nodes,
+                constraints,
+                0,
+                1,
+                limits,
+                black_box(factors),
+                book,
+                &mut set,
+                &mut count,
+                &mut lowest,
+                &mut excess,
+            ));
         },
         &mut || {
             let _ = black_box(plain::test_book(nodes, constraints, 0, 1, limits, black_box(factors), book));
@@ -181,14 +194,26 @@ fn find_mcc(inputs: &Inputs) -> Result<Times, String> {
 fn settle_hour(inputs: &Inputs) -> Result<Times, String> {
     let Size { nodes, constraints, contracts } = inputs.size;
     let (factors, prices, book) = (&inputs.factors, &inputs.prices, &inputs.book_file);
-    let (mut cents, mut plain_cents, mut totals) = (vec![0; contracts], vec![0; contracts], Totals::default());
-    let proved = library::settle_hour(nodes, constraints, 1, factors, prices, book, &mut cents, &mut totals);
+    let (mut cents, mut plain_cents) = (vec![0; contracts], vec![0; contracts]);
+    let Totals { mut sum, mut whole, mut parts } = Totals::default();
+    let proved = library::settle_hour(nodes, constraints, 1, factors, prices, book, &mut cents, &mut sum, &mut whole, &mut parts);
     let plain = plain::settle_hour(nodes, constraints, 1, factors, prices, book, &mut plain_cents);
-    agree(&(proved, Ok(totals)), &(0, plain))?;
+    agree(&(proved, Ok(Totals { sum, whole, parts })), &(0, plain))?;
     agree(&cents, &plain_cents)?;
     Ok(side_by_side(
         &mut || {
-            black_box(library::settle_hour(nodes, constraints, 1, black_box(factors), prices, book, &mut cents, &mut totals));
+            black_box(library::settle_hour(
+                nodes,
+                constraints,
+                1,
+                black_box(factors),
+                prices,
+                book,
+                &mut cents,
+                &mut sum,
+                &mut whole,
+                &mut parts,
+            ));
         },
         &mut || {
             let _ = black_box(plain::settle_hour(nodes, constraints, 1, black_box(factors), prices, book, &mut plain_cents));

@@ -11,8 +11,8 @@ mod text;
 pub use book::{read_book, write_book};
 pub use grid::{read_grid, write_grid};
 pub use prices::{read_prices, write_prices};
-pub use settlement::{find_mcc, settle_hour};
-pub use test::test_book;
+pub use settlement::{find_mcc, settle_hour, Totals};
+pub use test::{test_book, Overload};
 pub use text::write_report;
 
 /// A refusal's number ("When input is turned down").

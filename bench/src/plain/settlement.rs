@@ -1,6 +1,13 @@
 use super::book::{check_book, contracts, Contract};
 use super::*;
-use crate::library::Totals;
+
+/// The hour's figures: the sum of the rounded cents, and the exact total as whole cents and parts.
+#[derive(Clone, Copy, Debug, Default, PartialEq, Eq)]
+pub struct Totals {
+    pub sum: i64,
+    pub whole: i64,
+    pub parts: u64,
+}
 
 const CENT: i64 = 100_000_000;
 

@@ -1,6 +1,14 @@
 use super::book::{check_book, contracts, Contract};
 use super::*;
-use crate::library::Overload;
+
+/// The test's figures: all 0 where the book passes.
+#[derive(Clone, Copy, Debug, Default, PartialEq, Eq)]
+pub struct Overload {
+    pub set: u64,
+    pub count: usize,
+    pub lowest: usize,
+    pub excess: i64,
+}
 
 /// The flow on each constraint.
 pub type Flows = [i64; MAX_CONSTRAINTS];

@@ -1,7 +1,6 @@
 use super::book::check_book;
-use super::test::{carry, verdict};
+use super::test::{carry, verdict, Overload};
 use super::*;
-use crate::library::Overload;
 use std::io::Write;
 
 const REPORT_BYTES: usize = 2048;

@@ -152,15 +152,6 @@ pub fn write_prices(period: u64, constraints: usize, prices: &[u64], file: &mut 
     unsafe { c::crr_write_prices(period, constraints, prices.as_ptr(), prices.len(), file.as_mut_ptr(), file.len(), bytes) }
 }
 
-/// The test's figures: all 0 where the book passes.
-#[derive(Clone, Copy, Debug, Default, PartialEq, Eq)]
-pub struct Overload {
-    pub set: u64,
-    pub count: usize,
-    pub lowest: usize,
-    pub excess: i64,
-}
-
 #[allow(clippy::too_many_arguments)]
 pub fn test_book(
     nodes: usize,
@@ -170,9 +161,11 @@ pub fn test_book(
     limits: &[u64],
     factors: &[i64],
     book: &[u8],
-    overload: &mut Overload,
+    set: &mut u64,
+    count: &mut usize,
+    lowest: &mut usize,
+    excess: &mut i64,
 ) -> u64 {
-    let Overload { set, count, lowest, excess } = overload;
     unsafe {
         c::crr_test_book(
             nodes,
@@ -199,14 +192,6 @@ pub fn find_mcc(nodes: usize, constraints: usize, factors: &[i64], prices: &[u64
     }
 }
 
-/// The hour's figures: the sum of the rounded cents, and the exact total as whole cents and parts.
-#[derive(Clone, Copy, Debug, Default, PartialEq, Eq)]
-pub struct Totals {
-    pub sum: i64,
-    pub whole: i64,
-    pub parts: u64,
-}
-
 #[allow(clippy::too_many_arguments)]
 pub fn settle_hour(
     nodes: usize,
@@ -216,9 +201,10 @@ pub fn settle_hour(
     prices: &[u64],
     book: &[u8],
     cents: &mut [i64],
-    totals: &mut Totals,
+    sum: &mut i64,
+    whole: &mut i64,
+    parts: &mut u64,
 ) -> u64 {
-    let Totals { sum, whole, parts } = totals;
     unsafe {
         c::crr_settle_hour(
             nodes,
