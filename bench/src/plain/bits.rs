@@ -18,7 +18,7 @@ pub fn fields(file: &[u8], at: usize, width: u32, count: usize) -> impl Iterator
 
 /// Whether the bits from bit `at` to the end of the byte are zero.
 pub fn padding_is_zero(file: &[u8], at: usize) -> bool {
-    at % 8 == 0 || file[at / 8] & (0xff >> (at % 8)) == 0
+    at.is_multiple_of(8) || file[at / 8] & (0xff >> (at % 8)) == 0
 }
 
 /// Fills a slice bit by bit from its front.

@@ -1,7 +1,6 @@
 use super::book::check_book;
 use super::test::{carry, verdict, Overload};
 use super::*;
-use std::io::Write;
 
 const REPORT_BYTES: usize = 2048;
 
@@ -39,9 +38,13 @@ impl Page<'_> {
         self.put_number(number.unsigned_abs());
     }
 
-    fn refused(self, file: &str, refusal: Refusal) -> usize {
-        write!(&mut self.text[..], "refused,{file},{refusal}\n").expect("there is room");
-        "refused,,\n".len() + file.len() + if refusal < 10 { 1 } else { 2 }
+    fn refused(mut self, file: &[u8], refusal: Refusal) -> usize {
+        self.put(b"refused,");
+        self.put(file);
+        self.put(b",");
+        self.put_number(refusal);
+        self.put(b"\n");
+        self.at
     }
 
     fn put_figures(&mut self, overload: Overload) {
@@ -71,10 +74,10 @@ pub fn write_report(grid_file: &[u8], book_file: &[u8], text: &mut [u8]) -> Resu
     let mut factors = [0; MAX_NODES * MAX_CONSTRAINTS];
     let (nodes, constraints) = match read_grid(grid_file, &mut limits, &mut factors) {
         Ok(counts) => counts,
-        Err(refusal) => return Ok(page.refused("grid", refusal)),
+        Err(refusal) => return Ok(page.refused(b"grid", refusal)),
     };
     if let Err(refusal) = check_book(nodes, book_file) {
-        return Ok(page.refused("book", refusal));
+        return Ok(page.refused(b"book", refusal));
     }
     page.put(b"period,process,verdict,overloaded,lowest,excess,constraints\n");
     for (period, name) in [(0, &b"off-peak,"[..]), (1, b"on-peak,")] {
