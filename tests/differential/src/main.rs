@@ -8,6 +8,7 @@ mod library;
 mod rounds;
 mod second;
 mod tally;
+mod vectors;
 
 use draw::{Draw, EXTREMES};
 use rounds::demand;
@@ -79,7 +80,7 @@ fn all(seed: u64) -> ExitCode {
         calls += tally.calls;
         failed += tally.failed;
     }
-    let wrong = demand_3(seed);
+    let wrong = demand_3(seed) + vectors::check() as u64;
     println!("{} passed, {failed} failed", calls - failed);
     if failed == 0 && !lacking && wrong == 0 {
         ExitCode::SUCCESS
