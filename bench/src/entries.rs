@@ -1,0 +1,239 @@
+//! Each public entry on given inputs, proved and plain: first compared, then timed.
+
+use crate::inputs::{Inputs, Size};
+use crate::library;
+use crate::plain::{self, Overload, Totals};
+use crate::timing::{side_by_side, Times};
+use std::hint::black_box;
+
+/// An entry, and what it does on given inputs.
+pub struct Entry {
+    pub name: &'static str,
+    pub run: fn(&Inputs) -> Result<Times, String>,
+}
+
+pub const ENTRIES: [Entry; 10] = [
+    Entry { name: "read_grid", run: read_grid },
+    Entry { name: "write_grid", run: write_grid },
+    Entry { name: "read_book", run: read_book },
+    Entry { name: "write_book", run: write_book },
+    Entry { name: "read_prices", run: read_prices },
+    Entry { name: "write_prices", run: write_prices },
+    Entry { name: "test_book", run: test_book },
+    Entry { name: "find_mcc", run: find_mcc },
+    Entry { name: "settle_hour", run: settle_hour },
+    Entry { name: "write_report", run: write_report },
+];
+
+fn agree<T: PartialEq>(proved: &T, plain: &T) -> Result<(), String> {
+    if proved == plain {
+        Ok(())
+    } else {
+        Err("the proved and the plain answer differ".to_string())
+    }
+}
+
+fn read_grid(inputs: &Inputs) -> Result<Times, String> {
+    let file = &inputs.grid_file;
+    let (mut limits, mut factors) = (vec![0; inputs.limits.len()], vec![0; inputs.factors.len()]);
+    let (mut nodes, mut constraints) = (0, 0);
+    let proved = library::read_grid(file, &mut limits, &mut factors, &mut nodes, &mut constraints);
+    let (mut plain_limits, mut plain_factors) = (vec![0; limits.len()], vec![0; factors.len()]);
+    let plain = plain::read_grid(file, &mut plain_limits, &mut plain_factors);
+    agree(&(proved, nodes, constraints), &(0, inputs.size.nodes, inputs.size.constraints))?;
+    agree(&Ok((nodes, constraints)), &plain)?;
+    agree(&(&limits, &factors), &(&plain_limits, &plain_factors))?;
+    agree(&(&limits, &factors), &(&inputs.limits, &inputs.factors))?;
+    Ok(side_by_side(
+        &mut || {
+            black_box(library::read_grid(black_box(file), &mut limits, &mut factors, &mut nodes, &mut constraints));
+        },
+        &mut || {
+            let _ = black_box(plain::read_grid(black_box(file), &mut plain_limits, &mut plain_factors));
+        },
+    ))
+}
+
+fn write_grid(inputs: &Inputs) -> Result<Times, String> {
+    let Size { nodes, constraints, .. } = inputs.size;
+    let (limits, factors) = (&inputs.limits, &inputs.factors);
+    let (mut file, mut plain_file, mut bytes) = (vec![0; 29_018], vec![0; 29_018], 0);
+    let proved = library::write_grid(nodes, constraints, limits, factors, &mut file, &mut bytes);
+    let plain = plain::write_grid(nodes, constraints, limits, factors, &mut plain_file);
+    agree(&(proved, Ok(bytes)), &(0, plain))?;
+    agree(&file, &plain_file)?;
+    Ok(side_by_side(
+        &mut || {
+            black_box(library::write_grid(nodes, constraints, black_box(limits), factors, &mut file, &mut bytes));
+        },
+        &mut || {
+            let _ = black_box(plain::write_grid(nodes, constraints, black_box(limits), factors, &mut plain_file));
+        },
+    ))
+}
+
+fn read_book(inputs: &Inputs) -> Result<Times, String> {
+    let (nodes, file) = (inputs.size.nodes, &inputs.book_file);
+    let (mut book, mut plain_book, mut contracts) = (vec![0; inputs.book.len()], vec![0; inputs.book.len()], 0);
+    let proved = library::read_book(nodes, file, &mut book, &mut contracts);
+    let plain = plain::read_book(nodes, file, &mut plain_book);
+    agree(&(proved, Ok(contracts)), &(0, plain))?;
+    agree(&(&book, &book), &(&plain_book, &inputs.book))?;
+    Ok(side_by_side(
+        &mut || {
+            black_box(library::read_book(nodes, black_box(file), &mut book, &mut contracts));
+        },
+        &mut || {
+            let _ = black_box(plain::read_book(nodes, black_box(file), &mut plain_book));
+        },
+    ))
+}
+
+fn write_book(inputs: &Inputs) -> Result<Times, String> {
+    let Size { nodes, contracts, .. } = inputs.size;
+    let book = &inputs.book;
+    let (mut file, mut plain_file, mut bytes) = (vec![0; 6_002], vec![0; 6_002], 0);
+    let proved = library::write_book(nodes, contracts, book, &mut file, &mut bytes);
+    let plain = plain::write_book(nodes, contracts, book, &mut plain_file);
+    agree(&(proved, Ok(bytes)), &(0, plain))?;
+    agree(&file, &plain_file)?;
+    Ok(side_by_side(
+        &mut || {
+            black_box(library::write_book(nodes, contracts, black_box(book), &mut file, &mut bytes));
+        },
+        &mut || {
+            let _ = black_box(plain::write_book(nodes, contracts, black_box(book), &mut plain_file));
+        },
+    ))
+}
+
+fn read_prices(inputs: &Inputs) -> Result<Times, String> {
+    let (constraints, file) = (inputs.size.constraints, &inputs.price_file);
+    let (mut prices, mut plain_prices, mut period) = (vec![0; constraints], vec![0; constraints], 0);
+    let proved = library::read_prices(constraints, file, &mut prices, &mut period);
+    let plain = plain::read_prices(constraints, file, &mut plain_prices);
+    agree(&(proved, Ok(period)), &(0, plain))?;
+    agree(&(&prices, &prices), &(&plain_prices, &inputs.prices))?;
+    Ok(side_by_side(
+        &mut || {
+            black_box(library::read_prices(constraints, black_box(file), &mut prices, &mut period));
+        },
+        &mut || {
+            let _ = black_box(plain::read_prices(constraints, black_box(file), &mut plain_prices));
+        },
+    ))
+}
+
+fn write_prices(inputs: &Inputs) -> Result<Times, String> {
+    let (constraints, prices) = (inputs.size.constraints, &inputs.prices);
+    let (mut file, mut plain_file, mut bytes) = (vec![0; 153], vec![0; 153], 0);
+    let proved = library::write_prices(1, constraints, prices, &mut file, &mut bytes);
+    let plain = plain::write_prices(1, constraints, prices, &mut plain_file);
+    agree(&(proved, Ok(bytes)), &(0, plain))?;
+    agree(&file, &plain_file)?;
+    Ok(side_by_side(
+        &mut || {
+            black_box(library::write_prices(1, constraints, black_box(prices), &mut file, &mut bytes));
+        },
+        &mut || {
+            let _ = black_box(plain::write_prices(1, constraints, black_box(prices), &mut plain_file));
+        },
+    ))
+}
+
+fn test_book(inputs: &Inputs) -> Result<Times, String> {
+    let Size { nodes, constraints, .. } = inputs.size;
+    let (limits, factors, book) = (&inputs.limits, &inputs.factors, &inputs.book_file);
+    let Overload { mut set, mut count, mut lowest, mut excess } = Overload::default();
+    for (process, period) in [(0, 0), (0, 1), (1, 0), (1, 1), (2, 0), (2, 1)] {
+        let proved =
+            library::test_book(nodes, constraints, process, period, limits, factors, book, &mut set, &mut count, &mut lowest, &mut excess);
+        let plain = plain::test_book(nodes, constraints, process, period, limits, factors, book);
+        agree(&(proved, Ok(Overload { set, count, lowest, excess })), &(0, plain))?;
+    }
+    Ok(side_by_side(
+        &mut || {
+            black_box(library::test_book(
+                nodes,
+                constraints,
+                0,
+                1,
+                limits,
+                black_box(factors),
+                book,
+                &mut set,
+                &mut count,
+                &mut lowest,
+                &mut excess,
+            ));
+        },
+        &mut || {
+            let _ = black_box(plain::test_book(nodes, constraints, 0, 1, limits, black_box(factors), book));
+        },
+    ))
+}
+
+fn find_mcc(inputs: &Inputs) -> Result<Times, String> {
+    let Size { nodes, constraints, .. } = inputs.size;
+    let (factors, prices) = (&inputs.factors, &inputs.prices);
+    let (mut mcc, mut plain_mcc) = (vec![0; nodes], vec![0; nodes]);
+    let proved = library::find_mcc(nodes, constraints, factors, prices, &mut mcc);
+    let plain = plain::find_mcc(nodes, constraints, factors, prices, &mut plain_mcc);
+    agree(&(proved, Ok(())), &(0, plain))?;
+    agree(&mcc, &plain_mcc)?;
+    Ok(side_by_side(
+        &mut || {
+            black_box(library::find_mcc(nodes, constraints, black_box(factors), prices, &mut mcc));
+        },
+        &mut || {
+            let _ = black_box(plain::find_mcc(nodes, constraints, black_box(factors), prices, &mut plain_mcc));
+        },
+    ))
+}
+
+fn settle_hour(inputs: &Inputs) -> Result<Times, String> {
+    let Size { nodes, constraints, contracts } = inputs.size;
+    let (factors, prices, book) = (&inputs.factors, &inputs.prices, &inputs.book_file);
+    let (mut cents, mut plain_cents) = (vec![0; contracts], vec![0; contracts]);
+    let Totals { mut sum, mut whole, mut parts } = Totals::default();
+    let proved = library::settle_hour(nodes, constraints, 1, factors, prices, book, &mut cents, &mut sum, &mut whole, &mut parts);
+    let plain = plain::settle_hour(nodes, constraints, 1, factors, prices, book, &mut plain_cents);
+    agree(&(proved, Ok(Totals { sum, whole, parts })), &(0, plain))?;
+    agree(&cents, &plain_cents)?;
+    Ok(side_by_side(
+        &mut || {
+            black_box(library::settle_hour(
+                nodes,
+                constraints,
+                1,
+                black_box(factors),
+                prices,
+                book,
+                &mut cents,
+                &mut sum,
+                &mut whole,
+                &mut parts,
+            ));
+        },
+        &mut || {
+            let _ = black_box(plain::settle_hour(nodes, constraints, 1, black_box(factors), prices, book, &mut plain_cents));
+        },
+    ))
+}
+
+fn write_report(inputs: &Inputs) -> Result<Times, String> {
+    let (grid, book) = (&inputs.grid_file, &inputs.book_file);
+    let (mut text, mut plain_text, mut bytes) = (vec![0; 2048], vec![0; 2048], 0);
+    let proved = library::write_report(grid, book, &mut text, &mut bytes);
+    let plain = plain::write_report(grid, book, &mut plain_text);
+    agree(&(proved, Ok(bytes)), &(0, plain))?;
+    agree(&text, &plain_text)?;
+    Ok(side_by_side(
+        &mut || {
+            black_box(library::write_report(black_box(grid), book, &mut text, &mut bytes));
+        },
+        &mut || {
+            let _ = black_box(plain::write_report(black_box(grid), book, &mut plain_text));
+        },
+    ))
+}

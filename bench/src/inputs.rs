@@ -1,0 +1,67 @@
+//! Inputs of a stated size, drawn at random and within every range.
+
+use crate::plain;
+
+/// splitmix64.
+pub struct Draw(u64);
+
+impl Draw {
+    pub fn next(&mut self) -> u64 {
+        self.0 = self.0.wrapping_add(0x9e37_79b9_7f4a_7c15);
+        let mut z = self.0;
+        z = (z ^ (z >> 30)).wrapping_mul(0xbf58_476d_1ce4_e5b9);
+        z = (z ^ (z >> 27)).wrapping_mul(0x94d0_49bb_1331_11eb);
+        z ^ (z >> 31)
+    }
+
+    pub fn below(&mut self, end: u64) -> u64 {
+        self.next() % end
+    }
+}
+
+/// How large the inputs are.
+#[derive(Clone, Copy)]
+pub struct Size {
+    pub nodes: usize,
+    pub constraints: usize,
+    pub contracts: usize,
+}
+
+pub const LARGEST: Size = Size { nodes: 200, constraints: 64, contracts: 1000 };
+
+/// Every table and every file of one size.
+pub struct Inputs {
+    pub size: Size,
+    pub limits: Vec<u64>,
+    pub factors: Vec<i64>,
+    pub prices: Vec<u64>,
+    pub book: Vec<u64>,
+    pub grid_file: Vec<u8>,
+    pub book_file: Vec<u8>,
+    pub price_file: Vec<u8>,
+}
+
+fn contract(draw: &mut Draw, nodes: usize) -> [u64; 6] {
+    let source = draw.below(nodes as u64);
+    let sink = (source + 1 + draw.below(nodes as u64 - 1)) % nodes as u64;
+    [draw.below(2), draw.below(2), draw.below(1024), source, sink, 1 + draw.below(1_000_000)]
+}
+
+impl Inputs {
+    pub fn new(size: Size) -> Self {
+        let Size { nodes, constraints, contracts } = size;
+        let mut draw = Draw(2013);
+        let limits: Vec<u64> = (0..constraints).map(|_| draw.below(100_000_001)).collect();
+        let factors: Vec<i64> = (0..nodes * constraints).map(|_| draw.below(200_001) as i64 - 100_000).collect();
+        let prices: Vec<u64> = (0..constraints).map(|_| draw.below(500_001)).collect();
+        let book: Vec<u64> = (0..contracts).flat_map(|_| contract(&mut draw, nodes)).collect();
+        let (mut grid_file, mut book_file, mut price_file) = (vec![0; 29_018], vec![0; 6_002], vec![0; 153]);
+        let length = plain::write_grid(nodes, constraints, &limits, &factors, &mut grid_file).expect("a grid in range");
+        grid_file.truncate(length);
+        let length = plain::write_book(nodes, contracts, &book, &mut book_file).expect("a book in range");
+        book_file.truncate(length);
+        let length = plain::write_prices(1, constraints, &prices, &mut price_file).expect("prices in range");
+        price_file.truncate(length);
+        Inputs { size, limits, factors, prices, book, grid_file, book_file, price_file }
+    }
+}

@@ -1,0 +1,75 @@
+//! The same entries in plain Rust, over the same layouts and with the same checks, written to be fast.
+
+mod bits;
+mod book;
+mod grid;
+mod prices;
+mod settlement;
+mod test;
+mod text;
+
+pub use book::{read_book, write_book};
+pub use grid::{read_grid, write_grid};
+pub use prices::{read_prices, write_prices};
+pub use settlement::{find_mcc, settle_hour, Totals};
+pub use test::{test_book, Overload};
+pub use text::write_report;
+
+/// A refusal's number ("When input is turned down").
+pub type Refusal = u64;
+
+pub const SHORT_FILE: Refusal = 1;
+pub const NODE_COUNT: Refusal = 2;
+pub const CONSTRAINT_COUNT: Refusal = 3;
+pub const SPARE_BITS: Refusal = 4;
+pub const FILE_LENGTH: Refusal = 5;
+pub const LIMIT_RANGE: Refusal = 6;
+pub const FACTOR_RANGE: Refusal = 7;
+pub const PADDING: Refusal = 8;
+pub const SHORT_TABLE: Refusal = 9;
+pub const CONTRACT_COUNT: Refusal = 10;
+pub const NODE_NUMBER: Refusal = 11;
+pub const SAME_ENDS: Refusal = 12;
+pub const QUANTITY_RANGE: Refusal = 13;
+pub const PRICE_COUNT: Refusal = 14;
+pub const PRICE_RANGE: Refusal = 15;
+pub const PROCESS_NUMBER: Refusal = 16;
+pub const PERIOD_OR_KIND: Refusal = 17;
+pub const HOLDER_RANGE: Refusal = 18;
+
+pub const MAX_NODES: usize = 200;
+pub const MAX_CONSTRAINTS: usize = 64;
+pub const MAX_CONTRACTS: usize = 1000;
+
+/// The refusal unless the condition holds.
+fn demand(holds: bool, refusal: Refusal) -> Result<(), Refusal> {
+    if holds {
+        Ok(())
+    } else {
+        Err(refusal)
+    }
+}
+
+fn check_nodes(nodes: usize) -> Result<(), Refusal> {
+    demand((1..=MAX_NODES).contains(&nodes), NODE_COUNT)
+}
+
+fn check_constraints(constraints: usize) -> Result<(), Refusal> {
+    demand(constraints <= MAX_CONSTRAINTS, CONSTRAINT_COUNT)
+}
+
+fn check_limits(limits: &[u64]) -> Result<(), Refusal> {
+    demand(limits.iter().all(|&limit| limit <= 100_000_000), LIMIT_RANGE)
+}
+
+fn check_factors(factors: &[i64]) -> Result<(), Refusal> {
+    demand(!factors.iter().any(|&factor| factor_bad(factor)), FACTOR_RANGE)
+}
+
+fn check_prices(prices: &[u64]) -> Result<(), Refusal> {
+    demand(prices.iter().all(|&price| price <= 500_000), PRICE_RANGE)
+}
+
+fn factor_bad(factor: i64) -> bool {
+    !(-100_000..=100_000).contains(&factor)
+}

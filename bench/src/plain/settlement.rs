@@ -1,0 +1,80 @@
+use super::book::{check_book, contracts, Contract};
+use super::*;
+
+/// The hour's figures: the sum of the rounded cents, and the exact total as whole cents and parts.
+#[derive(Clone, Copy, Debug, Default, PartialEq, Eq)]
+pub struct Totals {
+    pub sum: i64,
+    pub whole: i64,
+    pub parts: u64,
+}
+
+const CENT: i64 = 100_000_000;
+
+fn fill_mcc(constraints: usize, factors: &[i64], prices: &[u64], mcc: &mut [i64]) {
+    for (node, cell) in mcc.iter_mut().enumerate() {
+        let row = &factors[node * constraints..][..constraints];
+        *cell = -row.iter().zip(prices).map(|(&factor, &price)| factor * price as i64).sum::<i64>();
+    }
+}
+
+#[inline(never)]
+pub fn find_mcc(nodes: usize, constraints: usize, factors: &[i64], prices: &[u64], mcc: &mut [i64]) -> Result<(), Refusal> {
+    check_nodes(nodes)?;
+    check_constraints(constraints)?;
+    let factors = factors.get(..nodes * constraints).ok_or(SHORT_TABLE)?;
+    let prices = prices.get(..constraints).ok_or(SHORT_TABLE)?;
+    let mcc = mcc.get_mut(..nodes).ok_or(SHORT_TABLE)?;
+    check_factors(factors)?;
+    check_prices(prices)?;
+    fill_mcc(constraints, factors, prices, mcc);
+    Ok(())
+}
+
+fn amount(mcc: &[i64; MAX_NODES], c: Contract) -> i64 {
+    let exact = (mcc[c.sink] - mcc[c.source]) * c.quantity as i64;
+    if c.option {
+        exact.max(0)
+    } else {
+        exact
+    }
+}
+
+/// To the nearest cent, a half away from zero.
+fn rounded(amount: i64) -> i64 {
+    (amount + amount.signum() * (CENT / 2)) / CENT
+}
+
+#[inline(never)]
+#[allow(clippy::too_many_arguments)]
+pub fn settle_hour(
+    nodes: usize,
+    constraints: usize,
+    period: u64,
+    factors: &[i64],
+    prices: &[u64],
+    book: &[u8],
+    cents: &mut [i64],
+) -> Result<Totals, Refusal> {
+    check_nodes(nodes)?;
+    check_constraints(constraints)?;
+    demand(period <= 1, PERIOD_OR_KIND)?;
+    let factors = factors.get(..nodes * constraints).ok_or(SHORT_TABLE)?;
+    let prices = prices.get(..constraints).ok_or(SHORT_TABLE)?;
+    check_factors(factors)?;
+    check_prices(prices)?;
+    let count = check_book(nodes, book)?;
+    let cents = cents.get_mut(..count).ok_or(SHORT_TABLE)?;
+    let mut mcc = [0; MAX_NODES];
+    fill_mcc(constraints, factors, prices, &mut mcc[..nodes]);
+    let (mut sum, mut exact) = (0, 0i128);
+    for (cell, c) in cents.iter_mut().zip(contracts(book)) {
+        let amount = if c.period == period { amount(&mcc, c) } else { 0 };
+        *cell = rounded(amount);
+        sum += *cell;
+        exact += i128::from(amount);
+    }
+    let whole = exact.div_euclid(i128::from(CENT)) as i64;
+    let parts = exact.rem_euclid(i128::from(CENT)) as u64;
+    Ok(Totals { sum, whole, parts })
+}

@@ -1,0 +1,79 @@
+use super::book::{check_book, contracts, Contract};
+use super::*;
+
+/// The test's figures: all 0 where the book passes.
+#[derive(Clone, Copy, Debug, Default, PartialEq, Eq)]
+pub struct Overload {
+    pub set: u64,
+    pub count: usize,
+    pub lowest: usize,
+    pub excess: i64,
+}
+
+/// The flow on each constraint.
+pub type Flows = [i64; MAX_CONSTRAINTS];
+
+fn add_flow(flows: &mut [i64], factors: &[i64], c: Contract) {
+    let constraints = flows.len();
+    let source = &factors[c.source * constraints..][..constraints];
+    let sink = &factors[c.sink * constraints..][..constraints];
+    let quantity = c.quantity as i64;
+    if c.option {
+        for ((flow, &from), &to) in flows.iter_mut().zip(source).zip(sink) {
+            *flow += (from - to).max(0) * quantity;
+        }
+    } else {
+        for ((flow, &from), &to) in flows.iter_mut().zip(source).zip(sink) {
+            *flow += (from - to) * quantity;
+        }
+    }
+}
+
+/// The flows of one period's contracts; tables and book have been checked.
+pub fn carry(constraints: usize, period: u64, factors: &[i64], book: &[u8]) -> Flows {
+    let mut flows = [0; MAX_CONSTRAINTS];
+    for c in contracts(book).filter(|c| c.period == period) {
+        add_flow(&mut flows[..constraints], factors, c);
+    }
+    flows
+}
+
+fn released(process: u64, limit: u64) -> i64 {
+    (limit * [75, 60, 100][process as usize] * 1000) as i64
+}
+
+/// The test's figures, all 0 where no flow exceeds its released limit.
+pub fn verdict(process: u64, limits: &[u64], flows: &Flows) -> Overload {
+    let mut set = 0u64;
+    for (k, (&limit, &flow)) in limits.iter().zip(flows).enumerate() {
+        set |= u64::from(flow > released(process, limit)) << k;
+    }
+    if set == 0 {
+        return Overload::default();
+    }
+    let lowest = set.trailing_zeros() as usize;
+    Overload { set, count: set.count_ones() as usize, lowest, excess: flows[lowest] - released(process, limits[lowest]) }
+}
+
+#[inline(never)]
+pub fn test_book(
+    nodes: usize,
+    constraints: usize,
+    process: u64,
+    period: u64,
+    limits: &[u64],
+    factors: &[i64],
+    book: &[u8],
+) -> Result<Overload, Refusal> {
+    check_nodes(nodes)?;
+    check_constraints(constraints)?;
+    demand(process <= 2, PROCESS_NUMBER)?;
+    demand(period <= 1, PERIOD_OR_KIND)?;
+    let limits = limits.get(..constraints).ok_or(SHORT_TABLE)?;
+    let factors = factors.get(..nodes * constraints).ok_or(SHORT_TABLE)?;
+    check_limits(limits)?;
+    check_factors(factors)?;
+    check_book(nodes, book)?;
+    let flows = carry(constraints, period, factors, book);
+    Ok(verdict(process, limits, &flows))
+}

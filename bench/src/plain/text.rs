@@ -1,0 +1,92 @@
+use super::book::check_book;
+use super::test::{carry, verdict, Overload};
+use super::*;
+
+const REPORT_BYTES: usize = 2048;
+
+/// Text put into a lent buffer that has room for the longest.
+struct Page<'a> {
+    text: &'a mut [u8],
+    at: usize,
+}
+
+impl Page<'_> {
+    fn put(&mut self, words: &[u8]) {
+        self.text[self.at..self.at + words.len()].copy_from_slice(words);
+        self.at += words.len();
+    }
+
+    fn put_number(&mut self, number: u64) {
+        let mut digits = [0; 20];
+        let mut first = digits.len();
+        let mut rest = number;
+        loop {
+            first -= 1;
+            digits[first] = b'0' + (rest % 10) as u8;
+            rest /= 10;
+            if rest == 0 {
+                break;
+            }
+        }
+        self.put(&digits[first..]);
+    }
+
+    fn put_signed(&mut self, number: i64) {
+        if number < 0 {
+            self.put(b"-");
+        }
+        self.put_number(number.unsigned_abs());
+    }
+
+    fn refused(mut self, file: &[u8], refusal: Refusal) -> usize {
+        self.put(b"refused,");
+        self.put(file);
+        self.put(b",");
+        self.put_number(refusal);
+        self.put(b"\n");
+        self.at
+    }
+
+    fn put_figures(&mut self, overload: Overload) {
+        if overload.set == 0 {
+            return self.put(b"pass,0,,,\n");
+        }
+        self.put(b"fail,");
+        self.put_number(overload.count as u64);
+        self.put(b",");
+        self.put_number(overload.lowest as u64);
+        self.put(b",");
+        self.put_signed(overload.excess);
+        let mut mark: &[u8] = b",";
+        for k in (0..64).filter(|k| overload.set >> k & 1 == 1) {
+            self.put(mark);
+            self.put_number(k);
+            mark = b" ";
+        }
+        self.put(b"\n");
+    }
+}
+
+#[inline(never)]
+pub fn write_report(grid_file: &[u8], book_file: &[u8], text: &mut [u8]) -> Result<usize, Refusal> {
+    let mut page = Page { text: text.get_mut(..REPORT_BYTES).ok_or(SHORT_TABLE)?, at: 0 };
+    let mut limits = [0; MAX_CONSTRAINTS];
+    let mut factors = [0; MAX_NODES * MAX_CONSTRAINTS];
+    let (nodes, constraints) = match read_grid(grid_file, &mut limits, &mut factors) {
+        Ok(counts) => counts,
+        Err(refusal) => return Ok(page.refused(b"grid", refusal)),
+    };
+    if let Err(refusal) = check_book(nodes, book_file) {
+        return Ok(page.refused(b"book", refusal));
+    }
+    page.put(b"period,process,verdict,overloaded,lowest,excess,constraints\n");
+    for (period, name) in [(0, &b"off-peak,"[..]), (1, b"on-peak,")] {
+        let flows = carry(constraints, period, &factors, book_file);
+        for (process, process_name) in [(0, &b"annual,"[..]), (1, b"lt,"), (2, b"monthly,")] {
+            page.put(name);
+            page.put(process_name);
+            page.put_figures(verdict(process, &limits[..constraints], &flows));
+        }
+    }
+    Ok(page.at)
+}

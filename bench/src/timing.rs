@@ -1,0 +1,51 @@
+//! Two ways of doing one thing, timed side by side.
+
+use std::time::Instant;
+
+const ROUNDS: usize = 301;
+const ROUND_NANOS: u128 = 150_000;
+
+/// Median times of one call, in microseconds.
+pub struct Times {
+    pub proved: f64,
+    pub plain: f64,
+}
+
+fn nanos(calls: usize, run: &mut dyn FnMut()) -> u128 {
+    let start = Instant::now();
+    for _ in 0..calls {
+        run();
+    }
+    start.elapsed().as_nanos()
+}
+
+fn median(mut times: Vec<f64>) -> f64 {
+    times.sort_by(f64::total_cmp);
+    times[times.len() / 2]
+}
+
+/// So many calls that a round of them is long enough to be measured.
+fn calls_in_a_round(run: &mut dyn FnMut()) -> usize {
+    let mut calls = 1;
+    while nanos(calls, run) < ROUND_NANOS {
+        calls *= 2;
+    }
+    calls
+}
+
+/// The rounds of both alternate, and each goes first in every second round, so that a change of the machine's pace meets both alike.
+pub fn side_by_side(proved: &mut dyn FnMut(), plain: &mut dyn FnMut()) -> Times {
+    let calls = calls_in_a_round(proved).max(calls_in_a_round(plain));
+    let (mut proved_times, mut plain_times) = (Vec::new(), Vec::new());
+    for round in 0..ROUNDS {
+        if round % 2 == 0 {
+            proved_times.push(nanos(calls, proved) as f64);
+            plain_times.push(nanos(calls, plain) as f64);
+        } else {
+            plain_times.push(nanos(calls, plain) as f64);
+            proved_times.push(nanos(calls, proved) as f64);
+        }
+    }
+    let unit = 1000.0 * calls as f64;
+    Times { proved: median(proved_times) / unit, plain: median(plain_times) / unit }
+}

@@ -1,0 +1,232 @@
+//! The proved library's C interface (include/crr.h), with slices for pointers and lengths. Each function gives the refusal's number, 0 for none.
+
+mod c {
+    extern "C" {
+        pub fn crr_read_grid(
+            file: *const u8,
+            file_len: usize,
+            limits: *mut u64,
+            limits_len: usize,
+            factors: *mut i64,
+            factors_len: usize,
+            nodes: *mut usize,
+            constraints: *mut usize,
+        ) -> u64;
+        pub fn crr_write_grid(
+            nodes: usize,
+            constraints: usize,
+            limits: *const u64,
+            limits_len: usize,
+            factors: *const i64,
+            factors_len: usize,
+            file: *mut u8,
+            file_len: usize,
+            bytes: *mut usize,
+        ) -> u64;
+        pub fn crr_read_book(nodes: usize, file: *const u8, file_len: usize, book: *mut u64, book_len: usize, contracts: *mut usize)
+            -> u64;
+        pub fn crr_write_book(
+            nodes: usize,
+            contracts: usize,
+            book: *const u64,
+            book_len: usize,
+            file: *mut u8,
+            file_len: usize,
+            bytes: *mut usize,
+        ) -> u64;
+        pub fn crr_read_prices(
+            constraints: usize,
+            file: *const u8,
+            file_len: usize,
+            prices: *mut u64,
+            prices_len: usize,
+            period: *mut u64,
+        ) -> u64;
+        pub fn crr_write_prices(
+            period: u64,
+            constraints: usize,
+            prices: *const u64,
+            prices_len: usize,
+            file: *mut u8,
+            file_len: usize,
+            bytes: *mut usize,
+        ) -> u64;
+        pub fn crr_test_book(
+            nodes: usize,
+            constraints: usize,
+            process: u64,
+            period: u64,
+            limits: *const u64,
+            limits_len: usize,
+            factors: *const i64,
+            factors_len: usize,
+            book: *const u8,
+            book_len: usize,
+            set: *mut u64,
+            count: *mut usize,
+            lowest: *mut usize,
+            excess: *mut i64,
+        ) -> u64;
+        pub fn crr_find_mcc(
+            nodes: usize,
+            constraints: usize,
+            factors: *const i64,
+            factors_len: usize,
+            prices: *const u64,
+            prices_len: usize,
+            mcc: *mut i64,
+            mcc_len: usize,
+        ) -> u64;
+        pub fn crr_settle_hour(
+            nodes: usize,
+            constraints: usize,
+            period: u64,
+            factors: *const i64,
+            factors_len: usize,
+            prices: *const u64,
+            prices_len: usize,
+            book: *const u8,
+            book_len: usize,
+            cents: *mut i64,
+            cents_len: usize,
+            sum: *mut i64,
+            whole: *mut i64,
+            parts: *mut u64,
+        ) -> u64;
+        pub fn crr_write_report(
+            grid_file: *const u8,
+            grid_file_len: usize,
+            book_file: *const u8,
+            book_file_len: usize,
+            text: *mut u8,
+            text_len: usize,
+            bytes: *mut usize,
+        ) -> u64;
+    }
+}
+
+pub fn read_grid(file: &[u8], limits: &mut [u64], factors: &mut [i64], nodes: &mut usize, constraints: &mut usize) -> u64 {
+    unsafe {
+        c::crr_read_grid(
+            file.as_ptr(),
+            file.len(),
+            limits.as_mut_ptr(),
+            limits.len(),
+            factors.as_mut_ptr(),
+            factors.len(),
+            nodes,
+            constraints,
+        )
+    }
+}
+
+pub fn write_grid(nodes: usize, constraints: usize, limits: &[u64], factors: &[i64], file: &mut [u8], bytes: &mut usize) -> u64 {
+    unsafe {
+        c::crr_write_grid(
+            nodes,
+            constraints,
+            limits.as_ptr(),
+            limits.len(),
+            factors.as_ptr(),
+            factors.len(),
+            file.as_mut_ptr(),
+            file.len(),
+            bytes,
+        )
+    }
+}
+
+pub fn read_book(nodes: usize, file: &[u8], book: &mut [u64], contracts: &mut usize) -> u64 {
+    unsafe { c::crr_read_book(nodes, file.as_ptr(), file.len(), book.as_mut_ptr(), book.len(), contracts) }
+}
+
+pub fn write_book(nodes: usize, contracts: usize, book: &[u64], file: &mut [u8], bytes: &mut usize) -> u64 {
+    unsafe { c::crr_write_book(nodes, contracts, book.as_ptr(), book.len(), file.as_mut_ptr(), file.len(), bytes) }
+}
+
+pub fn read_prices(constraints: usize, file: &[u8], prices: &mut [u64], period: &mut u64) -> u64 {
+    unsafe { c::crr_read_prices(constraints, file.as_ptr(), file.len(), prices.as_mut_ptr(), prices.len(), period) }
+}
+
+pub fn write_prices(period: u64, constraints: usize, prices: &[u64], file: &mut [u8], bytes: &mut usize) -> u64 {
+    unsafe { c::crr_write_prices(period, constraints, prices.as_ptr(), prices.len(), file.as_mut_ptr(), file.len(), bytes) }
+}
+
+#[allow(clippy::too_many_arguments)]
+pub fn test_book(
+    nodes: usize,
+    constraints: usize,
+    process: u64,
+    period: u64,
+    limits: &[u64],
+    factors: &[i64],
+    book: &[u8],
+    set: &mut u64,
+    count: &mut usize,
+    lowest: &mut usize,
+    excess: &mut i64,
+) -> u64 {
+    unsafe {
+        c::crr_test_book(
+            nodes,
+            constraints,
+            process,
+            period,
+            limits.as_ptr(),
+            limits.len(),
+            factors.as_ptr(),
+            factors.len(),
+            book.as_ptr(),
+            book.len(),
+            set,
+            count,
+            lowest,
+            excess,
+        )
+    }
+}
+
+pub fn find_mcc(nodes: usize, constraints: usize, factors: &[i64], prices: &[u64], mcc: &mut [i64]) -> u64 {
+    unsafe {
+        c::crr_find_mcc(nodes, constraints, factors.as_ptr(), factors.len(), prices.as_ptr(), prices.len(), mcc.as_mut_ptr(), mcc.len())
+    }
+}
+
+#[allow(clippy::too_many_arguments)]
+pub fn settle_hour(
+    nodes: usize,
+    constraints: usize,
+    period: u64,
+    factors: &[i64],
+    prices: &[u64],
+    book: &[u8],
+    cents: &mut [i64],
+    sum: &mut i64,
+    whole: &mut i64,
+    parts: &mut u64,
+) -> u64 {
+    unsafe {
+        c::crr_settle_hour(
+            nodes,
+            constraints,
+            period,
+            factors.as_ptr(),
+            factors.len(),
+            prices.as_ptr(),
+            prices.len(),
+            book.as_ptr(),
+            book.len(),
+            cents.as_mut_ptr(),
+            cents.len(),
+            sum,
+            whole,
+            parts,
+        )
+    }
+}
+
+pub fn write_report(grid_file: &[u8], book_file: &[u8], text: &mut [u8], bytes: &mut usize) -> u64 {
+    unsafe {
+        c::crr_write_report(grid_file.as_ptr(), grid_file.len(), book_file.as_ptr(), book_file.len(), text.as_mut_ptr(), text.len(), bytes)
+    }
+}

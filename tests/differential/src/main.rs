@@ -1,0 +1,114 @@
+//! Compares each public entry of the proved library with a second implementation of the scope document: every answer and every lent cell.
+//!
+//! `differential [SEED [ENTRY ROUND]]`: another seed than the usual one; one round of one entry, to see a failure again.
+
+mod draw;
+mod lent;
+mod library;
+mod rounds;
+mod second;
+mod tally;
+mod vectors;
+
+use draw::{Draw, EXTREMES};
+use rounds::demand;
+use std::env;
+use std::process::ExitCode;
+use tally::{Entry, Round, Tally};
+
+const SEED: u64 = 20_130_101;
+/// Fewer than this for an entry is a failure; so many are aimed at.
+const LEAST: u64 = 100_000;
+const CALLS: u64 = 300_000;
+const CASES: u64 = 20_000;
+
+const BOOK: &[u64] = &[1, 4, 5, 10, 11, 12, 13];
+const GRID: &[u64] = &[1, 2, 3, 4, 5, 6, 7, 8];
+
+/// Each entry, with the refusals that the scope document lists for it.
+const ENTRIES: [Entry; 10] = [
+    Entry { name: "read_grid", refusals: &[1, 2, 3, 4, 5, 6, 7, 8, 9], files: &[], round: rounds::grid::read },
+    Entry { name: "write_grid", refusals: &[2, 3, 6, 7, 9], files: &[], round: rounds::grid::write },
+    Entry { name: "read_book", refusals: &[1, 2, 4, 5, 9, 10, 11, 12, 13], files: &[], round: rounds::book::read },
+    Entry { name: "write_book", refusals: &[2, 9, 10, 11, 12, 13, 17, 18], files: &[], round: rounds::book::write },
+    Entry { name: "read_prices", refusals: &[1, 3, 5, 8, 9, 14, 15], files: &[], round: rounds::prices::read },
+    Entry { name: "write_prices", refusals: &[3, 9, 15, 17], files: &[], round: rounds::prices::write },
+    Entry { name: "test_book", refusals: &[1, 2, 3, 4, 5, 6, 7, 9, 10, 11, 12, 13, 16, 17], files: &[], round: rounds::test::round },
+    Entry { name: "find_mcc", refusals: &[2, 3, 7, 9, 15], files: &[], round: rounds::settlement::mcc },
+    Entry { name: "settle_hour", refusals: &[1, 2, 3, 4, 5, 7, 9, 10, 11, 12, 13, 15, 17], files: &[], round: rounds::settlement::hour },
+    Entry { name: "write_report", refusals: &[9], files: &[("grid", GRID), ("book", BOOK)], round: rounds::text::report },
+];
+
+/// The rounds of an entry: the extremes, and then so many that there are enough calls.
+fn run(entry: &Entry, seed: u64) -> Tally {
+    let mut tally = Tally::default();
+    let mut number = 0;
+    while tally.calls < CALLS || number < EXTREMES.len() as u64 {
+        (entry.round)(&mut Round::new(entry.name, seed, number, &mut tally));
+        number += 1;
+    }
+    tally
+}
+
+/// Prints an entry's line; whether something is wrong beside a failed comparison.
+fn report(entry: &Entry, tally: &Tally) -> bool {
+    tally.print(entry);
+    let missing = tally.missing(entry);
+    if !missing.is_empty() {
+        println!("{:<16} | never drawn: {}", entry.name, missing.join(", "));
+    }
+    !missing.is_empty() || tally.calls < LEAST
+}
+
+fn demand_3(seed: u64) -> u64 {
+    let mut draw = Draw::new(seed);
+    let mut counts = demand::Counts::default();
+    for _ in 0..CASES {
+        demand::case(&mut draw, &mut counts);
+    }
+    let demand::Counts { passing, failing, lists, wrong } = counts;
+    println!("demand 3: {passing} books pass and {failing} fail, {lists} price lists, {wrong} books wrong");
+    wrong + u64::from(passing == 0 || failing == 0)
+}
+
+fn all(seed: u64) -> ExitCode {
+    println!("seed {seed}\n{:<16} | {:>7} | {:>6} | answers (0: none refused), and how often", "entry", "calls", "failed");
+    let (mut calls, mut failed, mut lacking) = (0, 0, false);
+    for entry in &ENTRIES {
+        let tally = run(entry, seed);
+        lacking |= report(entry, &tally);
+        calls += tally.calls;
+        failed += tally.failed;
+    }
+    let wrong = demand_3(seed) + vectors::check() as u64;
+    println!("{} passed, {failed} failed", calls - failed);
+    if failed == 0 && !lacking && wrong == 0 {
+        ExitCode::SUCCESS
+    } else {
+        ExitCode::FAILURE
+    }
+}
+
+fn one(seed: u64, name: &str, number: u64) -> ExitCode {
+    let Some(entry) = ENTRIES.iter().find(|entry| entry.name == name) else {
+        eprintln!("differential: no entry {name}");
+        return ExitCode::from(2);
+    };
+    let mut tally = Tally::default();
+    (entry.round)(&mut Round::new(entry.name, seed, number, &mut tally));
+    tally.print(entry);
+    ExitCode::from(u8::from(tally.failed > 0))
+}
+
+fn main() -> ExitCode {
+    let words: Vec<String> = env::args().skip(1).collect();
+    let number = |i: usize, usual: u64| words.get(i).map_or(usual, |word| word.parse().expect("a number"));
+    match words.len() {
+        0 | 1 => all(number(0, SEED)),
+        3 => one(number(0, SEED), &words[1], number(2, 0)),
+        _ => {
+            eprintln!("usage: differential [SEED [ENTRY ROUND]]");
+            ExitCode::from(2)
+        }
+    }
+}

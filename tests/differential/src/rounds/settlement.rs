@@ -1,0 +1,121 @@
+//! Finding the MCC and settling hours.
+
+use super::*;
+use crate::draw::{self, Size};
+use crate::lent::Lent;
+use crate::library;
+use crate::second::book::{self, Contract};
+use crate::second::settlement::{find_mcc, settle, Asked};
+use crate::tally::Round;
+
+#[derive(Clone)]
+struct Tables {
+    nodes: usize,
+    constraints: usize,
+    period: u64,
+    factors: Vec<i64>,
+    prices: Vec<u64>,
+    book: Vec<u8>,
+    room: usize,
+}
+
+impl Tables {
+    fn asked(&self) -> Asked<'_> {
+        let Tables { nodes, constraints, period, factors, prices, book, .. } = self;
+        Asked { nodes: *nodes, constraints: *constraints, period: *period, factors, prices, book }
+    }
+}
+
+fn mcc_call(round: &mut Round, asked: &Tables) {
+    let second = find_mcc(&asked.asked(), asked.room);
+    let mut cells = Lent::<i64>::new(&mut round.draw, "mcc", asked.room);
+    let proved = library::find_mcc(asked.nodes, asked.constraints, &asked.factors, &asked.prices, cells.slice());
+    let (number, written) = match second {
+        Ok(mcc) => (0, mcc),
+        Err(number) => (number, Vec::new()),
+    };
+    round.compare(proved, number, &[cells.difference(&written)]);
+}
+
+fn settle_call(round: &mut Round, asked: &Tables) {
+    let second = settle(&asked.asked(), asked.room);
+    let Tables { nodes, constraints, period, factors, prices, book, room } = asked;
+    let mut cents = Lent::<i64>::new(&mut round.draw, "cents", *room);
+    let mut sum = Lent::<i64>::new(&mut round.draw, "sum", 1);
+    let mut whole = Lent::<i64>::new(&mut round.draw, "whole", 1);
+    let mut parts = Lent::<u64>::new(&mut round.draw, "parts", 1);
+    let (own, lent) = (cents.slice(), (sum.figure(), whole.figure(), parts.figure()));
+    let proved = library::settle_hour(*nodes, *constraints, *period, factors, prices, book, own, lent.0, lent.1, lent.2);
+    let (number, written, figures) = match second {
+        Ok(hour) => (0, hour.cents, [vec![hour.sum], vec![hour.whole], vec![hour.parts]]),
+        Err(number) => (number, Vec::new(), Default::default()),
+    };
+    let differences =
+        [cents.difference(&written), sum.difference(&figures[0]), whole.difference(&figures[1]), parts.difference(&figures[2])];
+    round.compare(proved, number, &differences);
+}
+
+/// One thing wrong; the last two are for settling alone.
+fn wrong(draw: &mut Draw, asked: &mut Tables, size: Size, book: &[Contract], kinds: u64) {
+    let cells = asked.factors.len().min(asked.nodes.saturating_mul(asked.constraints));
+    match draw.below(kinds) {
+        0 => asked.nodes = draw.pick(&WRONG_NODES),
+        1 => asked.constraints = draw.pick(&WRONG_CONSTRAINTS),
+        2 => asked.factors.truncate(short(cells)),
+        3 => asked.prices.truncate(short(asked.constraints.min(asked.prices.len()))),
+        4 => spoil(draw, &mut asked.factors, cells, &WRONG_FACTORS),
+        5 => spoil(draw, &mut asked.prices, asked.constraints, &WRONG_PRICES),
+        6 => asked.room = short(asked.room),
+        7 => asked.period = draw.pick(&WRONG_PERIODS),
+        _ => asked.book = super::book::out_of_range(draw, book, size.nodes),
+    }
+}
+
+fn tables(draw: &mut Draw, size: Size, book: &[Contract], room: usize) -> Tables {
+    let grid = draw::grid(draw, size);
+    let list = draw::prices(draw, size.constraints);
+    let factors = table(draw, &grid.factor_cells(), |factor| factor as i64, i64::MAX);
+    let prices = table(draw, &list, |price| price as u64, u64::MAX);
+    let (nodes, constraints) = (size.nodes as usize, size.constraints as usize);
+    Tables { nodes, constraints, period: draw.below(2), factors, prices, book: book::file_of(book), room }
+}
+
+pub fn mcc(round: &mut Round) {
+    let size = draw::size(&mut round.draw, round.number);
+    for room in [size.nodes as usize, size.nodes as usize + 3] {
+        let valid = tables(&mut round.draw, size, &[], room);
+        mcc_call(round, &valid);
+        for _ in 0..10 {
+            let mut asked = valid.clone();
+            for _ in 0..round.draw.within(1, 3) {
+                wrong(&mut round.draw, &mut asked, size, &[], 7);
+            }
+            mcc_call(round, &asked);
+        }
+    }
+}
+
+pub fn hour(round: &mut Round) {
+    let size = draw::size(&mut round.draw, round.number);
+    let book = draw::book(&mut round.draw, size);
+    let valid = tables(&mut round.draw, size, &book, book.len());
+    for period in 0..2 {
+        settle_call(round, &Tables { period, ..valid.clone() });
+        let other = tables(&mut round.draw, size, &book, book.len() + 3);
+        settle_call(round, &Tables { period, ..other });
+    }
+    for _ in 0..25 {
+        let mut asked = valid.clone();
+        for _ in 0..round.draw.within(1, 3) {
+            wrong(&mut round.draw, &mut asked, size, &book, 9);
+        }
+        settle_call(round, &asked);
+    }
+    let mut files = damaged(&mut round.draw, &valid.book, 16);
+    files.extend(super::book::too_many(&mut round.draw));
+    let few = if valid.book.len() > 100 { 40 } else { valid.book.len() };
+    files.extend(cuts(&valid.book).take(few).map(<[u8]>::to_vec));
+    for book in files {
+        settle_call(round, &Tables { book, ..valid.clone() });
+    }
+}

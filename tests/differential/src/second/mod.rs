@@ -1,0 +1,48 @@
+//! A second implementation of the scope document: integers of 128 bits, files as words of '0' and '1', and nothing taken from the proved code.
+//! Each operation gives what is written, or the number of the refusal.
+
+pub mod book;
+pub mod grid;
+pub mod prices;
+pub mod settlement;
+pub mod test;
+pub mod text;
+pub mod word;
+
+pub type Answer<T> = Result<T, u64>;
+
+/// The first refusal whose condition holds.
+pub fn first(checks: &[(bool, u64)]) -> Answer<()> {
+    match checks.iter().find(|(fails, _)| *fails) {
+        Some((_, refusal)) => Err(*refusal),
+        None => Ok(()),
+    }
+}
+
+pub fn nodes_fail(nodes: i128) -> bool {
+    nodes == 0 || nodes > 200
+}
+
+pub fn constraints_fail(constraints: i128) -> bool {
+    constraints > 64
+}
+
+pub fn limit_fails(limit: i128) -> bool {
+    limit > 100_000_000
+}
+
+pub fn factor_fails(factor: i128) -> bool {
+    factor.abs() > 100_000
+}
+
+pub fn price_fails(price: i128) -> bool {
+    price > 500_000
+}
+
+/// The first `count` cells of a table, or 9 where it is too short.
+pub fn cells<T: Copy + Into<i128>>(table: &[T], count: i128) -> Answer<Vec<i128>> {
+    if (table.len() as i128) < count {
+        return Err(9);
+    }
+    Ok(table[..count as usize].iter().map(|&cell| cell.into()).collect())
+}
