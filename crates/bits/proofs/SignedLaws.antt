@@ -1,20 +1,19 @@
 -- Two's complement there and back, over the width.
-use mathlib.Core.Path.{_≡_, refl, ap, _∙_}
-use Prim.Native.Nat.{ℕ, zero, suc, _-_, _+_, _^_, _≤_, _<_}
-use native.Mathlib.Nat.{two-pow-succ}
+use mathlib.Core.Path.{_≡_, refl, sym, ap, _∙_}
+use Prim.Native.Nat.{ℕ, zero, suc, _-_, _+_, _*_, _%_, _^_, _≤_, _<_}
+use native.Mathlib.Nat.{two-pow-succ, mod-eq-of-lt, mul-add-mod-self-right}
 use native.Mathlib.Omega.{arith}
 use mathlib.Core.List.{List, [], _∷_, map}
 use lib.ListN.{getD}
 use lib.Pow.{pow-pos}
 use mathlib.Core.Bool.{Bool, true, false, cond}
-use borrow.Author.Tests.{ltb-true, lt-ltb, le-ltb}
+use borrow.Author.Tests.{ltb-true, ltb-false, lt-ltb, le-ltb}
 use lib.Dec.{ltb}
 use lib.Arith.{comp-comp}
 use lib.IntN.{ℤ, pos, negsuc, _+ℤ_, _-ℤ_}
+use lib.Signed.{mag}
 use mir.Syntax.{w64}
-use mir.Val.{toZ}
-use mir.Facts.{toZ-pos}
-use lib.Signed.{mag, ltZ}
+use mir.Val.{SFits}
 use Rattle.bits.specs.Signed.{ofInt, toInt}
 use Rattle.bits.proofs.Numbers.{Below}
 
@@ -63,20 +62,56 @@ of-below w [] p h i = pow-pos w
 of-below w (z ∷ zs) p h zero = of-lt w z p (h 0)
 of-below w (z ∷ zs) p h (suc i) = of-below w zs p (λ j. h (suc j)) i
 
--- ---- the code: a power of the width, taken off or put on, at 64 bits
+-- ---- the code: half a power of the width put on and taken off again, or a whole one put on
 
-minus : (v n : ℕ) → v < n → pos v -ℤ pos n ≡ negsuc (n - suc v)
-minus v zero h = absurd (omega arith)
-minus v (suc n) h = rw (lt-ltb v (suc n) h)
+less : (a b : ℕ) → a < b → pos a -ℤ pos b ≡ negsuc (b - suc a)
+less a zero h = absurd (omega arith)
+less a (suc b) h = rw (lt-ltb a (suc b) h)
 
-pub code-minus : (w v P : ℕ) → P ≡ 2 ^ w → 2 ^ w < 2 ^ 63 → v < 2 ^ w → toZ w64 v -ℤ toZ w64 P ≡ negsuc (2 ^ w - suc v)
-code-minus w v P e s h = rw (e, toZ-pos w64 {n = v} (omega arith), toZ-pos w64 {n = 2 ^ w} s, minus v (2 ^ w) h)
+more : (a b : ℕ) → pos (a + b) -ℤ pos b ≡ pos a
+more a zero = ap pos (omega arith)
+more a (suc b) = rw (le-ltb (a + suc b) (suc b) (omega arith)) (ap pos (omega arith))
 
-pub code-plus : (w : ℕ) (z : ℤ) (P : ℕ) → P ≡ 2 ^ w → 2 ^ w < 2 ^ 63 → 1 ≤ w → mag z < 2 ^ (w - 1) → ltZ z (pos 0) ≡ true
-    → z +ℤ toZ w64 P ≡ pos (ofInt w z)
-code-plus w (pos n) P e s p h l = let no : n < 0 = ltb-true n 0 l in absurd (omega arith)
-code-plus w (negsuc n) P e s p h l = rw (e, toZ-pos w64 {n = 2 ^ w} s, le-ltb (2 ^ w) (suc n) (omega (arith, half w p)))
+pub code-to : (w v H : ℕ) → 1 ≤ w → v < 2 ^ w → H ≡ 2 ^ (w - 1) → pos ((v + H) % 2 ^ w) -ℤ pos H ≡ toInt w v
+code-to w v H p h e = by (ltb v (2 ^ (w - 1))) refl
+  where
+    by : (b : Bool) → ltb v (2 ^ (w - 1)) ≡ b → pos ((v + H) % 2 ^ w) -ℤ pos H ≡ toInt w v
+    by true q =
+        let low = ltb-true v (2 ^ (w - 1)) q in
+        let kept : (v + H) % 2 ^ w ≡ v + H = mod-eq-of-lt (omega (arith, half w p)) in
+        rw kept (more v H ∙ sym (to-low w low))
+    by false q =
+        let high = ltb-false v (2 ^ (w - 1)) q in
+        let over : v + H ≡ 1 * 2 ^ w + (v - H) = omega (arith, half w p) in
+        let small : (v - H) % 2 ^ w ≡ v - H = mod-eq-of-lt (omega arith) in
+        let rest : (v + H) % 2 ^ w ≡ v - H = rw over (mul-add-mod-self-right 1 (2 ^ w) (v - H) ∙ small) in
+        let back : H - suc (v - H) ≡ 2 ^ w - suc v = omega (arith, half w p) in
+        rw rest (less (v - H) H (omega (arith, half w p)) ∙ ap negsuc back ∙ sym (to-high w high))
 
-pub code-same : (w : ℕ) (z : ℤ) → ltZ z (pos 0) ≡ false → z ≡ pos (ofInt w z)
-code-same w (pos n) e = refl
-code-same w (negsuc n) e = cc
+pub to-fits : (w v : ℕ) → 2 ^ w < 2 ^ 63 → v < 2 ^ w → SFits w64 (toInt w v)
+to-fits w v s h = by (ltb v (2 ^ (w - 1)))
+  where
+    by : (b : Bool) → SFits w64 (cond b (pos v) (negsuc (2 ^ w - suc v)))
+    by true = record { sfits = omega arith }
+    by false = record { sfits = omega arith }
+
+-- an integer with the power put on
+abbrev pub raised : ℕ → ℤ → ℕ
+raised w (pos n) = n + 2 ^ w
+raised w (negsuc n) = 2 ^ w - suc n
+
+module _ (w : ℕ) (p : 1 ≤ w) where
+  pub raised-is : (z : ℤ) → mag z < 2 ^ (w - 1) → z +ℤ pos (2 ^ w) ≡ pos (raised w z)
+  raised-is (pos n) h = refl
+  raised-is (negsuc n) h = rw (le-ltb (2 ^ w) (suc n) (omega (arith, half w p)))
+
+  pub raised-code : (z : ℤ) → mag z < 2 ^ (w - 1) → raised w z % 2 ^ w ≡ ofInt w z
+  raised-code (pos n) h =
+      let over : n + 2 ^ w ≡ 1 * 2 ^ w + n = omega arith in
+      let small : n % 2 ^ w ≡ n = mod-eq-of-lt (omega (arith, half w p)) in
+      rw over (mul-add-mod-self-right 1 (2 ^ w) n ∙ small)
+  raised-code (negsuc n) h = mod-eq-of-lt (omega (arith, pow-pos w))
+
+  pub raised-lt : (z : ℤ) → mag z < 2 ^ (w - 1) → raised w z < 2 ^ w + 2 ^ w
+  raised-lt (pos n) h = omega (arith, half w p)
+  raised-lt (negsuc n) h = omega (arith, half w p)

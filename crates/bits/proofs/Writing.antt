@@ -1,13 +1,13 @@
 -- Laws of a pen, which writes one field after the other: a turn of its loop, and what it has written after many fields.
 use mathlib.Core.Path.{_≡_, refl, sym, ap, ap₂, _∙_}
 use Prim.Native.Nat.{ℕ, _+_, _-_, _*_, _/_, _%_, _^_, _≤_, _<_}
-use native.Mathlib.Nat.{add-zero, mul-zero, div-one, mod-eq-of-lt}
+use native.Mathlib.Nat.{add-zero, mul-zero, mod-one, mod-lt, mod-eq-of-lt}
 use native.Mathlib.Numerals.{add-one}
 use native.Mathlib.Omega.{arith}
 use mathlib.Core.List.{List, [], _∷_, _++_, map}
 use lib.ListN.{length, set, getD, take, drop, length-append}
 use lib.Seq.{take-suc-set, take-all, take-at, drop-at, length-take-le}
-use lib.Pow.{recompose, pow-add}
+use lib.Pow.{shl-shr, high, low, mod-pow-add, mod-mod-pow, pow-add, pow-pos}
 use lib.Arith.{digits-lt}
 use Rattle.bits.specs.Bits.{number, digits}
 use Rattle.bits.specs.Fields.{Field, bits, total, packed, fileOf}
@@ -17,23 +17,43 @@ use Rattle.bits.proofs.Numbers.{Below, number-append, number-more, leng
 use Rattle.bits.proofs.Fill.{drop-later}
 use Rattle.bits.proofs.Files.{packed-append, total-run, packed-run}
 
--- `a` of j bits and then `v` of k bits
-pub join-lt : (j k : ℕ) {a v : ℕ} → a < 2 ^ j → v < 2 ^ k → a * 2 ^ k + v < 2 ^ (j + k)
-join-lt j k ha hv = rw pow-add (digits-lt ha hv)
+-- ---- `v` of w bits behind the bits of `a`, at 64 bits
 
--- the byte that is stored and the bits that are left are the bits that were held
-pub put-turn : (s : List ℕ) (at held bits byte rest : ℕ) → at < length s → 8 ≤ held → bits < 2 ^ held
-    → byte ≡ bits / 2 ^ (held - 8) % 2 ^ 8 → rest ≡ bits / 2 ^ 0 % 2 ^ (held - 8)
-    → number 8 (take (at + 1) (set s at byte)) * 2 ^ (held - 8) + rest ≡ number 8 (take at s) * 2 ^ held + bits
-put-turn s at held bits byte rest h big fit b r =
-    rw (add-one, take-suc-set s at byte h, number-append, b, r, div-one)
-    (omega (arith, ap (λ (x : ℕ). number 8 (take at s) * x) pows, recompose 8 (held - 8) (rw same at fit)))
-  where
-    same : held ≡ 8 + (held - 8)
-    same = omega arith
+shifted : (a w : ℕ) → w ≤ 64 → a * 2 ^ w % 2 ^ 64 ≡ a % 2 ^ (64 - w) * 2 ^ w
+shifted a w h =
+    let all : 64 ≡ 64 - w + w = omega arith in
+    let none : a * 2 ^ w % 2 ^ w ≡ 0 = ap (λ (x : ℕ). x % 2 ^ w) (sym (add-zero (a * 2 ^ w))) ∙ low a w {lo = 0} (pow-pos w) in
+    ap (λ (x : ℕ). a * 2 ^ w % 2 ^ x) all ∙ mod-pow-add (a * 2 ^ w) (64 - w) w ∙ rw (shl-shr a w, none) (omega arith)
 
-    pows : 2 ^ held ≡ 256 * 2 ^ (held - 8)
-    pows = ap (λ (x : ℕ). 2 ^ x) same ∙ pow-add 2 8 (held - 8)
+module _ (a v w : ℕ) (few : w ≤ 32) (fit : v < 2 ^ w) where
+  pub join-lt : a * 2 ^ w % 2 ^ 64 + v < 2 ^ 64
+  join-lt =
+      let sum : 64 - w + w ≡ 64 = omega arith in
+      let all : 2 ^ (64 - w) * 2 ^ w ≡ 2 ^ 64 = sym (pow-add 2 (64 - w) w) ∙ ap (λ (x : ℕ). 2 ^ x) sum in
+      rw (shifted a w (omega arith)) (rw all at (digits-lt (mod-lt a (pow-pos (64 - w))) fit))
+
+  -- only the lowest bits of `a` count
+  pub join-low : (held : ℕ) → held + w ≤ 64 → (a * 2 ^ w % 2 ^ 64 + v) % 2 ^ (held + w) ≡ a % 2 ^ held * 2 ^ w + v
+  join-low held h =
+      let most : 64 - w ≡ 64 - w - held + held = omega arith in
+      let lost : a % 2 ^ (64 - w) % 2 ^ held ≡ a % 2 ^ held = ap (λ (x : ℕ). a % 2 ^ x % 2 ^ held) most ∙ mod-mod-pow a (64 - w - held) held in
+      rw (shifted a w (omega arith)) (mod-pow-add (a % 2 ^ (64 - w) * 2 ^ w + v) held w ∙ rw (high (a % 2 ^ (64 - w)) w fit, low (a % 2 ^ (64 - w)) w fit, lost))
+
+-- ---- bytes that leave the pen
+
+-- the bits held are those that are stored and those that stay
+split-held : (bits k held : ℕ) → k ≤ held → bits % 2 ^ held ≡ bits / 2 ^ (held - k) % 2 ^ k * 2 ^ (held - k) + bits % 2 ^ (held - k)
+split-held bits k held h =
+    let same : held ≡ k + (held - k) = omega arith in
+    ap (λ (x : ℕ). bits % 2 ^ x) same ∙ mod-pow-add bits k (held - k)
+
+pub put-turn : (s : List ℕ) (at held bits byte : ℕ) → at < length s → 8 ≤ held → byte ≡ bits / 2 ^ (held - 8) % 2 ^ 8
+    → number 8 (take (at + 1) (set s at byte)) * 2 ^ (held - 8) + bits % 2 ^ (held - 8) ≡ number 8 (take at s) * 2 ^ held + bits % 2 ^ held
+put-turn s at held bits byte h big b =
+    let same : held ≡ 8 + (held - 8) = omega arith in
+    let pows : 2 ^ held ≡ 256 * 2 ^ (held - 8) = ap (λ (x : ℕ). 2 ^ x) same ∙ pow-add 2 8 (held - 8) in
+    rw (add-one, take-suc-set s at byte h, number-append, b)
+    (omega (arith, ap (λ (x : ℕ). number 8 (take at s) * x) pows, split-held bits 8 held big))
 
 -- the same of four bytes at once
 module _ (s t : List ℕ) (at w : ℕ) (room : at + 4 ≤ length s) (is : t ≡ take at s ++ digits 8 4 w ++ drop (at + 4) s) where
@@ -50,13 +70,13 @@ module _ (s t : List ℕ) (at w : ℕ) (room : at + 4 ≤ length s) (is : t ≡ 
       ∙ number-append 8 (take at s) (digits 8 4 w)
       ∙ ap (λ (x : ℕ). number 8 (take at s) * 2 ^ 32 + x) (number-digits 8 4 w)
 
-  pub word-turn : (held bits rest : ℕ) → 32 ≤ held → bits < 2 ^ held → w < 2 ^ 32 → w ≡ bits / 2 ^ (held - 32) % 2 ^ 32 → rest ≡ bits / 2 ^ 0 % 2 ^ (held - 32)
-      → number 8 (take (at + 4) t) * 2 ^ (held - 32) + rest ≡ number 8 (take at s) * 2 ^ held + bits
-  word-turn held bits rest big fit small e r =
+  pub word-turn : (held bits : ℕ) → 32 ≤ held → w < 2 ^ 32 → w ≡ bits / 2 ^ (held - 32) % 2 ^ 32
+      → number 8 (take (at + 4) t) * 2 ^ (held - 32) + bits % 2 ^ (held - 32) ≡ number 8 (take at s) * 2 ^ held + bits % 2 ^ held
+  word-turn held bits big small e =
       let same : held ≡ 32 + (held - 32) = omega arith in
       let pows : 2 ^ held ≡ 2 ^ 32 * 2 ^ (held - 32) = ap (λ (x : ℕ). 2 ^ x) same ∙ pow-add 2 32 (held - 32) in
-      rw (front, mod-eq-of-lt small, e, r, div-one)
-      (omega (arith, ap (λ (x : ℕ). number 8 (take at s) * x) pows, recompose 32 (held - 32) (rw same at fit)))
+      rw (front, mod-eq-of-lt small, e)
+      (omega (arith, ap (λ (x : ℕ). number 8 (take at s) * x) pows, split-held bits 32 held big))
 
 -- what was written before, and then v
 pub put-more : (n held k bits v w : ℕ) → bits ≡ k * 2 ^ w + v → n * 2 ^ (held + w) + bits ≡ (n * 2 ^ held + k) * 2 ^ w + v
@@ -78,8 +98,7 @@ unfolding written
 pen-start buf p ok at =
     let h : p .held ≡ 0 = omega arith in
     let a : p .at ≡ 0 = omega arith in
-    let b : p .bits < 2 ^ 0 = rw h at (ok .fit) in
-    rw (h, a) (omega (arith, b))
+    rw (h, a, mod-one (p .bits)) (omega arith)
 
 -- one field more: Y was written before it, Z after it
 pub pen-step : (fs : List Field) (w v Y Z : ℕ) → Y ≡ packed fs → Z ≡ Y * 2 ^ w + v → Z ≡ packed (fs ++ bits w v ∷ [])
@@ -91,8 +110,7 @@ unfolding written
 pen-bytes buf r m ok few end =
     let h : r .held ≡ 0 = omega arith in
     let a : r .at ≡ m = omega arith in
-    let b : r .bits < 2 ^ 0 = rw h at (ok .fit) in
-    rw (h, a) (omega (arith, b))
+    rw (h, a, mod-one (r .bits)) (omega arith)
 
 -- at the end the bytes are the file of the fields
 pub pen-end : (fs : List Field) (m : ℕ) (buf : List ℕ) (r : Pen) → Below 8 buf → m ≤ length buf → Ready r → r .held ≤ 7 → place r ≡ total fs → total fs ≡ 8 * m

@@ -1,23 +1,22 @@
 -- A pen writes fields one after the other into bytes: what it has written, where it stands, and what holds of it between two fields.
 use mathlib.Core.Path.{_≡_}
-use Prim.Native.Nat.{ℕ, _+_, _*_, _^_, _≤_, _<_}
+use Prim.Native.Nat.{ℕ, _+_, _*_, _%_, _^_, _≤_}
 use mathlib.Core.List.{List}
 use lib.ListN.{take, drop}
 use Rattle.bits.specs.Bits.{number}
 use Rattle.bits.specs.declared.Pen.{Pen}
 
--- the bytes before its place, and the bits that it holds, which are not stored yet
+-- the bytes before its place, and the bits that it holds, its lowest, which are not stored yet
 unfoldable pub written : List ℕ → Pen → ℕ
-written s p = number 8 (take (p .at) s) * 2 ^ (p .held) + p .bits
+written s p = number 8 (take (p .at) s) * 2 ^ (p .held) + p .bits % 2 ^ (p .held)
 
 -- how many bits a pen has written
 abbrev pub place : Pen → ℕ
 place p = 8 * p .at + p .held
 
 -- a pen between two fields holds less than four bytes
-pub record Ready (p : Pen) : Type 0 where
-  pub few : p .held ≤ 31
-  pub fit : p .bits < 2 ^ (p .held)
+abbrev pub Ready : Pen → Type 0
+Ready p = p .held ≤ 31
 
 -- a pen that goes on: it never goes back, and the bytes from its new place on stay as they are
 pub record GoesOn (entry : List ℕ) (p : Pen) (exit : List ℕ) (r : Pen) : Type 0 where

@@ -1,7 +1,7 @@
 // Bit fields of any width at any bit offset of a slice of bytes, the most significant bit first: read, written, and taken as two's complement.
 ghost use mathlib.Core.Path.{_≡_};
 ghost use mathlib.Core.List.{_++_};
-ghost use Prim.Native.Nat.{_+_, _-_, _*_, _/_, _%_, _^_, _≤_, _<_};
+ghost use Prim.Native.Nat.{ℕ, _+_, _-_, _*_, _/_, _%_, _^_, _≤_, _<_};
 ghost use lib.Signed.{mag};
 ghost use lib.ListN.{length, take, drop};
 ghost use Rattle.bits.specs.Bits.{number, digits, field as fieldOf};
@@ -77,7 +77,7 @@ fn cut(s: &[u8], offset: usize, width: usize, count: usize, acc: u64) -> u64
     part(acc, 8 * count - offset % 8 - width, width)
 }
 
-// The field of `width` bits at bit `offset`: five bytes at once, or where there are fewer, all that are left.
+// The field of `width` bits at bit `offset`: four or five bytes at once, or where there are fewer, all that are left.
 pub fn field(s: &[u8], offset: usize, width: usize) -> u64
     requires { ⌜ offset + width ≤ 8 * length (now s) ⌝ }
     requires { ⌜ width ≤ 32 ⌝ }
@@ -85,26 +85,28 @@ pub fn field(s: &[u8], offset: usize, width: usize) -> u64
 {
     let first = offset / 8;
     let left = s.len() - first;
-    if 5 <= left {
-        cut(s, offset, width, 5, window5(s, first))
-    } else {
+    if left < 5 {
         cut(s, offset, width, left, window(s, first, left))
+    } else if width <= 25 {
+        cut(s, offset, width, 4, window4(s, first))
+    } else {
+        cut(s, offset, width, 5, window5(s, first))
     }
 }
 
-// Where a writer stands: `at` whole bytes are written, and `held` bits more wait in `bits`.
+// Where a writer stands: `at` whole bytes are written, and `held` bits more wait, the lowest of `bits`.
 pub struct Pen {
     pub at: usize,
     pub held: usize,
     pub bits: u64,
 }
 
-// `v`, of `width` bits, behind `a`, of `held` bits.
-fn join(a: u64, held: usize, v: u64, width: usize) -> u64
-    requires { ⌜ (a < 2 ^ held) × (v < 2 ^ width) × (held + width ≤ 63) ⌝ }
-    ensures { λ r. ⌜ (r ≡ a * 2 ^ width + v) × (r < 2 ^ (held + width)) ⌝ }
+// `v`, of `width` bits, behind the bits of `a`, of which the highest are lost.
+fn join(a: u64, v: u64, width: usize) -> u64
+    requires { ⌜ (v < 2 ^ width) × (width ≤ 32) ⌝ }
+    ensures { λ r. ⌜ ((held : ℕ) → held + width ≤ 64 → r % 2 ^ (held + width) ≡ a % 2 ^ held * 2 ^ width + v) ⌝ }
 {
-    a * (1u64 << width) + v
+    (a << width) + v
 }
 
 // Stores the four bytes of a number of 32 bits at place `at`.
@@ -129,7 +131,7 @@ pub fn put(buf: &mut [u8], pen: Pen, v: u64, width: usize) -> Pen
 {
     let at = pen.at;
     let held = pen.held + width;
-    let bits = join(pen.bits, pen.held, v, width);
+    let bits = join(pen.bits, v, width);
     if held < 32 {
         return Pen { at, held, bits };
     }
@@ -138,7 +140,7 @@ pub fn put(buf: &mut [u8], pen: Pen, v: u64, width: usize) -> Pen
     Pen {
         at: at + 4,
         held: rest,
-        bits: part(bits, 0, rest),
+        bits,
     }
 }
 
@@ -152,11 +154,10 @@ fn shed(buf: &mut [u8], pen: Pen) -> Pen
 {
     let mut at = pen.at;
     let mut held = pen.held;
-    let mut bits = pen.bits;
+    let bits = pen.bits;
     while 8 <= held {
         held -= 8;
         buf[at] = part(bits, held, 8) as u8;
-        bits = part(bits, 0, held);
         at += 1;
     }
     Pen { at, held, bits }
@@ -181,11 +182,9 @@ pub fn signed(v: u64, width: usize) -> i64
     requires { ⌜ v < 2 ^ width ⌝ }
     ensures { λ r. ⌜ r ≡ toInt width v ⌝ }
 {
-    if v < (1u64 << (width - 1)) {
-        v as i64
-    } else {
-        (v as i64) - ((1u64 << width) as i64)
-    }
+    let half = 1u64 << (width - 1);
+    let raised = (v + half) % (1u64 << width);
+    (raised as i64) - (half as i64)
 }
 
 // The two's complement of `width` bits of `z`.
@@ -194,9 +193,6 @@ pub fn unsigned(z: i64, width: usize) -> u64
     requires { ⌜ mag z < 2 ^ (width - 1) ⌝ }
     ensures { λ r. ⌜ (r ≡ ofInt width z) × (r < 2 ^ width) ⌝ }
 {
-    if z < 0 {
-        (z + ((1u64 << width) as i64)) as u64
-    } else {
-        z as u64
-    }
+    let power = 1u64 << width;
+    ((z + (power as i64)) as u64) % power
 }

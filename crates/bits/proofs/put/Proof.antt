@@ -20,8 +20,8 @@ unfolding written
 returns c =
     let a = c .before .before .before .before .args in
     let j = c .before .join in (
-      put-more _ (a .pen .held) (a .pen .bits) _ (a .v) (a .width) (j .ensures .0),
-      ((omega arith, record { few = omega (arith, c .if1 .taken); fit = j .ensures .1 }), record { onward = omega arith; rest = refl }),
+      put-more _ (a .pen .held) _ _ (a .v) (a .width) (j .ensures (a .pen .held) (omega arith)),
+      ((omega arith, omega (arith, c .if1 .taken)), record { onward = omega arith; rest = refl }),
     )
 
 part-requires : tie.Need-part-requires
@@ -33,28 +33,22 @@ store4-requires c κs = search needs
 add-t14 : tie.Need-add-t14
 add-t14 c = search needs
 
-part-requires-2 : tie.Need-part-requires-2
-part-requires-2 c κs = search needs
-
 same-length : tie.Need-same-length
 same-length c = search needs
 
 returns-2 : tie.Need-returns-2
 unfolding written
 returns-2 c =
-    let s = c .before .before .before .before .before .before .before .before .before .before in
+    let s = c .before .before .before .before .before .before .before .before .before in
     let a = s .args in
-    let i = c .before .before .before .before .before .before in
+    let i = c .before .before .before .before .before in
     let j = i .before .join in
-    let w = c .before .before .before .before .part in
-    let st = c .before .before .before .store4 in
+    let w = c .before .before .before .part in
+    let st = c .before .before .store4 in
     let room : a .pen .at + 4 ≤ length (a .buf .now) = omega (arith, s .pre, i .if1 .left) in (
-      word-turn (a .buf .now) _ (a .pen .at) (w .result) room (st .ensures) (a .pen .held + a .width) (j .result) (c .part2 .result) (omega (arith, i .if1 .left)) (j .ensures .1) (w .ensures .1) (w .ensures .0) (c .part2 .ensures .0)
-          ∙ put-more _ (a .pen .held) (a .pen .bits) _ (a .v) (a .width) (j .ensures .0),
-      (
-        (omega (arith, i .if1 .left), record { few = omega (arith, s .pre); fit = c .part2 .ensures .1 }),
-        record { onward = omega arith; rest = word-rest (a .buf .now) _ (a .pen .at) (w .result) room (st .ensures) },
-      ),
+      word-turn (a .buf .now) _ (a .pen .at) (w .result) room (st .ensures) (a .pen .held + a .width) (j .result) (omega (arith, i .if1 .left)) (w .ensures .1) (w .ensures .0)
+          ∙ put-more _ (a .pen .held) _ _ (a .v) (a .width) (j .ensures (a .pen .held) (omega (arith, s .pre))),
+      ((omega (arith, i .if1 .left), omega (arith, s .pre)), record { onward = omega arith; rest = word-rest (a .buf .now) _ (a .pen .at) (w .result) room (st .ensures) }),
     )
 
 pub put-spec : {M : Type 1} → statement M
@@ -67,6 +61,5 @@ put-spec =
     part-requires
     store4-requires
     add-t14
-    part-requires-2
     same-length
     returns-2)

@@ -1,6 +1,6 @@
 -- `bits::shed`: a turn stores the eight highest bits that are held. What is written does not change, and the bytes behind it are as they were.
 use mathlib.Core.Path.{_≡_, _∙_}
-use Prim.Native.Nat.{_<_, _≤_, _+_, _*_, _^_}
+use Prim.Native.Nat.{_≤_, _+_, _*_, _%_, _^_}
 use native.Mathlib.Omega.{arith}
 use lib.ListN.{length, take, drop, length-set}
 use borrow.Author.Needs.{needs}
@@ -12,12 +12,12 @@ use Rattle.bits.proofs.shed.Statement.{statement}
 use Rattle.bits.proofs.shed.Tie as tie
 
 abbrev Inv-loop : tie.InvT-loop
-Inv-loop buf₀ at₀ held₀ bits₀ buf at held bits =
-    (drop at buf ≡ drop at buf₀) × (length buf ≡ length buf₀) × (8 * at + held ≡ 8 * at₀ + held₀) × (at₀ ≤ at) × (held ≤ held₀) × (bits < 2 ^ held)
-    × (number 8 (take at buf) * 2 ^ held + bits ≡ number 8 (take at₀ buf₀) * 2 ^ held₀ + bits₀)
+Inv-loop buf₀ at₀ held₀ bits buf at held =
+    (drop at buf ≡ drop at buf₀) × (length buf ≡ length buf₀) × (8 * at + held ≡ 8 * at₀ + held₀) × (at₀ ≤ at) × (held ≤ held₀)
+    × (number 8 (take at buf) * 2 ^ held + bits % 2 ^ held ≡ number 8 (take at₀ buf₀) * 2 ^ held₀ + bits % 2 ^ held₀)
 
 abbrev μ-loop : tie.MeasureT-loop
-μ-loop buf₀ at₀ held₀ bits₀ buf at held bits = held
+μ-loop buf₀ at₀ held₀ bits buf at held = held
 
 loop-holds : tie.Need-loop-holds Inv-loop μ-loop
 loop-holds c = search needs
@@ -31,9 +31,6 @@ cast-buf c = search needs
 slice-write-buf : tie.Need-slice-write-buf Inv-loop μ-loop
 slice-write-buf c = search needs
 
-part-requires-2 : tie.Need-part-requires-2 Inv-loop μ-loop
-part-requires-2 c κs = search needs
-
 add-at : tie.Need-add-at Inv-loop μ-loop
 add-at c = search needs
 
@@ -42,14 +39,13 @@ loop-less c = search needs
 
 loop-again : tie.Need-loop-again Inv-loop μ-loop
 loop-again c =
-    let l = c .before .before .before .loop in (
+    let l = c .before .before .loop in (
       rest-turn (l .buf) _ (l .at) _ (l .inv .0),
       simp length-set (omega arith),
       omega arith,
       omega arith,
       omega arith,
-      c .part2 .ensures .1,
-      put-turn (l .buf) (l .at) (l .held) (l .bits) _ _ (omega arith) (omega arith) (l .inv .5) (c .before .part .ensures .0) (c .part2 .ensures .0) ∙ l .inv .6,
+      put-turn (l .buf) (l .at) (l .held) _ _ (omega arith) (omega arith) (c .part .ensures .0) ∙ l .inv .5,
     )
 
 same-length : tie.Need-same-length Inv-loop μ-loop
@@ -59,7 +55,7 @@ returns : tie.Need-returns Inv-loop μ-loop
 unfolding written
 returns c =
     let l = c .before .loop in
-    (l .inv .6, ((l .inv .2, omega arith, record { few = omega arith; fit = l .inv .5 }), record { onward = l .inv .3; rest = l .inv .0 }))
+    (l .inv .5, ((l .inv .2, omega arith, omega arith), record { onward = l .inv .3; rest = l .inv .0 }))
 
 pub shed-spec : {M : Type 1} → statement M
 shed-spec =
@@ -71,7 +67,6 @@ shed-spec =
     part-requires
     cast-buf
     slice-write-buf
-    part-requires-2
     add-at
     loop-less
     loop-again

@@ -99,7 +99,7 @@ returns c =
     let fs = map (ofInt 18) (take (m .result) (a .factors .now)) in
     let long : length ls ≡ a .constraints = length-take-le (a .constraints) (a .limits .now) (omega (arith, s .pre)) in
     let longer : length fs ≡ m .result = length-coded (a .factors .now) (m .result) (omega (arith, s .pre, m .ensures)) in
-    let one = penned-put (penned-start (a .file .now) _ (record { few = omega arith; fit = omega arith }) refl) 8 _ _ (a .nodes) (a1 .ensures) in
+    let one = penned-put (penned-start (a .file .now) _ (omega arith) refl) 8 _ _ (a .nodes) (a1 .ensures) in
     let two = penned-put one 7 _ _ (a .constraints) (a2 .ensures) in
     let three = penned-put two 1 _ _ 0 (a3 .ensures) in
     let four = penned-run three 27 _ _ ls (a .constraints) long (w .ensures) in

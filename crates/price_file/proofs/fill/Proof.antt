@@ -69,7 +69,7 @@ returns c =
     let z = c .before .before .put-last in
     let ps = take (a .constraints) (a .prices .now) in
     let long : length ps ≡ a .constraints = length-take-le (a .constraints) (a .prices .now) (omega (arith, s .pre)) in
-    let one = penned-put (penned-start (a .file .now) _ (record { few = omega arith; fit = omega arith }) refl) 1 _ _ (a .period) (e .ensures) in
+    let one = penned-put (penned-start (a .file .now) _ (omega arith) refl) 1 _ _ (a .period) (e .ensures) in
     let two = penned-put one 7 _ _ (a .constraints) (g .ensures) in
     let three = penned-run two 19 _ _ ps (a .constraints) long (w .ensures) in
     let four = penned-last three _ _ _ 0 (z .ensures) in (
