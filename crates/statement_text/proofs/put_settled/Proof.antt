@@ -1,11 +1,10 @@
 -- `put_settled`: where settling's checks pass it does not refuse, and what it gives fits the lines.
-use mathlib.Core.Path.{_≡_, sym, ap, _∙_}
+use mathlib.Core.Path.{_≡_}
 use mathlib.Core.List.{List}
 use native.Mathlib.Omega.{arith}
 use lib.ListN.{length, replicate, length-replicate}
 use lib.IntN.{ℤ, pos}
 use Rattle.text.proofs.Putting.{put-same}
-use Rattle.settlement.specs.Answers.{settleOutcome}
 use Rattle.statement_text.proofs.Settling.{ready, not-refused, figures-fit, lines-are}
 use borrow.Author.Needs.{needs}
 use Rattle.statement_text.proofs.put_settled.Statement.{statement}
@@ -50,7 +49,7 @@ put-lines-requires c κs =
     let a = s .args in
     let o = ready (a .nodes) (a .constraints) (a .period) (a .factors .now) (a .prices .now) (a .book .now) (s .pre .1) in (
       (omega (arith, o .book .few, n), omega (arith, o .book .size, n), omega (arith, o .book .few, n), omega (arith, s .pre .0, o .book .few, n)),
-      figures-fit (a .nodes) (a .constraints) (a .period) (a .factors .now) (a .prices .now) (a .book .now) (s .pre .1) zeros zeros-long _ (g .0 .0) (g .0 .1 .0) (g .0 .1 .1 .0) (ap settleOutcome (sym (g .1)) ∙ r .ensures .0) (r .ensures .1 .0) _ n,
+      figures-fit (a .nodes) (a .constraints) (a .period) (a .factors .now) (a .prices .now) (a .book .now) (s .pre .1) zeros zeros-long (r .result) (r .ensures .0) _ (g .0 .0) (g .0 .1 .0) (g .0 .1 .1 .0) (g .1) (r .ensures .1 .0) _ n,
     )
 
 returns : tie.Need-returns
@@ -59,7 +58,7 @@ returns c =
     let r = c .before .before .before .settle-hour in
     let s = c .before .before .before .before .before .before .before .before in
     let a = s .args in
-    absurd (not-refused (a .nodes) (a .constraints) (a .period) (a .factors .now) (a .prices .now) (a .book .now) (s .pre .1) zeros zeros-long _ (c .enum-told .given .0 .0) (ap settleOutcome (sym (c .enum-told .given .1)) ∙ r .ensures .0))
+    absurd (not-refused (a .nodes) (a .constraints) (a .period) (a .factors .now) (a .prices .now) (a .book .now) (s .pre .1) zeros zeros-long (r .result) (r .ensures .0) (c .enum-told .given .0 .0) (c .enum-told .given .1))
 
 same-length : tie.Need-same-length
 same-length c = search needs
@@ -73,7 +72,7 @@ returns-2 c =
     let r = c .before .before .before .before .before .before .before .before .before .before .before .settle-hour in
     let s = c .before .before .before .before .before .before .before .before .before .before .before .before .before .before .before .before in
     let a = s .args in
-    put-same (lines-are (a .nodes) (a .constraints) (a .period) (a .factors .now) (a .prices .now) (a .book .now) (s .pre .1) zeros zeros-long _ (g .0 .0) (g .0 .1 .0) (g .0 .1 .1 .0) (ap settleOutcome (sym (g .1)) ∙ r .ensures .0) (r .ensures .1 .0) _ (f .ensures .0)) (rw (c .before .before .before .before .before .from-number .ensures) at (p .ensures))
+    put-same (lines-are (a .nodes) (a .constraints) (a .period) (a .factors .now) (a .prices .now) (a .book .now) (s .pre .1) zeros zeros-long (r .result) (r .ensures .0) _ (g .0 .0) (g .0 .1 .0) (g .0 .1 .1 .0) (g .1) (r .ensures .1 .0) _ (f .ensures .0)) (rw (c .before .before .before .before .before .from-number .ensures) at (p .ensures))
 
 pub put-settled-spec : {M : Type 1} → statement M
 put-settled-spec =
