@@ -5,6 +5,7 @@ use crate::library;
 use crate::second::book::{self, Contract};
 use crate::second::grid::Grid;
 use crate::second::test::{of_period, rent, shortfall};
+use crate::second::{first, Answer};
 
 const PRICE_LISTS: u64 = 12;
 
@@ -37,34 +38,34 @@ impl Case {
         self.grid.factor_cells().iter().map(|&factor| factor as i64).collect()
     }
 
-    /// The proved test's answer: the lowest overloaded constraint and the excess there, or nothing.
-    fn tested(&self) -> Option<(usize, i128)> {
+    /// The proved test's answer: the lowest overloaded constraint and the excess there, or nothing. No case is to be refused.
+    fn tested(&self) -> Answer<Option<(usize, i128)>> {
         let limits: Vec<u64> = self.grid.limits.iter().map(|&limit| limit as u64).collect();
         let (factors, file) = (self.factors(), book::file_of(&self.book));
         let (nodes, constraints, process, period) = (self.grid.nodes as usize, limits.len(), self.process, self.period);
         let (mut set, mut count, mut lowest, mut excess) = (0, 0, 0, 0);
         let lent = (&mut set, &mut count, &mut lowest, &mut excess);
         let answer = library::test_book(nodes, constraints, process, period, &limits, &factors, &file, lent.0, lent.1, lent.2, lent.3);
-        assert_eq!(answer, 0, "a case within every range is tested");
-        (set != 0).then_some((lowest, i128::from(excess)))
+        first(&[(answer != 0, answer)])?;
+        Ok((set != 0).then_some((lowest, i128::from(excess))))
     }
 
     /// The shortfall at a price list, with the net payment as the proved settlement gives it.
-    fn settled_shortfall(&self, prices: &[i128]) -> i128 {
+    fn settled_shortfall(&self, prices: &[i128]) -> Answer<i128> {
         let cells: Vec<u64> = prices.iter().map(|&price| price as u64).collect();
         let (factors, file) = (self.factors(), book::file_of(&self.book));
         let (nodes, constraints, mut cents) = (self.grid.nodes as usize, cells.len(), vec![0; self.book.len()]);
         let (mut sum, mut whole, mut parts) = (0, 0, 0);
         let lent = (&mut sum, &mut whole, &mut parts);
         let answer = library::settle_hour(nodes, constraints, self.period, &factors, &cells, &file, &mut cents, lent.0, lent.1, lent.2);
-        assert_eq!(answer, 0, "a case within every range is settled");
-        i128::from(whole) * 100_000_000 + i128::from(parts) - rent(&self.grid, self.process, prices)
+        first(&[(answer != 0, answer)])?;
+        Ok(i128::from(whole) * 100_000_000 + i128::from(parts) - rent(&self.grid, self.process, prices))
     }
 
     /// Whether both ways to the shortfall agree and it is as `fits` says.
     fn holds(&self, prices: &[i128], fits: impl Fn(i128) -> bool) -> bool {
         let own = shortfall(&self.grid, self.process, &of_period(&self.book, self.period), prices);
-        own == self.settled_shortfall(prices) && fits(own)
+        self.settled_shortfall(prices) == Ok(own) && fits(own)
     }
 }
 
@@ -88,12 +89,13 @@ fn failing_holds(case: &Case, lowest: usize, excess: i128) -> bool {
 pub fn case(draw: &mut Draw, counts: &mut Counts) {
     let case = Case::new(draw);
     let holds = match case.tested() {
-        None => {
+        Err(_) => false,
+        Ok(None) => {
             counts.passing += 1;
             counts.lists += PRICE_LISTS + 2;
             passing_holds(draw, &case)
         }
-        Some((lowest, excess)) => {
+        Ok(Some((lowest, excess))) => {
             counts.failing += 1;
             counts.lists += 1;
             failing_holds(&case, lowest, excess)
