@@ -80,8 +80,7 @@ fn passing_holds(draw: &mut Draw, case: &Case) -> bool {
 
 /// The excess, above 0, is the shortfall of the list with one cent there.
 fn failing_holds(case: &Case, lowest: usize, excess: i128) -> bool {
-    let mut one_cent = vec![0; case.grid.limits.len()];
-    one_cent[lowest] = 1;
+    let one_cent: Vec<i128> = (0..case.grid.limits.len()).map(|k| i128::from(k == lowest)).collect();
     excess > 0 && case.holds(&one_cent, |shortfall| shortfall == excess)
 }
 
