@@ -128,9 +128,8 @@ fn extreme(name: &[u8], source: u64, sink: u64, cents_expected: i64, sum_expecte
     }
 }
 
-pub fn go_through() {
-    p1();
-    case_l_hour();
+// P2 and P9: amounts of one contract, rounded and as whole cents and parts.
+fn amounts() {
     one_contract(
         b"P2, contract 0 (amount 90,000,000,000)",
         60000,
@@ -171,6 +170,12 @@ pub fn go_through() {
         -1,
         50000001,
     );
+}
+
+pub fn go_through() {
+    p1();
+    case_l_hour();
+    amounts();
     one_contract(
         b"001 H 2.2, direction",
         -50000,
