@@ -12,7 +12,7 @@ pub struct Entry {
     pub run: fn(&Inputs) -> Result<Times, String>,
 }
 
-pub const ENTRIES: [Entry; 10] = [
+pub const ENTRIES: [Entry; 11] = [
     Entry { name: "read_grid", run: read_grid },
     Entry { name: "write_grid", run: write_grid },
     Entry { name: "read_book", run: read_book },
@@ -23,6 +23,7 @@ pub const ENTRIES: [Entry; 10] = [
     Entry { name: "find_mcc", run: find_mcc },
     Entry { name: "settle_hour", run: settle_hour },
     Entry { name: "write_report", run: write_report },
+    Entry { name: "write_statement", run: write_statement },
 ];
 
 fn agree<T: PartialEq>(proved: &T, plain: &T) -> Result<(), String> {
@@ -234,6 +235,23 @@ fn write_report(inputs: &Inputs) -> Result<Times, String> {
         },
         &mut || {
             let _ = black_box(plain::write_report(black_box(grid), book, &mut plain_text));
+        },
+    ))
+}
+
+fn write_statement(inputs: &Inputs) -> Result<Times, String> {
+    let (grid, book, prices) = (&inputs.grid_file, &inputs.book_file, &inputs.price_file);
+    let (mut text, mut plain_text, mut bytes) = (vec![0; 26_078], vec![0; 26_078], 0);
+    let proved = library::write_statement(grid, book, prices, &mut text, &mut bytes);
+    let plain = plain::write_statement(grid, book, prices, &mut plain_text);
+    agree(&(proved, Ok(bytes)), &(0, plain))?;
+    agree(&text, &plain_text)?;
+    Ok(side_by_side(
+        &mut || {
+            black_box(library::write_statement(black_box(grid), book, prices, &mut text, &mut bytes));
+        },
+        &mut || {
+            let _ = black_box(plain::write_statement(black_box(grid), book, prices, &mut plain_text));
         },
     ))
 }

@@ -13,7 +13,7 @@ pub use grid::{read_grid, write_grid};
 pub use prices::{read_prices, write_prices};
 pub use settlement::{find_mcc, settle_hour, Totals};
 pub use test::{test_book, Overload};
-pub use text::write_report;
+pub use text::{write_report, write_statement};
 
 /// A refusal's number ("When input is turned down").
 pub type Refusal = u64;

@@ -1,8 +1,9 @@
-use super::book::check_book;
+use super::book::{check_book, contracts};
 use super::test::{carry, verdict, Overload};
 use super::*;
 
 const REPORT_BYTES: usize = 2048;
+const STATEMENT_BYTES: usize = 26_078;
 
 /// Text put into a lent buffer that has room for the longest.
 struct Page<'a> {
@@ -88,5 +89,45 @@ pub fn write_report(grid_file: &[u8], book_file: &[u8], text: &mut [u8]) -> Resu
             page.put_figures(verdict(process, &limits[..constraints], &flows));
         }
     }
+    Ok(page.at)
+}
+
+#[inline(never)]
+pub fn write_statement(grid_file: &[u8], book_file: &[u8], price_file: &[u8], text: &mut [u8]) -> Result<usize, Refusal> {
+    let mut page = Page { text: text.get_mut(..STATEMENT_BYTES).ok_or(SHORT_TABLE)?, at: 0 };
+    let mut limits = [0; MAX_CONSTRAINTS];
+    let mut factors = [0; MAX_NODES * MAX_CONSTRAINTS];
+    let (nodes, constraints) = match read_grid(grid_file, &mut limits, &mut factors) {
+        Ok(counts) => counts,
+        Err(refusal) => return Ok(page.refused(b"grid", refusal)),
+    };
+    if let Err(refusal) = check_book(nodes, book_file) {
+        return Ok(page.refused(b"book", refusal));
+    }
+    let mut prices = [0; MAX_CONSTRAINTS];
+    let period = match read_prices(constraints, price_file, &mut prices) {
+        Ok(period) => period,
+        Err(refusal) => return Ok(page.refused(b"prices", refusal)),
+    };
+    let mut cents = [0; MAX_CONTRACTS];
+    let totals = settle_hour(nodes, constraints, period, &factors, &prices, book_file, &mut cents)?;
+    page.put(b"contract,holder,kind,cents\n");
+    for (i, (c, &cents)) in contracts(book_file).zip(&cents).enumerate() {
+        if c.period == period {
+            page.put_number(i as u64);
+            page.put(b",");
+            page.put_number(c.holder);
+            page.put(if c.option { b",OPT," } else { b",OBL," });
+            page.put_signed(cents);
+            page.put(b"\n");
+        }
+    }
+    page.put(b"sum,");
+    page.put_signed(totals.sum);
+    page.put(b"\nexact,");
+    page.put_signed(totals.whole);
+    page.put(b",");
+    page.put_number(totals.parts);
+    page.put(b"\n");
     Ok(page.at)
 }

@@ -102,6 +102,17 @@ mod c {
             text_len: usize,
             bytes: *mut usize,
         ) -> u64;
+        pub fn crr_write_statement(
+            grid_file: *const u8,
+            grid_file_len: usize,
+            book_file: *const u8,
+            book_file_len: usize,
+            price_file: *const u8,
+            price_file_len: usize,
+            text: *mut u8,
+            text_len: usize,
+            bytes: *mut usize,
+        ) -> u64;
     }
 }
 
@@ -228,5 +239,21 @@ pub fn settle_hour(
 pub fn write_report(grid_file: &[u8], book_file: &[u8], text: &mut [u8], bytes: &mut usize) -> u64 {
     unsafe {
         c::crr_write_report(grid_file.as_ptr(), grid_file.len(), book_file.as_ptr(), book_file.len(), text.as_mut_ptr(), text.len(), bytes)
+    }
+}
+
+pub fn write_statement(grid_file: &[u8], book_file: &[u8], price_file: &[u8], text: &mut [u8], bytes: &mut usize) -> u64 {
+    unsafe {
+        c::crr_write_statement(
+            grid_file.as_ptr(),
+            grid_file.len(),
+            book_file.as_ptr(),
+            book_file.len(),
+            price_file.as_ptr(),
+            price_file.len(),
+            text.as_mut_ptr(),
+            text.len(),
+            bytes,
+        )
     }
 }

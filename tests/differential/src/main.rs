@@ -24,9 +24,10 @@ const CASES: u64 = 20_000;
 
 const BOOK: &[u64] = &[1, 4, 5, 10, 11, 12, 13];
 const GRID: &[u64] = &[1, 2, 3, 4, 5, 6, 7, 8];
+const PRICES: &[u64] = &[1, 5, 8, 14, 15];
 
 /// Each entry, with the refusals that the scope document lists for it.
-const ENTRIES: [Entry; 10] = [
+const ENTRIES: [Entry; 11] = [
     Entry { name: "read_grid", refusals: &[1, 2, 3, 4, 5, 6, 7, 8, 9], files: &[], round: rounds::grid::read },
     Entry { name: "write_grid", refusals: &[2, 3, 6, 7, 9], files: &[], round: rounds::grid::write },
     Entry { name: "read_book", refusals: &[1, 2, 4, 5, 9, 10, 11, 12, 13], files: &[], round: rounds::book::read },
@@ -37,6 +38,12 @@ const ENTRIES: [Entry; 10] = [
     Entry { name: "find_mcc", refusals: &[2, 3, 7, 9, 15], files: &[], round: rounds::settlement::mcc },
     Entry { name: "settle_hour", refusals: &[1, 2, 3, 4, 5, 7, 9, 10, 11, 12, 13, 15, 17], files: &[], round: rounds::settlement::hour },
     Entry { name: "write_report", refusals: &[9], files: &[("grid", GRID), ("book", BOOK)], round: rounds::text::report },
+    Entry {
+        name: "write_statement",
+        refusals: &[9],
+        files: &[("grid", GRID), ("book", BOOK), ("prices", PRICES)],
+        round: rounds::text::statement,
+    },
 ];
 
 /// The rounds of an entry: the extremes, and then so many that there are enough calls.

@@ -1,11 +1,11 @@
-//! The report's text.
+//! The texts of the report and the statement.
 
 use super::*;
 use crate::draw::{self, Size};
 use crate::lent::Lent;
 use crate::library;
 use crate::second::text::{self, Text};
-use crate::second::{book, grid, Answer};
+use crate::second::{book, grid, prices, Answer};
 use crate::tally::Round;
 
 /// The refusal's number, the text's bytes and how many there are.
@@ -83,5 +83,58 @@ pub fn report(round: &mut Round) {
     for _ in 0..10 {
         let (grid, book) = files(&mut round.draw, size);
         report_call(round, &grid, &book, room);
+    }
+}
+
+fn statement_call(round: &mut Round, grid_file: &[u8], book_file: &[u8], price_file: &[u8], room: usize) {
+    let second = text::statement(grid_file, book_file, price_file, room);
+    let mut page = Lent::<u8>::new(&mut round.draw, "text", room);
+    let mut bytes = Lent::<usize>::new(&mut round.draw, "bytes", 1);
+    let proved = library::write_statement(grid_file, book_file, price_file, page.slice(), bytes.figure());
+    let (number, written, count) = figures(&second);
+    round.named(second.ok().and_then(|page| page.refused));
+    round.compare(proved, number, &[page.difference(&written), bytes.difference(&count)]);
+}
+
+/// A price file for so many constraints.
+fn price_file(draw: &mut Draw, size: Size) -> Vec<u8> {
+    prices::file_of(draw.within(0, 1), &draw::prices(draw, size.constraints))
+}
+
+/// Files that a price file's checks refuse.
+fn wrong_prices(draw: &mut Draw, size: Size) -> Vec<Vec<u8>> {
+    let list = draw::prices(draw, size.constraints);
+    let file = prices::file_of(draw.within(0, 1), &list);
+    let more = Size { constraints: size.constraints + 1, ..size };
+    let mut files = damaged(draw, &file, 8);
+    files.extend(some_cuts(&file));
+    files.extend([super::prices::out_of_range(draw, &list), price_file(draw, more)]);
+    files
+}
+
+pub fn statement(round: &mut Round) {
+    let size = draw::size(&mut round.draw, round.number);
+    let (grid, book) = files(&mut round.draw, size);
+    let prices = price_file(&mut round.draw, size);
+    let room = text::STATEMENT_BYTES;
+    for room in [room, room + 1, room + 900, room - 1, 100, 0] {
+        statement_call(round, &grid, &book, &prices, room);
+    }
+    for _ in 0..12 {
+        let (grid, book) = files(&mut round.draw, size);
+        let prices = price_file(&mut round.draw, size);
+        statement_call(round, &grid, &book, &prices, room);
+    }
+    for wrong in wrong_prices(&mut round.draw, size) {
+        statement_call(round, &grid, &book, &wrong, room);
+    }
+    let books = damaged(&mut round.draw, &book, 16).into_iter().chain(wrong_books(&mut round.draw, size));
+    for wrong in books.chain(some_cuts(&book)) {
+        statement_call(round, &grid, &wrong, &prices, room);
+    }
+    let grids = damaged(&mut round.draw, &grid, 16).into_iter().chain(wrong_grids(&mut round.draw, size));
+    for wrong in grids.chain(some_cuts(&grid)) {
+        let cut = round.draw.below(book.len() as u64) as usize;
+        statement_call(round, &wrong, &book[..cut], &prices[1..], room);
     }
 }

@@ -2,10 +2,13 @@
 
 use super::book::{self, Contract};
 use super::grid::{self, Grid};
+use super::prices;
+use super::settlement::hour;
 use super::test::{excess, of_period, overloaded};
 use super::Answer;
 
 pub const REPORT_BYTES: usize = 2048;
+pub const STATEMENT_BYTES: usize = 26_078;
 
 /// A file that was refused, and its number.
 pub type Refused = (&'static str, u64);
@@ -55,4 +58,28 @@ fn rendered(text: Result<String, Refused>) -> Text {
 pub fn report(grid_file: &[u8], book_file: &[u8], room: usize) -> Answer<Text> {
     super::first(&[(room < REPORT_BYTES, 9)])?;
     Ok(rendered(report_text(grid_file, book_file)))
+}
+
+fn contract_line(number: usize, contract: &Contract, cents: i128) -> String {
+    let kind = if contract.kind == 1 { "OPT" } else { "OBL" };
+    format!("{number},{},{kind},{cents}\n", contract.holder)
+}
+
+fn statement_text(grid_file: &[u8], book_file: &[u8], price_file: &[u8]) -> Result<String, Refused> {
+    let grid = grid::parse(grid_file).map_err(|number| ("grid", number))?;
+    let book = book::parse(grid.nodes, book_file).map_err(|number| ("book", number))?;
+    let read = prices::read(grid.constraints as usize, price_file, 64);
+    let (period, prices) = read.map_err(|number| ("prices", number))?;
+    let hour = hour(&grid, &prices, period, &book);
+    let mut text = String::from("contract,holder,kind,cents\n");
+    for (number, contract) in book.iter().enumerate().filter(|(_, contract)| contract.period == period) {
+        text += &contract_line(number, contract, hour.cents[number]);
+    }
+    text += &format!("sum,{}\nexact,{},{}\n", hour.sum, hour.whole, hour.parts);
+    Ok(text)
+}
+
+pub fn statement(grid_file: &[u8], book_file: &[u8], price_file: &[u8], room: usize) -> Answer<Text> {
+    super::first(&[(room < STATEMENT_BYTES, 9)])?;
+    Ok(rendered(statement_text(grid_file, book_file, price_file)))
 }
