@@ -19,12 +19,12 @@ const BY_NODES: [&str; 7] = ["read_grid", "write_grid", "test_book", "find_mcc",
 
 fn line(label: &str, entry: &Entry, size: Size) -> Result<(), String> {
     let times = (entry.run)(&Inputs::new(size)).map_err(|why| format!("{}, {label}: {why}", entry.name))?;
-    println!("{label:<24} | {:>10.2} | {:>10.2} | {:>5.2}", times.proved, times.plain, times.proved / times.plain);
+    println!("{label:<26} | {:>10.2} | {:>10.2} | {:>5.2}", times.proved, times.plain, times.proved / times.plain);
     Ok(())
 }
 
 fn heading(what: &str) {
-    println!("\n{what:<24} | proved µs  | plain µs   | ratio");
+    println!("\n{what:<26} | proved µs  | plain µs   | ratio");
 }
 
 fn growth(count: &str, names: &[&str], sizes: &[(usize, Size)]) -> Result<(), String> {
