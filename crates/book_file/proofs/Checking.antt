@@ -1,6 +1,7 @@
 -- Laws of checks that go contract by contract.
 use mathlib.Core.Path.{_≡_, refl, sym, _∙_}
 use mathlib.Core.Logic.{⊎-elim}
+use mathlib.Core.Bool.{false}
 use mathlib.Core.List.{List, [], _∷_}
 use Prim.Native.Nat.{ℕ, zero, suc, _+_, _*_, _<_, _≤_}
 use lib.ListN.{length}
@@ -12,9 +13,9 @@ use Rattle.tariff.specs.declared.Refusal.{Refusal}
 use Rattle.tariff.specs.declared.Checked.{Checked}
 use Rattle.tariff.specs.declared.Checked.the-variants.{Passed, Refused}
 use Rattle.tariff.specs.Refusals.{Check, first, decided}
-use Rattle.tariff.specs.Checks.{shortTable}
-use Rattle.tariff.proofs.Checks.{first-append, passed-append}
-use Rattle.tariff.specs.declared.Refusal.the-variants.{ShortFile, NodeCount, SpareBits, FileLength, ShortTable, ContractCount}
+use Rattle.tariff.specs.Checks.{nodeCount, shortTable}
+use Rattle.tariff.proofs.Checks.{first-passes, first-append, passed-append}
+use Rattle.tariff.specs.declared.Refusal.the-variants.{ShortFile, SpareBits, FileLength, ShortTable, ContractCount}
 use Rattle.layouts.specs.BookFile.{countIn, spareIn}
 use Rattle.book_file.specs.BookChecks.{checksTo, checksAt, bookChecks, readChecks}
 
@@ -79,19 +80,11 @@ module _ (n : ℕ) (s : List ℕ) where
 
 -- ---- reading's checks
 module _ (n : ℕ) (s : List ℕ) (cells : ℕ) where
-  pub no-node : n ≡ 0 → Refused NodeCount ≡ first (readChecks n s cells)
-  unfolding first readChecks
-  no-node h = rw (eq-eqb n 0 h)
-
-  pub many-nodes : 200 < n → Refused NodeCount ≡ first (readChecks n s cells)
-  unfolding first readChecks
-  many-nodes h = let no : n ≡ 0 → ⊥ = λ z. omega arith in rw (ne-eqb n 0 no, lt-ltb 200 n h)
-
-  module _ (some-nodes : n ≡ 0 → ⊥) (few-nodes : n ≤ 200) where
+  module _ (right-nodes : nodeCount n .fails ≡ false) where
     -- past 2: the book's own, then 9
     then-own : first (readChecks n s cells) ≡ decided (first (bookChecks n s)) Refused (first (shortTable cells (6 * countIn s) ∷ []))
-    unfolding first readChecks
-    then-own = rw (ne-eqb n 0 some-nodes, le-ltb 200 n few-nodes) (first-append (bookChecks n s) (shortTable cells (6 * countIn s) ∷ []))
+    unfolding readChecks
+    then-own = first-passes (nodeCount n) _ right-nodes ∙ first-append (bookChecks n s) (shortTable cells (6 * countIn s) ∷ [])
 
     pub own-refuses : (r : Refusal) → first (bookChecks n s) ≡ Refused r → Refused r ≡ first (readChecks n s cells)
     own-refuses r e = sym (then-own ∙ rw e)

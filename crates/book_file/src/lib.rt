@@ -111,10 +111,7 @@ pub fn check_book(nodes: usize, file: &[u8]) -> Checked
 fn check_read(nodes: usize, file: &[u8], cells: usize) -> Checked
     ensures { λ r. ⌜ r ≡ first (readChecks nodes (now (file .entry)) cells) ⌝ }
 {
-    if nodes == 0 {
-        return Checked::Refused(Refusal::NodeCount);
-    }
-    if 200 < nodes {
+    if tariff::nodes_bad(nodes) {
         return Checked::Refused(Refusal::NodeCount);
     }
     let own = check_book(nodes, file);

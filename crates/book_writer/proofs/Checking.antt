@@ -1,45 +1,37 @@
 -- Laws of writing's checks, one after the other.
 use mathlib.Core.Path.{_≡_, sym, _∙_}
+use mathlib.Core.Bool.{false}
 use mathlib.Core.List.{List, [], _∷_}
 use Prim.Native.Nat.{ℕ, _+_, _*_, _<_, _≤_}
-use native.Mathlib.Omega.{arith}
-use borrow.Author.Tests.{lt-ltb, le-ltb, eq-eqb, ne-eqb}
+use borrow.Author.Tests.{lt-ltb, le-ltb}
 use lib.ListN.{length}
 use Rattle.tariff.specs.declared.Refusal.{Refusal}
-use Rattle.tariff.specs.declared.Refusal.the-variants.{NodeCount, ShortTable, ContractCount}
+use Rattle.tariff.specs.declared.Refusal.the-variants.{ShortTable, ContractCount}
 use Rattle.tariff.specs.declared.Checked.the-variants.{Passed, Refused}
 use Rattle.tariff.specs.Refusals.{first, decided}
-use Rattle.tariff.specs.Checks.{shortTable}
-use Rattle.tariff.proofs.Checks.{first-append}
+use Rattle.tariff.specs.Checks.{nodeCount, shortTable}
+use Rattle.tariff.proofs.Checks.{first-passes, first-refuses, first-append}
 use Rattle.book_file.specs.BookChecks.{checksTo}
 use Rattle.book_writer.specs.WriteChecks.{rowChecks, writeChecks}
 
 module _ (n m : ℕ) (cells : List ℕ) (bytes : ℕ) where
-  pub w-no-node : n ≡ 0 → Refused NodeCount ≡ first (writeChecks n m cells bytes)
-  unfolding first writeChecks
-  w-no-node h = rw (eq-eqb n 0 h)
-
-  pub w-many-nodes : 200 < n → Refused NodeCount ≡ first (writeChecks n m cells bytes)
-  unfolding first writeChecks
-  w-many-nodes h = let no : n ≡ 0 → ⊥ = λ z. omega arith in rw (ne-eqb n 0 no, lt-ltb 200 n h)
-
-  module _ (some-nodes : n ≡ 0 → ⊥) (few-nodes : n ≤ 200) where
+  module _ (right-nodes : nodeCount n .fails ≡ false) where
     pub w-many-contracts : 1000 < m → Refused ContractCount ≡ first (writeChecks n m cells bytes)
-    unfolding first writeChecks
-    w-many-contracts h = rw (ne-eqb n 0 some-nodes, le-ltb 200 n few-nodes, lt-ltb 1000 m h)
+    unfolding writeChecks
+    w-many-contracts h = sym (first-passes (nodeCount n) _ right-nodes ∙ first-refuses _ _ (lt-ltb 1000 m h))
 
     module _ (few : m ≤ 1000) where
       pub w-short-cells : length cells < 6 * m → Refused ShortTable ≡ first (writeChecks n m cells bytes)
-      unfolding first writeChecks
-      w-short-cells h = rw (ne-eqb n 0 some-nodes, le-ltb 200 n few-nodes, le-ltb 1000 m few, lt-ltb (length cells) (6 * m) h)
+      unfolding writeChecks
+      w-short-cells h = sym (first-passes (nodeCount n) _ right-nodes ∙ first-passes _ _ (le-ltb 1000 m few) ∙ first-refuses _ _ (lt-ltb (length cells) (6 * m) h))
 
       module _ (long : 6 * m ≤ length cells) where
         -- past these: row by row, then 9
         then-rows : first (writeChecks n m cells bytes) ≡ decided (first (checksTo m (rowChecks n cells))) Refused (first (shortTable bytes (2 + 6 * m) ∷ []))
-        unfolding first writeChecks
+        unfolding writeChecks
         then-rows =
-            rw (ne-eqb n 0 some-nodes, le-ltb 200 n few-nodes, le-ltb 1000 m few, le-ltb (length cells) (6 * m) long)
-            (first-append (checksTo m (rowChecks n cells)) (shortTable bytes (2 + 6 * m) ∷ []))
+            first-passes (nodeCount n) _ right-nodes ∙ first-passes _ _ (le-ltb 1000 m few) ∙ first-passes _ _ (le-ltb (length cells) (6 * m) long)
+            ∙ first-append (checksTo m (rowChecks n cells)) (shortTable bytes (2 + 6 * m) ∷ [])
 
         pub row-refuses : (r : Refusal) → first (checksTo m (rowChecks n cells)) ≡ Refused r → Refused r ≡ first (writeChecks n m cells bytes)
         row-refuses r e = sym (then-rows ∙ rw e)

@@ -79,10 +79,7 @@ fn check_rows(nodes: usize, contracts: usize, cells: &[u64]) -> Checked
 fn check_write(nodes: usize, contracts: usize, cells: &[u64], bytes: usize) -> Checked
     ensures { λ r. ⌜ r ≡ first (writeChecks nodes contracts (now (cells .entry)) bytes) ⌝ }
 {
-    if nodes == 0 {
-        return Checked::Refused(Refusal::NodeCount);
-    }
-    if 200 < nodes {
+    if tariff::nodes_bad(nodes) {
         return Checked::Refused(Refusal::NodeCount);
     }
     if 1000 < contracts {

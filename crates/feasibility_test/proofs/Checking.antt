@@ -1,11 +1,11 @@
 -- What is known of tables and a book that the test's checks accept.
 use mathlib.Core.Path.{_≡_}
-use mathlib.Core.Bool.{true, false, _||_}
+use mathlib.Core.Bool.{false}
 use mathlib.Core.List.{List}
 use Prim.Native.Nat.{ℕ, _+_, _*_, _≤_, _<_}
 use native.Mathlib.Nat.{mul-le-mul-right}
 use native.Mathlib.Omega.{arith}
-use borrow.Author.Tests.{ltb-false, lt-ltb, le-ltb, eq-eqb, ne-eqb}
+use borrow.Author.Tests.{ltb-false}
 use lib.Dec.{ltb, eqb}
 use lib.ListN.{length, getD, take}
 use lib.Seq.{getD-take, length-take-le}
@@ -77,16 +77,6 @@ tested n k p t ls fs book e =
       factors-good = e7 .0;
       book-good = e7 .1;
     }
-
--- 2, as it is tested
-pub no-node : (n : ℕ) → n ≡ 0 → (eqb n 0 || ltb 200 n) ≡ true
-no-node n h = rw (eq-eqb n 0 h)
-
-pub many-nodes : (n : ℕ) → 200 < n → (eqb n 0 || ltb 200 n) ≡ true
-many-nodes n h = let z : n ≡ 0 → ⊥ = λ e. omega arith in rw (ne-eqb n 0 z, lt-ltb 200 n h)
-
-pub some-nodes : (n : ℕ) → (n ≡ 0 → ⊥) → n ≤ 200 → (eqb n 0 || ltb 200 n) ≡ false
-some-nodes n z h = rw (ne-eqb n 0 z, le-ltb 200 n h)
 
 -- what refuses does not pass
 pub refused-passed : (x checked : Checked) (r : Refusal) → x ≡ checked → x ≡ Refused r → checked ≡ Passed → ⊥

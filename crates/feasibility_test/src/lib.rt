@@ -194,10 +194,7 @@ fn check_test(
 ) -> Checked
     ensures { λ r. ⌜ r ≡ first (testChecks nodes constraints process period (now (limits .entry)) (now (factors .entry)) (now (book .entry))) ⌝ }
 {
-    if nodes == 0 {
-        return Checked::Refused(Refusal::NodeCount);
-    }
-    if 200 < nodes {
+    if tariff::nodes_bad(nodes) {
         return Checked::Refused(Refusal::NodeCount);
     }
     if 64 < constraints {

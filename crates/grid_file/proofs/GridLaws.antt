@@ -1,11 +1,10 @@
 -- What holds where no check of the grid file's reader or writer refuses, and what the pen has written at the end.
 use mathlib.Core.Path.{_≡_}
-use mathlib.Core.Bool.{Bool, true, false, _||_}
+use mathlib.Core.Bool.{Bool}
 use mathlib.Core.List.{List, [], _∷_, _++_, map}
 use Prim.Native.Nat.{ℕ, _+_, _-_, _*_, _≤_, _<_}
 use native.Mathlib.Omega.{arith}
-use borrow.Author.Tests.{ltb-false, eq-eqb, ne-eqb}
-use lib.Dec.{ltb, eqb}
+use borrow.Author.Tests.{ltb-false}
 use lib.ListN.{length, getD, take}
 use lib.IntN.{ℤ, pos, natAbs}
 use lib.Seq.{getD-take, length-take-le}
@@ -16,32 +15,16 @@ use Rattle.bits.specs.declared.Pen.{Pen}
 use Rattle.bits.proofs.Numbers.{Below}
 use Rattle.bits.proofs.Files.{total-append, total-run}
 use Rattle.tariff.specs.declared.Checked.the-variants.{Passed}
-use Rattle.tariff.specs.Units.{grid, maxNodes, maxLimit, maxFactor}
+use Rattle.tariff.specs.Units.{grid, maxLimit, maxFactor}
 use Rattle.tariff.specs.Refusals.{first, overwrite}
 use Rattle.tariff.specs.Checks.{some, limitBad, factorBad}
-use Rattle.tariff.proofs.Checks.{passed-cons, none-bad}
+use Rattle.tariff.proofs.Checks.{passed-cons, nodes-few-of, none-bad}
 use Rattle.layouts.specs.Files.{padFor}
 use Rattle.layouts.specs.GridFile.{gridBits, gridBytes, gridFields, gridFile, nodesIn, constraintsIn, spareIn, limitsIn, factorsIn, padIn}
 use Rattle.runs.proofs.Penned.{Penned, penned-end}
 use Rattle.runs.proofs.Tests.{same-of}
 use Rattle.grid_file.specs.GridChecks.{readChecks, writeChecks}
 use Rattle.grid_file.proofs.Factors.{count-fits, factorsAt, length-coded, good-small, cell-in}
-
--- ---- the node count
-
-module _ (n : ℕ) where
-  pub nodes-none : n ≡ 0 → true ≡ (eqb n 0 || ltb maxNodes n)
-  nodes-none e = rw (eq-eqb n 0 e)
-
-  pub nodes-some : (n ≡ 0 → ⊥) → ltb maxNodes n ≡ (eqb n 0 || ltb maxNodes n)
-  nodes-some z = rw (ne-eqb n 0 z)
-
-  pub nodes-few-of : (eqb n 0 || ltb maxNodes n) ≡ false → n ≤ 200
-  nodes-few-of e = by (eqb n 0) e
-    where
-      by : (b : Bool) → (b || ltb maxNodes n) ≡ false → n ≤ 200
-      by true r = let z : _≡_ {A = ℕ} 0 1 = cc in absurd (omega arith)
-      by false r = ltb-false 200 n r
 
 -- ---- what was found in the file, by its counts
 

@@ -9,7 +9,7 @@ ghost use Rattle.bits.specs.Signed.{ofInt, toInt};
 ghost use Rattle.bits.specs.Pen.{written, place, Ready, GoesOn};
 ghost use Rattle.tariff.specs.Units.{grid, maxLimit, maxFactor};
 ghost use Rattle.tariff.specs.Refusals.{first, answered, cellsAfter, overwrite};
-ghost use Rattle.tariff.specs.Checks.{some, factorBad, nodeCount, limitRange, factorRange, shortTable};
+ghost use Rattle.tariff.specs.Checks.{some, factorBad, limitRange, factorRange, shortTable};
 ghost use Rattle.layouts.specs.Files.{padding, writeOutcome};
 ghost use Rattle.layouts.specs.GridFile.{gridBits, gridBytes, nodesIn, constraintsIn, limitsIn, factorsIn, padIn, gridFile};
 ghost use Rattle.grid_file.specs.GridChecks.{readChecks, writeChecks, gridOutcome};
@@ -22,16 +22,6 @@ use tariff::Refusal;
 pub enum GridAnswer {
     Read { nodes: usize, constraints: usize },
     Refused(Refusal),
-}
-
-// Whether a node count is 0 or above 200.
-fn nodes_bad(nodes: usize) -> bool
-    ensures { λ r. ⌜ r ≡ nodeCount nodes .fails ⌝ }
-{
-    if nodes == 0 {
-        return true;
-    }
-    200 < nodes
 }
 
 // One factor for each node and constraint.
@@ -148,7 +138,7 @@ fn check_read(file: &[u8], limits: usize, factors: usize) -> Checked
     }
     let nodes = bits::field(file, 0, 8) as usize;
     let constraints = bits::field(file, 8, 7) as usize;
-    if nodes_bad(nodes) {
+    if tariff::nodes_bad(nodes) {
         return Checked::Refused(Refusal::NodeCount);
     }
     if 64 < constraints {
@@ -211,7 +201,7 @@ fn check_write(
 ) -> Checked
     ensures { λ r. ⌜ r ≡ first (writeChecks nodes constraints (now (limits .entry)) (now (factors .entry)) bytes) ⌝ }
 {
-    if nodes_bad(nodes) {
+    if tariff::nodes_bad(nodes) {
         return Checked::Refused(Refusal::NodeCount);
     }
     if 64 < constraints {

@@ -1,10 +1,10 @@
 -- The checks of finding the MCC and of settling an hour: what each test says of them, and what holds where none refuses.
 use mathlib.Core.Path.{_≡_, sym, ap, _∙_}
-use mathlib.Core.Bool.{true, false, _||_}
+use mathlib.Core.Bool.{false}
 use mathlib.Core.List.{List, [], _∷_, _++_}
 use Prim.Native.Nat.{ℕ, _+_, _*_, _≤_, _<_}
 use borrow.Author.Tests.{ltb-false, lt-ltb, le-ltb}
-use lib.Dec.{ltb, eqb}
+use lib.Dec.{ltb}
 use lib.ListN.{length, getD, take}
 use lib.IntN.{ℤ, pos}
 use lib.Seq.{getD-take, length-take-le}
@@ -12,34 +12,21 @@ use Rattle.tariff.specs.declared.Refusal.{Refusal}
 use Rattle.tariff.specs.declared.Refusal.the-variants.{ShortTable}
 use Rattle.tariff.specs.declared.Checked.{Checked}
 use Rattle.tariff.specs.declared.Checked.the-variants.{Passed, Refused}
-use Rattle.tariff.specs.Units.{maxNodes, maxConstraints, maxPrice}
+use Rattle.tariff.specs.Units.{maxConstraints, maxPrice}
 use Rattle.tariff.specs.Refusals.{Check, first, decided}
 use Rattle.tariff.specs.Checks.{some, factorBad, priceBad, nodeCount, constraintCount, periodNumber, shortTable, factorRange, priceRange}
-use Rattle.tariff.proofs.Checks.{first-append, passed-cons, passed-append, none-bad}
+use Rattle.tariff.proofs.Checks.{first-append, passed-cons, passed-append, nodes-few-of, none-bad}
 use Rattle.layouts.specs.BookFile.{countIn}
 use Rattle.book_file.specs.BookChecks.{bookChecks}
 use Rattle.book_file.proofs.Accepted.{Accepted, book-accepted}
 use Rattle.grid_file.proofs.Factors.{good-small, place-in, cell-in}
-use Rattle.grid_file.proofs.GridLaws.{nodes-none, nodes-some, nodes-few-of}
 use Rattle.settlement.specs.SettleChecks.{mccChecks, settleChecks}
 use Rattle.settlement.specs.Tables.{Hour}
-
--- ---- the node count, by two tests
-
-module _ (n : ℕ) where
-  pub no-node : n ≡ 0 → (eqb n 0 || ltb maxNodes n) ≡ true
-  no-node e = sym (nodes-none n e)
-
-  pub many-nodes : (n ≡ 0 → ⊥) → 200 < n → (eqb n 0 || ltb maxNodes n) ≡ true
-  many-nodes z h = sym (nodes-some n z) ∙ lt-ltb 200 n h
-
-  pub right-nodes : (n ≡ 0 → ⊥) → n ≤ 200 → (eqb n 0 || ltb maxNodes n) ≡ false
-  right-nodes z h = sym (nodes-some n z) ∙ le-ltb 200 n h
 
 -- ---- tables that no check refuses
 
 module _ (n k : ℕ) (fs : List ℤ) (ps : List ℕ) where
-  hour-of : (eqb n 0 || ltb maxNodes n) ≡ false → ltb maxConstraints k ≡ false → ltb (length fs) (n * k) ≡ false → ltb (length ps) k ≡ false
+  hour-of : nodeCount n .fails ≡ false → ltb maxConstraints k ≡ false → ltb (length fs) (n * k) ≡ false → ltb (length ps) k ≡ false
       → some factorBad (take (n * k) fs) ≡ false → some priceBad (take k ps) ≡ false → Hour n k fs ps
   hour-of two three short shorter seven fifteen =
       let long : n * k ≤ length fs = ltb-false (length fs) (n * k) short in

@@ -90,10 +90,7 @@ fn check_mcc(
 ) -> Checked
     ensures { λ r. ⌜ r ≡ first (mccChecks nodes constraints (now (factors .entry)) (now (prices .entry)) place) ⌝ }
 {
-    if nodes == 0 {
-        return Checked::Refused(Refusal::NodeCount);
-    }
-    if 200 < nodes {
+    if tariff::nodes_bad(nodes) {
         return Checked::Refused(Refusal::NodeCount);
     }
     if 64 < constraints {
@@ -122,10 +119,7 @@ fn check_hour(
 ) -> Checked
     ensures { λ r. ⌜ r ≡ first (nodeCount nodes ∷ constraintCount constraints ∷ periodNumber period ∷ shortTable (length (now (factors .entry))) (nodes * constraints) ∷ shortTable (length (now (prices .entry))) constraints ∷ factorRange (take (nodes * constraints) (now (factors .entry))) ∷ priceRange (take constraints (now (prices .entry))) ∷ []) ⌝ }
 {
-    if nodes == 0 {
-        return Checked::Refused(Refusal::NodeCount);
-    }
-    if 200 < nodes {
+    if tariff::nodes_bad(nodes) {
         return Checked::Refused(Refusal::NodeCount);
     }
     if 64 < constraints {

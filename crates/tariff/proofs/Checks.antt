@@ -1,16 +1,19 @@
--- Laws of the first check that holds, and of a search for a bad element.
+-- Laws of the first check that holds, of the node count, and of a search for a bad element.
 use mathlib.Core.Path.{_≡_, refl}
 use mathlib.Core.Bool.{Bool, true, false, _||_, cond}
 use mathlib.Core.List.{List, [], _∷_, _++_}
-use Prim.Native.Nat.{ℕ, zero, suc, _+_, _<_}
+use Prim.Native.Nat.{ℕ, zero, suc, _+_, _≤_, _<_}
 use native.Mathlib.Numerals.{add-one}
 use native.Mathlib.Omega.{arith}
+use borrow.Author.Tests.{ltb-false}
+use lib.Dec.{ltb, eqb}
 use lib.ListN.{length, getD, take}
 use lib.Seq.{take-suc}
 use Rattle.tariff.specs.declared.Checked.{Checked}
 use Rattle.tariff.specs.declared.Checked.the-variants.{Passed, Refused}
+use Rattle.tariff.specs.Units.{maxNodes}
 use Rattle.tariff.specs.Refusals.{Check, first, decided}
-use Rattle.tariff.specs.Checks.{some}
+use Rattle.tariff.specs.Checks.{some, nodeCount}
 
 -- ---- the first check
 
@@ -48,6 +51,16 @@ passed-append (c ∷ cs) ys e = by (c .fails) refl (passed-append cs ys) e
     by : (b : Bool) → c .fails ≡ b → (first (cs ++ ys) ≡ Passed → (first cs ≡ Passed) × (first ys ≡ Passed)) → cond b (Refused (c .refusal)) (first (cs ++ ys)) ≡ Passed → (cond b (Refused (c .refusal)) (first cs) ≡ Passed) × (first ys ≡ Passed)
     by true q rest e = (cc, cc)
     by false q rest e = rest e
+
+-- ---- the node count
+
+-- one that the check accepts
+pub nodes-few-of : (n : ℕ) → nodeCount n .fails ≡ false → n ≤ 200
+nodes-few-of n e = by (eqb n 0) e
+  where
+    by : (b : Bool) → (b || ltb maxNodes n) ≡ false → n ≤ 200
+    by true r = let z : _≡_ {A = ℕ} 0 1 = cc in absurd (omega arith)
+    by false r = ltb-false 200 n r
 
 -- ---- a bad element
 

@@ -6,7 +6,7 @@ ghost use lib.IntN.{pos, natAbs, negℤ, _+ℤ_, _-ℤ_, _*ℤ_};
 ghost use lib.Signed.{ltZ};
 ghost use Rattle.integers.specs.Division.{roundUp};
 ghost use Rattle.tariff.specs.Refusals.{numberOf};
-ghost use Rattle.tariff.specs.Checks.{quantityRange};
+ghost use Rattle.tariff.specs.Checks.{nodeCount, quantityRange};
 ghost use Rattle.tariff.specs.Contracts.{kindOf, periodOf, samePeriod, counted as countedAs};
 ghost use Rattle.tariff.specs.Processes.{percent as percentOf, processOf};
 ghost use Rattle.tariff.specs.Settlement.{cents as centsOf, wholeCents, parts as partsOf};
@@ -64,6 +64,16 @@ impl Refusal {
 pub enum Checked {
     Passed,
     Refused(Refusal),
+}
+
+// 2: nodes 0 or above 200.
+pub fn nodes_bad(nodes: usize) -> bool
+    ensures { λ r. ⌜ r ≡ nodeCount nodes .fails ⌝ }
+{
+    if nodes == 0 {
+        return true;
+    }
+    200 < nodes
 }
 
 // 003, 36.2.1 and 36.2.2.
