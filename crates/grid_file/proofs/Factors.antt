@@ -1,6 +1,7 @@
 -- Laws of factors: their range, by the integer and by its 18 bits; a search for one out of range; a table and a file of them.
 use mathlib.Core.Path.{_≡_, refl, sym, ap, _∙_}
-use mathlib.Core.Bool.{Bool, true, false}
+use mathlib.Core.Bool.{Bool, true, false, _||_}
+use mathlib.Core.Logic.{_⊎_, inl, inr, ⊎-elim}
 use mathlib.Core.List.{List, [], map}
 use Prim.Native.Nat.{ℕ, suc, _+_, _-_, _*_, _^_, _≤_, _<_}
 use native.Mathlib.Nat.{mul-le-mul, mul-le-mul-right}
@@ -18,6 +19,7 @@ use Rattle.bits.proofs.SignedLaws.{to-low, to-high}
 use Rattle.tariff.specs.Units.{maxFactor}
 use Rattle.tariff.specs.Checks.{some, factorBad}
 use Rattle.tariff.proofs.Checks.{some-good, some-bad}
+use Rattle.grid_file.specs.Searches.{fourBad}
 
 -- ---- how many there are
 
@@ -85,6 +87,40 @@ module _ (fs : List ℤ) (i : ℕ) (d : ℤ) (r : Bool) (h : i < length fs) (e :
 
   pub bad-turn : r ≡ false → some factorBad (take i fs) ≡ false → some factorBad (take (i + 1) fs) ≡ false
   bad-turn t none = some-good factorBad fs i d h none (sym e ∙ t)
+
+-- ---- four at once
+
+neither : (a b : Bool) → (a || b) ≡ false → (a ≡ false) × (b ≡ false)
+neither true b e = (e, cc)
+neither false b e = (refl, e)
+
+either : (a b : Bool) → (a || b) ≡ true → (a ≡ true) ⊎ (b ≡ true)
+either true b e = inl refl
+either false b e = inr e
+
+module _ (fs : List ℤ) (i : ℕ) (r : Bool) (h : i + 4 ≤ length fs) (e : r ≡ fourBad fs i) where
+  pub four-turn : r ≡ false → some factorBad (take i fs) ≡ false → some factorBad (take (i + 4) fs) ≡ false
+  four-turn t none =
+      let a = neither _ _ (sym e ∙ t) in
+      let b = neither _ _ (a .1) in
+      let c = neither _ _ (b .1) in
+      let one = some-good factorBad fs i (pos 0) (omega arith) none (a .0) in
+      let two = some-good factorBad fs (i + 1) (pos 0) (omega arith) one (b .0) in
+      let three = some-good factorBad fs (i + 2) (pos 0) (omega arith) (bad-so-far fs (i + 1 + 1) (i + 2) (omega arith) two) (c .0) in
+      bad-so-far fs (i + 3 + 1) (i + 4) (omega arith) (some-good factorBad fs (i + 3) (pos 0) (omega arith) (bad-so-far fs (i + 2 + 1) (i + 3) (omega arith) three) (c .1))
+
+  pub four-found : r ≡ true → true ≡ some factorBad fs
+  four-found t =
+      ⊎-elim (λ x. at i (omega arith) x)
+      (λ x. ⊎-elim (λ y. at (i + 1) (omega arith) y) (λ y. ⊎-elim (λ z. at (i + 2) (omega arith) z) (λ z. at (i + 3) (omega arith) z) (either _ _ y)) (either _ _ x))
+      (either _ _ (sym e ∙ t))
+    where
+      at : (j : ℕ) → j < length fs → factorBad (getD fs j (pos 0)) ≡ true → true ≡ some factorBad fs
+      at j l x = sym (some-bad factorBad fs j (pos 0) l x)
+
+-- the first n cells have the same four
+pub four-same : (fs : List ℤ) (n i : ℕ) → i + 4 ≤ n → fourBad fs i ≡ fourBad (take n fs) i
+four-same fs n i h = rw (getD-take n fs i (pos 0) (omega arith), getD-take n fs (i + 1) (pos 0) (omega arith), getD-take n fs (i + 2) (pos 0) (omega arith), getD-take n fs (i + 3) (pos 0) (omega arith))
 
 pub bad-end : (fs : List ℤ) (i : ℕ) → length fs ≤ i → some factorBad (take i fs) ≡ false → false ≡ some factorBad fs
 bad-end fs i h none = sym (ap (some factorBad) (sym (take-all i fs h)) ∙ none)

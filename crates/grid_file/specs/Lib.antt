@@ -1,1 +1,2 @@
 pub mod GridChecks
+pub mod Searches

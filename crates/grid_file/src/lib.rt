@@ -1,5 +1,6 @@
 // Document 01's grid file: a reader into lent tables and a writer into lent bytes. All checks come first, in the paper's order; then all is written.
 ghost use mathlib.Core.Path.{_≡_};
+ghost use mathlib.Core.Bool.{false};
 ghost use mathlib.Core.List.{[], _∷_, map};
 ghost use Prim.Native.Nat.{ℕ, _+_, _*_, _^_, _≤_, _<_};
 ghost use lib.ListN.{length, getD, take, drop};
@@ -13,6 +14,7 @@ ghost use Rattle.tariff.specs.Checks.{some, factorBad, limitRange, factorRange,
 ghost use Rattle.layouts.specs.Files.{padding, writeOutcome};
 ghost use Rattle.layouts.specs.GridFile.{gridBits, gridBytes, nodesIn, constraintsIn, limitsIn, factorsIn, padIn, gridFile};
 ghost use Rattle.grid_file.specs.GridChecks.{readChecks, writeChecks, gridOutcome};
+ghost use Rattle.grid_file.specs.Searches.{fourBad};
 use bits::Pen;
 use layouts::WriteAnswer;
 use tariff::Checked;
@@ -61,12 +63,24 @@ fn bits_bad(bits: u64) -> bool
     bits < 162144
 }
 
-// Whether one of the first `count` factors is out of range.
-pub fn factor_out_of_range(factors: &[i64], count: usize) -> bool
-    requires { ⌜ count ≤ length (now factors) ⌝ }
+// Whether one of the four factors from `i` on is out of range: all four are looked at, so that there is one branch for them.
+fn four_bad(factors: &[i64], i: usize) -> bool
+    requires { ⌜ i + 4 ≤ length (now factors) ⌝ }
+    ensures { λ r. ⌜ r ≡ fourBad (now (factors .entry)) i ⌝ }
+{
+    let a = factor_bad(factors[i]);
+    let b = factor_bad(factors[i + 1]);
+    let c = factor_bad(factors[i + 2]);
+    let d = factor_bad(factors[i + 3]);
+    a | (b | (c | d))
+}
+
+// The same of the first `count`, of which the first `start` are good.
+fn rest_bad(factors: &[i64], start: usize, count: usize) -> bool
+    requires { ⌜ (start ≤ count) × (count ≤ length (now factors)) × (some factorBad (take start (take count (now factors))) ≡ false) ⌝ }
     ensures { λ r. ⌜ r ≡ some factorBad (take count (now (factors .entry))) ⌝ }
 {
-    let mut i = 0;
+    let mut i = start;
     while i < count {
         if factor_bad(factors[i]) {
             return true;
@@ -74,6 +88,21 @@ pub fn factor_out_of_range(factors: &[i64], count: usize) -> bool
         i += 1;
     }
     false
+}
+
+// Whether one of the first `count` factors is out of range.
+pub fn factor_out_of_range(factors: &[i64], count: usize) -> bool
+    requires { ⌜ count ≤ length (now factors) ⌝ }
+    ensures { λ r. ⌜ r ≡ some factorBad (take count (now (factors .entry))) ⌝ }
+{
+    let mut i = 0;
+    while 4 <= count - i {
+        if four_bad(factors, i) {
+            return true;
+        }
+        i += 4;
+    }
+    rest_bad(factors, i, count)
 }
 
 // Whether a factor of the file is out of range: node by node and, within a node, constraint by constraint, up to the first that is.

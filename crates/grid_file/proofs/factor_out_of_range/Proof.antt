@@ -1,16 +1,14 @@
--- `grid_file::factor_out_of_range`: no factor passed is out of range.
-use mathlib.Core.Path.{_≡_, sym, ap, _∙_}
+-- `grid_file::factor_out_of_range`: no factor passed is out of range, four at a time.
+use mathlib.Core.Path.{_≡_, _∙_}
 use mathlib.Core.Bool.{false}
-use Prim.Native.Nat.{_-_, _≤_}
+use Prim.Native.Nat.{_+_, _-_, _≤_}
 use native.Mathlib.Omega.{arith}
 use borrow.Author.Needs.{needs}
-use lib.ListN.{take, getD}
-use lib.IntN.{pos}
+use lib.ListN.{length, take}
 use lib.Seq.{length-take-le}
-use mir.Syntax.{w64}
-use mir.ValLaws.{toZ-ofZ}
 use Rattle.tariff.specs.Checks.{some, factorBad}
-use Rattle.grid_file.proofs.Factors.{bad-start, bad-found, bad-turn, bad-end, cell-in, cell-at}
+use Rattle.grid_file.specs.Searches.{fourBad}
+use Rattle.grid_file.proofs.Factors.{bad-start, four-turn, four-found, four-same}
 use Rattle.grid_file.proofs.factor_out_of_range.Statement.{statement}
 use Rattle.grid_file.proofs.factor_out_of_range.Tie as tie
 
@@ -21,31 +19,30 @@ Inv-loop factors count i₀ i =
 abbrev μ-loop : tie.MeasureT-loop
 μ-loop factors count i₀ i = count - i
 
--- the answer is of the cell itself
-same : (c : tie.After-factor-bad Inv-loop μ-loop)
-    → c .factor-bad .result ≡ factorBad (getD (take (c .before .before .before .before .args .count) (c .before .before .before .before .args .factors .now)) (c .before .before .before .loop .i) (pos 0))
-same c =
-    let a = c .before .before .before .before .args in
-    let i = c .before .before .before .loop .i in
-    c .factor-bad .ensures ∙ ap factorBad (toZ-ofZ w64 (getD (a .factors .now) i (pos 0)) (record { sfits = c .before .factor-bad-arg .given }) ∙ sym (cell-at (a .factors .now) (a .count) i (omega arith) (omega arith) (pos 0)))
-
 loop-holds : tie.Need-loop-holds Inv-loop μ-loop
 loop-holds c = (search needs, bad-start)
 
-mul-factor-bad : tie.Need-mul-factor-bad Inv-loop μ-loop
-mul-factor-bad c = search needs
+sub-loop : tie.Need-sub-loop Inv-loop μ-loop
+sub-loop c = search needs
 
-shared-slice-copy-out-factor-bad : tie.Need-shared-slice-copy-out-factor-bad Inv-loop μ-loop
-shared-slice-copy-out-factor-bad c = search needs
+four-bad-requires : tie.Need-four-bad-requires Inv-loop μ-loop
+four-bad-requires c κs = search needs
 
-factor-bad-requires : tie.Need-factor-bad-requires Inv-loop μ-loop
-factor-bad-requires c κs = search needs
+-- the four are those of the first `count`
+same : (c : tie.After-four-bad Inv-loop μ-loop)
+    → c .four-bad .result ≡ fourBad (take (c .before .before .before .args .count) (c .before .before .before .args .factors .now)) (c .before .before .loop .i)
+same c =
+    let a = c .before .before .before .args in
+    c .four-bad .ensures ∙ four-same (a .factors .now) (a .count) (c .before .before .loop .i) (omega arith)
+
+long : (c : tie.After-four-bad Inv-loop μ-loop) → c .before .before .loop .i + 4 ≤ length (take (c .before .before .before .args .count) (c .before .before .before .args .factors .now))
+long c = let a = c .before .before .before .args in omega (arith, length-take-le (a .count) (a .factors .now) (omega arith))
 
 returns : tie.Need-returns Inv-loop μ-loop
 returns c =
-    let a = c .before .before .before .before .before .args in
-    let i = c .before .before .before .before .loop .i in
-    bad-found (take (a .count) (a .factors .now)) i (pos 0) _ (cell-in (a .factors .now) (a .count) i (omega arith) (omega arith)) (same (c .before)) (c .if1 .taken)
+    let b = c .before in
+    let a = b .before .before .before .args in
+    four-found (take (a .count) (a .factors .now)) (b .before .before .loop .i) _ (long b) (same b) (c .if1 .taken)
 
 add-i : tie.Need-add-i Inv-loop μ-loop
 add-i c = search needs
@@ -55,16 +52,16 @@ loop-less c = search needs
 
 loop-again : tie.Need-loop-again Inv-loop μ-loop
 loop-again c =
-    let a = c .before .before .before .before .before .args in
-    let l = c .before .before .before .before .loop in (
-      omega arith,
-      bad-turn (take (a .count) (a .factors .now)) (l .i) (pos 0) _ (cell-in (a .factors .now) (a .count) (l .i) (omega arith) (omega arith)) (same (c .before)) (c .if1 .left) (l .inv .1),
-    )
+    let b = c .before in
+    let a = b .before .before .before .args in
+    let l = b .before .before .loop in
+    (omega arith, four-turn (take (a .count) (a .factors .now)) (l .i) _ (long b) (same b) (c .if1 .left) (l .inv .1))
+
+rest-bad-requires : tie.Need-rest-bad-requires Inv-loop μ-loop
+rest-bad-requires c κs = search needs
 
 returns-2 : tie.Need-returns-2 Inv-loop μ-loop
-returns-2 c =
-    let a = c .before .before .args in
-    bad-end (take (a .count) (a .factors .now)) (c .before .loop .i) (omega (arith, length-take-le (a .count) (a .factors .now) (omega arith))) (c .before .loop .inv .1)
+returns-2 c = search needs
 
 pub factor-out-of-range-spec : {M : Type 1} → statement M
 factor-out-of-range-spec =
@@ -73,11 +70,11 @@ factor-out-of-range-spec =
     Inv-loop
     μ-loop
     loop-holds
-    mul-factor-bad
-    shared-slice-copy-out-factor-bad
-    factor-bad-requires
+    sub-loop
+    four-bad-requires
     returns
     add-i
     loop-less
     loop-again
+    rest-bad-requires
     returns-2)

@@ -1,0 +1,83 @@
+-- `grid_file::rest_bad`: no factor passed is out of range.
+use mathlib.Core.Path.{_≡_, sym, ap, _∙_}
+use mathlib.Core.Bool.{false}
+use Prim.Native.Nat.{_-_, _≤_}
+use native.Mathlib.Omega.{arith}
+use borrow.Author.Needs.{needs}
+use lib.ListN.{take, getD}
+use lib.IntN.{pos}
+use lib.Seq.{length-take-le}
+use mir.Syntax.{w64}
+use mir.ValLaws.{toZ-ofZ}
+use Rattle.tariff.specs.Checks.{some, factorBad}
+use Rattle.grid_file.proofs.Factors.{bad-found, bad-turn, bad-end, cell-in, cell-at}
+use Rattle.grid_file.proofs.rest_bad.Statement.{statement}
+use Rattle.grid_file.proofs.rest_bad.Tie as tie
+
+abbrev Inv-loop : tie.InvT-loop
+Inv-loop factors start count i₀ i =
+    (i ≤ count) × (some factorBad (take i (take count factors)) ≡ false)
+
+abbrev μ-loop : tie.MeasureT-loop
+μ-loop factors start count i₀ i = count - i
+
+-- the answer is of the cell itself
+same : (c : tie.After-factor-bad Inv-loop μ-loop)
+    → c .factor-bad .result ≡ factorBad (getD (take (c .before .before .before .before .args .count) (c .before .before .before .before .args .factors .now)) (c .before .before .before .loop .i) (pos 0))
+same c =
+    let a = c .before .before .before .before .args in
+    let i = c .before .before .before .loop .i in
+    c .factor-bad .ensures ∙ ap factorBad (toZ-ofZ w64 (getD (a .factors .now) i (pos 0)) (record { sfits = c .before .factor-bad-arg .given }) ∙ sym (cell-at (a .factors .now) (a .count) i (omega arith) (omega arith) (pos 0)))
+
+loop-holds : tie.Need-loop-holds Inv-loop μ-loop
+loop-holds c = (c .pre .0, c .pre .2)
+
+mul-factor-bad : tie.Need-mul-factor-bad Inv-loop μ-loop
+mul-factor-bad c = search needs
+
+shared-slice-copy-out-factor-bad : tie.Need-shared-slice-copy-out-factor-bad Inv-loop μ-loop
+shared-slice-copy-out-factor-bad c = search needs
+
+factor-bad-requires : tie.Need-factor-bad-requires Inv-loop μ-loop
+factor-bad-requires c κs = search needs
+
+returns : tie.Need-returns Inv-loop μ-loop
+returns c =
+    let a = c .before .before .before .before .before .args in
+    let i = c .before .before .before .before .loop .i in
+    bad-found (take (a .count) (a .factors .now)) i (pos 0) _ (cell-in (a .factors .now) (a .count) i (omega arith) (omega arith)) (same (c .before)) (c .if1 .taken)
+
+add-i : tie.Need-add-i Inv-loop μ-loop
+add-i c = search needs
+
+loop-less : tie.Need-loop-less Inv-loop μ-loop
+loop-less c = search needs
+
+loop-again : tie.Need-loop-again Inv-loop μ-loop
+loop-again c =
+    let a = c .before .before .before .before .before .args in
+    let l = c .before .before .before .before .loop in (
+      omega arith,
+      bad-turn (take (a .count) (a .factors .now)) (l .i) (pos 0) _ (cell-in (a .factors .now) (a .count) (l .i) (omega arith) (omega arith)) (same (c .before)) (c .if1 .left) (l .inv .1),
+    )
+
+returns-2 : tie.Need-returns-2 Inv-loop μ-loop
+returns-2 c =
+    let a = c .before .before .args in
+    bad-end (take (a .count) (a .factors .now)) (c .before .loop .i) (omega (arith, length-take-le (a .count) (a .factors .now) (omega arith))) (c .before .loop .inv .1)
+
+pub rest-bad-spec : {M : Type 1} → statement M
+rest-bad-spec =
+    tie.close
+    (tie.spec
+    Inv-loop
+    μ-loop
+    loop-holds
+    mul-factor-bad
+    shared-slice-copy-out-factor-bad
+    factor-bad-requires
+    returns
+    add-i
+    loop-less
+    loop-again
+    returns-2)
