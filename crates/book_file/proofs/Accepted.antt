@@ -1,6 +1,5 @@
 -- What is known of a book that its own checks accept.
-use mathlib.Core.Path.{_≡_, refl}
-use mathlib.Core.Bool.{Bool, true, false, _||_}
+use mathlib.Core.Path.{_≡_}
 use mathlib.Core.List.{List, [], _∷_}
 use Prim.Native.Nat.{ℕ, _+_, _*_, _≤_, _<_}
 use borrow.Author.Tests.{ltb-false, leb-false, eqb-true, not-false}
@@ -12,15 +11,11 @@ use Rattle.tariff.specs.declared.Checked.the-variants.{Passed}
 use Rattle.tariff.specs.Contracts.{InRange}
 use Rattle.tariff.specs.Refusals.{first}
 use Rattle.tariff.specs.Checks.{shortTable}
-use Rattle.tariff.proofs.Checks.{passed-cons, passed-append}
+use Rattle.tariff.proofs.Checks.{neither, passed-cons, passed-append}
 use Rattle.layouts.specs.BookFile.{countIn, spareIn, contractAt, bookIn}
 use Rattle.layouts.proofs.Lists.{each-listTo}
 use Rattle.book_file.specs.BookChecks.{checksAt, contractChecks, bookChecks, readChecks}
 use Rattle.book_file.proofs.Checking.{checks-each}
-
-pub neither : (a b : Bool) → (a || b) ≡ false → (a ≡ false) × (b ≡ false)
-neither true b e = (e, cc)
-neither false b e = (refl, e)
 
 -- a contract that no check of its own refuses
 pub contract-in-range : (n : ℕ) (c : Contract) → first (contractChecks n c) ≡ Passed → InRange n c

@@ -4,17 +4,17 @@ use mathlib.Core.List.{List, [], _∷_}
 use Prim.Native.Nat.{ℕ, _+_, _*_, _≤_, _<_}
 use native.Mathlib.Omega.{arith}
 use borrow.Author.Tests.{ltb-false}
-use lib.Dec.{ltb, eqb}
+use lib.Dec.{ltb}
 use lib.ListN.{length, getD}
 use Rattle.tariff.specs.declared.Checked.the-variants.{Passed}
 use Rattle.tariff.specs.Refusals.{first}
 use Rattle.tariff.specs.Checks.{shortTable}
-use Rattle.tariff.proofs.Checks.{passed-cons, passed-append}
+use Rattle.tariff.proofs.Checks.{passed-cons, passed-append, neither, nodes-few-of}
 use Rattle.layouts.specs.BookFile.{rowAt}
 use Rattle.layouts.proofs.BookFile.{ContractFits}
 use Rattle.book_file.specs.BookChecks.{checksTo}
 use Rattle.book_file.proofs.Checking.{checks-each}
-use Rattle.book_file.proofs.Accepted.{neither, contract-in-range}
+use Rattle.book_file.proofs.Accepted.{contract-in-range}
 use Rattle.book_writer.specs.Rows.{RowFits}
 use Rattle.book_writer.specs.WriteChecks.{rowChecks, writeChecks}
 
@@ -55,6 +55,6 @@ write-accepted n m cells bytes e =
     record {
       few = ltb-false 1000 m (b .0);
       long = ltb-false (length cells) (6 * m) (c .0);
-      rows = λ i h. row-fits n (ltb-false 200 n (neither (eqb n 0) (ltb 200 n) (a .0) .1)) cells i (checks-each (rowChecks n cells) m (d .0) i h);
+      rows = λ i h. row-fits n (nodes-few-of n (a .0)) cells i (checks-each (rowChecks n cells) m (d .0) i h);
       room = ltb-false bytes (2 + 6 * m) (passed-cons _ _ (d .1) .0);
     }

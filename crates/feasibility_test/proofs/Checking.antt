@@ -6,7 +6,6 @@ use Prim.Native.Nat.{ℕ, _+_, _*_, _≤_, _<_}
 use native.Mathlib.Nat.{mul-le-mul-right}
 use native.Mathlib.Omega.{arith}
 use borrow.Author.Tests.{ltb-false}
-use lib.Dec.{ltb, eqb}
 use lib.ListN.{length, getD, take}
 use lib.Seq.{getD-take, length-take-le}
 use lib.IntN.{ℤ, pos, natAbs}
@@ -16,9 +15,8 @@ use Rattle.tariff.specs.declared.Checked.the-variants.{Passed, Refused}
 use Rattle.tariff.specs.Units.{grid, FactorsInRange}
 use Rattle.tariff.specs.Refusals.{first}
 use Rattle.tariff.specs.Checks.{some, factorBad, limitBad}
-use Rattle.tariff.proofs.Checks.{passed-cons, none-bad}
+use Rattle.tariff.proofs.Checks.{passed-cons, nodes-few-of, none-bad}
 use Rattle.book_file.specs.BookChecks.{bookChecks}
-use Rattle.book_file.proofs.Accepted.{neither}
 use Rattle.feasibility_test.specs.TestChecks.{testChecks}
 
 -- a row of n rows of k cells
@@ -67,7 +65,7 @@ tested n k p t ls fs book e =
     let e6 = passed-cons _ _ (e9f .1) in
     let e7 = passed-cons _ _ (e6 .1) in
     record {
-      few-nodes = ltb-false 200 n (neither (eqb n 0) (ltb 200 n) (e2 .0) .1);
+      few-nodes = nodes-few-of n (e2 .0);
       few-constraints = ltb-false 64 k (e3 .0);
       process-number = ltb-false 2 p (e16 .0);
       period-number = ltb-false 1 t (e17 .0);

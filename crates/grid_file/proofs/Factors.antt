@@ -18,7 +18,7 @@ use Rattle.bits.proofs.Fields.{field-of-run, length-fields}
 use Rattle.bits.proofs.SignedLaws.{to-low, to-high}
 use Rattle.tariff.specs.Units.{maxFactor}
 use Rattle.tariff.specs.Checks.{some, factorBad}
-use Rattle.tariff.proofs.Checks.{some-good, some-bad}
+use Rattle.tariff.proofs.Checks.{neither, some-good, some-bad}
 use Rattle.grid_file.specs.Searches.{fourBad}
 
 -- ---- how many there are
@@ -89,10 +89,6 @@ module _ (fs : List ℤ) (i : ℕ) (d : ℤ) (r : Bool) (h : i < length fs) (e :
   bad-turn t none = some-good factorBad fs i d h none (sym e ∙ t)
 
 -- ---- four at once
-
-neither : (a b : Bool) → (a || b) ≡ false → (a ≡ false) × (b ≡ false)
-neither true b e = (e, cc)
-neither false b e = (refl, e)
 
 either : (a b : Bool) → (a || b) ≡ true → (a ≡ true) ⊎ (b ≡ true)
 either true b e = inl refl

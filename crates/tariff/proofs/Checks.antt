@@ -11,7 +11,6 @@ use lib.ListN.{length, getD, take}
 use lib.Seq.{take-suc}
 use Rattle.tariff.specs.declared.Checked.{Checked}
 use Rattle.tariff.specs.declared.Checked.the-variants.{Passed, Refused}
-use Rattle.tariff.specs.Units.{maxNodes}
 use Rattle.tariff.specs.Refusals.{Check, first, decided}
 use Rattle.tariff.specs.Checks.{some, nodeCount}
 
@@ -52,15 +51,17 @@ passed-append (c ∷ cs) ys e = by (c .fails) refl (passed-append cs ys) e
     by true q rest e = (cc, cc)
     by false q rest e = rest e
 
+-- ---- two conditions
+
+pub neither : (a b : Bool) → (a || b) ≡ false → (a ≡ false) × (b ≡ false)
+neither true b e = (e, cc)
+neither false b e = (refl, e)
+
 -- ---- the node count
 
 -- one that the check accepts
 pub nodes-few-of : (n : ℕ) → nodeCount n .fails ≡ false → n ≤ 200
-nodes-few-of n e = by (eqb n 0) e
-  where
-    by : (b : Bool) → (b || ltb maxNodes n) ≡ false → n ≤ 200
-    by true r = let z : _≡_ {A = ℕ} 0 1 = cc in absurd (omega arith)
-    by false r = ltb-false 200 n r
+nodes-few-of n e = ltb-false 200 n (neither (eqb n 0) (ltb 200 n) e .1)
 
 -- ---- a bad element
 

@@ -312,17 +312,6 @@ impl Flow {
         Flow(self.0 - other.0)
     }
 
-    // This flow as it counts: an option never relieves.
-    pub fn counted(self, kind: Kind) -> Flow
-        requires { ⌜ natAbs (self .0) < 2 ^ 63 ⌝ }
-        ensures { λ r. ⌜ r .0 ≡ countedAs kind (self .0) ⌝ }
-    {
-        match kind {
-            Kind::Obligation => self,
-            Kind::Option => { if self.0 < 0 { Flow(0) } else { self } }
-        }
-    }
-
     pub fn exceeds(self, other: Flow) -> bool
         requires { ⌜ (natAbs (self .0) < 2 ^ 63) × (natAbs (other .0) < 2 ^ 63) ⌝ }
         ensures { λ r. ⌜ r ≡ ltZ (other .0) (self .0) ⌝ }
