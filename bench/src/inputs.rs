@@ -1,23 +1,7 @@
 //! Inputs of a stated size, drawn at random and within every range.
 
 use crate::plain;
-
-/// splitmix64.
-pub struct Draw(u64);
-
-impl Draw {
-    pub fn next(&mut self) -> u64 {
-        self.0 = self.0.wrapping_add(0x9e37_79b9_7f4a_7c15);
-        let mut z = self.0;
-        z = (z ^ (z >> 30)).wrapping_mul(0xbf58_476d_1ce4_e5b9);
-        z = (z ^ (z >> 27)).wrapping_mul(0x94d0_49bb_1331_11eb);
-        z ^ (z >> 31)
-    }
-
-    pub fn below(&mut self, end: u64) -> u64 {
-        self.next() % end
-    }
-}
+use crate::splitmix::Draw;
 
 /// How large the inputs are.
 #[derive(Clone, Copy)]
@@ -50,7 +34,7 @@ fn contract(draw: &mut Draw, nodes: usize) -> [u64; 6] {
 impl Inputs {
     pub fn new(size: Size) -> Self {
         let Size { nodes, constraints, contracts } = size;
-        let mut draw = Draw(2013);
+        let mut draw = Draw::new(2013);
         let limits: Vec<u64> = (0..constraints).map(|_| draw.below(100_000_001)).collect();
         let factors: Vec<i64> = (0..nodes * constraints).map(|_| draw.below(200_001) as i64 - 100_000).collect();
         let prices: Vec<u64> = (0..constraints).map(|_| draw.below(500_001)).collect();

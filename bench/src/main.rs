@@ -5,6 +5,8 @@ mod inputs;
 #[path = "../../tests/differential/src/library.rs"]
 mod library;
 mod plain;
+#[path = "../../tests/differential/src/splitmix.rs"]
+mod splitmix;
 mod timing;
 
 use entries::{Entry, ENTRIES};

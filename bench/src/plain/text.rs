@@ -68,18 +68,27 @@ impl Page<'_> {
     }
 }
 
+/// Reads the grid and checks the book for it; a refusal comes with the file's name.
+fn read_both(
+    grid_file: &[u8],
+    book_file: &[u8],
+    limits: &mut [u64],
+    factors: &mut [i64],
+) -> Result<(usize, usize), (&'static [u8], Refusal)> {
+    let counts = read_grid(grid_file, limits, factors).map_err(|refusal| (&b"grid"[..], refusal))?;
+    check_book(counts.0, book_file).map_err(|refusal| (&b"book"[..], refusal))?;
+    Ok(counts)
+}
+
 #[inline(never)]
 pub fn write_report(grid_file: &[u8], book_file: &[u8], text: &mut [u8]) -> Result<usize, Refusal> {
     let mut page = Page { text: text.get_mut(..REPORT_BYTES).ok_or(SHORT_TABLE)?, at: 0 };
     let mut limits = [0; MAX_CONSTRAINTS];
     let mut factors = [0; MAX_NODES * MAX_CONSTRAINTS];
-    let (nodes, constraints) = match read_grid(grid_file, &mut limits, &mut factors) {
+    let (_, constraints) = match read_both(grid_file, book_file, &mut limits, &mut factors) {
         Ok(counts) => counts,
-        Err(refusal) => return Ok(page.refused(b"grid", refusal)),
+        Err((file, refusal)) => return Ok(page.refused(file, refusal)),
     };
-    if let Err(refusal) = check_book(nodes, book_file) {
-        return Ok(page.refused(b"book", refusal));
-    }
     page.put(b"period,process,verdict,overloaded,lowest,excess,constraints\n");
     for (period, name) in [(0, &b"off-peak,"[..]), (1, b"on-peak,")] {
         let flows = carry(constraints, period, &factors, book_file);
@@ -97,13 +106,10 @@ pub fn write_statement(grid_file: &[u8], book_file: &[u8], price_file: &[u8], te
     let mut page = Page { text: text.get_mut(..STATEMENT_BYTES).ok_or(SHORT_TABLE)?, at: 0 };
     let mut limits = [0; MAX_CONSTRAINTS];
     let mut factors = [0; MAX_NODES * MAX_CONSTRAINTS];
-    let (nodes, constraints) = match read_grid(grid_file, &mut limits, &mut factors) {
+    let (nodes, constraints) = match read_both(grid_file, book_file, &mut limits, &mut factors) {
         Ok(counts) => counts,
-        Err(refusal) => return Ok(page.refused(b"grid", refusal)),
+        Err((file, refusal)) => return Ok(page.refused(file, refusal)),
     };
-    if let Err(refusal) = check_book(nodes, book_file) {
-        return Ok(page.refused(b"book", refusal));
-    }
     let mut prices = [0; MAX_CONSTRAINTS];
     let period = match read_prices(constraints, price_file, &mut prices) {
         Ok(period) => period,

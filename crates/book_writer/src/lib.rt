@@ -1,6 +1,6 @@
 // Writing a book of contracts, with every refusal.
 ghost use mathlib.Core.Path.{_≡_};
-ghost use mathlib.Core.List.{List, [], _∷_, _++_, flatMap};
+ghost use mathlib.Core.List.{[], _∷_, _++_, flatMap};
 ghost use Prim.Native.Nat.{ℕ, _+_, _*_, _≤_, _<_};
 ghost use lib.ListN.{length, take, drop};
 ghost use lib.IntN.{pos};

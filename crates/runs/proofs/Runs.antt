@@ -3,13 +3,10 @@ use mathlib.Core.Path.{_≡_, refl, sym, ap, _∙_}
 use mathlib.Core.Bool.{true, false}
 use mathlib.Core.List.{List, []}
 use Prim.Native.Nat.{ℕ, _+_, _-_, _*_, _≤_, _<_}
-use native.Mathlib.Omega.{arith}
 use borrow.Author.Tests.{lt-ltb, le-ltb}
 use lib.ListN.{length, getD, take, drop, set}
-use lib.Seq.{take-all, drop-drop, length-take-le}
+use lib.Seq.{take-all, length-take-le}
 use Rattle.bits.specs.Bits.{field, fields}
-use Rattle.bits.specs.Pen.{place, Ready}
-use Rattle.bits.specs.declared.Pen.{Pen}
 use Rattle.bits.proofs.Fields.{field-of-run, length-fields}
 use Rattle.bits.proofs.Fill.{fill-turn, rest-turn, fill-front}
 use Rattle.tariff.specs.Checks.{some}

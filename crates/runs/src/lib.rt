@@ -1,7 +1,7 @@
 // Runs of fields of one width, and tables of cells: searched for a figure above a limit, read into cells from the front, and written from cells by a pen.
 ghost use mathlib.Core.Path.{_≡_};
 ghost use Prim.Native.Nat.{ℕ, _+_, _*_, _^_, _≤_, _<_};
-ghost use lib.ListN.{length, getD, take, drop};
+ghost use lib.ListN.{length, getD, take};
 ghost use Rattle.bits.specs.Bits.{number, fields};
 ghost use Rattle.bits.specs.Pen.{written, place, Ready, GoesOn};
 ghost use Rattle.tariff.specs.Checks.{some};

@@ -2,27 +2,9 @@
 
 use crate::second::book::Contract;
 use crate::second::grid::Grid;
-
-/// splitmix64.
-pub struct Draw(u64);
+pub use crate::splitmix::Draw;
 
 impl Draw {
-    pub fn new(seed: u64) -> Self {
-        Draw(seed)
-    }
-
-    pub fn next(&mut self) -> u64 {
-        self.0 = self.0.wrapping_add(0x9e37_79b9_7f4a_7c15);
-        let mut z = self.0;
-        z = (z ^ (z >> 30)).wrapping_mul(0xbf58_476d_1ce4_e5b9);
-        z = (z ^ (z >> 27)).wrapping_mul(0x94d0_49bb_1331_11eb);
-        z ^ (z >> 31)
-    }
-
-    pub fn below(&mut self, end: u64) -> u64 {
-        self.next() % end
-    }
-
     /// From `low` to `high`, both included.
     pub fn within(&mut self, low: i128, high: i128) -> i128 {
         low + i128::from(self.next()) % (high - low + 1)

@@ -7,6 +7,7 @@ mod lent;
 mod library;
 mod rounds;
 mod second;
+mod splitmix;
 mod tally;
 mod vectors;
 

@@ -1,5 +1,5 @@
 -- `check_at`.
-use mathlib.Core.Path.{_≡_, ap, _∙_}
+use mathlib.Core.Path.{ap, _∙_}
 use Rattle.tariff.specs.declared.Contract.{Contract}
 use Rattle.tariff.specs.Refusals.{first}
 use Rattle.book_file.specs.BookChecks.{contractChecks, checksAt}

@@ -1,5 +1,5 @@
 -- `check_contract`.
-use mathlib.Core.Path.{_≡_, sym, _∙_}
+use mathlib.Core.Path.{sym, _∙_}
 use borrow.Author.Tests.{le-leb, lt-leb, eq-eqb, ne-eqb}
 use Rattle.tariff.specs.Refusals.{first}
 use Rattle.book_file.specs.BookChecks.{contractChecks}

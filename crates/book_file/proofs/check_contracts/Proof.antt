@@ -1,11 +1,10 @@
 -- `check_contracts`.
-use mathlib.Core.Path.{_≡_, refl, sym, ap, _∙_}
-use Prim.Native.Nat.{ℕ, _+_, _-_, _*_, _^_, _≤_, _<_}
+use mathlib.Core.Path.{_≡_, sym, _∙_}
+use Prim.Native.Nat.{_-_, _≤_}
 use native.Mathlib.Omega.{arith}
-use lib.ListN.{length, take, drop, getD, set, length-set}
 use borrow.Author.Needs.{needs}
 use Rattle.tariff.specs.Refusals.{first}
-use Rattle.tariff.specs.declared.Checked.the-variants.{Passed, Refused}
+use Rattle.tariff.specs.declared.Checked.the-variants.{Passed}
 use Rattle.book_file.specs.BookChecks.{checksTo, checksAt}
 use Rattle.book_file.proofs.Checking.{checks-start, checks-more, checks-stop}
 use Rattle.book_file.proofs.check_contracts.Statement.{statement}

@@ -1,5 +1,5 @@
 -- `check_read`.
-use mathlib.Core.Path.{_≡_, sym, _∙_}
+use mathlib.Core.Path.{sym, _∙_}
 use native.Mathlib.Omega.{arith}
 use Rattle.tariff.proofs.Checks.{first-refuses}
 use Rattle.book_file.specs.BookChecks.{readChecks}

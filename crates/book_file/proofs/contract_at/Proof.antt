@@ -1,5 +1,5 @@
 -- `contract_at`.
-use mathlib.Core.Path.{_≡_, sym, ap, _∙_}
+use mathlib.Core.Path.{sym, ap, _∙_}
 use Rattle.tariff.specs.Contracts.{kindOf, periodOf}
 use Rattle.layouts.proofs.BookFile.{contract-number}
 use borrow.Author.Needs.{needs}

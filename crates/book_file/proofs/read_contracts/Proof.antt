@@ -1,11 +1,10 @@
 -- `read_contracts`.
 use mathlib.Core.Path.{_≡_, refl, sym, ap, _∙_}
-use Prim.Native.Nat.{ℕ, _+_, _-_, _*_, _^_, _≤_, _<_}
+use Prim.Native.Nat.{ℕ, _+_, _-_, _*_, _≤_}
 use native.Mathlib.Omega.{arith}
-use lib.ListN.{length, take, drop, getD, set, length-set, take-append-drop}
+use lib.ListN.{length, take, drop, take-append-drop}
 use borrow.Author.Needs.{needs}
-use mathlib.Core.List.{List, _++_, flatMap}
-use Rattle.tariff.specs.Refusals.{overwrite}
+use mathlib.Core.List.{_++_, flatMap}
 use Rattle.layouts.specs.Files.{listTo}
 use Rattle.layouts.specs.BookFile.{contractAt, cellsOf}
 use Rattle.book_file.proofs.Table.{block-front, block-rest, block-length, length-cell-row, length-rows}

@@ -1,5 +1,5 @@
 -- `check_row`.
-use mathlib.Core.Path.{_≡_, ap, _∙_}
+use mathlib.Core.Path.{ap, _∙_}
 use borrow.Author.Tests.{lt-ltb, le-ltb}
 use Rattle.tariff.specs.declared.Contract.{Contract}
 use Rattle.tariff.specs.Refusals.{first}

@@ -1,5 +1,5 @@
 -- `check_write`.
-use mathlib.Core.Path.{_≡_, sym, _∙_}
+use mathlib.Core.Path.{sym, _∙_}
 use Rattle.tariff.proofs.Checks.{first-refuses}
 use Rattle.book_writer.specs.WriteChecks.{writeChecks}
 use Rattle.book_writer.proofs.Checking.{w-many-contracts, w-short-cells, row-refuses, short-file, all-written}

@@ -1,8 +1,8 @@
 -- `write_rows`.
 use mathlib.Core.Path.{_≡_, refl, sym, ap, _∙_}
-use Prim.Native.Nat.{ℕ, _+_, _-_, _*_, _^_, _≤_, _<_}
+use Prim.Native.Nat.{ℕ, _+_, _-_, _*_, _≤_}
 use native.Mathlib.Omega.{arith}
-use lib.ListN.{length, take, drop, getD, set, length-set, take-append-drop}
+use lib.ListN.{length, take, drop, take-append-drop}
 use borrow.Author.Needs.{needs}
 use mathlib.Core.List.{List, _++_, flatMap, append-assoc, append-nil}
 use Rattle.layouts.specs.Files.{listTo}

@@ -12,8 +12,6 @@ use Rattle.statement_lines.specs.Parts.{linesTo}
 use Rattle.statement_lines.proofs.Figures.{kept, kept-sized, lines-more}
 use Rattle.statement_lines.proofs.put_contracts.Statement.{statement}
 use Rattle.statement_lines.proofs.put_contracts.Tie as tie
-use Rattle.statement_lines.proofs.put_contracts.Reads as reads
-use Rattle.statement_lines.proofs.put_contracts.Lts as lts
 use Rattle.book_file.proofs.contract_at.Reads as contract-at-reads
 use Rattle.statement_lines.proofs.put_own.Reads as put-own-reads
 

@@ -1,7 +1,7 @@
 -- `Mcc::negated`.
 use mathlib.Core.Path.{_∙_, refl}
 use native.Mathlib.Omega.{arith}
-use lib.IntN.{ℤ, pos, negℤ, _-ℤ_, +ℤ-idl}
+use lib.IntN.{pos, negℤ, _-ℤ_, +ℤ-idl}
 use Rattle.integers.proofs.Sizes.{natAbs-sub}
 use Rattle.integers.proofs.Machine.{back, op-fits, op-is}
 use Rattle.tariff.proofs.Mcc.negated.Statement.{statement}
