@@ -1,5 +1,4 @@
--- A loop that fills a list from the front with the elements of a list F, at any type: one law for a turn and one for the end.
--- Then the same for a longer list, of which only the first cells are filled and the rest stay as they were.
+-- A loop that fills the first cells of a list with the elements of a list F, at any type: a turn, and the end, when the rest is as it was.
 use mathlib.Core.Path.{_≡_, sym, ap, ap₂, _∙_}
 use Prim.Native.Nat.{ℕ, suc, _+_, _-_, _≤_, _<_}
 use native.Mathlib.Numerals.{add-one}
@@ -11,9 +10,6 @@ use lib.Seq.{sets-eq, take-suc, take-suc-set, take-all, drop-drop, drop-set-lt}
 module _ {A : Type 0} (F out : List A) (i : ℕ) (done : take i out ≡ take i F) where
   pub fill-turn : (v d : A) → i < length out → i < length F → v ≡ getD F i d → take (i + 1) (set out i v) ≡ take (i + 1) F
   fill-turn v d h k e = rw (add-one, take-suc-set out i v h, take-suc F i d k, done, e)
-
-  pub fill-end : length out ≤ i → length F ≤ i → out ≡ F
-  fill-end h k = sym (take-all i out h) ∙ done ∙ take-all i F k
 
 -- a store at i leaves what stands behind it
 pub rest-turn : {A : Type 0} (out out₀ : List A) (i : ℕ) (v : A) → drop i out ≡ drop i out₀ → drop (i + 1) (set out i v) ≡ drop (i + 1) out₀

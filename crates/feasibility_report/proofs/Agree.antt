@@ -1,17 +1,16 @@
 -- Cells past those that the counts name do not matter: two grids that agree below their counts have the same figures and the same lines.
 use mathlib.Core.Path.{_≡_, refl, ap, ap₂, _∙_}
 use mathlib.Core.Bool.{Bool, true, false, cond}
-use mathlib.Core.List.{List, [], _∷_, _++_}
+use mathlib.Core.List.{List, _++_}
 use Prim.Native.Nat.{ℕ, zero, suc, _+_, _*_, _^_, _<_}
 use native.Mathlib.Nat.{pos-of-ne-zero}
 use native.Mathlib.Omega.{arith}
 use borrow.Author.Tests.{eqb-false}
 use lib.Dec.{eqb}
 use lib.ListN.{getD}
-use lib.IntN.{ℤ, pos, _+ℤ_, _-ℤ_, _*ℤ_}
+use lib.IntN.{ℤ, pos, _-ℤ_, _*ℤ_}
 use lib.Signed.{ltZ}
-use Rattle.integers.specs.Sums.{sumOver}
-use Rattle.integers.proofs.Sizes.{Each}
+use Rattle.integers.proofs.Sizes.{Each, sumOver-each}
 use Rattle.text.specs.Ascii.{ascii}
 use Rattle.text.specs.Decimal.{decimal, decimalZ}
 use Rattle.tariff.specs.declared.Contract.{Contract}
@@ -23,7 +22,7 @@ use Rattle.tariff.specs.Processes.{percent}
 use Rattle.tariff.specs.Feasibility.{setOf, countOf, lowestOf, flow, totalFlow, released, excess, overloaded, overloadSet, overloadCount, lowestOverload}
 use Rattle.tariff.proofs.Overloads.{fails-lowest}
 use Rattle.tariff.proofs.Sizes.{ofPeriod-in-range}
-use Rattle.feasibility_test.proofs.Checking.{cell-fits}
+use Rattle.grid_file.proofs.Factors.{place-in}
 use Rattle.feasibility_report.specs.Report.{periodWord, processWord, heading, numbersTo, figures, line, lines}
 use Rattle.tariff.specs.declared.Period.the-variants.{OffPeak, OnPeak}
 use Rattle.tariff.specs.declared.Process.the-variants.{Annual, TierLt, Monthly}
@@ -64,12 +63,11 @@ module _ (n k : ℕ) (ls ls' : List ℕ) (fs fs' : List ℤ) (limits : (j : ℕ)
   unfolding flow
   flow-same c r j h =
       ap₂ (λ (a b : ℤ). counted (c .kind) ((a -ℤ b) *ℤ pos (c .quantity .0)))
-      (factors (c .source * k + j) (cell-fits n k (c .source) j (r .source-below) h)) (factors (c .sink * k + j) (cell-fits n k (c .sink) j (r .sink-below) h))
+      (factors (c .source * k + j) (place-in n k (c .source) j (r .source-below) h)) (factors (c .sink * k + j) (place-in n k (c .sink) j (r .sink-below) h))
 
   total-same : (cs : List Contract) → Each (InRange n) cs → (j : ℕ) → j < k → totalFlow g cs j ≡ totalFlow g' cs j
-  unfolding totalFlow sumOver
-  total-same [] r j h = refl
-  total-same (c ∷ cs) r j h = ap₂ _+ℤ_ (flow-same c (r .0) j h) (total-same cs (r .1) j h)
+  unfolding totalFlow
+  total-same cs r j h = sumOver-each (InRange n) (λ c. flow g c j) (λ c. flow g' c j) (λ c i. flow-same c i j h) cs r
 
   module _ (process : Process) (cs : List Contract) (within : Each (InRange n) cs) where
     over-same : (j : ℕ) → j < k → overloaded g process cs j ≡ overloaded g' process cs j

@@ -2,11 +2,9 @@
 use mathlib.Core.Path.{_≡_, refl, sym, ap, _∙_}
 use mathlib.Core.List.{List, [], _∷_}
 use Prim.Native.Nat.{ℕ, _*_, _≤_}
-use native.Mathlib.Omega.{arith}
 use borrow.Author.Tests.{le-ltb}
-use lib.ListN.{length, take, drop, length-append, List·getD-append}
+use lib.ListN.{length}
 use lib.IntN.{ℤ, pos}
-use lib.Seq.{take-at}
 use Rattle.text.specs.Ascii.{ascii}
 use Rattle.refusal_line.specs.RefusedLine.{refusedLine}
 use Rattle.refusal_line.proofs.Lines.{refused-line}
@@ -25,6 +23,7 @@ use Rattle.grid_file.specs.GridChecks.{readChecks, gridOutcome}
 use Rattle.grid_file.proofs.GridLaws.{Readable, readable}
 use Rattle.book_file.specs.BookChecks.{bookChecks}
 use Rattle.book_file.proofs.Accepted.{book-accepted, all-in-range}
+use Rattle.runs.proofs.Answers.{front-is, front-room, front-at}
 use Rattle.feasibility_test.specs.TestChecks.{testChecks}
 use Rattle.feasibility_report.specs.Report.{lines, report}
 use Rattle.feasibility_report.proofs.Agree.{lines-same}
@@ -40,12 +39,6 @@ module _ (s : List ℕ) (ls₀ : List ℕ) (fs₀ : List ℤ) (cells : length ls
     ok : Readable s 64 12800
     ok = readable s 64 12800 passed
 
-    limits-front : take (constraintsIn s) (overwrite (limitsIn s) ls₀) ≡ limitsIn s
-    limits-front = take-at (limitsIn s) (drop (length (limitsIn s)) ls₀) (constraintsIn s) (length-limitsIn s)
-
-    factors-front : take (nodesIn s * constraintsIn s) (overwrite (factorsIn s) fs₀) ≡ factorsIn s
-    factors-front = take-at (factorsIn s) (drop (length (factorsIn s)) fs₀) (nodesIn s * constraintsIn s) (length-factorsIn s)
-
     tables-pass : (book : List ℕ) (p t : ℕ) → p ≤ 2 → t ≤ 1 → first (bookChecks (nodesIn s) book) ≡ Passed → first (testChecks (nodesIn s) (constraintsIn s) p t (overwrite (limitsIn s) ls₀) (overwrite (factorsIn s) fs₀) book) ≡ Passed
     unfolding testChecks readChecks
     tables-pass book p t hp ht good =
@@ -53,24 +46,22 @@ module _ (s : List ℕ) (ls₀ : List ℕ) (fs₀ : List ℤ) (cells : length ls
         let three = passed-cons _ _ (two .1) in
         let six = passed-cons _ _ (passed-cons _ _ (passed-cons _ _ (three .1) .1) .1) in
         let seven = passed-cons _ _ (six .1) in
-        let room : constraintsIn s ≤ length (overwrite (limitsIn s) ls₀) = omega (arith, length-append (limitsIn s) (drop (length (limitsIn s)) ls₀), length-limitsIn s) in
-        let wide : nodesIn s * constraintsIn s ≤ length (overwrite (factorsIn s) fs₀) = omega (arith, length-append (factorsIn s) (drop (length (factorsIn s)) fs₀), length-factorsIn s) in
         first-passes _ _ (two .0)
         ∙ first-passes _ _ (three .0)
         ∙ first-passes _ _ (le-ltb 2 p hp)
         ∙ first-passes _ _ (le-ltb 1 t ht)
-        ∙ first-passes _ _ (le-ltb _ _ room)
-        ∙ first-passes _ _ (le-ltb _ _ wide)
-        ∙ first-passes _ _ (rw limits-front (six .0))
-        ∙ first-passes _ _ (rw factors-front (seven .0))
+        ∙ first-passes _ _ (le-ltb _ _ (front-room (limitsIn s) ls₀ (constraintsIn s) (length-limitsIn s)))
+        ∙ first-passes _ _ (le-ltb _ _ (front-room (factorsIn s) fs₀ (nodesIn s * constraintsIn s) (length-factorsIn s)))
+        ∙ first-passes _ _ (rw (front-is (limitsIn s) ls₀ (constraintsIn s) (length-limitsIn s)) (six .0))
+        ∙ first-passes _ _ (rw (front-is (factorsIn s) fs₀ (nodesIn s * constraintsIn s) (length-factorsIn s)) (seven .0))
         ∙ good
 
     tables-lines : (book : List ℕ) → first (bookChecks (nodesIn s) book) ≡ Passed
         → lines (gridIn s) (bookIn book) ≡ lines (grid (nodesIn s) (constraintsIn s) (overwrite (limitsIn s) ls₀) (overwrite (factorsIn s) fs₀)) (bookIn book)
     tables-lines book good =
         sym (lines-same (nodesIn s) (constraintsIn s) (overwrite (limitsIn s) ls₀) (limitsIn s) (overwrite (factorsIn s) fs₀) (factorsIn s)
-        (λ j h. List·getD-append (limitsIn s) (drop (length (limitsIn s)) ls₀) 0 j (rw (length-limitsIn s) h))
-        (λ i h. List·getD-append (factorsIn s) (drop (length (factorsIn s)) fs₀) (pos 0) i (rw (length-factorsIn s) h))
+        (λ j h. front-at (limitsIn s) ls₀ (constraintsIn s) (length-limitsIn s) j 0 h)
+        (λ i h. front-at (factorsIn s) fs₀ (nodesIn s * constraintsIn s) (length-factorsIn s) i (pos 0) h)
         (bookIn book) (all-in-range (nodesIn s) book (book-accepted (nodesIn s) book good)))
 
     tables-report : (book : List ℕ) → report s book ≡ decided (first (bookChecks (nodesIn s) book)) (refusedLine (ascii "book")) (lines (grid (nodesIn s) (constraintsIn s) (overwrite (limitsIn s) ls₀) (overwrite (factorsIn s) fs₀)) (bookIn book))

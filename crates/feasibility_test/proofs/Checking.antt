@@ -16,6 +16,7 @@ use Rattle.tariff.specs.Units.{grid, FactorsInRange}
 use Rattle.tariff.specs.Refusals.{first}
 use Rattle.tariff.specs.Checks.{some, factorBad, limitBad}
 use Rattle.tariff.proofs.Checks.{passed-cons, nodes-few-of, none-bad}
+use Rattle.grid_file.proofs.Factors.{place-in}
 use Rattle.book_file.specs.BookChecks.{bookChecks}
 use Rattle.feasibility_test.specs.TestChecks.{testChecks}
 
@@ -23,16 +24,13 @@ use Rattle.feasibility_test.specs.TestChecks.{testChecks}
 pub row-fits : (n k s : ℕ) → s < n → s * k + k ≤ n * k
 row-fits n k s h = omega (arith, mul-le-mul-right k h)
 
-pub cell-fits : (n k s j : ℕ) → s < n → j < k → s * k + j < n * k
-cell-fits n k s j h b = omega (arith, row-fits n k s h)
-
 -- figures in which the searches find nothing bad are in range
 pub factors-in-range : (n k : ℕ) (ls : List ℕ) (fs : List ℤ) → n * k ≤ length fs → some factorBad (take (n * k) fs) ≡ false → FactorsInRange (grid n k ls fs)
 factors-in-range n k ls fs long none = record { factor-sized = sized }
   where
     sized : (s j : ℕ) → s < n → j < k → natAbs (getD fs (s * k + j) (pos 0)) ≤ 100000
     sized s j h b =
-        let i : s * k + j < n * k = cell-fits n k s j h b in
+        let i : s * k + j < n * k = place-in n k s j h b in
         let e : getD (take (n * k) fs) (s * k + j) (pos 0) ≡ getD fs (s * k + j) (pos 0) = getD-take (n * k) fs (s * k + j) (pos 0) i in
         rw e at (ltb-false 100000 (natAbs (getD (take (n * k) fs) (s * k + j) (pos 0))) (none-bad factorBad (take (n * k) fs) (pos 0) none (s * k + j) (rw length-take-le i)))
 

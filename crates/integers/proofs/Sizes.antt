@@ -1,5 +1,5 @@
 -- The size natAbs of sums, differences, products and finite sums. `omega` takes natAbs z as an unknown natural number.
-use mathlib.Core.Path.{_≡_, refl}
+use mathlib.Core.Path.{_≡_, refl, ap₂}
 use mathlib.Core.Bool.{Bool, true, false, cond}
 use mathlib.Core.List.{List, [], _∷_}
 use Prim.Native.Nat.{ℕ, zero, suc, _+_, _*_, _-_, _<_, _≤_}
@@ -58,6 +58,12 @@ natAbs-sumTo (suc n) B g h = rw mul-suc (omega (arith, natAbs-add (sumTo n g) (g
 abbrev pub Each : {A : Type 0} → (A → Type 0) → List A → Type 0
 Each P [] = Unit
 Each P (x ∷ xs) = P x × Each P xs
+
+-- figures that are the same of each such element have the same sum
+pub sumOver-each : {A : Type 0} (P : A → Type 0) (v w : A → ℤ) → ((x : A) → P x → v x ≡ w x) → (xs : List A) → Each P xs → sumOver xs v ≡ sumOver xs w
+unfolding sumOver
+sumOver-each P v w h [] r = refl
+sumOver-each P v w h (x ∷ xs) r = ap₂ _+ℤ_ (h x (r .0)) (sumOver-each P v w h xs (r .1))
 
 pub natAbs-sumOver : {A : Type 0} (B : ℕ) (g : A → ℤ) (xs : List A) → Each (λ x. natAbs (g x) ≤ B) xs → natAbs (sumOver xs g) ≤ B * length xs
 unfolding sumOver

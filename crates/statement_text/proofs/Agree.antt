@@ -3,10 +3,9 @@ use mathlib.Core.Path.{_≡_, refl, ap, ap₂}
 use mathlib.Core.List.{List, [], _∷_, _++_}
 use Prim.Native.Nat.{ℕ, suc, _+_, _*_, _<_}
 use lib.ListN.{getD}
-use lib.IntN.{ℤ, pos, negℤ, _+ℤ_, _-ℤ_, _*ℤ_}
-use Rattle.integers.specs.Sums.{sumOver}
+use lib.IntN.{ℤ, pos, negℤ, _-ℤ_, _*ℤ_}
 use Rattle.integers.proofs.Sums.{sumTo-cong}
-use Rattle.integers.proofs.Sizes.{Each}
+use Rattle.integers.proofs.Sizes.{Each, sumOver-each}
 use Rattle.tariff.specs.declared.Contract.{Contract}
 use Rattle.tariff.specs.declared.Period.{Period}
 use Rattle.tariff.specs.Units.{Grid, grid}
@@ -16,11 +15,6 @@ use Rattle.tariff.proofs.Sizes.{ofPeriod-in-range}
 use Rattle.grid_file.proofs.Factors.{place-in}
 use Rattle.settlement.specs.Answers.{centsSum, hourTotal}
 use Rattle.statement_lines.specs.Lines.{heading, lineOf, sumLine, exactLine, contractLines, lines}
-
-sum-same : (P : Contract → Type 0) (v w : Contract → ℤ) → ((c : Contract) → P c → v c ≡ w c) → (cs : List Contract) → Each P cs → sumOver cs v ≡ sumOver cs w
-unfolding sumOver
-sum-same P v w h [] r = refl
-sum-same P v w h (c ∷ cs) r = ap₂ _+ℤ_ (h c (r .0)) (sum-same P v w h cs (r .1))
 
 module _ (n k : ℕ) (ls ls' : List ℕ) (fs fs' : List ℤ) (ps ps' : List ℕ) (factors : (i : ℕ) → i < n * k → getD fs i (pos 0) ≡ getD fs' i (pos 0))
     (prices : (j : ℕ) → j < k → getD ps j 0 ≡ getD ps' j 0) where
@@ -50,11 +44,11 @@ module _ (n k : ℕ) (ls ls' : List ℕ) (fs fs' : List ℤ) (ps ps' : List ℕ)
 
       cents-same : centsSum g ps t book ≡ centsSum g' ps' t book
       unfolding centsSum
-      cents-same = sum-same (InRange n) (λ c. cents (amount g ps c)) (λ c. cents (amount g' ps' c)) (λ c r. ap cents (amount-same c r)) (ofPeriod t book) own
+      cents-same = sumOver-each (InRange n) (λ c. cents (amount g ps c)) (λ c. cents (amount g' ps' c)) (λ c r. ap cents (amount-same c r)) (ofPeriod t book) own
 
       total-same : hourTotal g ps t book ≡ hourTotal g' ps' t book
       unfolding hourTotal exactTotal
-      total-same = sum-same (InRange n) (amount g ps) (amount g' ps') amount-same (ofPeriod t book) own
+      total-same = sumOver-each (InRange n) (amount g ps) (amount g' ps') amount-same (ofPeriod t book) own
 
       pub lines-same : lines g ps t book ≡ lines g' ps' t book
       unfolding lines

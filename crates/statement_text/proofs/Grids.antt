@@ -1,12 +1,10 @@
 -- The factors that the grid's reader has filled in: settling's checks of a grid pass on them, and the statement is that of the file.
 use mathlib.Core.Path.{_≡_, refl, sym, ap, _∙_}
 use mathlib.Core.List.{List, [], _∷_}
-use Prim.Native.Nat.{ℕ, _*_, _≤_}
-use native.Mathlib.Omega.{arith}
+use Prim.Native.Nat.{ℕ, _*_}
 use borrow.Author.Tests.{le-ltb}
-use lib.ListN.{length, take, drop, length-append, List·getD-append}
+use lib.ListN.{length, take}
 use lib.IntN.{ℤ, pos}
-use lib.Seq.{take-at}
 use Rattle.text.specs.Ascii.{ascii}
 use Rattle.refusal_line.specs.RefusedLine.{refusedLine}
 use Rattle.refusal_line.proofs.Lines.{refused-line}
@@ -27,6 +25,7 @@ use Rattle.layouts.specs.PriceFile.{periodIn, pricesIn}
 use Rattle.grid_file.specs.GridChecks as grid-checks
 use Rattle.book_file.specs.BookChecks.{bookChecks}
 use Rattle.book_file.proofs.Accepted.{book-accepted, all-in-range}
+use Rattle.runs.proofs.Answers.{front-is, front-room, front-at}
 use Rattle.price_file.specs.PriceChecks as price-checks
 use Rattle.statement_lines.specs.Lines.{lines}
 use Rattle.statement_text.specs.Statement.{statement}
@@ -53,9 +52,6 @@ module _ (s book prices : List ℕ) (ls₀ : List ℕ) (fs₀ : List ℤ) (cells
     factors-are : fs ≡ overwrite (factorsIn s) fs₀
     factors-are = rw (said .0) at left
 
-    factors-front : take (nodesIn s * constraintsIn s) (overwrite (factorsIn s) fs₀) ≡ factorsIn s
-    factors-front = take-at (factorsIn s) (drop (length (factorsIn s)) fs₀) (nodesIn s * constraintsIn s) (length-factorsIn s)
-
     tables-pass : first (gridChecks (nodesIn s) (constraintsIn s) (overwrite (factorsIn s) fs₀)) ≡ Passed
     unfolding gridChecks grid-checks.readChecks
     tables-pass =
@@ -63,8 +59,7 @@ module _ (s book prices : List ℕ) (ls₀ : List ℕ) (fs₀ : List ℤ) (cells
         let three = passed-cons _ _ (two .1) in
         let six = passed-cons _ _ (passed-cons _ _ (passed-cons _ _ (three .1) .1) .1) in
         let seven = passed-cons _ _ (six .1) in
-        let wide : nodesIn s * constraintsIn s ≤ length (overwrite (factorsIn s) fs₀) = omega (arith, length-append (factorsIn s) (drop (length (factorsIn s)) fs₀), length-factorsIn s) in
-        first-passes _ _ (two .0) ∙ first-passes _ _ (three .0) ∙ first-passes _ _ (le-ltb _ _ wide) ∙ last-passes (factorRange (take (nodesIn s * constraintsIn s) (overwrite (factorsIn s) fs₀))) (rw factors-front (seven .0))
+        first-passes _ _ (two .0) ∙ first-passes _ _ (three .0) ∙ first-passes _ _ (le-ltb _ _ (front-room (factorsIn s) fs₀ (nodesIn s * constraintsIn s) (length-factorsIn s))) ∙ last-passes (factorRange (take (nodesIn s * constraintsIn s) (overwrite (factorsIn s) fs₀))) (rw (front-is (factorsIn s) fs₀ (nodesIn s * constraintsIn s) (length-factorsIn s)) (seven .0))
 
     pub grid-passes : first (gridChecks n k fs) ≡ Passed
     grid-passes = rw (counts-are .0, counts-are .1, factors-are) tables-pass
@@ -73,7 +68,7 @@ module _ (s book prices : List ℕ) (ls₀ : List ℕ) (fs₀ : List ℤ) (cells
         → lines (gridIn s) ps (periodOf t) (bookIn book) ≡ lines (grid (nodesIn s) (constraintsIn s) [] (overwrite (factorsIn s) fs₀)) ps (periodOf t) (bookIn book)
     same-lines ps t good =
         sym (lines-same (nodesIn s) (constraintsIn s) [] (limitsIn s) (overwrite (factorsIn s) fs₀) (factorsIn s) ps ps
-        (λ i h. List·getD-append (factorsIn s) (drop (length (factorsIn s)) fs₀) (pos 0) i (rw (length-factorsIn s) h)) (λ j h. refl) (periodOf t) (bookIn book) (all-in-range (nodesIn s) book (book-accepted (nodesIn s) book good)))
+        (λ i h. front-at (factorsIn s) fs₀ (nodesIn s * constraintsIn s) (length-factorsIn s) i (pos 0) h) (λ j h. refl) (periodOf t) (bookIn book) (all-in-range (nodesIn s) book (book-accepted (nodesIn s) book good)))
 
     abbrev from-prices : List ℕ → List ℕ
     from-prices l = decided (first (price-checks.readChecks (constraintsIn s) prices 64)) (refusedLine (ascii "prices")) l

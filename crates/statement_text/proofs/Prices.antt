@@ -4,9 +4,8 @@ use mathlib.Core.List.{List, [], _∷_}
 use Prim.Native.Nat.{ℕ, _≤_}
 use native.Mathlib.Omega.{arith}
 use borrow.Author.Tests.{le-ltb}
-use lib.ListN.{length, take, drop, length-append, List·getD-append}
+use lib.ListN.{length, take}
 use lib.IntN.{ℤ, pos}
-use lib.Seq.{take-at}
 use Rattle.bits.proofs.Fields.{field-lt}
 use Rattle.text.specs.Ascii.{ascii}
 use Rattle.refusal_line.specs.RefusedLine.{refusedLine}
@@ -26,6 +25,7 @@ use Rattle.layouts.proofs.PriceFile.{length-pricesIn}
 use Rattle.grid_file.specs.GridChecks as grid-checks
 use Rattle.book_file.specs.BookChecks.{bookChecks}
 use Rattle.book_file.proofs.Accepted.{book-accepted, all-in-range}
+use Rattle.runs.proofs.Answers.{front-is, front-room, front-at}
 use Rattle.price_file.specs.PriceChecks as price-checks
 use Rattle.settlement.specs.SettleChecks.{settleChecks}
 use Rattle.settlement.proofs.Passing.{hourChecks, all-fits}
@@ -54,9 +54,6 @@ module _ (n k : ℕ) (fs : List ℤ) (book s : List ℕ) (ps₀ : List ℕ) (cel
     prices-are : ps ≡ overwrite (pricesIn k s) ps₀
     prices-are = rw (said .0) at left
 
-    prices-front : take k (overwrite (pricesIn k s) ps₀) ≡ pricesIn k s
-    prices-front = take-at (pricesIn k s) (drop (length (pricesIn k s)) ps₀) k (length-pricesIn k s)
-
     tables-pass : first (hourChecks n k (periodIn s) fs (overwrite (pricesIn k s) ps₀)) ≡ Passed
     unfolding gridChecks
     tables-pass =
@@ -65,15 +62,14 @@ module _ (n k : ℕ) (fs : List ℤ) (book s : List ℕ) (ps₀ : List ℕ) (cel
         let nine = passed-cons _ _ (three .1) in
         let seven = passed-cons _ _ (nine .1) in
         let fifteen = passed-cons _ _ (passed-cons _ _ (passed-cons _ _ (passed-cons _ _ (passed-cons _ _ passes .1) .1) .1) .1) in
-        let room : k ≤ length (overwrite (pricesIn k s) ps₀) = omega (arith, length-append (pricesIn k s) (drop (length (pricesIn k s)) ps₀), length-pricesIn k s) in
         let bit : periodIn s ≤ 1 = omega (arith, field-lt s 0 1) in
         first-passes _ _ (two .0)
         ∙ first-passes _ _ (three .0)
         ∙ first-passes _ _ (le-ltb 1 (periodIn s) bit)
         ∙ first-passes _ _ (nine .0)
-        ∙ first-passes _ _ (le-ltb _ _ room)
+        ∙ first-passes _ _ (le-ltb _ _ (front-room (pricesIn k s) ps₀ k (length-pricesIn k s)))
         ∙ first-passes _ _ (seven .0)
-        ∙ last-passes (priceRange (take k (overwrite (pricesIn k s) ps₀))) (rw prices-front (fifteen .0))
+        ∙ last-passes (priceRange (take k (overwrite (pricesIn k s) ps₀))) (rw (front-is (pricesIn k s) ps₀ k (length-pricesIn k s)) (fifteen .0))
 
     settle-passes : first (settleChecks n k (periodIn s) fs (overwrite (pricesIn k s) ps₀) book 1000) ≡ Passed
     settle-passes = sym (all-fits n k (periodIn s) fs (overwrite (pricesIn k s) ps₀) book 1000 tables-pass good (countIn book) refl (book-accepted n book good .few))
@@ -85,7 +81,7 @@ module _ (n k : ℕ) (fs : List ℤ) (book s : List ℕ) (ps₀ : List ℕ) (cel
     unfolding pricedText
     priced-read =
         rw (passes, period-is, prices-are)
-        (sym (lines-same n k [] [] fs fs (overwrite (pricesIn k s) ps₀) (pricesIn k s) (λ i h. refl) (λ j h. List·getD-append (pricesIn k s) (drop (length (pricesIn k s)) ps₀) 0 j (rw (length-pricesIn k s) h)) (periodOf (periodIn s)) (bookIn book)
+        (sym (lines-same n k [] [] fs fs (overwrite (pricesIn k s) ps₀) (pricesIn k s) (λ i h. refl) (λ j h. front-at (pricesIn k s) ps₀ k (length-pricesIn k s) j 0 h) (periodOf (periodIn s)) (bookIn book)
         (all-in-range n book (book-accepted n book good))))
 
 -- ---- the book
