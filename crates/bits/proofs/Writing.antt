@@ -14,7 +14,7 @@ use Rattle.bits.specs.Fields.{Field, bits, total, packed, fileOf}
 use Rattle.bits.specs.Pen.{written, place, Ready, GoesOn}
 use Rattle.bits.specs.declared.Pen.{Pen}
 use Rattle.bits.proofs.Numbers.{Below, number-append, number-more, length-digits, digits-number, number-digits, below-take}
-use Rattle.bits.proofs.Fill.{drop-later}
+use Rattle.lists.proofs.Fill.{drop-later}
 use Rattle.bits.proofs.Files.{packed-append, total-run, packed-run}
 
 -- ---- `v` of w bits behind the bits of `a`, at 64 bits

@@ -5,15 +5,16 @@ use Prim.Native.Nat.{ℕ, _+_, _*_, _≤_, _<_}
 use borrow.Author.Tests.{ltb-false, leb-false, eqb-true, not-false}
 use lib.Dec.{leb, ltb, eqb}
 use lib.ListN.{length}
-use Rattle.integers.proofs.Sizes.{Each}
+use Rattle.lists.specs.Lists.{Each}
 use Rattle.tariff.specs.declared.Contract.{Contract}
 use Rattle.tariff.specs.declared.Checked.the-variants.{Passed}
 use Rattle.tariff.specs.Contracts.{InRange}
 use Rattle.tariff.specs.Refusals.{first}
 use Rattle.tariff.specs.Checks.{shortTable}
-use Rattle.tariff.proofs.Checks.{neither, passed-cons, passed-append}
+use Rattle.lists.proofs.Search.{neither}
+use Rattle.tariff.proofs.Checks.{passed-cons, passed-append}
 use Rattle.layouts.specs.BookFile.{countIn, spareIn, contractAt, bookIn}
-use Rattle.layouts.proofs.Lists.{each-listTo}
+use Rattle.lists.proofs.Lists.{each-listTo}
 use Rattle.book_file.specs.BookChecks.{checksAt, contractChecks, bookChecks, readChecks}
 use Rattle.book_file.proofs.Checking.{checks-each}
 

@@ -10,10 +10,10 @@ use lib.Seq.{sets-eq, take-at, drop-at, drop-drop, length-take-le}
 use Rattle.tariff.specs.declared.Contract.{Contract}
 use Rattle.bits.specs.Bits.{number}
 use Rattle.bits.proofs.Numbers.{Below}
-use Rattle.layouts.specs.Files.{listTo}
+use Rattle.lists.specs.Lists.{listTo}
 use Rattle.layouts.specs.BookFile.{contractAt, cellsOf}
 use Rattle.layouts.proofs.BookFile.{contract-number, kind-bit, period-bit, length-cells}
-use Rattle.layouts.proofs.Lists.{length-listTo}
+use Rattle.lists.proofs.Lists.{length-listTo}
 
 pub six-sets : (l : List ℕ) (at a b c d e f : ℕ) → at + 6 ≤ length l
     → set (set (set (set (set (set l at a) (at + 1) b) (at + 2) c) (at + 3) d) (at + 4) e) (at + 5) f ≡ take at l ++ (a ∷ b ∷ c ∷ d ∷ e ∷ f ∷ []) ++ drop (at + 6) l

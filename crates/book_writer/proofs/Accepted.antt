@@ -9,7 +9,8 @@ use lib.ListN.{length, getD}
 use Rattle.tariff.specs.declared.Checked.the-variants.{Passed}
 use Rattle.tariff.specs.Refusals.{first}
 use Rattle.tariff.specs.Checks.{shortTable}
-use Rattle.tariff.proofs.Checks.{passed-cons, passed-append, neither, nodes-few-of}
+use Rattle.tariff.proofs.Checks.{passed-cons, passed-append, nodes-few-of}
+use Rattle.lists.proofs.Search.{neither}
 use Rattle.layouts.specs.BookFile.{rowAt}
 use Rattle.layouts.proofs.BookFile.{ContractFits}
 use Rattle.book_file.specs.BookChecks.{checksTo}

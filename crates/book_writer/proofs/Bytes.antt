@@ -7,7 +7,7 @@ use native.Mathlib.Omega.{arith}
 use lib.Pow.{shr-shr, high}
 use lib.ListN.{length, set, take, drop}
 use lib.Seq.{drop-set-lt}
-use Rattle.integers.proofs.Sizes.{Each}
+use Rattle.lists.specs.Lists.{Each}
 use Rattle.bits.specs.Bits.{digits}
 use Rattle.bits.specs.Fields.{Field, bits, total, packed, fileOf, Fit}
 use Rattle.bits.proofs.Numbers.{digits-high}
@@ -16,7 +16,7 @@ use Rattle.tariff.specs.declared.Contract.{Contract}
 use Rattle.layouts.specs.BookFile.{contract, contractFields, bookFields, bookFile}
 use Rattle.book_writer.specs.Rows.{rowBytes}
 use Rattle.layouts.proofs.BookFile.{ContractFits, kind-bit, period-bit, total-contracts, fit-contracts, book-written}
-use Rattle.tariff.specs.Refusals.{overwrite}
+use Rattle.lists.specs.Lent.{overwrite}
 
 digits-append : (w a b v : ℕ) → digits w (a + b) v ≡ digits w a (v / 2 ^ (w * b)) ++ digits w b v
 digits-append w zero b v = rw zero-add

@@ -14,7 +14,7 @@ use Rattle.tariff.specs.Refusals.{first}
 use Rattle.tariff.specs.Checks.{nodeCount, shortTable}
 use Rattle.tariff.proofs.Checks.{first-passes, first-append, passed-cons, passed-append}
 use Rattle.layouts.specs.BookFile.{countIn, spareIn, contractAt, bookIn, bookFile, cellsOf, rowAt, rowsIn}
-use Rattle.layouts.proofs.Lists.{length-listTo, each-listTo, getD-listTo}
+use Rattle.lists.proofs.Lists.{length-listTo, each-listTo, getD-listTo}
 use Rattle.layouts.proofs.BookFile.{ContractFits, BookWritten, book-written, book-read, cells-rows}
 use Rattle.book_file.specs.BookChecks.{checksTo, checksAt, bookChecks, readChecks}
 use Rattle.book_writer.specs.WriteChecks.{rowChecks, writeChecks}

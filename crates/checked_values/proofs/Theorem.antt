@@ -5,7 +5,8 @@ use Rattle.integers.specs.Sums.{sumTo, sumOver}
 use Rattle.bits.specs.Fields.{fileOf}
 use Rattle.tariff.specs.Contracts.{ofPeriod}
 use Rattle.tariff.specs.Settlement.{congestion, mcc, amount}
-use Rattle.tariff.specs.Feasibility.{setOf, countOf, lowestOf, flow, totalFlow, released, excess, overloaded, overloadSet, overloadCount, lowestOverload}
+use Rattle.lists.specs.Sets.{setOf, countOf, lowestOf}
+use Rattle.tariff.specs.Feasibility.{flow, totalFlow, released, excess, overloaded, overloadSet, overloadCount, lowestOverload}
 use Rattle.layouts.specs.BookFile.{contractFields, bookFields, bookFile}
 use Rattle.layouts.specs.PriceFile.{priceFields, priceFile}
 use Rattle.checked_values.specs.Table.{Row, table}

@@ -9,7 +9,7 @@ ghost use Rattle.tariff.specs.Checks.{shortTable};
 ghost use Rattle.tariff.specs.Contracts.{periodOf, ofPeriod};
 ghost use Rattle.tariff.specs.Processes.{processOf};
 ghost use Rattle.tariff.specs.Settlement.{mcc as mccOf, wholeCents, parts as partsOf};
-ghost use Rattle.layouts.specs.Files.{listTo};
+ghost use Rattle.lists.specs.Lists.{listTo};
 ghost use Rattle.layouts.specs.GridFile.{gridBytes, gridFile, nodesIn, constraintsIn, limitsIn, factorsIn};
 ghost use Rattle.layouts.specs.BookFile.{bookBytes, bookFile, bookIn, cellsOf, rowsIn, countIn};
 ghost use Rattle.layouts.specs.PriceFile.{priceBytes, priceFile, periodIn, pricesIn};

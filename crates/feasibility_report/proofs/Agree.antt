@@ -10,7 +10,8 @@ use lib.Dec.{eqb}
 use lib.ListN.{getD}
 use lib.IntN.{ℤ, pos, _-ℤ_, _*ℤ_}
 use lib.Signed.{ltZ}
-use Rattle.integers.proofs.Sizes.{Each, sumOver-each}
+use Rattle.lists.specs.Lists.{Each}
+use Rattle.integers.proofs.Sizes.{sumOver-each}
 use Rattle.text.specs.Ascii.{ascii}
 use Rattle.text.specs.Decimal.{decimal, decimalZ}
 use Rattle.tariff.specs.declared.Contract.{Contract}
@@ -19,7 +20,8 @@ use Rattle.tariff.specs.declared.Process.{Process}
 use Rattle.tariff.specs.Units.{Grid, grid}
 use Rattle.tariff.specs.Contracts.{counted, ofPeriod, InRange}
 use Rattle.tariff.specs.Processes.{percent}
-use Rattle.tariff.specs.Feasibility.{setOf, countOf, lowestOf, flow, totalFlow, released, excess, overloaded, overloadSet, overloadCount, lowestOverload}
+use Rattle.lists.specs.Sets.{setOf, countOf, lowestOf}
+use Rattle.tariff.specs.Feasibility.{flow, totalFlow, released, excess, overloaded, overloadSet, overloadCount, lowestOverload}
 use Rattle.tariff.proofs.Overloads.{fails-lowest}
 use Rattle.tariff.proofs.Sizes.{ofPeriod-in-range}
 use Rattle.grid_file.proofs.Factors.{place-in}

@@ -11,7 +11,8 @@ use Rattle.refusal_line.proofs.Lines.{refused-line}
 use Rattle.tariff.specs.declared.Refusal.{Refusal}
 use Rattle.tariff.specs.declared.Checked.{Checked}
 use Rattle.tariff.specs.declared.Checked.the-variants.{Passed, Refused}
-use Rattle.tariff.specs.Refusals.{first, decided, answered, overwrite, cellsAfter}
+use Rattle.tariff.specs.Refusals.{first, decided, answered, cellsAfter}
+use Rattle.lists.specs.Lent.{overwrite}
 use Rattle.tariff.specs.Units.{grid}
 use Rattle.tariff.proofs.Checks.{first-passes, passed-cons}
 use Rattle.layouts.specs.GridFile.{gridIn, nodesIn, constraintsIn, limitsIn, factorsIn}
@@ -23,7 +24,7 @@ use Rattle.grid_file.specs.GridChecks.{readChecks, gridOutcome}
 use Rattle.grid_file.proofs.GridLaws.{Readable, readable}
 use Rattle.book_file.specs.BookChecks.{bookChecks}
 use Rattle.book_file.proofs.Accepted.{book-accepted, all-in-range}
-use Rattle.runs.proofs.Answers.{front-is, front-room, front-at}
+use Rattle.lists.proofs.Fronts.{front-is, front-room, front-at}
 use Rattle.feasibility_test.specs.TestChecks.{testChecks}
 use Rattle.feasibility_report.specs.Report.{lines, report}
 use Rattle.feasibility_report.proofs.Agree.{lines-same}

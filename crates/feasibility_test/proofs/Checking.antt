@@ -14,8 +14,10 @@ use Rattle.tariff.specs.declared.Checked.{Checked}
 use Rattle.tariff.specs.declared.Checked.the-variants.{Passed, Refused}
 use Rattle.tariff.specs.Units.{grid, FactorsInRange}
 use Rattle.tariff.specs.Refusals.{first}
-use Rattle.tariff.specs.Checks.{some, factorBad, limitBad}
-use Rattle.tariff.proofs.Checks.{passed-cons, nodes-few-of, none-bad}
+use Rattle.lists.specs.Lists.{some}
+use Rattle.tariff.specs.Checks.{factorBad, limitBad}
+use Rattle.tariff.proofs.Checks.{passed-cons, nodes-few-of}
+use Rattle.lists.proofs.Search.{none-bad}
 use Rattle.grid_file.proofs.Factors.{place-in}
 use Rattle.book_file.specs.BookChecks.{bookChecks}
 use Rattle.feasibility_test.specs.TestChecks.{testChecks}

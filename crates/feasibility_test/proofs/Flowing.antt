@@ -11,7 +11,8 @@ use lib.Seq.{getD-set-same, getD-set-other}
 use lib.IntN.{ℤ, pos, natAbs, _+ℤ_, _-ℤ_, _*ℤ_}
 use mir.Syntax.{w64}
 use mir.Val.{toZ, ofZ}
-use Rattle.integers.proofs.Sizes.{natAbs-add, natAbs-sub, natAbs-times, Each}
+use Rattle.integers.proofs.Sizes.{natAbs-add, natAbs-sub, natAbs-times}
+use Rattle.lists.specs.Lists.{Each, listTo}
 use Rattle.integers.proofs.Machine.{back}
 use Rattle.tariff.proofs.Sizes.{counted-sized, totalFlow-sized, ofPeriod-in-range}
 use Rattle.tariff.specs.declared.Kind.{Kind}
@@ -23,9 +24,8 @@ use Rattle.tariff.specs.Contracts.{counted, periodOf, samePeriod, ofPeriod, InR
 use Rattle.tariff.specs.Feasibility.{flow, totalFlow}
 use Rattle.tariff.proofs.Periods.{sumOver-more, ofPeriod-same, ofPeriod-other}
 use Rattle.integers.specs.Sums.{sumOver}
-use Rattle.layouts.specs.Files.{listTo}
 use Rattle.layouts.specs.BookFile.{bookIn, countIn, contractAt}
-use Rattle.layouts.proofs.Lists.{listTo-more, length-listTo, each-listTo}
+use Rattle.lists.proofs.Lists.{listTo-more, length-listTo, each-listTo}
 use Rattle.book_file.proofs.Accepted.{book-accepted}
 use Rattle.feasibility_test.specs.declared.Flows.{Flows}
 use Rattle.feasibility_test.specs.Carried.{Carries}

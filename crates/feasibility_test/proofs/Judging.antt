@@ -16,7 +16,7 @@ use mir.Syntax.{w64}
 use mir.Val.{toZ, ofZ}
 use Rattle.integers.proofs.Machine.{back}
 use Rattle.tariff.proofs.Sizes.{percent-sized}
-use Rattle.tariff.proofs.Overloads.{set-lt, set-trailing, set-lowest}
+use Rattle.lists.proofs.Sets.{set-lt, set-trailing, set-lowest}
 use Rattle.tariff.proofs.Theorems.{pass-is-worst-zero, excess-is-a-shortfall, pass-is-empty-set, fail-names-lowest, count-is-ones, lowest-is-trailing}
 use Rattle.tariff.specs.declared.Contract.{Contract}
 use Rattle.tariff.specs.declared.Flow.{Flow}
@@ -26,7 +26,8 @@ use Rattle.tariff.specs.Processes.{percent}
 use Rattle.tariff.specs.Units.{Grid, grid}
 use Rattle.tariff.specs.Contracts.{ofPeriod}
 use Rattle.tariff.specs.Refusals.{given}
-use Rattle.tariff.specs.Feasibility.{setOf, released, excess, overloaded, overloadSet, overloadCount, lowestOverload}
+use Rattle.lists.specs.Sets.{setOf}
+use Rattle.tariff.specs.Feasibility.{released, excess, overloaded, overloadSet, overloadCount, lowestOverload}
 use Rattle.tariff.specs.Shortfall.{PriceList, shortfall, oneCent}
 use Rattle.feasibility_test.specs.declared.Flows.{Flows}
 use Rattle.feasibility_test.specs.declared.TestAnswer.the-variants.{Pass, Fail}

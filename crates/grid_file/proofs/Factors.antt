@@ -17,8 +17,9 @@ use Rattle.bits.specs.Signed.{ofInt, toInt}
 use Rattle.bits.proofs.Fields.{field-of-run, length-fields}
 use Rattle.bits.proofs.SignedLaws.{to-low, to-high}
 use Rattle.tariff.specs.Units.{maxFactor}
-use Rattle.tariff.specs.Checks.{some, factorBad}
-use Rattle.tariff.proofs.Checks.{neither, some-good, some-bad}
+use Rattle.lists.specs.Lists.{some}
+use Rattle.tariff.specs.Checks.{factorBad}
+use Rattle.lists.proofs.Search.{neither, some-good, some-bad}
 use Rattle.grid_file.specs.Searches.{fourBad}
 
 -- ---- how many there are

@@ -16,9 +16,12 @@ use Rattle.bits.proofs.Numbers.{Below}
 use Rattle.bits.proofs.Files.{total-append, total-run}
 use Rattle.tariff.specs.declared.Checked.the-variants.{Passed}
 use Rattle.tariff.specs.Units.{grid, maxLimit, maxFactor}
-use Rattle.tariff.specs.Refusals.{first, overwrite}
-use Rattle.tariff.specs.Checks.{some, limitBad, factorBad}
-use Rattle.tariff.proofs.Checks.{passed-cons, nodes-few-of, none-bad}
+use Rattle.tariff.specs.Refusals.{first}
+use Rattle.lists.specs.Lent.{overwrite}
+use Rattle.lists.specs.Lists.{some}
+use Rattle.tariff.specs.Checks.{limitBad, factorBad}
+use Rattle.tariff.proofs.Checks.{passed-cons, nodes-few-of}
+use Rattle.lists.proofs.Search.{none-bad}
 use Rattle.layouts.specs.Files.{padFor}
 use Rattle.layouts.specs.GridFile.{gridBits, gridBytes, gridFields, gridFile, nodesIn, constraintsIn, spareIn, limitsIn, factorsIn, padIn}
 use Rattle.runs.proofs.Penned.{Penned, penned-end}

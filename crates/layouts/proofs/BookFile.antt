@@ -5,7 +5,7 @@ use Prim.Native.Nat.{ℕ, zero, suc, _+_, _-_, _*_, _/_, _%_, _^_, _≤_, _<_}
 use native.Mathlib.Omega.{arith}
 use lib.ListN.{length, getD, take, drop, length-append, length-drop}
 use lib.Seq.{getD-append-add, getD-drop, take-add}
-use Rattle.integers.proofs.Sizes.{Each}
+use Rattle.lists.specs.Lists.{Each, listTo}
 use Rattle.bits.specs.Bits.{number, field}
 use Rattle.bits.specs.Fields.{Field, bits, total, Fit, Holds}
 use Rattle.bits.proofs.Numbers.{Below}
@@ -17,9 +17,8 @@ use Rattle.tariff.specs.declared.Period.{Period}
 use Rattle.tariff.specs.declared.Period.the-variants.{OffPeak, OnPeak}
 use Rattle.tariff.specs.declared.Contract.{Contract}
 use Rattle.tariff.specs.Contracts.{kindOf, periodOf}
-use Rattle.layouts.specs.Files.{listTo}
 use Rattle.layouts.specs.BookFile.{bookBytes, kindBit, periodBit, contract, cellsOf, rowAt, rowsIn, contractFields, bookFields, bookFile, countIn, spareIn, contractAt, bookIn}
-use Rattle.layouts.proofs.Lists.{length-listTo, listTo-is, take-is-listTo, each-listTo, flatMap-last, flatMap-more}
+use Rattle.lists.proofs.Lists.{length-listTo, listTo-is, take-is-listTo, each-listTo, flatMap-last, flatMap-more}
 
 -- ---- kinds and periods as bits
 

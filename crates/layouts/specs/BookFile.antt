@@ -11,7 +11,7 @@ use Rattle.tariff.specs.declared.Period.{Period}
 use Rattle.tariff.specs.declared.Period.the-variants.{OffPeak, OnPeak}
 use Rattle.tariff.specs.declared.Contract.{Contract}
 use Rattle.tariff.specs.Contracts.{kindOf, periodOf}
-use Rattle.layouts.specs.Files.{listTo}
+use Rattle.lists.specs.Lists.{listTo}
 
 abbrev pub bookBytes : ℕ → ℕ
 bookBytes m = 2 + 6 * m

@@ -37,8 +37,3 @@ padding pad = record { fails = not (eqb pad 0); refusal = Padding }
 abbrev pub writeOutcome : WriteAnswer → Outcome
 writeOutcome (Written n) = given (pos n ∷ [])
 writeOutcome (Refused r) = refusedBy r
-
--- f 0, f 1, .., f (n − 1)
-unfoldable pub listTo : {A : Type 0} → ℕ → (ℕ → A) → List A
-listTo zero f = []
-listTo (suc n) f = listTo n f ++ f n ∷ []

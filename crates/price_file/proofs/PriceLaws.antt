@@ -12,9 +12,11 @@ use Rattle.bits.proofs.Numbers.{Below}
 use Rattle.bits.proofs.Files.{total-append, total-run}
 use Rattle.tariff.specs.declared.Checked.the-variants.{Passed}
 use Rattle.tariff.specs.Units.{maxPrice}
-use Rattle.tariff.specs.Refusals.{first, overwrite}
+use Rattle.tariff.specs.Refusals.{first}
+use Rattle.lists.specs.Lent.{overwrite}
 use Rattle.tariff.specs.Checks.{priceBad}
-use Rattle.tariff.proofs.Checks.{passed-cons, none-bad}
+use Rattle.tariff.proofs.Checks.{passed-cons}
+use Rattle.lists.proofs.Search.{none-bad}
 use Rattle.layouts.specs.Files.{padFor}
 use Rattle.layouts.specs.PriceFile.{priceBits, priceBytes, priceFields, priceFile}
 use Rattle.runs.proofs.Penned.{Penned, penned-end}

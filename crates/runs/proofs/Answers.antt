@@ -10,7 +10,8 @@ use lib.Seq.{take-at}
 use Rattle.tariff.specs.declared.Refusal.{Refusal}
 use Rattle.tariff.specs.declared.Checked.{Checked}
 use Rattle.tariff.specs.declared.Checked.the-variants.{Passed, Refused}
-use Rattle.tariff.specs.Refusals.{given, refusedBy, answered, overwrite, cellsAfter}
+use Rattle.tariff.specs.Refusals.{given, refusedBy, answered, cellsAfter}
+use Rattle.lists.specs.Lent.{overwrite}
 
 module _ (x checked : Checked) (found : x ≡ checked) where
   pub answer-refused : (r : Refusal) → x ≡ Refused r → (vs : List ℤ) → refusedBy r ≡ answered checked vs
@@ -24,15 +25,3 @@ module _ (x checked : Checked) (found : x ≡ checked) where
 
   pub cells-passed : {A : Type 0} → x ≡ Passed → (values entry last : List A) → last ≡ overwrite values entry → last ≡ cellsAfter checked values entry
   cells-passed told values entry last e = rw (← found, told) e
-
--- ---- a table whose first n cells were written: they hold the values, and there is room for them
-
-module _ {A : Type 0} (values entry : List A) (n : ℕ) (long : length values ≡ n) where
-  pub front-is : take n (overwrite values entry) ≡ values
-  front-is = take-at values (drop (length values) entry) n long
-
-  pub front-room : n ≤ length (overwrite values entry)
-  front-room = omega (arith, length-append values (drop (length values) entry), long)
-
-  pub front-at : (i : ℕ) (d : A) → i < n → getD (overwrite values entry) i d ≡ getD values i d
-  front-at i d h = List·getD-append values (drop (length values) entry) d i (rw long h)

@@ -8,10 +8,10 @@ use lib.ListN.{length, getD, take, drop, set}
 use lib.Seq.{take-all, length-take-le}
 use Rattle.bits.specs.Bits.{field, fields}
 use Rattle.bits.proofs.Fields.{field-of-run, length-fields}
-use Rattle.bits.proofs.Fill.{fill-turn, rest-turn, fill-front}
-use Rattle.tariff.specs.Checks.{some}
-use Rattle.tariff.specs.Refusals.{overwrite}
-use Rattle.tariff.proofs.Checks.{some-good, some-bad}
+use Rattle.lists.proofs.Fill.{fill-turn, rest-turn, fill-front}
+use Rattle.lists.specs.Lists.{some}
+use Rattle.lists.specs.Lent.{overwrite}
+use Rattle.lists.proofs.Search.{some-good, some-bad}
 use Rattle.runs.specs.Runs.{above}
 
 -- a field that is read is the run's
@@ -20,10 +20,6 @@ run-at s o w n i at v h le a e = e ∙ ap (λ (x : ℕ). field s x w) a ∙ sym 
 
 pub run-in : (s : List ℕ) (o w n i : ℕ) → i < n → i < length (fields s o w n)
 run-in s o w n i h = rw length-fields h
-
--- a cell of the first n
-pub cell-in : (cells : List ℕ) (n i : ℕ) → n ≤ length cells → i < n → i < length (take n cells)
-cell-in cells n i le h = rw length-take-le h
 
 -- ---- a search in a list, from the front
 

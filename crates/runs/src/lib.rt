@@ -4,8 +4,8 @@ ghost use Prim.Native.Nat.{ℕ, _+_, _*_, _^_, _≤_, _<_};
 ghost use lib.ListN.{length, getD, take};
 ghost use Rattle.bits.specs.Bits.{number, fields};
 ghost use Rattle.bits.specs.Pen.{written, place, Ready, GoesOn};
-ghost use Rattle.tariff.specs.Checks.{some};
-ghost use Rattle.tariff.specs.Refusals.{overwrite};
+ghost use Rattle.lists.specs.Lists.{some};
+ghost use Rattle.lists.specs.Lent.{overwrite};
 ghost use Rattle.runs.specs.Runs.{above};
 use bits::Pen;
 

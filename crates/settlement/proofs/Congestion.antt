@@ -16,8 +16,8 @@ use Rattle.tariff.specs.Units.{Grid, grid, factor, price, maxFactor, maxPrice}
 use Rattle.tariff.specs.Contracts.{counted, samePeriod, InRange}
 use Rattle.tariff.specs.Settlement.{congestion, mcc, amount}
 use Rattle.tariff.proofs.Sizes.{counted-sized, product-sized, congestion-sized, mcc-sized}
-use Rattle.layouts.specs.Files.{listTo}
-use Rattle.layouts.proofs.Lists.{length-listTo, getD-listTo}
+use Rattle.lists.specs.Lists.{listTo}
+use Rattle.lists.proofs.Lists.{length-listTo, getD-listTo}
 use Rattle.grid_file.proofs.Factors.{place-in}
 use Rattle.settlement.specs.Tables.{Hour, MccTable, amountBy, hourAmount}
 

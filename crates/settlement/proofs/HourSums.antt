@@ -19,8 +19,8 @@ use Rattle.tariff.specs.Units.{grid}
 use Rattle.tariff.specs.Contracts.{samePeriod, ofPeriod, InRange}
 use Rattle.tariff.specs.Settlement.{mcc, amount, exactTotal, cents, wholeCents, parts}
 use Rattle.tariff.proofs.Periods.{ofPeriod-same, ofPeriod-other, sumOver-more}
-use Rattle.layouts.specs.Files.{listTo}
-use Rattle.layouts.proofs.Lists.{listTo-cong, map-listTo}
+use Rattle.lists.specs.Lists.{listTo}
+use Rattle.lists.proofs.Lists.{listTo-cong, map-listTo}
 use Rattle.settlement.specs.declared.SettleAnswer.the-variants.{Settled}
 use Rattle.settlement.specs.Answers.{cellOf, centsCells, centsSum, hourTotal, settleValues}
 use Rattle.settlement.specs.Tables.{Hour, hourAmount}

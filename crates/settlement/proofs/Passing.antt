@@ -14,8 +14,10 @@ use Rattle.tariff.specs.declared.Checked.{Checked}
 use Rattle.tariff.specs.declared.Checked.the-variants.{Passed, Refused}
 use Rattle.tariff.specs.Units.{maxConstraints, maxPrice}
 use Rattle.tariff.specs.Refusals.{Check, first, decided}
-use Rattle.tariff.specs.Checks.{some, factorBad, priceBad, nodeCount, constraintCount, periodNumber, shortTable, factorRange, priceRange}
-use Rattle.tariff.proofs.Checks.{first-append, passed-cons, passed-append, nodes-few-of, none-bad}
+use Rattle.lists.specs.Lists.{some}
+use Rattle.tariff.specs.Checks.{factorBad, priceBad, nodeCount, constraintCount, periodNumber, shortTable, factorRange, priceRange}
+use Rattle.tariff.proofs.Checks.{first-append, passed-cons, passed-append, nodes-few-of}
+use Rattle.lists.proofs.Search.{none-bad}
 use Rattle.layouts.specs.BookFile.{countIn}
 use Rattle.book_file.specs.BookChecks.{bookChecks}
 use Rattle.book_file.proofs.Accepted.{Accepted, book-accepted}

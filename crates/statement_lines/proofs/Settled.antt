@@ -6,7 +6,8 @@ use Prim.Native.Nat.{ℕ, zero, suc, _+_, _^_, _≤_, _<_}
 use native.Mathlib.Omega.{arith}
 use lib.ListN.{length, getD, List·getD-append}
 use lib.IntN.{ℤ, pos, natAbs}
-use Rattle.integers.proofs.Sizes.{Each, natAbs-sumOver}
+use Rattle.lists.specs.Lists.{Each, listTo}
+use Rattle.integers.proofs.Sizes.{natAbs-sumOver}
 use Rattle.integers.proofs.Division.{floorMod-lt}
 use Rattle.tariff.specs.declared.Contract.{Contract}
 use Rattle.tariff.specs.declared.Period.{Period}
@@ -14,8 +15,7 @@ use Rattle.tariff.specs.Units.{Grid, grid}
 use Rattle.tariff.specs.Contracts.{samePeriod, ofPeriod, InRange}
 use Rattle.tariff.specs.Settlement.{amount, exactTotal, cents, wholeCents, parts}
 use Rattle.tariff.proofs.Sizes.{amount-sized, total-sized, cents-sized, whole-sized, ofPeriod-in-range}
-use Rattle.layouts.specs.Files.{listTo}
-use Rattle.layouts.proofs.Lists.{length-listTo, getD-listTo, map-listTo, each-listTo}
+use Rattle.lists.proofs.Lists.{length-listTo, getD-listTo, map-listTo, each-listTo}
 use Rattle.settlement.specs.Answers.{cellOf, centsCells, centsSum, hourTotal, settleValues}
 use Rattle.settlement.specs.Tables.{Hour}
 use Rattle.statement_lines.specs.Lines.{heading, contractLine, lineOf, sumLine, exactLine, contractLines, lines}

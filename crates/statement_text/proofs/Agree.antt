@@ -5,7 +5,8 @@ use Prim.Native.Nat.{ℕ, suc, _+_, _*_, _<_}
 use lib.ListN.{getD}
 use lib.IntN.{ℤ, pos, negℤ, _-ℤ_, _*ℤ_}
 use Rattle.integers.proofs.Sums.{sumTo-cong}
-use Rattle.integers.proofs.Sizes.{Each, sumOver-each}
+use Rattle.lists.specs.Lists.{Each}
+use Rattle.integers.proofs.Sizes.{sumOver-each}
 use Rattle.tariff.specs.declared.Contract.{Contract}
 use Rattle.tariff.specs.declared.Period.{Period}
 use Rattle.tariff.specs.Units.{Grid, grid}

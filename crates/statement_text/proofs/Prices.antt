@@ -14,7 +14,8 @@ use Rattle.tariff.specs.declared.Refusal.{Refusal}
 use Rattle.tariff.specs.declared.Checked.the-variants.{Passed, Refused}
 use Rattle.tariff.specs.Units.{grid}
 use Rattle.tariff.specs.Contracts.{periodOf}
-use Rattle.tariff.specs.Refusals.{first, answered, refusedBy, given, overwrite, cellsAfter}
+use Rattle.tariff.specs.Refusals.{first, answered, refusedBy, given, cellsAfter}
+use Rattle.lists.specs.Lent.{overwrite}
 use Rattle.tariff.specs.Checks.{priceRange}
 use Rattle.runs.proofs.Tests.{last-passes}
 use Rattle.tariff.proofs.Checks.{first-passes, passed-cons}
@@ -25,7 +26,7 @@ use Rattle.layouts.proofs.PriceFile.{length-pricesIn}
 use Rattle.grid_file.specs.GridChecks as grid-checks
 use Rattle.book_file.specs.BookChecks.{bookChecks}
 use Rattle.book_file.proofs.Accepted.{book-accepted, all-in-range}
-use Rattle.runs.proofs.Answers.{front-is, front-room, front-at}
+use Rattle.lists.proofs.Fronts.{front-is, front-room, front-at}
 use Rattle.price_file.specs.PriceChecks as price-checks
 use Rattle.settlement.specs.SettleChecks.{settleChecks}
 use Rattle.settlement.proofs.Passing.{hourChecks, all-fits}

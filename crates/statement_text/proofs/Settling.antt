@@ -10,7 +10,8 @@ use Rattle.tariff.specs.declared.Refusal.{Refusal}
 use Rattle.tariff.specs.declared.Checked.the-variants.{Passed}
 use Rattle.tariff.specs.Units.{grid}
 use Rattle.tariff.specs.Contracts.{periodOf}
-use Rattle.tariff.specs.Refusals.{first, answered, given, overwrite, cellsAfter}
+use Rattle.tariff.specs.Refusals.{first, answered, given, cellsAfter}
+use Rattle.lists.specs.Lent.{overwrite}
 use Rattle.tariff.proofs.Answers.{never-given, given-told}
 use Rattle.layouts.specs.BookFile.{countIn, contractAt, bookIn}
 use Rattle.settlement.specs.SettleChecks.{settleChecks}

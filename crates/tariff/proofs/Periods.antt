@@ -6,7 +6,7 @@ use Prim.Native.Nat.{_+_}
 use lib.IntN.{ℤ, _+ℤ_, +ℤ-idr}
 use Rattle.integers.specs.Sums.{sumOver}
 use Rattle.integers.proofs.Sums.{sumOver-append}
-use Rattle.integers.proofs.Sizes.{Each}
+use Rattle.lists.specs.Lists.{Each}
 use Rattle.tariff.specs.declared.Contract.{Contract}
 use Rattle.tariff.specs.declared.Period.{Period}
 use Rattle.tariff.specs.declared.Period.the-variants.{OffPeak, OnPeak}

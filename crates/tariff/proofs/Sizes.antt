@@ -6,7 +6,8 @@ use native.Mathlib.Nat.{mul-le-mul, le-trans}
 use native.Mathlib.Omega.{arith}
 use lib.ListN.{length}
 use lib.IntN.{ℤ, pos, negsuc, natAbs, _-ℤ_, _*ℤ_}
-use Rattle.integers.proofs.Sizes.{natAbs-sub, natAbs-neg, natAbs-times, natAbs-max0, natAbs-sumTo, Each, natAbs-sumOver}
+use Rattle.integers.proofs.Sizes.{natAbs-sub, natAbs-neg, natAbs-times, natAbs-max0, natAbs-sumTo, natAbs-sumOver}
+use Rattle.lists.specs.Lists.{Each}
 use Rattle.integers.proofs.Division.{natAbs-roundAway}
 use Rattle.tariff.specs.declared.Kind.{Kind}
 use Rattle.tariff.specs.declared.Kind.the-variants.{Obligation, Option}

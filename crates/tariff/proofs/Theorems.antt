@@ -7,7 +7,7 @@ use Prim.Native.Nat.{ℕ, _<_, _≤_}
 use lib.Count.{ones, trailingZeros}
 use lib.IntN.{ℤ, pos}
 use lib.Signed.{_≤ℤ_, _<ℤ_}
-use Rattle.integers.proofs.Sizes.{Each}
+use Rattle.lists.specs.Lists.{Each}
 use Rattle.tariff.specs.declared.Contract.{Contract}
 use Rattle.tariff.specs.declared.Kind.the-variants.{Option}
 use Rattle.tariff.specs.declared.Period.{Period}

@@ -8,11 +8,6 @@ use Rattle.tariff.specs.declared.Refusal.the-variants.{NodeCount, Constr
 use Rattle.tariff.specs.Units.{maxNodes, maxConstraints, maxContracts, maxLimit, maxFactor, maxPrice, maxQuantity, maxHolder}
 use Rattle.tariff.specs.Refusals.{Check}
 
--- whether some element of a list is bad
-unfoldable pub some : {A : Type 0} → (A → Bool) → List A → Bool
-some bad [] = false
-some bad (x ∷ xs) = bad x || some bad xs
-
 -- 2: nodes 0 or above 200
 abbrev pub nodeCount : ℕ → Check
 nodeCount n = record { fails = eqb n 0 || ltb maxNodes n; refusal = NodeCount }

@@ -11,22 +11,6 @@ use Rattle.tariff.specs.Units.{Grid, limit, factor}
 use Rattle.tariff.specs.Contracts.{counted}
 use Rattle.tariff.specs.Processes.{percent}
 
--- ---- sets of constraints as numbers: bit k is set where f k holds, k below n
-
-unfoldable pub setOf : ℕ → (ℕ → Bool) → ℕ
-setOf zero f = 0
-setOf (suc n) f = setOf n f + cond (f n) (2 ^ n) 0
-
--- how many k below n have f k
-unfoldable pub countOf : ℕ → (ℕ → Bool) → ℕ
-countOf zero f = 0
-countOf (suc n) f = countOf n f + cond (f n) 1 0
-
--- the lowest k below n that has f k, and n where none has
-unfoldable pub lowestOf : ℕ → (ℕ → Bool) → ℕ
-lowestOf zero f = 0
-lowestOf (suc n) f = cond (f 0) 0 (suc (lowestOf n (λ k. f (suc k))))
-
 module _ (g : Grid) where
   -- the flow of a contract on constraint k as it counts, in 10^-8 MW: (factor of source − factor of sink) × quantity
   unfoldable pub flow : Contract → ℕ → ℤ

@@ -60,10 +60,6 @@ refusedBy r = record { number = numberOf r; values = [] }
 abbrev pub answered : Checked → List ℤ → Outcome
 answered checked vs = decided checked refusedBy (given vs)
 
--- "success writes the cells named and no other": the values from the front, the rest as at entry
-abbrev pub overwrite : {A : Type 0} → List A → List A → List A
-overwrite values entry = values ++ drop (length values) entry
-
--- "a refusal changes no lent cell"
+-- "a refusal changes no lent cell"; "success writes the cells named and no other"
 abbrev pub cellsAfter : {A : Type 0} → Checked → List A → List A → List A
 cellsAfter checked values entry = decided checked (λ r. entry) (overwrite values entry)

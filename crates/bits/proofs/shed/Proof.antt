@@ -7,7 +7,7 @@ use borrow.Author.Needs.{needs}
 use Rattle.bits.specs.Bits.{number}
 use Rattle.bits.specs.Pen.{written}
 use Rattle.bits.proofs.Writing.{put-turn}
-use Rattle.bits.proofs.Fill.{rest-turn}
+use Rattle.lists.proofs.Fill.{rest-turn}
 use Rattle.bits.proofs.shed.Statement.{statement}
 use Rattle.bits.proofs.shed.Tie as tie
 

@@ -5,7 +5,7 @@ use Prim.Native.Nat.{ℕ, _+_}
 use native.Mathlib.Omega.{arith}
 use lib.ListN.{take, drop, length-set}
 use borrow.Author.Needs.{needs}
-use Rattle.bits.proofs.Fill.{four-sets}
+use Rattle.lists.proofs.Fill.{four-sets}
 use Rattle.bits.proofs.store4.Statement.{statement}
 use Rattle.bits.proofs.store4.Tie as tie
 

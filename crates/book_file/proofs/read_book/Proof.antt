@@ -6,8 +6,9 @@ use native.Mathlib.Omega.{arith}
 use lib.ListN.{length}
 use lib.IntN.{pos}
 use Rattle.tariff.specs.declared.Checked.the-variants.{Passed}
-use Rattle.tariff.specs.Refusals.{first, given, overwrite}
-use Rattle.layouts.specs.Files.{listTo}
+use Rattle.tariff.specs.Refusals.{first, given}
+use Rattle.lists.specs.Lent.{overwrite}
+use Rattle.lists.specs.Lists.{listTo}
 use Rattle.layouts.specs.BookFile.{countIn, contractAt, cellsOf}
 use Rattle.book_file.specs.BookChecks.{readChecks}
 use Rattle.book_file.proofs.Accepted.{Accepted, read-accepted}

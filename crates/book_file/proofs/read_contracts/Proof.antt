@@ -5,7 +5,7 @@ use native.Mathlib.Omega.{arith}
 use lib.ListN.{length, take, drop, take-append-drop}
 use borrow.Author.Needs.{needs}
 use mathlib.Core.List.{_++_, flatMap}
-use Rattle.layouts.specs.Files.{listTo}
+use Rattle.lists.specs.Lists.{listTo}
 use Rattle.layouts.specs.BookFile.{contractAt, cellsOf}
 use Rattle.book_file.proofs.Table.{block-front, block-rest, block-length, length-cell-row, length-rows}
 use Rattle.layouts.proofs.BookFile.{cells-more}

@@ -7,7 +7,7 @@ use native.Mathlib.Omega.{arith}
 use borrow.Author.Needs.{needs}
 use Rattle.tariff.specs.Units.{grid}
 use Rattle.tariff.specs.Contracts.{ofPeriod, InRange}
-use Rattle.layouts.specs.Files.{listTo}
+use Rattle.lists.specs.Lists.{listTo}
 use Rattle.layouts.specs.BookFile.{countIn, contractAt}
 use Rattle.book_file.proofs.Accepted.{Accepted, book-accepted}
 use Rattle.feasibility_test.specs.Carried.{Carries}

@@ -4,7 +4,7 @@ use Prim.Native.Nat.{ℕ, _-_, _≤_}
 use native.Mathlib.Omega.{arith}
 use lib.ListN.{getD, set}
 use borrow.Author.Needs.{needs}
-use Rattle.tariff.specs.Feasibility.{setOf}
+use Rattle.lists.specs.Sets.{setOf}
 use lib.IntN.{pos}
 use mathlib.Core.Logic.{⊎-elim}
 use lib.Dec.{lit<}

@@ -2,7 +2,8 @@
 use mathlib.Core.Path.{_≡_, sym, _∙_}
 use borrow.Author.Needs.{needs}
 use borrow.Author.Tests.{lt-ltb, le-ltb}
-use Rattle.tariff.specs.Checks.{some, limitBad, factorBad}
+use Rattle.lists.specs.Lists.{some}
+use Rattle.tariff.specs.Checks.{limitBad, factorBad}
 use Rattle.tariff.proofs.Checks.{first-passes, first-refuses}
 use Rattle.layouts.specs.GridFile.{limitsIn, factorsIn, padIn}
 use Rattle.runs.proofs.Tests.{differs, same, last-passes}

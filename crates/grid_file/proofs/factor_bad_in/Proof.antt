@@ -8,7 +8,8 @@ use borrow.Author.Needs.{needs}
 use lib.ListN.{length, getD, take}
 use Rattle.bits.specs.Signed.{toInt}
 use Rattle.bits.proofs.Fields.{within}
-use Rattle.tariff.specs.Checks.{some, factorBad}
+use Rattle.lists.specs.Lists.{some}
+use Rattle.tariff.specs.Checks.{factorBad}
 use Rattle.grid_file.proofs.Factors.{place-in, factorsAt, length-factors, factor-at, bad-start, bad-so-far, bad-found, bad-turn, bad-end}
 use Rattle.grid_file.proofs.factor_bad_in.Statement.{statement}
 use Rattle.grid_file.proofs.factor_bad_in.Tie as tie

@@ -6,7 +6,8 @@ use native.Mathlib.Omega.{arith}
 use borrow.Author.Needs.{needs}
 use lib.ListN.{length, take}
 use lib.Seq.{length-take-le}
-use Rattle.tariff.specs.Checks.{some, factorBad}
+use Rattle.lists.specs.Lists.{some}
+use Rattle.tariff.specs.Checks.{factorBad}
 use Rattle.grid_file.specs.Searches.{fourBad}
 use Rattle.grid_file.proofs.Factors.{bad-start, four-turn, four-found, four-same}
 use Rattle.grid_file.proofs.factor_out_of_range.Statement.{statement}

@@ -7,7 +7,7 @@ use lib.ListN.{length, take, drop, length-set}
 use mir.Syntax.{w64}
 use mir.Facts.{toZ-ofZ}
 use Rattle.bits.specs.Signed.{toInt}
-use Rattle.bits.proofs.Fill.{fill-turn, rest-turn, fill-front}
+use Rattle.lists.proofs.Fill.{fill-turn, rest-turn, fill-front}
 use Rattle.grid_file.proofs.Factors.{factorsAt, length-factors, factor-at}
 use Rattle.grid_file.proofs.read_factors.Statement.{statement}
 use Rattle.grid_file.proofs.read_factors.Tie as tie

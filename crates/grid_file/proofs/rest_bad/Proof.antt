@@ -9,7 +9,8 @@ use lib.IntN.{pos}
 use lib.Seq.{length-take-le}
 use mir.Syntax.{w64}
 use mir.ValLaws.{toZ-ofZ}
-use Rattle.tariff.specs.Checks.{some, factorBad}
+use Rattle.lists.specs.Lists.{some}
+use Rattle.tariff.specs.Checks.{factorBad}
 use Rattle.grid_file.proofs.Factors.{bad-found, bad-turn, bad-end, cell-in, cell-at}
 use Rattle.grid_file.proofs.rest_bad.Statement.{statement}
 use Rattle.grid_file.proofs.rest_bad.Tie as tie

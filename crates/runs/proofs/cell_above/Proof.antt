@@ -6,9 +6,10 @@ use lib.ListN.{take}
 use borrow.Author.Needs.{needs}
 use mathlib.Core.Bool.{false}
 use lib.Seq.{getD-take, length-take-le}
-use Rattle.tariff.specs.Checks.{some}
+use Rattle.lists.specs.Lists.{some}
 use Rattle.runs.specs.Runs.{above}
-use Rattle.runs.proofs.Runs.{cell-in, above-start, above-found, above-turn, above-end}
+use Rattle.lists.proofs.Search.{cell-in}
+use Rattle.runs.proofs.Runs.{above-start, above-found, above-turn, above-end}
 use Rattle.runs.proofs.cell_above.Statement.{statement}
 use Rattle.runs.proofs.cell_above.Tie as tie
 

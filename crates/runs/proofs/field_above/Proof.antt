@@ -7,7 +7,7 @@ use borrow.Author.Needs.{needs}
 use mathlib.Core.Bool.{false}
 use Rattle.bits.specs.Bits.{fields}
 use Rattle.bits.proofs.Fields.{length-fields, within}
-use Rattle.tariff.specs.Checks.{some}
+use Rattle.lists.specs.Lists.{some}
 use Rattle.runs.specs.Runs.{above}
 use Rattle.runs.proofs.Runs.{run-at, run-in, above-start, above-found, above-turn, above-end}
 use Rattle.runs.proofs.field_above.Statement.{statement}

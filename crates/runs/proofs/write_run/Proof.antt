@@ -9,7 +9,7 @@ use Rattle.bits.specs.Bits.{number}
 use Rattle.bits.specs.Pen.{written, place, Ready, GoesOn}
 use Rattle.bits.proofs.Fields.{within}
 use Rattle.bits.proofs.Writing.{stays, goes-on, run-start, run-turn, run-end}
-use Rattle.runs.proofs.Runs.{cell-in}
+use Rattle.lists.proofs.Search.{cell-in}
 use Rattle.runs.proofs.write_run.Statement.{statement}
 use Rattle.runs.proofs.write_run.Tie as tie
 

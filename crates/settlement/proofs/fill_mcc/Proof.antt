@@ -6,13 +6,13 @@ use lib.ListN.{length, take, drop, length-set}
 use lib.IntN.{pos}
 use mir.Syntax.{w64}
 use mir.Facts.{toZ-ofZ}
-use Rattle.bits.proofs.Fill.{fill-turn, rest-turn, fill-front}
-use Rattle.layouts.proofs.Lists.{length-listTo, getD-listTo}
+use Rattle.lists.proofs.Fill.{fill-turn, rest-turn, fill-front}
+use Rattle.lists.proofs.Lists.{length-listTo, getD-listTo}
 use borrow.Author.Needs.{needs}
 use mathlib.Core.List.{[]}
 use Rattle.tariff.specs.Units.{grid}
 use Rattle.tariff.specs.Settlement.{mcc}
-use Rattle.layouts.specs.Files.{listTo}
+use Rattle.lists.specs.Lists.{listTo}
 use Rattle.settlement.proofs.fill_mcc.Statement.{statement}
 use Rattle.settlement.proofs.fill_mcc.Tie as tie
 

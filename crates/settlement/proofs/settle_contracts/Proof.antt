@@ -6,15 +6,15 @@ use lib.ListN.{length, take, drop, length-set}
 use lib.IntN.{ℤ, pos}
 use mir.Syntax.{w64}
 use mir.Facts.{toZ-ofZ}
-use Rattle.bits.proofs.Fill.{fill-turn, rest-turn, fill-front}
-use Rattle.layouts.proofs.Lists.{length-listTo, getD-listTo}
+use Rattle.lists.proofs.Fill.{fill-turn, rest-turn, fill-front}
+use Rattle.lists.proofs.Lists.{length-listTo, getD-listTo}
 use Rattle.settlement.proofs.HourSums.{sum-start, sum-more}
 use borrow.Author.Needs.{needs}
 use mathlib.Core.List.{List}
 use Rattle.integers.specs.Sums.{sumTo}
 use Rattle.tariff.specs.declared.Period.{Period}
 use Rattle.tariff.specs.Settlement.{cents as centsOf}
-use Rattle.layouts.specs.Files.{listTo}
+use Rattle.lists.specs.Lists.{listTo}
 use Rattle.layouts.specs.BookFile.{contractAt}
 use Rattle.settlement.specs.Tables.{hourAmount, exactOf, Bounded}
 use Rattle.settlement.proofs.settle_contracts.Statement.{statement}

@@ -6,7 +6,8 @@ use lib.ListN.{length}
 use lib.IntN.{ℤ, pos, _+ℤ_, _*ℤ_}
 use Rattle.integers.proofs.Machine.{back}
 use Rattle.tariff.specs.declared.Checked.the-variants.{Passed}
-use Rattle.tariff.specs.Refusals.{first, given, overwrite}
+use Rattle.tariff.specs.Refusals.{first, given}
+use Rattle.lists.specs.Lent.{overwrite}
 use Rattle.tariff.specs.Contracts.{periodOf}
 use Rattle.layouts.specs.BookFile.{countIn, contractAt}
 use Rattle.settlement.specs.SettleChecks.{settleChecks}

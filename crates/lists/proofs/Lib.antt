@@ -1,0 +1,5 @@
+pub mod Lists
+pub mod Fill
+pub mod Search
+pub mod Sets
+pub mod Fronts
