@@ -9,13 +9,13 @@ use borrow.Author.Tests.{lt-ltb, le-ltb, eq-eqb, ne-eqb}
 use native.Mathlib.Nat.{eq-or-lt-of-le}
 use native.Mathlib.Numerals.{add-one}
 use native.Mathlib.Omega.{arith}
-use Rattle.tariff.specs.declared.Refusal.{Refusal}
-use Rattle.tariff.specs.declared.Checked.{Checked}
-use Rattle.tariff.specs.declared.Checked.the-variants.{Passed, Refused}
+use Rattle.tariff.specs.declared.refusals.Refusal.{Refusal}
+use Rattle.tariff.specs.declared.refusals.Checked.{Checked}
+use Rattle.tariff.specs.declared.refusals.Checked.the-variants.{Passed, Refused}
 use Rattle.tariff.specs.Refusals.{Check, first, decided}
 use Rattle.tariff.specs.Checks.{nodeCount, shortTable}
 use Rattle.tariff.proofs.Checks.{first-passes, first-append, passed-append}
-use Rattle.tariff.specs.declared.Refusal.the-variants.{ShortFile, SpareBits, FileLength, ShortTable, ContractCount}
+use Rattle.tariff.specs.declared.refusals.Refusal.the-variants.{ShortFile, SpareBits, FileLength, ShortTable, ContractCount}
 use Rattle.layouts.specs.BookFile.{countIn, spareIn}
 use Rattle.book_file.specs.BookChecks.{checksTo, checksAt, bookChecks, readChecks}
 

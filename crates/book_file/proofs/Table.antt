@@ -7,7 +7,7 @@ use native.Mathlib.Omega.{arith}
 use lib.ListN.{length, set, take, drop, length-append, length-drop}
 use lib.Pow.{pow-pos}
 use lib.Seq.{sets-eq, take-at, drop-at, drop-drop, length-take-le}
-use Rattle.tariff.specs.declared.Contract.{Contract}
+use Rattle.tariff.specs.declared.contracts.Contract.{Contract}
 use Rattle.bits.specs.Bits.{number}
 use Rattle.bits.proofs.Numbers.{Below}
 use Rattle.lists.specs.Lists.{listTo}

@@ -2,7 +2,7 @@
 use mathlib.Core.List.{List, [], _∷_, _++_}
 use Prim.Native.Nat.{ℕ, zero, suc, _+_, _*_}
 use lib.IntN.{pos}
-use Rattle.tariff.specs.declared.Contract.{Contract}
+use Rattle.tariff.specs.declared.contracts.Contract.{Contract}
 use Rattle.tariff.specs.Refusals.{Check, Outcome, given, refusedBy}
 use Rattle.tariff.specs.Checks.{nodeCount, contractCount, nodeNumber, sameEnds, quantityRange, shortTable}
 use Rattle.layouts.specs.Files.{shortFile, spareBits, fileLength}

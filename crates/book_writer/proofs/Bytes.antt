@@ -12,7 +12,7 @@ use Rattle.bits.specs.Bits.{digits}
 use Rattle.bits.specs.Fields.{Field, bits, total, packed, fileOf, Fit}
 use Rattle.bits.proofs.Numbers.{digits-high}
 use Rattle.bits.proofs.Files.{total-append, packed-append, packed-lt}
-use Rattle.tariff.specs.declared.Contract.{Contract}
+use Rattle.tariff.specs.declared.contracts.Contract.{Contract}
 use Rattle.layouts.specs.BookFile.{contract, contractFields, bookFields, bookFile}
 use Rattle.book_writer.specs.Rows.{rowBytes}
 use Rattle.layouts.proofs.BookFile.{ContractFits, kind-bit, period-bit, total-contracts, fit-contracts, book-written}

@@ -5,9 +5,9 @@ use mathlib.Core.List.{List, [], _∷_}
 use Prim.Native.Nat.{ℕ, _+_, _*_, _<_, _≤_}
 use borrow.Author.Tests.{lt-ltb, le-ltb}
 use lib.ListN.{length}
-use Rattle.tariff.specs.declared.Refusal.{Refusal}
-use Rattle.tariff.specs.declared.Refusal.the-variants.{ShortTable, ContractCount}
-use Rattle.tariff.specs.declared.Checked.the-variants.{Passed, Refused}
+use Rattle.tariff.specs.declared.refusals.Refusal.{Refusal}
+use Rattle.tariff.specs.declared.refusals.Refusal.the-variants.{ShortTable, ContractCount}
+use Rattle.tariff.specs.declared.refusals.Checked.the-variants.{Passed, Refused}
 use Rattle.tariff.specs.Refusals.{first, decided}
 use Rattle.tariff.specs.Checks.{nodeCount, shortTable}
 use Rattle.tariff.proofs.Checks.{first-passes, first-refuses, first-append}

@@ -3,7 +3,7 @@ use mathlib.Core.List.{List}
 use Prim.Native.Nat.{ℕ, _+_, _*_, _^_, _<_}
 use lib.ListN.{getD}
 use Rattle.bits.specs.Fields.{fileOf}
-use Rattle.tariff.specs.declared.Contract.{Contract}
+use Rattle.tariff.specs.declared.contracts.Contract.{Contract}
 use Rattle.layouts.specs.BookFile.{contractFields}
 
 pub record RowFits (cells : List ℕ) (i : ℕ) : Type 0 where

@@ -2,7 +2,7 @@
 ghost use mathlib.Core.Path.{_≡_};
 ghost use mathlib.Core.List.{[], _∷_, flatMap};
 ghost use lib.ListN.{length, take};
-ghost use Rattle.tariff.specs.declared.Checked.the-variants.{Passed};
+ghost use Rattle.tariff.specs.declared.refusals.Checked.the-variants.{Passed};
 ghost use Rattle.tariff.specs.Units.{grid};
 ghost use Rattle.tariff.specs.Refusals.{first, cellsAfter};
 ghost use Rattle.tariff.specs.Checks.{shortTable};

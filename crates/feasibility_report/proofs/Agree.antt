@@ -14,9 +14,9 @@ use Rattle.lists.specs.Lists.{Each}
 use Rattle.integers.proofs.Sizes.{sumOver-each}
 use Rattle.text.specs.Ascii.{ascii}
 use Rattle.text.specs.Decimal.{decimal, decimalZ}
-use Rattle.tariff.specs.declared.Contract.{Contract}
-use Rattle.tariff.specs.declared.Period.{Period}
-use Rattle.tariff.specs.declared.Process.{Process}
+use Rattle.tariff.specs.declared.contracts.Contract.{Contract}
+use Rattle.tariff.specs.declared.contracts.Period.{Period}
+use Rattle.tariff.specs.declared.processes.Process.{Process}
 use Rattle.tariff.specs.Units.{Grid, grid}
 use Rattle.tariff.specs.Contracts.{counted, ofPeriod, InRange}
 use Rattle.tariff.specs.Processes.{percent}
@@ -26,8 +26,8 @@ use Rattle.tariff.proofs.Overloads.{fails-lowest}
 use Rattle.tariff.proofs.Sizes.{ofPeriod-in-range}
 use Rattle.grid_file.proofs.Factors.{place-in}
 use Rattle.feasibility_report.specs.Report.{periodWord, processWord, heading, numbersTo, figures, line, lines}
-use Rattle.tariff.specs.declared.Period.the-variants.{OffPeak, OnPeak}
-use Rattle.tariff.specs.declared.Process.the-variants.{Annual, TierLt, Monthly}
+use Rattle.tariff.specs.declared.contracts.Period.the-variants.{OffPeak, OnPeak}
+use Rattle.tariff.specs.declared.processes.Process.the-variants.{Annual, TierLt, Monthly}
 use Rattle.feasibility_report.proofs.Members.{numbers-cong}
 
 cond-same : {A : Type 0} (b b' : Bool) (x y y' : A) → b ≡ b' → (b' ≡ false → y ≡ y') → cond b x y ≡ cond b' x y'

@@ -12,10 +12,10 @@ use lib.IntN.{ℤ, pos, natAbs}
 use Rattle.lists.specs.Lists.{Each}
 use Rattle.text.specs.Ascii.{ascii}
 use Rattle.text.specs.Decimal.{decimal, decimalZ}
-use Rattle.tariff.specs.declared.Contract.{Contract}
-use Rattle.tariff.specs.declared.Process.{Process}
-use Rattle.tariff.specs.declared.Checked.{Checked}
-use Rattle.tariff.specs.declared.Checked.the-variants.{Passed}
+use Rattle.tariff.specs.declared.contracts.Contract.{Contract}
+use Rattle.tariff.specs.declared.processes.Process.{Process}
+use Rattle.tariff.specs.declared.refusals.Checked.{Checked}
+use Rattle.tariff.specs.declared.refusals.Checked.the-variants.{Passed}
 use Rattle.tariff.specs.Refusals.{Outcome, given, answered}
 use Rattle.tariff.specs.Units.{Grid, FactorsInRange, LimitsInRange}
 use Rattle.tariff.specs.Contracts.{InRange}

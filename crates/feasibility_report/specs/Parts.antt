@@ -6,9 +6,9 @@ use lib.Dec.{eqb}
 use lib.IntN.{ℤ, pos}
 use Rattle.text.specs.Ascii.{ascii}
 use Rattle.text.specs.Decimal.{decimal, decimalZ}
-use Rattle.tariff.specs.declared.Contract.{Contract}
-use Rattle.tariff.specs.declared.Period.{Period}
-use Rattle.tariff.specs.declared.Process.the-variants.{Annual, TierLt, Monthly}
+use Rattle.tariff.specs.declared.contracts.Contract.{Contract}
+use Rattle.tariff.specs.declared.contracts.Period.{Period}
+use Rattle.tariff.specs.declared.processes.Process.the-variants.{Annual, TierLt, Monthly}
 use Rattle.tariff.specs.Units.{Grid}
 use Rattle.feasibility_test.specs.declared.TestAnswer.{TestAnswer}
 use Rattle.feasibility_test.specs.declared.TestAnswer.the-variants.{Pass, Fail, Refused}

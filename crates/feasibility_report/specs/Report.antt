@@ -7,11 +7,11 @@ use lib.ListN.{length}
 use Rattle.text.specs.Ascii.{ascii}
 use Rattle.text.specs.Decimal.{decimal, decimalZ}
 use Rattle.refusal_line.specs.RefusedLine.{refusedLine}
-use Rattle.tariff.specs.declared.Contract.{Contract}
-use Rattle.tariff.specs.declared.Period.{Period}
-use Rattle.tariff.specs.declared.Period.the-variants.{OffPeak, OnPeak}
-use Rattle.tariff.specs.declared.Process.{Process}
-use Rattle.tariff.specs.declared.Process.the-variants.{Annual, TierLt, Monthly}
+use Rattle.tariff.specs.declared.contracts.Contract.{Contract}
+use Rattle.tariff.specs.declared.contracts.Period.{Period}
+use Rattle.tariff.specs.declared.contracts.Period.the-variants.{OffPeak, OnPeak}
+use Rattle.tariff.specs.declared.processes.Process.{Process}
+use Rattle.tariff.specs.declared.processes.Process.the-variants.{Annual, TierLt, Monthly}
 use Rattle.tariff.specs.Units.{Grid}
 use Rattle.tariff.specs.Refusals.{first, decided}
 use Rattle.tariff.specs.Contracts.{ofPeriod}

@@ -8,7 +8,7 @@ ghost use lib.IntN.{pos, natAbs};
 ghost use Rattle.text.specs.Ascii.{ascii};
 ghost use Rattle.text.specs.Decimal.{decimal, Put};
 ghost use Rattle.refusal_line.specs.RefusedLine.{refusedLine};
-ghost use Rattle.tariff.specs.declared.Checked.the-variants.{Passed};
+ghost use Rattle.tariff.specs.declared.refusals.Checked.the-variants.{Passed};
 ghost use Rattle.tariff.specs.Units.{grid};
 ghost use Rattle.tariff.specs.Contracts.{periodOf, ofPeriod};
 ghost use Rattle.tariff.specs.Processes.{processOf};

@@ -15,10 +15,10 @@ use Rattle.integers.proofs.Sizes.{natAbs-add, natAbs-sub, natAbs-times}
 use Rattle.lists.specs.Lists.{Each, listTo}
 use Rattle.integers.proofs.Machine.{back}
 use Rattle.tariff.proofs.Sizes.{counted-sized, totalFlow-sized, ofPeriod-in-range}
-use Rattle.tariff.specs.declared.Kind.{Kind}
-use Rattle.tariff.specs.declared.Quantity.{Quantity}
-use Rattle.tariff.specs.declared.Contract.{Contract}
-use Rattle.tariff.specs.declared.Period.{Period}
+use Rattle.tariff.specs.declared.contracts.Kind.{Kind}
+use Rattle.tariff.specs.declared.units.Quantity.{Quantity}
+use Rattle.tariff.specs.declared.contracts.Contract.{Contract}
+use Rattle.tariff.specs.declared.contracts.Period.{Period}
 use Rattle.tariff.specs.Units.{grid, FactorsInRange}
 use Rattle.tariff.specs.Contracts.{counted, periodOf, samePeriod, ofPeriod, InRange}
 use Rattle.tariff.specs.Feasibility.{flow, totalFlow}

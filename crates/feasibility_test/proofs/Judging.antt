@@ -18,10 +18,10 @@ use Rattle.integers.proofs.Machine.{back}
 use Rattle.tariff.proofs.Sizes.{percent-sized}
 use Rattle.lists.proofs.Sets.{set-lt, set-trailing, set-lowest}
 use Rattle.tariff.proofs.Theorems.{pass-is-worst-zero, excess-is-a-shortfall, pass-is-empty-set, fail-names-lowest, count-is-ones, lowest-is-trailing}
-use Rattle.tariff.specs.declared.Contract.{Contract}
-use Rattle.tariff.specs.declared.Flow.{Flow}
-use Rattle.tariff.specs.declared.Period.{Period}
-use Rattle.tariff.specs.declared.Process.{Process}
+use Rattle.tariff.specs.declared.contracts.Contract.{Contract}
+use Rattle.tariff.specs.declared.units.Flow.{Flow}
+use Rattle.tariff.specs.declared.contracts.Period.{Period}
+use Rattle.tariff.specs.declared.processes.Process.{Process}
 use Rattle.tariff.specs.Processes.{percent}
 use Rattle.tariff.specs.Units.{Grid, grid}
 use Rattle.tariff.specs.Contracts.{ofPeriod}

@@ -7,9 +7,9 @@ use Prim.Native.Nat.{ℕ, _<_}
 use lib.Dec.{eqb}
 use lib.IntN.{ℤ, pos}
 use lib.Signed.{_<ℤ_}
-use Rattle.tariff.specs.declared.Contract.{Contract}
-use Rattle.tariff.specs.declared.Process.{Process}
-use Rattle.tariff.specs.declared.Flow.{Flow}
+use Rattle.tariff.specs.declared.contracts.Contract.{Contract}
+use Rattle.tariff.specs.declared.processes.Process.{Process}
+use Rattle.tariff.specs.declared.units.Flow.{Flow}
 use Rattle.tariff.specs.Units.{Grid}
 use Rattle.tariff.specs.Refusals.{Outcome, given, refusedBy}
 use Rattle.tariff.specs.Feasibility.{excess, overloadSet, overloadCount, lowestOverload}

@@ -14,7 +14,7 @@ use lib.Signed.{mag}
 use lib.Seq.{getD-take, length-take-le}
 use Rattle.bits.proofs.Numbers.{Below}
 use Rattle.bits.proofs.SignedLaws.{Small}
-use Rattle.tariff.specs.declared.Checked.the-variants.{Passed}
+use Rattle.tariff.specs.declared.refusals.Checked.the-variants.{Passed}
 use Rattle.tariff.specs.Units.{grid}
 use Rattle.tariff.specs.Refusals.{first}
 use Rattle.tariff.proofs.Checks.{first-passes, passed-cons}

@@ -11,11 +11,11 @@ use Rattle.bits.specs.Fields.{Field, bits, total, Fit, Holds}
 use Rattle.bits.proofs.Numbers.{Below}
 use Rattle.bits.proofs.Fields.{field-lt, field-part}
 use Rattle.bits.proofs.Files.{total-append, fit-append, length-file, below-file, written-holds, holds-written, holds-append}
-use Rattle.tariff.specs.declared.Kind.{Kind}
-use Rattle.tariff.specs.declared.Kind.the-variants.{Obligation, Option}
-use Rattle.tariff.specs.declared.Period.{Period}
-use Rattle.tariff.specs.declared.Period.the-variants.{OffPeak, OnPeak}
-use Rattle.tariff.specs.declared.Contract.{Contract}
+use Rattle.tariff.specs.declared.contracts.Kind.{Kind}
+use Rattle.tariff.specs.declared.contracts.Kind.the-variants.{Obligation, Option}
+use Rattle.tariff.specs.declared.contracts.Period.{Period}
+use Rattle.tariff.specs.declared.contracts.Period.the-variants.{OffPeak, OnPeak}
+use Rattle.tariff.specs.declared.contracts.Contract.{Contract}
 use Rattle.tariff.specs.Contracts.{kindOf, periodOf}
 use Rattle.layouts.specs.BookFile.{bookBytes, kindBit, periodBit, contract, cellsOf, rowAt, rowsIn, contractFields, bookFields, bookFile, countIn, spareIn, contractAt, bookIn}
 use Rattle.lists.proofs.Lists.{length-listTo, listTo-is, take-is-listTo, each-listTo, flatMap-last, flatMap-more}

@@ -1,11 +1,11 @@
 -- Document 01, "The three files": what they share. Fields are packed most significant bit first; zero bits fill the last byte.
 use mathlib.Core.Bool.{not}
-use mathlib.Core.List.{List, [], _∷_, _++_}
-use Prim.Native.Nat.{ℕ, zero, suc, _+_, _-_, _*_, _/_}
+use mathlib.Core.List.{List, [], _∷_}
+use Prim.Native.Nat.{ℕ, _+_, _-_, _*_, _/_}
 use lib.Dec.{ltb, eqb}
 use lib.ListN.{length}
 use lib.IntN.{pos}
-use Rattle.tariff.specs.declared.Refusal.the-variants.{ShortFile, SpareBits, FileLength, Padding}
+use Rattle.tariff.specs.declared.refusals.Refusal.the-variants.{ShortFile, SpareBits, FileLength, Padding}
 use Rattle.tariff.specs.Refusals.{Check, Outcome, given, refusedBy}
 use Rattle.layouts.specs.declared.WriteAnswer.{WriteAnswer}
 use Rattle.layouts.specs.declared.WriteAnswer.the-variants.{Written, Refused}

@@ -5,7 +5,7 @@ use Prim.Native.Nat.{ℕ, _+_, _*_}
 use lib.Dec.{eqb}
 use Rattle.bits.specs.Bits.{field, fields}
 use Rattle.bits.specs.Fields.{Field, bits, fileOf}
-use Rattle.tariff.specs.declared.Refusal.the-variants.{PriceCount}
+use Rattle.tariff.specs.declared.refusals.Refusal.the-variants.{PriceCount}
 use Rattle.tariff.specs.Refusals.{Check}
 use Rattle.layouts.specs.Files.{bytesFor, padFor}
 

@@ -11,7 +11,7 @@ use lib.Pow.{pow-pos}
 use lib.ListN.{length, getD, take, List·getD-eq-default}
 use lib.Seq.{getD-take, length-take-le}
 use Rattle.bits.proofs.Numbers.{Below}
-use Rattle.tariff.specs.declared.Checked.the-variants.{Passed}
+use Rattle.tariff.specs.declared.refusals.Checked.the-variants.{Passed}
 use Rattle.tariff.specs.Refusals.{first}
 use Rattle.tariff.proofs.Checks.{first-passes, passed-cons}
 use Rattle.layouts.specs.PriceFile.{priceFile, periodIn, pricesIn}

@@ -8,10 +8,10 @@ use lib.IntN.{ℤ, pos}
 use Rattle.text.specs.Ascii.{ascii}
 use Rattle.text.specs.Decimal.{decimal}
 use Rattle.text.proofs.Laws.{decimal-below}
-use Rattle.tariff.specs.declared.Refusal.{Refusal}
-use Rattle.tariff.specs.declared.Refusal.the-variants.{ShortFile, NodeCount, ConstraintCount, SpareBits, FileLength, LimitRange, FactorRange, Padding, ShortTable, ContractCount, NodeNumber, SameEnds, QuantityRange, PriceCount, PriceRange, ProcessNumber, PeriodOrKind, HolderRange}
-use Rattle.tariff.specs.declared.Checked.{Checked}
-use Rattle.tariff.specs.declared.Checked.the-variants.{Passed, Refused}
+use Rattle.tariff.specs.declared.refusals.Refusal.{Refusal}
+use Rattle.tariff.specs.declared.refusals.Refusal.the-variants.{ShortFile, NodeCount, ConstraintCount, SpareBits, FileLength, LimitRange, FactorRange, Padding, ShortTable, ContractCount, NodeNumber, SameEnds, QuantityRange, PriceCount, PriceRange, ProcessNumber, PeriodOrKind, HolderRange}
+use Rattle.tariff.specs.declared.refusals.Checked.{Checked}
+use Rattle.tariff.specs.declared.refusals.Checked.the-variants.{Passed, Refused}
 use Rattle.tariff.specs.Refusals.{Outcome, numberOf, given, refusedBy, decided, answered, cellsAfter}
 use Rattle.tariff.proofs.Answers.{never-given, given-told}
 use Rattle.refusal_line.specs.RefusedLine.{refusedLine}

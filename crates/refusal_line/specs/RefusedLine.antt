@@ -4,7 +4,7 @@ use mathlib.Core.List.{List, _++_}
 use Prim.Native.Nat.{ℕ}
 use Rattle.text.specs.Ascii.{ascii}
 use Rattle.text.specs.Decimal.{decimal}
-use Rattle.tariff.specs.declared.Refusal.{Refusal}
+use Rattle.tariff.specs.declared.refusals.Refusal.{Refusal}
 use Rattle.tariff.specs.Refusals.{numberOf}
 
 unfoldable pub refusedLine : List ℕ → Refusal → List ℕ

@@ -7,9 +7,9 @@ use native.Mathlib.Omega.{arith}
 use lib.ListN.{length, getD, take, drop, length-append, List·getD-append}
 use lib.IntN.{ℤ}
 use lib.Seq.{take-at}
-use Rattle.tariff.specs.declared.Refusal.{Refusal}
-use Rattle.tariff.specs.declared.Checked.{Checked}
-use Rattle.tariff.specs.declared.Checked.the-variants.{Passed, Refused}
+use Rattle.tariff.specs.declared.refusals.Refusal.{Refusal}
+use Rattle.tariff.specs.declared.refusals.Checked.{Checked}
+use Rattle.tariff.specs.declared.refusals.Checked.the-variants.{Passed, Refused}
 use Rattle.tariff.specs.Refusals.{given, refusedBy, answered, cellsAfter}
 use Rattle.lists.specs.Lent.{overwrite}
 

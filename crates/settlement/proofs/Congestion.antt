@@ -10,8 +10,8 @@ use lib.ListN.{length, getD, length-append, List·getD-append}
 use lib.IntN.{ℤ, pos, negℤ, natAbs, _+ℤ_, _-ℤ_, _*ℤ_}
 use Rattle.integers.specs.Sums.{sumTo}
 use Rattle.integers.proofs.Sizes.{natAbs-sub, natAbs-times}
-use Rattle.tariff.specs.declared.Contract.{Contract}
-use Rattle.tariff.specs.declared.Period.{Period}
+use Rattle.tariff.specs.declared.contracts.Contract.{Contract}
+use Rattle.tariff.specs.declared.contracts.Period.{Period}
 use Rattle.tariff.specs.Units.{Grid, grid, factor, price, maxFactor, maxPrice}
 use Rattle.tariff.specs.Contracts.{counted, samePeriod, InRange}
 use Rattle.tariff.specs.Settlement.{congestion, mcc, amount}

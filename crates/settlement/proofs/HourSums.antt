@@ -13,8 +13,8 @@ use Rattle.integers.proofs.Linear.{⊖of, ⊖s}
 use Rattle.integers.proofs.Sizes.{natAbs-add}
 use Rattle.integers.proofs.Machine.{back, op-fits, op-is}
 use Rattle.integers.proofs.Division.{floor-split, floor-unique}
-use Rattle.tariff.specs.declared.Contract.{Contract}
-use Rattle.tariff.specs.declared.Period.{Period}
+use Rattle.tariff.specs.declared.contracts.Contract.{Contract}
+use Rattle.tariff.specs.declared.contracts.Period.{Period}
 use Rattle.tariff.specs.Units.{grid}
 use Rattle.tariff.specs.Contracts.{samePeriod, ofPeriod, InRange}
 use Rattle.tariff.specs.Settlement.{mcc, amount, exactTotal, cents, wholeCents, parts}

@@ -5,7 +5,7 @@ ghost use Prim.Native.Nat.{ℕ, _+_, _*_, _≤_, _<_};
 ghost use lib.ListN.{length, take};
 ghost use lib.IntN.{ℤ, pos, natAbs, _+ℤ_, _*ℤ_};
 ghost use Rattle.integers.specs.Sums.{sumTo};
-ghost use Rattle.tariff.specs.declared.Checked.the-variants.{Passed};
+ghost use Rattle.tariff.specs.declared.refusals.Checked.the-variants.{Passed};
 ghost use Rattle.tariff.specs.Refusals.{first, answered, cellsAfter};
 ghost use Rattle.lists.specs.Lent.{overwrite};
 ghost use Rattle.tariff.specs.Checks.{nodeCount, constraintCount, periodNumber, shortTable, factorRange, priceRange};

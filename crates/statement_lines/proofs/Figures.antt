@@ -13,8 +13,8 @@ use Rattle.integers.proofs.Machine.{back}
 use Rattle.text.specs.Ascii.{ascii}
 use Rattle.text.specs.Decimal.{decimal, decimalZ}
 use Rattle.text.proofs.Laws.{decimal-below, decimalZ-below}
-use Rattle.tariff.specs.declared.Period.{Period}
-use Rattle.tariff.specs.declared.Contract.{Contract}
+use Rattle.tariff.specs.declared.contracts.Period.{Period}
+use Rattle.tariff.specs.declared.contracts.Contract.{Contract}
 use Rattle.tariff.specs.Contracts.{samePeriod}
 use Rattle.statement_lines.specs.Lines.{kindWord, contractLine, lineOf}
 use Rattle.statement_lines.specs.Parts.{linesTo}

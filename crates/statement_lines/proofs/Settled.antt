@@ -9,8 +9,8 @@ use lib.IntN.{ℤ, pos, natAbs}
 use Rattle.lists.specs.Lists.{Each, listTo}
 use Rattle.integers.proofs.Sizes.{natAbs-sumOver}
 use Rattle.integers.proofs.Division.{floorMod-lt}
-use Rattle.tariff.specs.declared.Contract.{Contract}
-use Rattle.tariff.specs.declared.Period.{Period}
+use Rattle.tariff.specs.declared.contracts.Contract.{Contract}
+use Rattle.tariff.specs.declared.contracts.Period.{Period}
 use Rattle.tariff.specs.Units.{Grid, grid}
 use Rattle.tariff.specs.Contracts.{samePeriod, ofPeriod, InRange}
 use Rattle.tariff.specs.Settlement.{amount, exactTotal, cents, wholeCents, parts}

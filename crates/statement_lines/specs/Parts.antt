@@ -3,8 +3,8 @@ use mathlib.Core.List.{List, [], _++_}
 use Prim.Native.Nat.{ℕ, zero, suc, _^_, _<_}
 use lib.ListN.{getD}
 use lib.IntN.{ℤ, pos, natAbs}
-use Rattle.tariff.specs.declared.Period.{Period}
-use Rattle.tariff.specs.declared.Contract.{Contract}
+use Rattle.tariff.specs.declared.contracts.Period.{Period}
+use Rattle.tariff.specs.declared.contracts.Contract.{Contract}
 use Rattle.statement_lines.specs.Lines.{heading, lineOf, sumLine, exactLine}
 
 -- the lines of contracts 0 to m − 1

@@ -7,8 +7,8 @@ use lib.IntN.{ℤ, pos, negℤ, _-ℤ_, _*ℤ_}
 use Rattle.integers.proofs.Sums.{sumTo-cong}
 use Rattle.lists.specs.Lists.{Each}
 use Rattle.integers.proofs.Sizes.{sumOver-each}
-use Rattle.tariff.specs.declared.Contract.{Contract}
-use Rattle.tariff.specs.declared.Period.{Period}
+use Rattle.tariff.specs.declared.contracts.Contract.{Contract}
+use Rattle.tariff.specs.declared.contracts.Period.{Period}
 use Rattle.tariff.specs.Units.{Grid, grid}
 use Rattle.tariff.specs.Contracts.{counted, ofPeriod, InRange}
 use Rattle.tariff.specs.Settlement.{congestion, mcc, amount, exactTotal, cents, wholeCents, parts}

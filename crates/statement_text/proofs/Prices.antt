@@ -10,8 +10,8 @@ use Rattle.bits.proofs.Fields.{field-lt}
 use Rattle.text.specs.Ascii.{ascii}
 use Rattle.refusal_line.specs.RefusedLine.{refusedLine}
 use Rattle.refusal_line.proofs.Lines.{refused-line}
-use Rattle.tariff.specs.declared.Refusal.{Refusal}
-use Rattle.tariff.specs.declared.Checked.the-variants.{Passed, Refused}
+use Rattle.tariff.specs.declared.refusals.Refusal.{Refusal}
+use Rattle.tariff.specs.declared.refusals.Checked.the-variants.{Passed, Refused}
 use Rattle.tariff.specs.Units.{grid}
 use Rattle.tariff.specs.Contracts.{periodOf}
 use Rattle.tariff.specs.Refusals.{first, answered, refusedBy, given, cellsAfter}

@@ -5,7 +5,7 @@ ghost use Prim.Native.Nat.{_≤_};
 ghost use lib.ListN.{length};
 ghost use lib.IntN.{pos};
 ghost use Rattle.text.specs.Decimal.{Put};
-ghost use Rattle.tariff.specs.declared.Checked.the-variants.{Passed};
+ghost use Rattle.tariff.specs.declared.refusals.Checked.the-variants.{Passed};
 ghost use Rattle.tariff.specs.Units.{grid};
 ghost use Rattle.tariff.specs.Contracts.{periodOf};
 ghost use Rattle.tariff.specs.Refusals.{first, answered, cellsAfter};

@@ -1,18 +1,14 @@
 -- Laws of the first check that holds, of the node count, and of a search for a bad element.
 use mathlib.Core.Path.{_≡_, refl}
-use mathlib.Core.Bool.{Bool, true, false, _||_, cond}
+use mathlib.Core.Bool.{Bool, true, false, cond}
 use mathlib.Core.List.{List, [], _∷_, _++_}
-use Prim.Native.Nat.{ℕ, zero, suc, _+_, _≤_, _<_}
-use native.Mathlib.Numerals.{add-one}
-use native.Mathlib.Omega.{arith}
+use Prim.Native.Nat.{ℕ, _+_, _≤_}
 use borrow.Author.Tests.{ltb-false}
 use lib.Dec.{ltb, eqb}
-use lib.ListN.{length, getD, take}
-use lib.Seq.{take-suc}
-use Rattle.tariff.specs.declared.Checked.{Checked}
-use Rattle.tariff.specs.declared.Checked.the-variants.{Passed, Refused}
+use Rattle.lists.proofs.Search.{neither}
+use Rattle.tariff.specs.declared.refusals.Checked.the-variants.{Passed, Refused}
+use Rattle.tariff.specs.Units.{maxNodes}
 use Rattle.tariff.specs.Refusals.{Check, first, decided}
-use Rattle.lists.specs.Lists.{some}
 use Rattle.tariff.specs.Checks.{nodeCount}
 
 -- ---- the first check
@@ -55,5 +51,5 @@ passed-append (c ∷ cs) ys e = by (c .fails) refl (passed-append cs ys) e
 -- ---- the node count
 
 -- one that the check accepts
-pub nodes-few-of : (n : ℕ) → nodeCount n .fails ≡ false → n ≤ 200
-nodes-few-of n e = ltb-false 200 n (neither (eqb n 0) (ltb 200 n) e .1)
+pub nodes-few-of : (n : ℕ) → nodeCount n .fails ≡ false → n ≤ maxNodes
+nodes-few-of n e = ltb-false maxNodes n (neither (eqb n 0) (ltb maxNodes n) e .1)

@@ -1,21 +1,17 @@
--- The overload set as one number: its bits, its count of ones, its trailing zeros, and what they say of the test.
-use mathlib.Core.Path.{_≡_, refl, sym, ap, _∙_}
+-- What the overload set says of the test.
+use mathlib.Core.Path.{_≡_, refl}
 use mathlib.Core.Logic.{_↔_}
-use mathlib.Core.Bool.{Bool, true, false, cond}
+use mathlib.Core.Bool.{Bool, true, false}
 use mathlib.Core.List.{List}
-use Prim.Native.Nat.{ℕ, zero, suc, _+_, _*_, _/_, _%_, _^_, _≤_, _<_}
-use native.Mathlib.Nat.{pow-suc}
+use Prim.Native.Nat.{_≤_, _<_}
 use native.Mathlib.Omega.{arith}
-use lib.Arith.{digits-div, digits-mod}
-use lib.Pow.{pow-pos, shr-shr}
-use lib.Count.{ones, ones-cat, trailingZeros}
 use lib.IntN.{ℤ, pos, _-ℤ_}
 use lib.Signed.{_≤ℤ_, _<ℤ_, ltZ, ltZ-yes, ltZ-no, clashℤ}
 use Rattle.integers.proofs.Linear.{⊖of, ⊖s}
-use Rattle.tariff.specs.declared.Contract.{Contract}
-use Rattle.tariff.specs.declared.Process.{Process}
+use Rattle.tariff.specs.declared.contracts.Contract.{Contract}
+use Rattle.tariff.specs.declared.processes.Process.{Process}
 use Rattle.tariff.specs.Units.{Grid}
-use Rattle.lists.specs.Sets.{setOf, countOf, lowestOf}
+use Rattle.lists.proofs.Sets.{Lowest, set-lowest, set-empty}
 use Rattle.tariff.specs.Feasibility.{totalFlow, released, Passes, excess, overloaded, overloadSet, lowestOverload}
 
 -- ---- the test
@@ -32,8 +28,8 @@ module _ (g : Grid) (process : Process) (cs : List Contract) where
   pub passes-empty : Passes g process cs ↔ (overloadSet g process cs ≡ 0)
   unfolding overloadSet overloaded
   passes-empty = (
-    λ p. set-empty (g .constraints) _ .1 (λ k h. not-over (pos (released g process k)) (totalFlow g cs k) .1 (p .within k h)),
-    λ e. record { within = λ k h. not-over (pos (released g process k)) (totalFlow g cs k) .0 (set-empty (g .constraints) _ .0 e k h) },
+    λ p. set-empty (g .factors .constraints) _ .1 (λ k h. not-over (pos (released (g .limits) process k)) (totalFlow (g .factors) cs k) .1 (p .within k h)),
+    λ e. record { within = λ k h. not-over (pos (released (g .limits) process k)) (totalFlow (g .factors) cs k) .0 (set-empty (g .factors .constraints) _ .0 e k h) },
   )
 
   over-excess : (a b : ℤ) → ltZ a b ≡ true → pos 0 <ℤ (b -ℤ a)
@@ -43,10 +39,10 @@ module _ (g : Grid) (process : Process) (cs : List Contract) where
       less a b = rw (⊖of a, ⊖of b) (simp ⊖s (omega arith))
 
   -- where it fails, the lowest overloaded constraint is one of the grid's, and its excess is above 0
-  pub fails-lowest : 0 < overloadSet g process cs → Lowest (g .constraints) (overloaded g process cs) (lowestOverload g process cs)
+  pub fails-lowest : 0 < overloadSet g process cs → Lowest (g .factors .constraints) (overloaded g process cs) (lowestOverload g process cs)
   unfolding overloadSet lowestOverload
-  fails-lowest s = set-lowest (g .constraints) (overloaded g process cs) s
+  fails-lowest s = set-lowest (g .factors .constraints) (overloaded g process cs) s
 
   pub fails-excess : 0 < overloadSet g process cs → pos 0 <ℤ excess g process cs (lowestOverload g process cs)
   unfolding excess overloaded
-  fails-excess s = over-excess (pos (released g process (lowestOverload g process cs))) (totalFlow g cs (lowestOverload g process cs)) (fails-lowest s .holds)
+  fails-excess s = over-excess (pos (released (g .limits) process (lowestOverload g process cs))) (totalFlow (g .factors) cs (lowestOverload g process cs)) (fails-lowest s .holds)

@@ -7,9 +7,9 @@ use lib.IntN.{ℤ, _+ℤ_, +ℤ-idr}
 use Rattle.integers.specs.Sums.{sumOver}
 use Rattle.integers.proofs.Sums.{sumOver-append}
 use Rattle.lists.specs.Lists.{Each}
-use Rattle.tariff.specs.declared.Contract.{Contract}
-use Rattle.tariff.specs.declared.Period.{Period}
-use Rattle.tariff.specs.declared.Period.the-variants.{OffPeak, OnPeak}
+use Rattle.tariff.specs.declared.contracts.Contract.{Contract}
+use Rattle.tariff.specs.declared.contracts.Period.{Period}
+use Rattle.tariff.specs.declared.contracts.Period.the-variants.{OffPeak, OnPeak}
 use Rattle.tariff.specs.Contracts.{samePeriod, ofPeriod}
 
 same-is : (a b : Period) → samePeriod a b ≡ true → a ≡ b

@@ -8,8 +8,8 @@ use lib.IntN.{ℤ, pos, negsuc, natAbs, _*ℤ_}
 use mathlib.Core.Bool.{true, false}
 use lib.Dec.{T}
 use lib.Signed.{ltZ, nonNeg}
-use Rattle.tariff.specs.declared.Kind.the-variants.{Option}
-use Rattle.tariff.specs.declared.Period.the-variants.{OnPeak}
+use Rattle.tariff.specs.declared.contracts.Kind.the-variants.{Option}
+use Rattle.tariff.specs.declared.contracts.Period.the-variants.{OnPeak}
 use Rattle.tariff.specs.Contracts.{kindOf, periodOf, counted}
 
 pub kind-nonzero : (n : ℕ) → (n ≡ 0 → ⊥) → Option ≡ kindOf n

@@ -1,10 +1,12 @@
 -- Document 01, "When input is turned down": the conditions on counts, numbers and figures, each with its refusal. Those on a file's bytes are in layouts.
-use mathlib.Core.Bool.{Bool, false, _||_}
-use mathlib.Core.List.{List, [], _∷_}
+use mathlib.Core.Bool.{Bool, _||_}
+use mathlib.Core.List.{List}
 use Prim.Native.Nat.{ℕ}
 use lib.Dec.{leb, ltb, eqb}
 use lib.IntN.{ℤ, natAbs}
-use Rattle.tariff.specs.declared.Refusal.the-variants.{NodeCount, ConstraintCount, LimitRange, FactorRange, ShortTable, ContractCount, NodeNumber, SameEnds, QuantityRange, PriceRange, ProcessNumber, PeriodOrKind, HolderRange}
+use Rattle.lists.specs.Lists.{some}
+use Rattle.tariff.specs.declared.refusals.Refusal.the-variants.{NodeCount, ConstraintCount, LimitRange, FactorRange, ShortTable, ContractCount}
+use Rattle.tariff.specs.declared.refusals.Refusal.the-variants.{NodeNumber, SameEnds, QuantityRange, PriceRange, ProcessNumber, PeriodOrKind, HolderRange}
 use Rattle.tariff.specs.Units.{maxNodes, maxConstraints, maxContracts, maxLimit, maxFactor, maxPrice, maxQuantity, maxHolder}
 use Rattle.tariff.specs.Refusals.{Check}
 

@@ -1,6 +1,6 @@
 -- `check_at`.
 use mathlib.Core.Path.{ap, _∙_}
-use Rattle.tariff.specs.declared.Contract.{Contract}
+use Rattle.tariff.specs.declared.contracts.Contract.{Contract}
 use Rattle.tariff.specs.Refusals.{first}
 use Rattle.book_file.specs.BookChecks.{contractChecks, checksAt}
 use borrow.Author.Needs.{needs}

@@ -1,7 +1,7 @@
 -- `check_row`.
 use mathlib.Core.Path.{ap, _∙_}
 use borrow.Author.Tests.{lt-ltb, le-ltb}
-use Rattle.tariff.specs.declared.Contract.{Contract}
+use Rattle.tariff.specs.declared.contracts.Contract.{Contract}
 use Rattle.tariff.specs.Refusals.{first}
 use Rattle.book_file.specs.BookChecks.{contractChecks}
 use Rattle.book_writer.specs.WriteChecks.{rowChecks}

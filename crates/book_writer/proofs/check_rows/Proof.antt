@@ -4,7 +4,7 @@ use Prim.Native.Nat.{_-_, _≤_}
 use native.Mathlib.Omega.{arith}
 use borrow.Author.Needs.{needs}
 use Rattle.tariff.specs.Refusals.{first}
-use Rattle.tariff.specs.declared.Checked.the-variants.{Passed}
+use Rattle.tariff.specs.declared.refusals.Checked.the-variants.{Passed}
 use Rattle.book_file.specs.BookChecks.{checksTo}
 use Rattle.book_writer.specs.WriteChecks.{rowChecks}
 use Rattle.book_file.proofs.Checking.{checks-start, checks-more, checks-stop}

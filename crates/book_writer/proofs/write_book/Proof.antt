@@ -2,7 +2,7 @@
 use mathlib.Core.Path.{_≡_, refl, sym, _∙_}
 use native.Mathlib.Omega.{arith}
 use lib.ListN.{length}
-use Rattle.tariff.specs.declared.Checked.the-variants.{Passed}
+use Rattle.tariff.specs.declared.refusals.Checked.the-variants.{Passed}
 use Rattle.tariff.specs.Refusals.{first}
 use Rattle.book_writer.specs.WriteChecks.{writeChecks}
 use Rattle.book_writer.proofs.Accepted.{Writable, write-accepted}

@@ -2,7 +2,7 @@
 use mathlib.Core.Path.{_≡_, subst}
 use mathlib.Core.List.{[], _∷_}
 use native.Mathlib.Omega.{arith}
-use Rattle.tariff.specs.declared.Process.{Process}
+use Rattle.tariff.specs.declared.processes.Process.{Process}
 use Rattle.tariff.specs.Refusals.{given}
 use Rattle.tariff.specs.Units.{grid}
 use Rattle.tariff.specs.Contracts.{periodOf, ofPeriod}

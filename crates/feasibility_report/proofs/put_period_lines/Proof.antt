@@ -1,7 +1,7 @@
 -- `put_period_lines`.
 use mathlib.Core.Path.{subst}
 use native.Mathlib.Omega.{arith}
-use Rattle.tariff.specs.declared.Period.{Period}
+use Rattle.tariff.specs.declared.contracts.Period.{Period}
 use Rattle.tariff.specs.Units.{grid}
 use Rattle.tariff.specs.Contracts.{periodOf, ofPeriod}
 use Rattle.layouts.specs.BookFile.{bookIn}

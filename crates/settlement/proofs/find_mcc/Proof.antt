@@ -1,7 +1,7 @@
 -- `settlement::find_mcc`: where no check refuses, the figures are in range and the cells suffice.
 use mathlib.Core.Path.{_≡_, refl, sym, _∙_}
 use lib.ListN.{length}
-use Rattle.tariff.specs.declared.Checked.the-variants.{Passed}
+use Rattle.tariff.specs.declared.refusals.Checked.the-variants.{Passed}
 use Rattle.tariff.specs.Refusals.{first}
 use Rattle.settlement.specs.SettleChecks.{mccChecks}
 use Rattle.settlement.proofs.Passing.{mcc-ready}

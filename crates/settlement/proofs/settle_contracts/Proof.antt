@@ -12,7 +12,7 @@ use Rattle.settlement.proofs.HourSums.{sum-start, sum-more}
 use borrow.Author.Needs.{needs}
 use mathlib.Core.List.{List}
 use Rattle.integers.specs.Sums.{sumTo}
-use Rattle.tariff.specs.declared.Period.{Period}
+use Rattle.tariff.specs.declared.contracts.Period.{Period}
 use Rattle.tariff.specs.Settlement.{cents as centsOf}
 use Rattle.lists.specs.Lists.{listTo}
 use Rattle.layouts.specs.BookFile.{contractAt}

@@ -5,7 +5,7 @@ use native.Mathlib.Omega.{arith}
 use lib.ListN.{length}
 use lib.IntN.{ℤ, pos, _+ℤ_, _*ℤ_}
 use Rattle.integers.proofs.Machine.{back}
-use Rattle.tariff.specs.declared.Checked.the-variants.{Passed}
+use Rattle.tariff.specs.declared.refusals.Checked.the-variants.{Passed}
 use Rattle.tariff.specs.Refusals.{first, given}
 use Rattle.lists.specs.Lent.{overwrite}
 use Rattle.tariff.specs.Contracts.{periodOf}

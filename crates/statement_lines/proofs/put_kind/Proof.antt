@@ -4,7 +4,7 @@ use mathlib.Core.List.{_++_}
 use native.Mathlib.Omega.{arith}
 use Rattle.text.specs.Ascii.{ascii}
 use Rattle.text.proofs.Putting.{put-as}
-use Rattle.tariff.specs.declared.Kind.{Kind}
+use Rattle.tariff.specs.declared.contracts.Kind.{Kind}
 use Rattle.statement_lines.specs.Lines.{kindWord}
 use borrow.Author.Needs.{needs}
 use Rattle.statement_lines.proofs.put_kind.Statement.{statement}
