@@ -16,7 +16,7 @@ use Rattle.tariff.specs.Refusals.{Check, first, decided}
 use Rattle.tariff.specs.Checks.{nodeCount, shortTable}
 use Rattle.tariff.proofs.Checks.{first-passes, first-append, passed-append}
 use Rattle.tariff.specs.declared.refusals.Refusal.the-variants.{ShortFile, SpareBits, FileLength, ShortTable, ContractCount}
-use Rattle.layouts.specs.BookFile.{countIn, spareIn}
+use Rattle.layouts.specs.BookFile.{contractCountIn, bookSpareIn}
 use Rattle.book_file.specs.BookChecks.{checksTo, checksAt, bookChecks, readChecks}
 
 module _ (f : ℕ → List Check) where
@@ -60,12 +60,12 @@ module _ (n : ℕ) (s : List ℕ) where
   unfolding first bookChecks
   short-book h = rw (lt-ltb (length s) 2 h)
 
-  module _ (long : 2 ≤ length s) (m : ℕ) (count : m ≡ countIn s) where
+  module _ (long : 2 ≤ length s) (m : ℕ) (count : m ≡ contractCountIn s) where
     pub many-contracts : 1000 < m → Refused ContractCount ≡ first (bookChecks n s)
     unfolding first bookChecks
     many-contracts h = rw (le-ltb (length s) 2 long, ← count, lt-ltb 1000 m h)
 
-    module _ (few : m ≤ 1000) (x : ℕ) (spare : x ≡ spareIn s) where
+    module _ (few : m ≤ 1000) (x : ℕ) (spare : x ≡ bookSpareIn s) where
       pub spare-set : (x ≡ 0 → ⊥) → Refused SpareBits ≡ first (bookChecks n s)
       unfolding first bookChecks
       spare-set h = rw (le-ltb (length s) 2 long, ← count, le-ltb 1000 m few, ← spare, ne-eqb x 0 h)
@@ -82,14 +82,14 @@ module _ (n : ℕ) (s : List ℕ) where
 module _ (n : ℕ) (s : List ℕ) (cells : ℕ) where
   module _ (right-nodes : nodeCount n .fails ≡ false) where
     -- past 2: the book's own, then 9
-    then-own : first (readChecks n s cells) ≡ decided (first (bookChecks n s)) Refused (first (shortTable cells (6 * countIn s) ∷ []))
+    then-own : first (readChecks n s cells) ≡ decided (first (bookChecks n s)) Refused (first (shortTable cells (6 * contractCountIn s) ∷ []))
     unfolding readChecks
-    then-own = first-passes (nodeCount n) _ right-nodes ∙ first-append (bookChecks n s) (shortTable cells (6 * countIn s) ∷ [])
+    then-own = first-passes (nodeCount n) _ right-nodes ∙ first-append (bookChecks n s) (shortTable cells (6 * contractCountIn s) ∷ [])
 
     pub own-refuses : (r : Refusal) → first (bookChecks n s) ≡ Refused r → Refused r ≡ first (readChecks n s cells)
     own-refuses r e = sym (then-own ∙ rw e)
 
-    module _ (own : first (bookChecks n s) ≡ Passed) (m : ℕ) (count : m ≡ countIn s) where
+    module _ (own : first (bookChecks n s) ≡ Passed) (m : ℕ) (count : m ≡ contractCountIn s) where
       pub short-cells : cells < 6 * m → Refused ShortTable ≡ first (readChecks n s cells)
       unfolding first
       short-cells h = sym (then-own ∙ rw (own, ← count, lt-ltb cells (6 * m) h))

@@ -11,8 +11,11 @@ use Rattle.tariff.specs.declared.contracts.Contract.{Contract}
 use Rattle.bits.specs.Bits.{number}
 use Rattle.bits.proofs.Numbers.{Below}
 use Rattle.lists.specs.Lists.{listTo}
-use Rattle.layouts.specs.BookFile.{contractAt, cellsOf}
-use Rattle.layouts.proofs.BookFile.{contract-number, kind-bit, period-bit, length-cells}
+use Rattle.layouts.specs.BookFile.{contractAt}
+use Rattle.layouts.specs.BookTable.{cellsOf}
+use Rattle.layouts.proofs.ContractNumber.{contract-at-number}
+use Rattle.layouts.proofs.ContractBits.{kind-bit, period-bit}
+use Rattle.layouts.proofs.BookTable.{length-cells}
 use Rattle.lists.proofs.Lists.{length-listTo}
 
 pub six-sets : (l : List ℕ) (at a b c d e f : ℕ) → at + 6 ≤ length l
@@ -30,7 +33,7 @@ pub cells-number : (s : List ℕ) (i v : ℕ) → Below 8 s → 2 + 6 * i + 6 �
     → cellsOf (contractAt s i) ≡ v / 2 ^ 47 % 2 ^ 1 ∷ v / 2 ^ 46 % 2 ^ 1 ∷ v / 2 ^ 36 % 2 ^ 10 ∷ v / 2 ^ 28 % 2 ^ 8 ∷ v / 2 ^ 20 % 2 ^ 8 ∷ v / 2 ^ 0 % 2 ^ 20 ∷ []
 unfolding cellsOf
 cells-number s i v b le e =
-    ap cellsOf (contract-number s i v b le e)
+    ap cellsOf (contract-at-number s i v b le e)
     ∙ (λ t. kind-bit (v / 2 ^ 47 % 2 ^ 1) (mod-lt (v / 2 ^ 47) (pow-pos 1)) t ∷ period-bit (v / 2 ^ 46 % 2 ^ 1) (mod-lt (v / 2 ^ 46) (pow-pos 1)) t ∷ v / 2 ^ 36 % 2 ^ 10 ∷ v / 2 ^ 28 % 2 ^ 8 ∷ v / 2 ^ 20 % 2 ^ 8 ∷ v / 2 ^ 0 % 2 ^ 20 ∷ [])
 
 -- ---- a block of cells stored behind those that are stored already

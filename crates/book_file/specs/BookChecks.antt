@@ -6,7 +6,7 @@ use Rattle.tariff.specs.declared.contracts.Contract.{Contract}
 use Rattle.tariff.specs.Refusals.{Check, Outcome, given, refusedBy}
 use Rattle.tariff.specs.Checks.{nodeCount, contractCount, nodeNumber, sameEnds, quantityRange, shortTable}
 use Rattle.layouts.specs.Files.{shortFile, spareBits, fileLength}
-use Rattle.layouts.specs.BookFile.{bookBytes, countIn, spareIn, contractAt}
+use Rattle.layouts.specs.BookFile.{bookBytes, contractCountIn, bookSpareIn, contractAt}
 use Rattle.book_file.specs.declared.BookAnswer.{BookAnswer}
 use Rattle.book_file.specs.declared.BookAnswer.the-variants.{Read, Refused}
 
@@ -26,12 +26,12 @@ checksAt n s i = contractChecks n (contractAt s i)
 -- "the book's own from 1 to 13": 1, 10, 4, 5, then contract by contract
 unfoldable pub bookChecks : ℕ → List ℕ → List Check
 bookChecks n s =
-    shortFile s 2 ∷ contractCount (countIn s) ∷ spareBits (spareIn s) ∷ fileLength s (bookBytes (countIn s))
-    ∷ checksTo (countIn s) (checksAt n s)
+    shortFile s 2 ∷ contractCount (contractCountIn s) ∷ spareBits (bookSpareIn s) ∷ fileLength s (bookBytes (contractCountIn s))
+    ∷ checksTo (contractCountIn s) (checksAt n s)
 
 -- reading a book for a grid of n nodes: "2 for that count, then 1 .. Last, 9"
 unfoldable pub readChecks : ℕ → List ℕ → ℕ → List Check
-readChecks n s cells = nodeCount n ∷ bookChecks n s ++ shortTable cells (6 * countIn s) ∷ []
+readChecks n s cells = nodeCount n ∷ bookChecks n s ++ shortTable cells (6 * contractCountIn s) ∷ []
 
 -- the reader's answer by the paper's figures: how many contracts were read
 abbrev pub bookOutcome : BookAnswer → Outcome

@@ -7,7 +7,8 @@ ghost use lib.IntN.{pos};
 ghost use Rattle.tariff.specs.Refusals.{first, answered, cellsAfter};
 ghost use Rattle.lists.specs.Lent.{overwrite};
 ghost use Rattle.lists.specs.Lists.{listTo};
-ghost use Rattle.layouts.specs.BookFile.{bookBytes, countIn, contractAt, bookIn, cellsOf};
+ghost use Rattle.layouts.specs.BookFile.{bookBytes, contractCountIn, contractAt, bookIn};
+ghost use Rattle.layouts.specs.BookTable.{cellsOf};
 ghost use Rattle.book_file.specs.BookChecks.{checksTo, checksAt, contractChecks, bookChecks, readChecks, bookOutcome};
 use tariff::Checked;
 use tariff::Contract;
@@ -155,7 +156,7 @@ fn read_contracts(file: &[u8], count: usize, book: &mut [u64])
 
 // Reads a book for a grid of `nodes` nodes into a table of six cells a contract.
 pub fn read_book(nodes: usize, file: &[u8], book: &mut [u64]) -> BookAnswer
-    ensures answer { λ r. ⌜ bookOutcome r ≡ answered (first (readChecks nodes (now (file .entry)) (length (now (book .entry))))) (pos (countIn (now (file .entry))) ∷ []) ⌝ }
+    ensures answer { λ r. ⌜ bookOutcome r ≡ answered (first (readChecks nodes (now (file .entry)) (length (now (book .entry))))) (pos (contractCountIn (now (file .entry))) ∷ []) ⌝ }
     ensures cells { λ r. ⌜ now (book .exit) ≡ cellsAfter (first (readChecks nodes (now (file .entry)) (length (now (book .entry))))) (flatMap cellsOf (bookIn (now (file .entry)))) (now (book .entry)) ⌝ }
 {
     let checked = check_read(nodes, file, book.len());

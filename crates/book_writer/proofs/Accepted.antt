@@ -11,7 +11,7 @@ use Rattle.tariff.specs.Refusals.{first}
 use Rattle.tariff.specs.Checks.{shortTable}
 use Rattle.tariff.proofs.Checks.{passed-cons, passed-append, nodes-few-of}
 use Rattle.lists.proofs.Search.{neither}
-use Rattle.layouts.specs.BookFile.{rowAt}
+use Rattle.layouts.specs.BookTable.{rowAt}
 use Rattle.layouts.proofs.BookFile.{ContractFits}
 use Rattle.book_file.specs.BookChecks.{checksTo}
 use Rattle.book_file.proofs.Checking.{checks-each}

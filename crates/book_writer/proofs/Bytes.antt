@@ -15,7 +15,8 @@ use Rattle.bits.proofs.Files.{total-append, packed-append, packed-lt}
 use Rattle.tariff.specs.declared.contracts.Contract.{Contract}
 use Rattle.layouts.specs.BookFile.{contract, contractFields, bookFields, bookFile}
 use Rattle.book_writer.specs.Rows.{rowBytes}
-use Rattle.layouts.proofs.BookFile.{ContractFits, kind-bit, period-bit, total-contracts, fit-contracts, book-written}
+use Rattle.layouts.proofs.BookFile.{ContractFits, total-contracts, fit-contracts, book-written}
+use Rattle.layouts.proofs.ContractBits.{kind-bit, period-bit}
 use Rattle.lists.specs.Lent.{overwrite}
 
 digits-append : (w a b v : ℕ) → digits w (a + b) v ≡ digits w a (v / 2 ^ (w * b)) ++ digits w b v

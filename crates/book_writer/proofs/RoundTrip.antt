@@ -13,9 +13,11 @@ use Rattle.tariff.specs.declared.refusals.Checked.the-variants.{Passed}
 use Rattle.tariff.specs.Refusals.{first}
 use Rattle.tariff.specs.Checks.{nodeCount, shortTable}
 use Rattle.tariff.proofs.Checks.{first-passes, first-append, passed-cons, passed-append}
-use Rattle.layouts.specs.BookFile.{countIn, spareIn, contractAt, bookIn, bookFile, cellsOf, rowAt, rowsIn}
+use Rattle.layouts.specs.BookFile.{contractCountIn, bookSpareIn, contractAt, bookIn, bookFile}
+use Rattle.layouts.specs.BookTable.{cellsOf, rowAt, rowsIn}
 use Rattle.lists.proofs.Lists.{length-listTo, each-listTo, getD-listTo}
-use Rattle.layouts.proofs.BookFile.{ContractFits, BookWritten, book-written, book-read, cells-rows}
+use Rattle.layouts.proofs.BookFile.{ContractFits, BookWritten, book-written, book-read}
+use Rattle.layouts.proofs.BookTable.{cells-rows}
 use Rattle.book_file.specs.BookChecks.{checksTo, checksAt, bookChecks, readChecks}
 use Rattle.book_writer.specs.WriteChecks.{rowChecks, writeChecks}
 use Rattle.book_file.proofs.Checking.{checks-each, checks-all}
@@ -32,7 +34,7 @@ read-then-written n s cells b e = let ok = read-accepted n s cells e .0 in book-
 -- what the reader finds in a file: it is not refused where the table is long enough
 pub record ReadBack (n m : ℕ) (cells s : List ℕ) : Type 0 where
   pub passes : (room : ℕ) → 6 * m ≤ room → first (readChecks n s room) ≡ Passed
-  pub count : countIn s ≡ m
+  pub count : contractCountIn s ≡ m
   pub rows-are : bookIn s ≡ rowsIn m cells
   pub cells-are : flatMap cellsOf (bookIn s) ≡ take (6 * m) cells
 
@@ -50,13 +52,13 @@ module _ (n m : ℕ) (cells : List ℕ) (bytes : ℕ) (e : first (writeChecks n 
   unfolding s
   found = book-written (rowsIn m cells) (omega (arith, ok .few, many)) (each-listTo ContractFits m (rowAt cells) (λ i h. row-contract-fits cells i (ok .rows i h)))
 
-  count-is : countIn s ≡ m
+  count-is : contractCountIn s ≡ m
   count-is = found .count ∙ many
 
   -- contract i of the file is row i
   row-is : (i : ℕ) → i < m → contractAt s i ≡ rowAt cells i
   row-is i h =
-      sym (getD-listTo (countIn s) (contractAt s) i (contractAt s i) (rw count-is h)) ∙ ap (λ (l : List Contract). getD l i (contractAt s i)) (found .book)
+      sym (getD-listTo (contractCountIn s) (contractAt s) i (contractAt s i) (rw count-is h)) ∙ ap (λ (l : List Contract). getD l i (contractAt s i)) (found .book)
       ∙ getD-listTo m (rowAt cells) i (contractAt s i) h
 
   -- the checks that the writer made
@@ -71,26 +73,26 @@ module _ (n m : ℕ) (cells : List ℕ) (bytes : ℕ) (e : first (writeChecks n 
   own-passes : first (bookChecks n s) ≡ Passed
   unfolding bookChecks
   own-passes =
-      let size : length s ≡ 2 + 6 * countIn s = rw count-is (found .size ∙ ap (λ (x : ℕ). 2 + 6 * x) many) in
+      let size : length s ≡ 2 + 6 * contractCountIn s = rw count-is (found .size ∙ ap (λ (x : ℕ). 2 + 6 * x) many) in
       first-passes _ _ (le-ltb (length s) 2 (omega (arith, found .size)))
-      ∙ first-passes _ _ (le-ltb 1000 (countIn s) (omega (arith, count-is, ok .few)))
-      ∙ first-passes _ _ (rw (eq-eqb (spareIn s) 0 (found .spare)))
-      ∙ first-passes _ _ (rw (eq-eqb (length s) (2 + 6 * countIn s) size))
+      ∙ first-passes _ _ (le-ltb 1000 (contractCountIn s) (omega (arith, count-is, ok .few)))
+      ∙ first-passes _ _ (rw (eq-eqb (bookSpareIn s) 0 (found .spare)))
+      ∙ first-passes _ _ (rw (eq-eqb (length s) (2 + 6 * contractCountIn s) size))
       ∙ rw count-is (checks-all (checksAt n s) m contract-passes)
 
   nodes-pass : nodeCount n .fails ≡ false
   unfolding writeChecks
   nodes-pass = passed-cons _ _ e .0
 
-  room-passes : (room : ℕ) → 6 * m ≤ room → first (shortTable room (6 * countIn s) ∷ []) ≡ Passed
+  room-passes : (room : ℕ) → 6 * m ≤ room → first (shortTable room (6 * contractCountIn s) ∷ []) ≡ Passed
   unfolding first
   room-passes room h = rw (count-is, le-ltb room (6 * m) h)
 
   not-refused : (room : ℕ) → 6 * m ≤ room → first (readChecks n s room) ≡ Passed
   unfolding readChecks
   not-refused room h =
-      first-passes (nodeCount n) (bookChecks n s ++ shortTable room (6 * countIn s) ∷ []) nodes-pass
-      ∙ first-append (bookChecks n s) (shortTable room (6 * countIn s) ∷ []) ∙ rw own-passes (room-passes room h)
+      first-passes (nodeCount n) (bookChecks n s ++ shortTable room (6 * contractCountIn s) ∷ []) nodes-pass
+      ∙ first-append (bookChecks n s) (shortTable room (6 * contractCountIn s) ∷ []) ∙ rw own-passes (room-passes room h)
 
   pub written-then-read : ReadBack n m cells (bookFile (rowsIn m cells))
   unfolding s

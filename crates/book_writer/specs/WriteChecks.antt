@@ -4,7 +4,8 @@ use Prim.Native.Nat.{ℕ, _+_, _*_}
 use lib.ListN.{length, getD}
 use Rattle.tariff.specs.Refusals.{Check}
 use Rattle.tariff.specs.Checks.{nodeCount, contractCount, kindAndPeriod, holderRange, shortTable}
-use Rattle.layouts.specs.BookFile.{bookBytes, rowAt}
+use Rattle.layouts.specs.BookFile.{bookBytes}
+use Rattle.layouts.specs.BookTable.{rowAt}
 use Rattle.book_file.specs.BookChecks.{checksTo, contractChecks}
 
 -- writing: "contract by contract 17 (here kind or period not 0 or 1), 18 (holder above 1,023), 11, 12, 13"

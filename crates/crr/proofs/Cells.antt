@@ -7,9 +7,8 @@ use lib.IntN.{ℤ, pos, natAbs}
 use Rattle.tariff.specs.declared.refusals.Refusal.{Refusal}
 use Rattle.tariff.specs.declared.refusals.Checked.{Checked}
 use Rattle.tariff.specs.declared.refusals.Checked.the-variants.{Passed}
-use Rattle.tariff.specs.Refusals.{numberOf, given, refusedBy, answered}
+use Rattle.tariff.specs.Refusals.{numberOf, given, refusedBy, answered, numberAfter, cellAfter}
 use Rattle.tariff.proofs.Answers.{given-told, never-given, refused-number, refused-side}
-use Rattle.crr.specs.Cells.{numberAfter, cellAfter}
 
 -- refused: the number is the first check's, and a figure keeps its value
 module _ (checked : Checked) (vs : List ℤ) (r : Refusal) (told : refusedBy r ≡ answered checked vs) where

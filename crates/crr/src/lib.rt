@@ -3,15 +3,16 @@ ghost use mathlib.Core.Path.{_≡_};
 ghost use mathlib.Core.List.{[], _∷_, flatMap};
 ghost use lib.ListN.{length, take};
 ghost use Rattle.tariff.specs.declared.refusals.Checked.the-variants.{Passed};
-ghost use Rattle.tariff.specs.Units.{grid};
-ghost use Rattle.tariff.specs.Refusals.{first, cellsAfter};
+ghost use Rattle.tariff.specs.Units.{gridOf};
+ghost use Rattle.tariff.specs.Refusals.{first, cellsAfter, numberAfter, cellAfter};
 ghost use Rattle.tariff.specs.Checks.{shortTable};
 ghost use Rattle.tariff.specs.Contracts.{periodOf, ofPeriod};
 ghost use Rattle.tariff.specs.Processes.{processOf};
 ghost use Rattle.tariff.specs.Settlement.{mcc as mccOf, wholeCents, parts as partsOf};
 ghost use Rattle.lists.specs.Lists.{listTo};
 ghost use Rattle.layouts.specs.GridFile.{gridBytes, gridFile, nodesIn, constraintsIn, limitsIn, factorsIn};
-ghost use Rattle.layouts.specs.BookFile.{bookBytes, bookFile, bookIn, cellsOf, rowsIn, countIn};
+ghost use Rattle.layouts.specs.BookFile.{bookBytes, bookFile, bookIn, contractCountIn};
+ghost use Rattle.layouts.specs.BookTable.{cellsOf, rowsIn};
 ghost use Rattle.layouts.specs.PriceFile.{priceBytes, priceFile, periodIn, pricesIn};
 ghost use Rattle.grid_file.specs.GridChecks.{readChecks as gridReadChecks, writeChecks as gridWriteChecks};
 ghost use Rattle.book_file.specs.BookChecks.{readChecks as bookReadChecks};
@@ -22,7 +23,6 @@ ghost use Rattle.settlement.specs.SettleChecks.{mccChecks, settleChecks};
 ghost use Rattle.settlement.specs.Answers.{centsCells, centsSum, hourTotal};
 ghost use Rattle.feasibility_report.specs.Report.{report, longest};
 ghost use Rattle.statement_text.specs.Statement.{statement, longest as longestStatement};
-ghost use Rattle.crr.specs.Cells.{numberAfter, cellAfter};
 ghost use Rattle.crr.specs.TestCells.{testCells, CellsDemand3};
 use book_file::BookAnswer;
 use feasibility_test::TestAnswer;
@@ -71,7 +71,7 @@ pub extern "C" fn crr_write_grid(
     bytes: &mut usize,
 ) -> u64
     ensures answer { λ r. ⌜ r ≡ numberAfter (first (gridWriteChecks nodes constraints (now (limits .entry)) (now (factors .entry)) (length (now (file .entry))))) ⌝ }
-    ensures file { λ r. ⌜ now (file .exit) ≡ cellsAfter (first (gridWriteChecks nodes constraints (now (limits .entry)) (now (factors .entry)) (length (now (file .entry))))) (gridFile (grid nodes constraints (now (limits .entry)) (now (factors .entry)))) (now (file .entry)) ⌝ }
+    ensures file { λ r. ⌜ now (file .exit) ≡ cellsAfter (first (gridWriteChecks nodes constraints (now (limits .entry)) (now (factors .entry)) (length (now (file .entry))))) (gridFile (gridOf nodes constraints (now (limits .entry)) (now (factors .entry)))) (now (file .entry)) ⌝ }
     ensures bytes { λ r. ⌜ now (bytes .exit) ≡ cellAfter (first (gridWriteChecks nodes constraints (now (limits .entry)) (now (factors .entry)) (length (now (file .entry))))) (gridBytes nodes constraints) (now (bytes .entry)) ⌝ }
 {
     match grid_file::write_grid(nodes, constraints, limits, factors, file) {
@@ -93,7 +93,7 @@ pub extern "C" fn crr_read_book(
 ) -> u64
     ensures answer { λ r. ⌜ r ≡ numberAfter (first (bookReadChecks nodes (now (file .entry)) (length (now (book .entry))))) ⌝ }
     ensures book { λ r. ⌜ now (book .exit) ≡ cellsAfter (first (bookReadChecks nodes (now (file .entry)) (length (now (book .entry))))) (flatMap cellsOf (bookIn (now (file .entry)))) (now (book .entry)) ⌝ }
-    ensures contracts { λ r. ⌜ now (contracts .exit) ≡ cellAfter (first (bookReadChecks nodes (now (file .entry)) (length (now (book .entry))))) (countIn (now (file .entry))) (now (contracts .entry)) ⌝ }
+    ensures contracts { λ r. ⌜ now (contracts .exit) ≡ cellAfter (first (bookReadChecks nodes (now (file .entry)) (length (now (book .entry))))) (contractCountIn (now (file .entry))) (now (contracts .entry)) ⌝ }
 {
     match book_file::read_book(nodes, file, book) {
         BookAnswer::Refused(refusal) => refusal.number(),
@@ -185,11 +185,11 @@ pub extern "C" fn crr_test_book(
     excess: &mut i64,
 ) -> u64
     ensures answer { λ r. ⌜ r ≡ numberAfter (first (testChecks nodes constraints process period (now (limits .entry)) (now (factors .entry)) (now (book .entry)))) ⌝ }
-    ensures set { λ r. ⌜ now (set .exit) ≡ cellAfter (first (testChecks nodes constraints process period (now (limits .entry)) (now (factors .entry)) (now (book .entry)))) (testCells (grid nodes constraints (now (limits .entry)) (now (factors .entry))) (processOf process) (ofPeriod (periodOf period) (bookIn (now (book .entry)))) .set) (now (set .entry)) ⌝ }
-    ensures count { λ r. ⌜ now (count .exit) ≡ cellAfter (first (testChecks nodes constraints process period (now (limits .entry)) (now (factors .entry)) (now (book .entry)))) (testCells (grid nodes constraints (now (limits .entry)) (now (factors .entry))) (processOf process) (ofPeriod (periodOf period) (bookIn (now (book .entry)))) .count) (now (count .entry)) ⌝ }
-    ensures lowest { λ r. ⌜ now (lowest .exit) ≡ cellAfter (first (testChecks nodes constraints process period (now (limits .entry)) (now (factors .entry)) (now (book .entry)))) (testCells (grid nodes constraints (now (limits .entry)) (now (factors .entry))) (processOf process) (ofPeriod (periodOf period) (bookIn (now (book .entry)))) .lowest) (now (lowest .entry)) ⌝ }
-    ensures excess { λ r. ⌜ now (excess .exit) ≡ cellAfter (first (testChecks nodes constraints process period (now (limits .entry)) (now (factors .entry)) (now (book .entry)))) (testCells (grid nodes constraints (now (limits .entry)) (now (factors .entry))) (processOf process) (ofPeriod (periodOf period) (bookIn (now (book .entry)))) .over) (now (excess .entry)) ⌝ }
-    ensures demand3 { λ r. ⌜ (first (testChecks nodes constraints process period (now (limits .entry)) (now (factors .entry)) (now (book .entry))) ≡ Passed → CellsDemand3 (grid nodes constraints (now (limits .entry)) (now (factors .entry))) (processOf process) (ofPeriod (periodOf period) (bookIn (now (book .entry)))) (now (set .exit)) (now (lowest .exit)) (now (excess .exit))) ⌝ }
+    ensures set { λ r. ⌜ now (set .exit) ≡ cellAfter (first (testChecks nodes constraints process period (now (limits .entry)) (now (factors .entry)) (now (book .entry)))) (testCells (gridOf nodes constraints (now (limits .entry)) (now (factors .entry))) (processOf process) (ofPeriod (periodOf period) (bookIn (now (book .entry)))) .set) (now (set .entry)) ⌝ }
+    ensures count { λ r. ⌜ now (count .exit) ≡ cellAfter (first (testChecks nodes constraints process period (now (limits .entry)) (now (factors .entry)) (now (book .entry)))) (testCells (gridOf nodes constraints (now (limits .entry)) (now (factors .entry))) (processOf process) (ofPeriod (periodOf period) (bookIn (now (book .entry)))) .count) (now (count .entry)) ⌝ }
+    ensures lowest { λ r. ⌜ now (lowest .exit) ≡ cellAfter (first (testChecks nodes constraints process period (now (limits .entry)) (now (factors .entry)) (now (book .entry)))) (testCells (gridOf nodes constraints (now (limits .entry)) (now (factors .entry))) (processOf process) (ofPeriod (periodOf period) (bookIn (now (book .entry)))) .lowest) (now (lowest .entry)) ⌝ }
+    ensures excess { λ r. ⌜ now (excess .exit) ≡ cellAfter (first (testChecks nodes constraints process period (now (limits .entry)) (now (factors .entry)) (now (book .entry)))) (testCells (gridOf nodes constraints (now (limits .entry)) (now (factors .entry))) (processOf process) (ofPeriod (periodOf period) (bookIn (now (book .entry)))) .over) (now (excess .entry)) ⌝ }
+    ensures demand3 { λ r. ⌜ (first (testChecks nodes constraints process period (now (limits .entry)) (now (factors .entry)) (now (book .entry))) ≡ Passed → CellsDemand3 (gridOf nodes constraints (now (limits .entry)) (now (factors .entry))) (processOf process) (ofPeriod (periodOf period) (bookIn (now (book .entry)))) (now (set .exit)) (now (lowest .exit)) (now (excess .exit))) ⌝ }
 {
     match feasibility_test::test_book(nodes, constraints, process, period, limits, factors, book) {
         TestAnswer::Refused(refusal) => refusal.number(),
@@ -226,7 +226,7 @@ pub extern "C" fn crr_find_mcc(
     mcc: &mut [i64],
 ) -> u64
     ensures answer { λ r. ⌜ r ≡ numberAfter (first (mccChecks nodes constraints (now (factors .entry)) (now (prices .entry)) (length (now (mcc .entry))))) ⌝ }
-    ensures mcc { λ r. ⌜ now (mcc .exit) ≡ cellsAfter (first (mccChecks nodes constraints (now (factors .entry)) (now (prices .entry)) (length (now (mcc .entry))))) (listTo nodes (mccOf (grid nodes constraints [] (now (factors .entry))) (now (prices .entry)))) (now (mcc .entry)) ⌝ }
+    ensures mcc { λ r. ⌜ now (mcc .exit) ≡ cellsAfter (first (mccChecks nodes constraints (now (factors .entry)) (now (prices .entry)) (length (now (mcc .entry))))) (listTo nodes (mccOf (gridOf nodes constraints [] (now (factors .entry))) (now (prices .entry)))) (now (mcc .entry)) ⌝ }
 {
     match settlement::find_mcc(nodes, constraints, factors, prices, mcc) {
         MccAnswer::Refused(refusal) => refusal.number(),
@@ -249,10 +249,10 @@ pub extern "C" fn crr_settle_hour(
     parts: &mut u64,
 ) -> u64
     ensures answer { λ r. ⌜ r ≡ numberAfter (first (settleChecks nodes constraints period (now (factors .entry)) (now (prices .entry)) (now (book .entry)) (length (now (cents .entry))))) ⌝ }
-    ensures cents { λ r. ⌜ now (cents .exit) ≡ cellsAfter (first (settleChecks nodes constraints period (now (factors .entry)) (now (prices .entry)) (now (book .entry)) (length (now (cents .entry))))) (centsCells (grid nodes constraints [] (now (factors .entry))) (now (prices .entry)) (periodOf period) (bookIn (now (book .entry)))) (now (cents .entry)) ⌝ }
-    ensures sum { λ r. ⌜ now (sum .exit) ≡ cellAfter (first (settleChecks nodes constraints period (now (factors .entry)) (now (prices .entry)) (now (book .entry)) (length (now (cents .entry))))) (centsSum (grid nodes constraints [] (now (factors .entry))) (now (prices .entry)) (periodOf period) (bookIn (now (book .entry)))) (now (sum .entry)) ⌝ }
-    ensures whole { λ r. ⌜ now (whole .exit) ≡ cellAfter (first (settleChecks nodes constraints period (now (factors .entry)) (now (prices .entry)) (now (book .entry)) (length (now (cents .entry))))) (wholeCents (hourTotal (grid nodes constraints [] (now (factors .entry))) (now (prices .entry)) (periodOf period) (bookIn (now (book .entry))))) (now (whole .entry)) ⌝ }
-    ensures parts { λ r. ⌜ now (parts .exit) ≡ cellAfter (first (settleChecks nodes constraints period (now (factors .entry)) (now (prices .entry)) (now (book .entry)) (length (now (cents .entry))))) (partsOf (hourTotal (grid nodes constraints [] (now (factors .entry))) (now (prices .entry)) (periodOf period) (bookIn (now (book .entry))))) (now (parts .entry)) ⌝ }
+    ensures cents { λ r. ⌜ now (cents .exit) ≡ cellsAfter (first (settleChecks nodes constraints period (now (factors .entry)) (now (prices .entry)) (now (book .entry)) (length (now (cents .entry))))) (centsCells (gridOf nodes constraints [] (now (factors .entry))) (now (prices .entry)) (periodOf period) (bookIn (now (book .entry)))) (now (cents .entry)) ⌝ }
+    ensures sum { λ r. ⌜ now (sum .exit) ≡ cellAfter (first (settleChecks nodes constraints period (now (factors .entry)) (now (prices .entry)) (now (book .entry)) (length (now (cents .entry))))) (centsSum (gridOf nodes constraints [] (now (factors .entry))) (now (prices .entry)) (periodOf period) (bookIn (now (book .entry)))) (now (sum .entry)) ⌝ }
+    ensures whole { λ r. ⌜ now (whole .exit) ≡ cellAfter (first (settleChecks nodes constraints period (now (factors .entry)) (now (prices .entry)) (now (book .entry)) (length (now (cents .entry))))) (wholeCents (hourTotal (gridOf nodes constraints [] (now (factors .entry))) (now (prices .entry)) (periodOf period) (bookIn (now (book .entry))))) (now (whole .entry)) ⌝ }
+    ensures parts { λ r. ⌜ now (parts .exit) ≡ cellAfter (first (settleChecks nodes constraints period (now (factors .entry)) (now (prices .entry)) (now (book .entry)) (length (now (cents .entry))))) (partsOf (hourTotal (gridOf nodes constraints [] (now (factors .entry))) (now (prices .entry)) (periodOf period) (bookIn (now (book .entry))))) (now (parts .entry)) ⌝ }
 {
     match settlement::settle_hour(nodes, constraints, period, factors, prices, book, cents) {
         SettleAnswer::Refused(refusal) => refusal.number(),

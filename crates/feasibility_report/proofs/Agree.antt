@@ -17,8 +17,9 @@ use Rattle.text.specs.Decimal.{decimal, decimalZ}
 use Rattle.tariff.specs.declared.contracts.Contract.{Contract}
 use Rattle.tariff.specs.declared.contracts.Period.{Period}
 use Rattle.tariff.specs.declared.processes.Process.{Process}
-use Rattle.tariff.specs.Units.{Grid, grid}
-use Rattle.tariff.specs.Contracts.{counted, ofPeriod, InRange}
+use Rattle.tariff.specs.Units.{Grid, gridOf}
+use Rattle.tariff.specs.Contracts.{counted, ofPeriod}
+use Rattle.tariff.specs.Inner.{InRange}
 use Rattle.tariff.specs.Processes.{percent}
 use Rattle.lists.specs.Sets.{setOf, countOf, lowestOf}
 use Rattle.tariff.specs.Feasibility.{flow, totalFlow, released, excess, overloaded, overloadSet, overloadCount, lowestOverload}
@@ -56,10 +57,10 @@ lowest-cong (suc k) f g h = ap₂ (λ (x : ℕ) (b : Bool). cond b 0 (suc x)) (l
 module _ (n k : ℕ) (ls ls' : List ℕ) (fs fs' : List ℤ) (limits : (j : ℕ) → j < k → getD ls j 0 ≡ getD ls' j 0)
     (factors : (i : ℕ) → i < n * k → getD fs i (pos 0) ≡ getD fs' i (pos 0)) where
   abbrev g : Grid
-  g = grid n k ls fs
+  g = gridOf n k ls fs
 
   abbrev g' : Grid
-  g' = grid n k ls' fs'
+  g' = gridOf n k ls' fs'
 
   flow-same : (c : Contract) → InRange n c → (j : ℕ) → j < k → flow g c j ≡ flow g' c j
   unfolding flow

@@ -17,8 +17,8 @@ use Rattle.tariff.specs.declared.processes.Process.{Process}
 use Rattle.tariff.specs.declared.refusals.Checked.{Checked}
 use Rattle.tariff.specs.declared.refusals.Checked.the-variants.{Passed}
 use Rattle.tariff.specs.Refusals.{Outcome, given, answered}
-use Rattle.tariff.specs.Units.{Grid, FactorsInRange, LimitsInRange}
-use Rattle.tariff.specs.Contracts.{InRange}
+use Rattle.tariff.specs.Units.{Grid}
+use Rattle.tariff.specs.Inner.{FactorsInRange, LimitsInRange, InRange}
 use Rattle.tariff.specs.Feasibility.{excess, overloaded, overloadSet, overloadCount, lowestOverload}
 use Rattle.tariff.proofs.Answers.{never-given, given-told}
 use Rattle.tariff.proofs.Overloads.{fails-lowest}

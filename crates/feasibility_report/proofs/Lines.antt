@@ -10,7 +10,7 @@ use Rattle.tariff.specs.declared.refusals.Checked.the-variants.{Passed}
 use Rattle.tariff.specs.declared.contracts.Period.the-variants.{OffPeak, OnPeak}
 use Rattle.tariff.specs.declared.processes.Process.the-variants.{Annual, TierLt, Monthly}
 use Rattle.tariff.specs.Refusals.{first, given}
-use Rattle.tariff.specs.Units.{Grid, grid}
+use Rattle.tariff.specs.Units.{Grid, gridOf}
 use Rattle.tariff.specs.Contracts.{periodOf, ofPeriod}
 use Rattle.tariff.specs.Processes.{processOf}
 use Rattle.tariff.proofs.Sizes.{ofPeriod-in-range}
@@ -34,19 +34,19 @@ module _ (n k p t : ℕ) (ls : List ℕ) (fs : List ℤ) (book : List ℕ) (pass
   accepted : Accepted n book
   accepted = book-accepted n book (ok .book-good)
 
-  module _ (r : TestAnswer) (told : testOutcome r ≡ given (testValues (grid n k ls fs) (processOf p) (ofPeriod (periodOf t) (bookIn book)))) where
+  module _ (r : TestAnswer) (told : testOutcome r ≡ given (testValues (gridOf n k ls fs) (processOf p) (ofPeriod (periodOf t) (bookIn book)))) where
     pub over-bound : natAbs (overBy r) < 2 ^ 63
     over-bound =
         let w = ofPeriod-in-range n (periodOf t) (bookIn book) (all-in-range n book accepted) in
-        over-small (grid n k ls fs) (processOf p) (ofPeriod (periodOf t) (bookIn book)) (factors-in-range n k ls fs (ok .factors-long) (ok .factors-good))
+        over-small (gridOf n k ls fs) (processOf p) (ofPeriod (periodOf t) (bookIn book)) (factors-in-range n k ls fs (ok .factors-long) (ok .factors-good))
         (record { limit-sized = limits-in-range k ls (ok .limits-long) (ok .limits-good) }) (w .0) (omega (arith, w .1, length-bookIn book, accepted .few)) r told
 
-    pub line-text : line (grid n k ls fs) (bookIn book) (periodOf t) (processOf p)
+    pub line-text : line (gridOf n k ls fs) (bookIn book) (periodOf t) (processOf p)
         ≡ periodWord (periodOf t) ++ ascii "," ++ (processWord (processOf p) ++ ascii ",") ++ answerFigures k r ++ ascii "\n"
     unfolding line
     line-text i =
         append-assoc (periodWord (periodOf t) ++ ascii ",") (processWord (processOf p)) (ascii ",") i
-        ++ sym (answer-figures (grid n k ls fs) (processOf p) (ofPeriod (periodOf t) (bookIn book)) r told) i
+        ++ sym (answer-figures (gridOf n k ls fs) (processOf p) (ofPeriod (periodOf t) (bookIn book)) r told) i
         ++ ascii "\n"
 
 -- ---- all lines

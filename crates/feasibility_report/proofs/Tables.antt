@@ -13,7 +13,7 @@ use Rattle.tariff.specs.declared.refusals.Checked.{Checked}
 use Rattle.tariff.specs.declared.refusals.Checked.the-variants.{Passed, Refused}
 use Rattle.tariff.specs.Refusals.{first, decided, answered, cellsAfter}
 use Rattle.lists.specs.Lent.{overwrite}
-use Rattle.tariff.specs.Units.{grid}
+use Rattle.tariff.specs.Units.{gridOf}
 use Rattle.tariff.proofs.Checks.{first-passes, passed-cons}
 use Rattle.layouts.specs.GridFile.{gridIn, nodesIn, constraintsIn, limitsIn, factorsIn}
 use Rattle.layouts.proofs.GridFile.{length-limitsIn, length-factorsIn}
@@ -32,9 +32,9 @@ use Rattle.feasibility_report.proofs.Answering.{read-told}
 
 module _ (s : List ℕ) (ls₀ : List ℕ) (fs₀ : List ℤ) (cells : length ls₀ ≡ 64) (places : length fs₀ ≡ 12800) where
   -- the reader refuses
-  pub report-refused : (a : GridAnswer) (vs : List ℤ) (r : Refusal) → gridOutcome a ≡ answered (first (readChecks s (length ls₀) (length fs₀))) vs → a ≡ NotRead r → (book : List ℕ) → report s book ≡ refusedLine (ascii "grid") r
+  pub report-refused : (a : GridAnswer) (vs : List ℤ) (r : Refusal) → gridOutcome a ≡ answered (first (readChecks s (length ls₀) (length fs₀))) vs → a ≡ NotRead r → (book : List ℕ) → report s book ≡ refusedLine (ascii "gridOf") r
   unfolding report
-  report-refused a vs r e told book = refused-line (first (readChecks s 64 12800)) vs r (ap gridOutcome (sym told) ∙ rw (cells, places) at e) (ascii "grid") _
+  report-refused a vs r e told book = refused-line (first (readChecks s 64 12800)) vs r (ap gridOutcome (sym told) ∙ rw (cells, places) at e) (ascii "gridOf") _
 
   module _ (passed : first (readChecks s 64 12800) ≡ Passed) where
     ok : Readable s 64 12800
@@ -58,19 +58,19 @@ module _ (s : List ℕ) (ls₀ : List ℕ) (fs₀ : List ℤ) (cells : length ls
         ∙ good
 
     tables-lines : (book : List ℕ) → first (bookChecks (nodesIn s) book) ≡ Passed
-        → lines (gridIn s) (bookIn book) ≡ lines (grid (nodesIn s) (constraintsIn s) (overwrite (limitsIn s) ls₀) (overwrite (factorsIn s) fs₀)) (bookIn book)
+        → lines (gridIn s) (bookIn book) ≡ lines (gridOf (nodesIn s) (constraintsIn s) (overwrite (limitsIn s) ls₀) (overwrite (factorsIn s) fs₀)) (bookIn book)
     tables-lines book good =
         sym (lines-same (nodesIn s) (constraintsIn s) (overwrite (limitsIn s) ls₀) (limitsIn s) (overwrite (factorsIn s) fs₀) (factorsIn s)
         (λ j h. front-at (limitsIn s) ls₀ (constraintsIn s) (length-limitsIn s) j 0 h)
         (λ i h. front-at (factorsIn s) fs₀ (nodesIn s * constraintsIn s) (length-factorsIn s) i (pos 0) h)
         (bookIn book) (all-in-range (nodesIn s) book (book-accepted (nodesIn s) book good)))
 
-    tables-report : (book : List ℕ) → report s book ≡ decided (first (bookChecks (nodesIn s) book)) (refusedLine (ascii "book")) (lines (grid (nodesIn s) (constraintsIn s) (overwrite (limitsIn s) ls₀) (overwrite (factorsIn s) fs₀)) (bookIn book))
+    tables-report : (book : List ℕ) → report s book ≡ decided (first (bookChecks (nodesIn s) book)) (refusedLine (ascii "book")) (lines (gridOf (nodesIn s) (constraintsIn s) (overwrite (limitsIn s) ls₀) (overwrite (factorsIn s) fs₀)) (bookIn book))
     unfolding report
     tables-report book = rw passed (by (first (bookChecks (nodesIn s) book)) refl)
       where
         by : (x : Checked) → first (bookChecks (nodesIn s) book) ≡ x
-            → decided x (refusedLine (ascii "book")) (lines (gridIn s) (bookIn book)) ≡ decided x (refusedLine (ascii "book")) (lines (grid (nodesIn s) (constraintsIn s) (overwrite (limitsIn s) ls₀) (overwrite (factorsIn s) fs₀)) (bookIn book))
+            → decided x (refusedLine (ascii "book")) (lines (gridIn s) (bookIn book)) ≡ decided x (refusedLine (ascii "book")) (lines (gridOf (nodesIn s) (constraintsIn s) (overwrite (limitsIn s) ls₀) (overwrite (factorsIn s) fs₀)) (bookIn book))
         by Passed e = tables-lines book e
         by (Refused r) e = refl
 
@@ -92,5 +92,5 @@ module _ (s : List ℕ) (ls₀ : List ℕ) (fs₀ : List ℤ) (cells : length ls
     pub read-passes : (book : List ℕ) (p t : ℕ) → p ≤ 2 → t ≤ 1 → first (bookChecks n book) ≡ Passed → first (testChecks n k p t ls fs book) ≡ Passed
     read-passes book = rw (said .1, said .2, limits-are, factors-are) (tables-pass passes book)
 
-    pub report-read : (book : List ℕ) → report s book ≡ decided (first (bookChecks n book)) (refusedLine (ascii "book")) (lines (grid n k ls fs) (bookIn book))
+    pub report-read : (book : List ℕ) → report s book ≡ decided (first (bookChecks n book)) (refusedLine (ascii "book")) (lines (gridOf n k ls fs) (bookIn book))
     report-read book = rw (said .1, said .2, limits-are, factors-are) (tables-report passes book)

@@ -9,12 +9,12 @@ ghost use Rattle.text.specs.Ascii.{ascii};
 ghost use Rattle.text.specs.Decimal.{decimal, Put};
 ghost use Rattle.refusal_line.specs.RefusedLine.{refusedLine};
 ghost use Rattle.tariff.specs.declared.refusals.Checked.the-variants.{Passed};
-ghost use Rattle.tariff.specs.Units.{grid};
+ghost use Rattle.tariff.specs.Units.{gridOf};
 ghost use Rattle.tariff.specs.Contracts.{periodOf, ofPeriod};
 ghost use Rattle.tariff.specs.Processes.{processOf};
 ghost use Rattle.tariff.specs.Refusals.{first, decided, answered, cellsAfter};
 ghost use Rattle.tariff.specs.Checks.{shortTable};
-ghost use Rattle.layouts.specs.Files.{writeOutcome};
+ghost use Rattle.layouts.specs.Writing.{writeOutcome};
 ghost use Rattle.layouts.specs.BookFile.{bookIn};
 ghost use Rattle.book_file.specs.BookChecks.{bookChecks};
 ghost use Rattle.feasibility_test.specs.TestChecks.{testChecks};
@@ -156,8 +156,8 @@ fn put_line(
 ) -> usize
     requires { ⌜ at + 279 ≤ length (now buf) ⌝ }
     requires { ⌜ first (testChecks nodes constraints process period (now limits) (now factors) (now book)) ≡ Passed ⌝ }
-    requires { ⌜ Carries (grid nodes constraints (now limits) (now factors)) (ofPeriod (periodOf period) (bookIn (now book))) flows ⌝ }
-    ensures { λ r. ⌜ Put (now (buf .entry)) at (line (grid nodes constraints (now (limits .entry)) (now (factors .entry))) (bookIn (now (book .entry))) (periodOf period) (processOf process)) (now (buf .exit)) r ⌝ }
+    requires { ⌜ Carries (gridOf nodes constraints (now limits) (now factors)) (ofPeriod (periodOf period) (bookIn (now book))) flows ⌝ }
+    ensures { λ r. ⌜ Put (now (buf .entry)) at (line (gridOf nodes constraints (now (limits .entry)) (now (factors .entry))) (bookIn (now (book .entry))) (periodOf period) (processOf process)) (now (buf .exit)) r ⌝ }
     ensures { λ r. ⌜ r ≤ at + 279 ⌝ }
 {
     let tested = Process::from_number(process);
@@ -181,7 +181,7 @@ fn put_period_lines(
 ) -> usize
     requires { ⌜ at + 837 ≤ length (now buf) ⌝ }
     requires { ⌜ ((process : ℕ) → process ≤ 2 → first (testChecks nodes constraints process period (now limits) (now factors) (now book)) ≡ Passed) ⌝ }
-    ensures { λ r. ⌜ Put (now (buf .entry)) at (periodLines (grid nodes constraints (now (limits .entry)) (now (factors .entry))) (bookIn (now (book .entry))) (periodOf period)) (now (buf .exit)) r ⌝ }
+    ensures { λ r. ⌜ Put (now (buf .entry)) at (periodLines (gridOf nodes constraints (now (limits .entry)) (now (factors .entry))) (bookIn (now (book .entry))) (periodOf period)) (now (buf .exit)) r ⌝ }
     ensures { λ r. ⌜ r ≤ at + 837 ⌝ }
 {
     let tested = Period::from_number(period);
@@ -235,7 +235,7 @@ fn put_lines(
 ) -> usize
     requires { ⌜ longest ≤ length (now buf) ⌝ }
     requires { ⌜ ((process period : ℕ) → process ≤ 2 → period ≤ 1 → first (testChecks nodes constraints process period (now limits) (now factors) (now book)) ≡ Passed) ⌝ }
-    ensures { λ r. ⌜ Put (now (buf .entry)) 0 (lines (grid nodes constraints (now (limits .entry)) (now (factors .entry))) (bookIn (now (book .entry)))) (now (buf .exit)) r ⌝ }
+    ensures { λ r. ⌜ Put (now (buf .entry)) 0 (lines (gridOf nodes constraints (now (limits .entry)) (now (factors .entry))) (bookIn (now (book .entry)))) (now (buf .exit)) r ⌝ }
 {
     let heading = text::put_text(
         buf,
@@ -257,7 +257,7 @@ fn put_tested(
 ) -> usize
     requires { ⌜ longest ≤ length (now buf) ⌝ }
     requires { ⌜ ((process period : ℕ) → process ≤ 2 → period ≤ 1 → first (bookChecks nodes (now book)) ≡ Passed → first (testChecks nodes constraints process period (now limits) (now factors) (now book)) ≡ Passed) ⌝ }
-    ensures { λ r. ⌜ Put (now (buf .entry)) 0 (decided (first (bookChecks nodes (now (book .entry)))) (refusedLine (ascii "book")) (lines (grid nodes constraints (now (limits .entry)) (now (factors .entry))) (bookIn (now (book .entry))))) (now (buf .exit)) r ⌝ }
+    ensures { λ r. ⌜ Put (now (buf .entry)) 0 (decided (first (bookChecks nodes (now (book .entry)))) (refusedLine (ascii "book")) (lines (gridOf nodes constraints (now (limits .entry)) (now (factors .entry))) (bookIn (now (book .entry))))) (now (buf .exit)) r ⌝ }
 {
     match book_file::check_book(nodes, book) {
         Checked::Refused(refusal) => refusal_line::put_refused(buf, b"book", refusal),
@@ -273,7 +273,7 @@ fn put_report(grid_file: &[u8], book_file: &[u8], buf: &mut [u8]) -> usize
     let mut limits = [0u64; 64];
     let mut factors = [0i64; 12800];
     match grid_file::read_grid(grid_file, &mut limits, &mut factors) {
-        GridAnswer::Refused(refusal) => refusal_line::put_refused(buf, b"grid", refusal),
+        GridAnswer::Refused(refusal) => refusal_line::put_refused(buf, b"gridOf", refusal),
         GridAnswer::Read { nodes, constraints } => {
             put_tested(buf, nodes, constraints, &limits, &factors, book_file)
         }

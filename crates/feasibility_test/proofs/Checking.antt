@@ -12,7 +12,8 @@ use lib.IntN.{ℤ, pos, natAbs}
 use Rattle.tariff.specs.declared.refusals.Refusal.{Refusal}
 use Rattle.tariff.specs.declared.refusals.Checked.{Checked}
 use Rattle.tariff.specs.declared.refusals.Checked.the-variants.{Passed, Refused}
-use Rattle.tariff.specs.Units.{grid, FactorsInRange}
+use Rattle.tariff.specs.Units.{gridOf}
+use Rattle.tariff.specs.Inner.{FactorsInRange}
 use Rattle.tariff.specs.Refusals.{first}
 use Rattle.lists.specs.Lists.{some}
 use Rattle.tariff.specs.Checks.{factorBad, limitBad}
@@ -27,7 +28,7 @@ pub row-fits : (n k s : ℕ) → s < n → s * k + k ≤ n * k
 row-fits n k s h = omega (arith, mul-le-mul-right k h)
 
 -- figures in which the searches find nothing bad are in range
-pub factors-in-range : (n k : ℕ) (ls : List ℕ) (fs : List ℤ) → n * k ≤ length fs → some factorBad (take (n * k) fs) ≡ false → FactorsInRange (grid n k ls fs)
+pub factors-in-range : (n k : ℕ) (ls : List ℕ) (fs : List ℤ) → n * k ≤ length fs → some factorBad (take (n * k) fs) ≡ false → FactorsInRange (gridOf n k ls fs)
 factors-in-range n k ls fs long none = record { factor-sized = sized }
   where
     sized : (s j : ℕ) → s < n → j < k → natAbs (getD fs (s * k + j) (pos 0)) ≤ 100000

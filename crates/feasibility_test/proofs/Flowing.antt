@@ -19,12 +19,13 @@ use Rattle.tariff.specs.declared.contracts.Kind.{Kind}
 use Rattle.tariff.specs.declared.units.Quantity.{Quantity}
 use Rattle.tariff.specs.declared.contracts.Contract.{Contract}
 use Rattle.tariff.specs.declared.contracts.Period.{Period}
-use Rattle.tariff.specs.Units.{grid, FactorsInRange}
-use Rattle.tariff.specs.Contracts.{counted, periodOf, samePeriod, ofPeriod, InRange}
+use Rattle.tariff.specs.Units.{gridOf}
+use Rattle.tariff.specs.Inner.{FactorsInRange, InRange}
+use Rattle.tariff.specs.Contracts.{counted, periodOf, samePeriod, ofPeriod}
 use Rattle.tariff.specs.Feasibility.{flow, totalFlow}
 use Rattle.tariff.proofs.Periods.{sumOver-more, ofPeriod-same, ofPeriod-other}
 use Rattle.integers.specs.Sums.{sumOver}
-use Rattle.layouts.specs.BookFile.{bookIn, countIn, contractAt}
+use Rattle.layouts.specs.BookFile.{bookIn, contractCountIn, contractAt}
 use Rattle.lists.proofs.Lists.{listTo-more, length-listTo, each-listTo}
 use Rattle.book_file.proofs.Accepted.{book-accepted}
 use Rattle.feasibility_test.specs.declared.Flows.{Flows}
@@ -82,48 +83,48 @@ sum-is x y v p hx hy e ep =
 -- ---- one contract more
 pub step-carries : (n k : ℕ) (ls : List ℕ) (fs : List ℤ) (cs : List Contract) (c : Contract) (f : Flows) (cells : List ℤ)
     → ((j : ℕ) → j < k → getD cells j (pos 0) ≡ getD (f .flows) j (pos 0) +ℤ part fs (c .source * k) (c .sink * k) (c .quantity) (c .kind) j)
-    → Carries (grid n k ls fs) cs f → Carries (grid n k ls fs) (cs ++ c ∷ []) (record { flows = cells; count = f .count + 1 })
+    → Carries (gridOf n k ls fs) cs f → Carries (gridOf n k ls fs) (cs ++ c ∷ []) (record { flows = cells; count = f .count + 1 })
 unfolding totalFlow flow part
 step-carries n k ls fs cs c f cells done carried = record {
-  flows-are = λ j h. done j h ∙ ap (λ (z : ℤ). z +ℤ flow (grid n k ls fs) c j) (carried .flows-are j h) ∙ sym (sumOver-more cs c (λ c. flow (grid n k ls fs) c j));
+  flows-are = λ j h. done j h ∙ ap (λ (z : ℤ). z +ℤ flow (gridOf n k ls fs) c j) (carried .flows-are j h) ∙ sym (sumOver-more cs c (λ c. flow (gridOf n k ls fs) c j));
   count-is = rw length-append (omega (arith, carried .count-is));
 }
 
 -- ---- no contract yet
-pub none-carried : (n k : ℕ) (ls : List ℕ) (fs : List ℤ) → k ≤ 64 → Carries (grid n k ls fs) [] (record { flows = replicate 64 (pos 0); count = 0 })
+pub none-carried : (n k : ℕ) (ls : List ℕ) (fs : List ℤ) → k ≤ 64 → Carries (gridOf n k ls fs) [] (record { flows = replicate 64 (pos 0); count = 0 })
 unfolding totalFlow sumOver
 none-carried n k ls fs h = record { flows-are = λ j b. getD-replicate {A = ℤ} 64 j (pos 0) (pos 0) (omega arith); count-is = refl }
 
 -- ---- through a book: its contracts below i are carried
 module _ (n k i : ℕ) (ls : List ℕ) (fs : List ℤ) (t : Period) (at : ℕ → Contract) (f : Flows) where
-  module _ (each : (j : ℕ) → j < i → InRange n (at j)) (carried : Carries (grid n k ls fs) (ofPeriod t (listTo i at)) f) where
+  module _ (each : (j : ℕ) → j < i → InRange n (at j)) (carried : Carries (gridOf n k ls fs) (ofPeriod t (listTo i at)) f) where
     within : Each (InRange n) (ofPeriod t (listTo i at)) × (length (ofPeriod t (listTo i at)) ≤ length (listTo i at))
     within = ofPeriod-in-range n t (listTo i at) (each-listTo (InRange n) i at each)
 
     pub count-most : f .count ≤ i
     count-most = omega (arith, carried .count-is, within .1, length-listTo i at)
 
-    pub flow-most : FactorsInRange (grid n k ls fs) → (j : ℕ) → j < k → natAbs (getD (f .flows) j (pos 0)) ≤ 200000000000 * f .count
-    flow-most fr j h = rw (carried .flows-are j h, carried .count-is) (totalFlow-sized (grid n k ls fs) fr (ofPeriod t (listTo i at)) j (within .0) h)
+    pub flow-most : FactorsInRange (gridOf n k ls fs) → (j : ℕ) → j < k → natAbs (getD (f .flows) j (pos 0)) ≤ 200000000000 * f .count
+    flow-most fr j h = rw (carried .flows-are j h, carried .count-is) (totalFlow-sized (gridOf n k ls fs) fr (ofPeriod t (listTo i at)) j (within .0) h)
 
   -- contract i is of the period and counted, or is of the other
-  pub carry-same : (c : Contract) → c ≡ at i → samePeriod (c .period) t ≡ true → Carries (grid n k ls fs) (ofPeriod t (listTo i at) ++ c ∷ []) f
-      → Carries (grid n k ls fs) (ofPeriod t (listTo (i + 1) at)) f
+  pub carry-same : (c : Contract) → c ≡ at i → samePeriod (c .period) t ≡ true → Carries (gridOf n k ls fs) (ofPeriod t (listTo i at) ++ c ∷ []) f
+      → Carries (gridOf n k ls fs) (ofPeriod t (listTo (i + 1) at)) f
   carry-same c e b carried = rw (listTo-more i at, ← e, ofPeriod-same t (listTo i at) c b) carried
 
-  pub carry-other : (c : Contract) → c ≡ at i → samePeriod (c .period) t ≡ false → Carries (grid n k ls fs) (ofPeriod t (listTo i at)) f
-      → Carries (grid n k ls fs) (ofPeriod t (listTo (i + 1) at)) f
+  pub carry-other : (c : Contract) → c ≡ at i → samePeriod (c .period) t ≡ false → Carries (gridOf n k ls fs) (ofPeriod t (listTo i at)) f
+      → Carries (gridOf n k ls fs) (ofPeriod t (listTo (i + 1) at)) f
   carry-other c e b carried = rw (listTo-more i at, ← e, ofPeriod-other t (listTo i at) c b) carried
 
 -- ---- a book that the checks accept: a thousand flows at most
 pub carried-sized : (n k p t : ℕ) (ls : List ℕ) (fs : List ℤ) (book : List ℕ) → Tested n k p t ls fs book → (f : Flows)
-    → Carries (grid n k ls fs) (ofPeriod (periodOf t) (bookIn book)) f → (j : ℕ) → j < k → natAbs (getD (f .flows) j (pos 0)) < 2 ^ 62
+    → Carries (gridOf n k ls fs) (ofPeriod (periodOf t) (bookIn book)) f → (j : ℕ) → j < k → natAbs (getD (f .flows) j (pos 0)) < 2 ^ 62
 carried-sized n k p t ls fs book ok f carried j h =
     let b = book-accepted n book (ok .book-good) in
     let fr = factors-in-range n k ls fs (ok .factors-long) (ok .factors-good) in
     omega (
       arith,
       b .few,
-      count-most n k (countIn book) ls fs (periodOf t) (contractAt book) f (b .each) carried,
-      flow-most n k (countIn book) ls fs (periodOf t) (contractAt book) f (b .each) carried fr j h,
+      count-most n k (contractCountIn book) ls fs (periodOf t) (contractAt book) f (b .each) carried,
+      flow-most n k (contractCountIn book) ls fs (periodOf t) (contractAt book) f (b .each) carried fr j h,
     )

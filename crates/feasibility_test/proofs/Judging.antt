@@ -23,7 +23,7 @@ use Rattle.tariff.specs.declared.units.Flow.{Flow}
 use Rattle.tariff.specs.declared.contracts.Period.{Period}
 use Rattle.tariff.specs.declared.processes.Process.{Process}
 use Rattle.tariff.specs.Processes.{percent}
-use Rattle.tariff.specs.Units.{Grid, grid}
+use Rattle.tariff.specs.Units.{Grid, gridOf}
 use Rattle.tariff.specs.Contracts.{ofPeriod}
 use Rattle.tariff.specs.Refusals.{given}
 use Rattle.lists.specs.Sets.{setOf}
@@ -88,9 +88,9 @@ set-cong zero f g h = refl
 set-cong (suc k) f g h = ap₂ (λ (x : ℕ) (b : Bool). x + cond b (2 ^ k) 0) (set-cong k f g (λ j b. h j (omega arith))) (h k (omega arith))
 
 module _ (n k : ℕ) (ls : List ℕ) (fs : List ℤ) (process : Process) (t : Period) (cs : List Contract) (f : Flows)
-    (carried : Carries (grid n k ls fs) (ofPeriod t cs) f) (s : ℕ) (is : s ≡ setOf k (over ls process (f .flows))) where
+    (carried : Carries (gridOf n k ls fs) (ofPeriod t cs) f) (s : ℕ) (is : s ≡ setOf k (over ls process (f .flows))) where
   abbrev g : Grid
-  g = grid n k ls fs
+  g = gridOf n k ls fs
 
   abbrev tested : List Contract
   tested = ofPeriod t cs

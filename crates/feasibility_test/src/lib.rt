@@ -12,7 +12,7 @@ ghost use Rattle.tariff.specs.declared.contracts.Period.{Period};
 ghost use Rattle.tariff.specs.Refusals.{first, given, answered};
 ghost use Rattle.lists.specs.Lists.{some};
 ghost use Rattle.tariff.specs.Checks.{factorBad, shortTable, limitRange, factorRange};
-ghost use Rattle.tariff.specs.Units.{grid};
+ghost use Rattle.tariff.specs.Units.{gridOf};
 ghost use Rattle.tariff.specs.Contracts.{periodOf, ofPeriod};
 ghost use Rattle.tariff.specs.Processes.{percent, processOf};
 ghost use Rattle.lists.specs.Sets.{setOf};
@@ -49,7 +49,7 @@ pub enum TestAnswer {
 impl Flows {
     // No contract yet.
     fn none() -> Flows
-        ensures { λ r. ⌜ ((n k : ℕ) (ls : List ℕ) (fs : List ℤ) → k ≤ 64 → Carries (grid n k ls fs) [] r) ⌝ }
+        ensures { λ r. ⌜ ((n k : ℕ) (ls : List ℕ) (fs : List ℤ) → k ≤ 64 → Carries (gridOf n k ls fs) [] r) ⌝ }
     {
         Flows {
             flows: [0i64; 64],
@@ -63,7 +63,7 @@ impl Flows {
         requires { ⌜ ((k : ℕ) → k < constraints → natAbs (getD (now factors) (c .source * constraints + k) (pos 0)) ≤ 100000) ⌝ }
         requires { ⌜ ((k : ℕ) → k < constraints → natAbs (getD (now factors) (c .sink * constraints + k) (pos 0)) ≤ 100000) ⌝ }
         requires { ⌜ (c .quantity .0 ≤ 1000000) × (self .count < 1000) × ((k : ℕ) → k < constraints → natAbs (getD (self .flows) k (pos 0)) ≤ 200000000000 * self .count) ⌝ }
-        ensures { λ r. ⌜ ((n : ℕ) (ls : List ℕ) (cs : List Contract) → Carries (grid n constraints ls (now (factors .entry))) cs self → Carries (grid n constraints ls (now (factors .entry))) (cs ++ c ∷ []) r) ⌝ }
+        ensures { λ r. ⌜ ((n : ℕ) (ls : List ℕ) (cs : List Contract) → Carries (gridOf n constraints ls (now (factors .entry))) cs self → Carries (gridOf n constraints ls (now (factors .entry))) (cs ++ c ∷ []) r) ⌝ }
     {
         let mut flows = self.flows;
         let source = c.source * constraints;
@@ -96,7 +96,7 @@ pub fn carry(
 ) -> Flows
     requires { ⌜ (nodes ≤ 200) × (constraints ≤ 64) × (nodes * constraints ≤ length (now factors)) ⌝ }
     requires { ⌜ (some factorBad (take (nodes * constraints) (now factors)) ≡ false) × (first (bookChecks nodes (now book)) ≡ Passed) ⌝ }
-    ensures { λ r. ⌜ ((ls : List ℕ) → Carries (grid nodes constraints ls (now (factors .entry))) (ofPeriod period (bookIn (now (book .entry)))) r) ⌝ }
+    ensures { λ r. ⌜ ((ls : List ℕ) → Carries (gridOf nodes constraints ls (now (factors .entry))) (ofPeriod period (bookIn (now (book .entry)))) r) ⌝ }
 {
     let count = bits::field(book, 0, 10) as usize;
     let mut flows = Flows::none();
@@ -136,7 +136,7 @@ fn overload_set(constraints: usize, process: Process, limits: &[u64], flows: Flo
 pub fn verdict(constraints: usize, process: Process, limits: &[u64], flows: Flows) -> TestAnswer
     requires { ⌜ (constraints ≤ 64) × (constraints ≤ length (now limits)) ⌝ }
     requires { ⌜ ((k : ℕ) → k < constraints → (getD (now limits) k 0 ≤ 100000000) × (natAbs (getD (flows .flows) k (pos 0)) < 2 ^ 62)) ⌝ }
-    ensures { λ r. ⌜ ((n : ℕ) (fs : List ℤ) (t : Period) (cs : List Contract) → Carries (grid n constraints (now (limits .entry)) fs) (ofPeriod t cs) flows → (testOutcome r ≡ given (testValues (grid n constraints (now (limits .entry)) fs) process (ofPeriod t cs))) × Demand3 (grid n constraints (now (limits .entry)) fs) process (ofPeriod t cs) r) ⌝ }
+    ensures { λ r. ⌜ ((n : ℕ) (fs : List ℤ) (t : Period) (cs : List Contract) → Carries (gridOf n constraints (now (limits .entry)) fs) (ofPeriod t cs) flows → (testOutcome r ≡ given (testValues (gridOf n constraints (now (limits .entry)) fs) process (ofPeriod t cs))) × Demand3 (gridOf n constraints (now (limits .entry)) fs) process (ofPeriod t cs) r) ⌝ }
 {
     let set = overload_set(constraints, process, limits, flows);
     if set == 0 {
@@ -220,8 +220,8 @@ pub fn test_book(
     factors: &[i64],
     book: &[u8],
 ) -> TestAnswer
-    ensures figures { λ r. ⌜ testOutcome r ≡ answered (first (testChecks nodes constraints process period (now (limits .entry)) (now (factors .entry)) (now (book .entry)))) (testValues (grid nodes constraints (now (limits .entry)) (now (factors .entry))) (processOf process) (ofPeriod (periodOf period) (bookIn (now (book .entry))))) ⌝ }
-    ensures demand3 { λ r. ⌜ (first (testChecks nodes constraints process period (now (limits .entry)) (now (factors .entry)) (now (book .entry))) ≡ Passed → Demand3 (grid nodes constraints (now (limits .entry)) (now (factors .entry))) (processOf process) (ofPeriod (periodOf period) (bookIn (now (book .entry)))) r) ⌝ }
+    ensures figures { λ r. ⌜ testOutcome r ≡ answered (first (testChecks nodes constraints process period (now (limits .entry)) (now (factors .entry)) (now (book .entry)))) (testValues (gridOf nodes constraints (now (limits .entry)) (now (factors .entry))) (processOf process) (ofPeriod (periodOf period) (bookIn (now (book .entry))))) ⌝ }
+    ensures demand3 { λ r. ⌜ (first (testChecks nodes constraints process period (now (limits .entry)) (now (factors .entry)) (now (book .entry))) ≡ Passed → Demand3 (gridOf nodes constraints (now (limits .entry)) (now (factors .entry))) (processOf process) (ofPeriod (periodOf period) (bookIn (now (book .entry)))) r) ⌝ }
 {
     let checked = check_test(nodes, constraints, process, period, limits, factors, book);
     if let Checked::Refused(refusal) = checked {

@@ -15,17 +15,16 @@ use Rattle.bits.specs.declared.Pen.{Pen}
 use Rattle.bits.proofs.Numbers.{Below}
 use Rattle.bits.proofs.Files.{total-append, total-run}
 use Rattle.tariff.specs.declared.refusals.Checked.the-variants.{Passed}
-use Rattle.tariff.specs.Units.{grid, maxLimit, maxFactor}
+use Rattle.tariff.specs.Units.{gridOf, maxLimit, maxFactor}
 use Rattle.tariff.specs.Refusals.{first}
 use Rattle.lists.specs.Lent.{overwrite}
 use Rattle.lists.specs.Lists.{some}
 use Rattle.tariff.specs.Checks.{limitBad, factorBad}
-use Rattle.tariff.proofs.Checks.{passed-cons, nodes-few-of}
+use Rattle.tariff.proofs.Checks.{passed-cons, nodes-few-of, same-of}
 use Rattle.lists.proofs.Search.{none-bad}
 use Rattle.layouts.specs.Files.{padFor}
-use Rattle.layouts.specs.GridFile.{gridBits, gridBytes, gridFields, gridFile, nodesIn, constraintsIn, spareIn, limitsIn, factorsIn, padIn}
+use Rattle.layouts.specs.GridFile.{gridBits, gridBytes, gridFields, gridFile, nodesIn, constraintsIn, gridSpareIn, limitsIn, factorsIn, gridPadIn}
 use Rattle.runs.proofs.Penned.{Penned, penned-end}
-use Rattle.runs.proofs.Tests.{same-of}
 use Rattle.grid_file.specs.GridChecks.{readChecks, writeChecks}
 use Rattle.grid_file.proofs.Factors.{count-fits, factorsAt, length-coded, good-small, cell-in}
 
@@ -40,7 +39,7 @@ module _ (s : List ℕ) (n k : ℕ) (nodes : n ≡ nodesIn s) (constraints : k �
   unfolding factorsIn
   factors-found r e = rw (nodes, constraints) at e
 
-  pub pad-found : (u v : ℕ) → u ≡ gridBits n k → length s ≡ gridBytes n k → v ≡ field s u (8 * length s - u) → v ≡ padIn s
+  pub pad-found : (u v : ℕ) → u ≡ gridBits n k → length s ≡ gridBytes n k → v ≡ field s u (8 * length s - u) → v ≡ gridPadIn s
   pad-found u v used size e = rw (size, used, nodes, constraints) at e
 
   pub limits-read : (out out₀ : List ℕ) → out ≡ overwrite (fields s 16 27 k) out₀ → out ≡ overwrite (limitsIn s) out₀
@@ -56,10 +55,10 @@ module _ (s : List ℕ) (n k : ℕ) (nodes : n ≡ nodesIn s) (constraints : k �
 pub record Readable (s : List ℕ) (limits factors : ℕ) : Type 0 where
   pub nodes-few : nodesIn s ≤ 200
   pub few : constraintsIn s ≤ 64
-  pub spare : spareIn s ≡ 0
+  pub spare : gridSpareIn s ≡ 0
   pub size : length s ≡ gridBytes (nodesIn s) (constraintsIn s)
   pub short : length s ≤ 29018
-  pub pad : padIn s ≡ 0
+  pub pad : gridPadIn s ≡ 0
   pub limit-room : constraintsIn s ≤ limits
   pub factor-room : nodesIn s * constraintsIn s ≤ factors
 
@@ -124,7 +123,7 @@ writable n k limits factors bytes e =
 -- the counts, the spare bit, the limits, the factors and the padding, one after the other
 pub grid-penned : (n k : ℕ) (limits : List ℕ) (factors : List ℤ) (first buf : List ℕ) (p : Pen) → k ≤ length limits → n * k ≤ length factors
     → Penned ((((bits 8 n ∷ bits 7 k ∷ bits 1 0 ∷ []) ++ map (bits 27) (take k limits)) ++ map (bits 18) (map (ofInt 18) (take (n * k) factors))) ++ bits (padFor (gridBits n k)) 0 ∷ []) first buf p
-    → p .held ≤ 7 → Below 8 buf → gridBytes n k ≤ length buf → buf ≡ overwrite (gridFile (grid n k limits factors)) first
+    → p .held ≤ 7 → Below 8 buf → gridBytes n k ≤ length buf → buf ≡ overwrite (gridFile (gridOf n k limits factors)) first
 unfolding gridFile gridFields
 grid-penned n k limits factors first buf p long longer h few b le =
     let A = map (bits 27) (take k limits) in

@@ -15,12 +15,11 @@ use lib.Seq.{getD-take, length-take-le}
 use Rattle.bits.proofs.Numbers.{Below}
 use Rattle.bits.proofs.SignedLaws.{Small}
 use Rattle.tariff.specs.declared.refusals.Checked.the-variants.{Passed}
-use Rattle.tariff.specs.Units.{grid}
+use Rattle.tariff.specs.Units.{gridOf}
 use Rattle.tariff.specs.Refusals.{first}
-use Rattle.tariff.proofs.Checks.{first-passes, passed-cons}
+use Rattle.tariff.proofs.Checks.{first-passes, passed-cons, same, last-passes}
 use Rattle.layouts.specs.GridFile.{gridBytes, gridFile, gridIn, nodesIn, constraintsIn, limitsIn, factorsIn}
 use Rattle.layouts.proofs.GridFile.{GridWritten, grid-written, grid-file-read}
-use Rattle.runs.proofs.Tests.{same, last-passes}
 use Rattle.grid_file.specs.GridChecks.{readChecks, writeChecks}
 use Rattle.grid_file.proofs.Factors.{small-mag}
 use Rattle.grid_file.proofs.GridLaws.{readable, Writable, writable}
@@ -63,7 +62,7 @@ module _ (n k : ℕ) (limits : List ℕ) (factors : List ℤ) (bytes : ℕ) (e :
       by false t =
           rw (List·getD-eq-default (take (n * k) factors) (pos 0) {n = i} (omega (arith, length-take-le (n * k) factors (ok .factor-cells), ltb-false i (n * k) t))) (pow-pos 17)
 
-  found : GridWritten n k (take k limits) (take (n * k) factors) (gridFile (grid n k limits factors))
+  found : GridWritten n k (take k limits) (take (n * k) factors) (gridFile (gridOf n k limits factors))
   unfolding gridFile
   found =
       grid-written n k (take k limits) (take (n * k) factors)
@@ -77,10 +76,10 @@ module _ (n k : ℕ) (limits : List ℕ) (factors : List ℤ) (bytes : ℕ) (e :
       })
 
   -- each check of the reader is one that the writer made, or is settled by the file
-  not-refused : (cells places : ℕ) → k ≤ cells → n * k ≤ places → first (readChecks (gridFile (grid n k limits factors)) cells places) ≡ Passed
+  not-refused : (cells places : ℕ) → k ≤ cells → n * k ≤ places → first (readChecks (gridFile (gridOf n k limits factors)) cells places) ≡ Passed
   unfolding readChecks writeChecks
   not-refused cells places h j =
-      let s = gridFile (grid n k limits factors) in
+      let s = gridFile (gridOf n k limits factors) in
       let size : length s ≡ gridBytes (nodesIn s) (constraintsIn s) = rw (found .nodes, found .constraints) (found .size) in
       let wide : constraintsIn s ≤ cells = rw (found .constraints) h in
       let wider : nodesIn s * constraintsIn s ≤ places = rw (found .nodes, found .constraints) j in
@@ -99,5 +98,5 @@ module _ (n k : ℕ) (limits : List ℕ) (factors : List ℤ) (bytes : ℕ) (e :
       ∙ first-passes _ _ (le-ltb _ _ wide)
       ∙ last-passes _ (le-ltb _ _ wider)
 
-  pub written-then-read : ReadBack n k limits factors (gridFile (grid n k limits factors))
+  pub written-then-read : ReadBack n k limits factors (gridFile (gridOf n k limits factors))
   written-then-read = record { passes = not-refused; nodes = found .nodes; constraints = found .constraints; limits-are = found .limits; factors-are = found .factors }

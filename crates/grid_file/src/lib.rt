@@ -8,13 +8,14 @@ ghost use lib.IntN.{pos, natAbs};
 ghost use Rattle.bits.specs.Bits.{number, fields};
 ghost use Rattle.bits.specs.Signed.{ofInt, toInt};
 ghost use Rattle.bits.specs.Pen.{written, place, Ready, GoesOn};
-ghost use Rattle.tariff.specs.Units.{grid, maxLimit, maxFactor};
+ghost use Rattle.tariff.specs.Units.{gridOf, maxLimit, maxFactor};
 ghost use Rattle.tariff.specs.Refusals.{first, answered, cellsAfter};
 ghost use Rattle.lists.specs.Lent.{overwrite};
 ghost use Rattle.lists.specs.Lists.{some};
 ghost use Rattle.tariff.specs.Checks.{factorBad, limitRange, factorRange, shortTable};
-ghost use Rattle.layouts.specs.Files.{padding, writeOutcome};
-ghost use Rattle.layouts.specs.GridFile.{gridBits, gridBytes, nodesIn, constraintsIn, limitsIn, factorsIn, padIn, gridFile};
+ghost use Rattle.layouts.specs.Files.{padding};
+ghost use Rattle.layouts.specs.Writing.{writeOutcome};
+ghost use Rattle.layouts.specs.GridFile.{gridBits, gridBytes, nodesIn, constraintsIn, limitsIn, factorsIn, gridPadIn, gridFile};
 ghost use Rattle.grid_file.specs.GridChecks.{readChecks, writeChecks, gridOutcome};
 ghost use Rattle.grid_file.specs.Searches.{fourBad};
 use bits::Pen;
@@ -139,7 +140,7 @@ fn check_figures(
     factors: usize,
 ) -> Checked
     requires { ⌜ (nodes ≡ nodesIn (now file)) × (constraints ≡ constraintsIn (now file)) × (nodes ≤ 200) × (constraints ≤ 64) × (length (now file) ≡ gridBytes nodes constraints) ⌝ }
-    ensures { λ r. ⌜ r ≡ first (limitRange (limitsIn (now (file .entry))) ∷ factorRange (factorsIn (now (file .entry))) ∷ padding (padIn (now (file .entry))) ∷ shortTable limits (constraintsIn (now (file .entry))) ∷ shortTable factors (nodesIn (now (file .entry)) * constraintsIn (now (file .entry))) ∷ []) ⌝ }
+    ensures { λ r. ⌜ r ≡ first (limitRange (limitsIn (now (file .entry))) ∷ factorRange (factorsIn (now (file .entry))) ∷ padding (gridPadIn (now (file .entry))) ∷ shortTable limits (constraintsIn (now (file .entry))) ∷ shortTable factors (nodesIn (now (file .entry)) * constraintsIn (now (file .entry))) ∷ []) ⌝ }
 {
     let used = used_bits(nodes, constraints);
     if runs::field_above(file, 16, 27, constraints, 100000000) {
@@ -281,7 +282,7 @@ fn fill(nodes: usize, constraints: usize, limits: &[u64], factors: &[i64], file:
     requires { ⌜ ((k : ℕ) → k < constraints → getD (now limits) k 0 ≤ maxLimit) ⌝ }
     requires { ⌜ ((k : ℕ) → k < nodes * constraints → natAbs (getD (now factors) k (pos 0)) ≤ maxFactor) ⌝ }
     ensures { λ r. ⌜ r ≡ gridBytes nodes constraints ⌝ }
-    ensures { λ r. ⌜ now (file .exit) ≡ overwrite (gridFile (grid nodes constraints (now (limits .entry)) (now (factors .entry)))) (now (file .entry)) ⌝ }
+    ensures { λ r. ⌜ now (file .exit) ≡ overwrite (gridFile (gridOf nodes constraints (now (limits .entry)) (now (factors .entry)))) (now (file .entry)) ⌝ }
 {
     let used = used_bits(nodes, constraints);
     let size = (used + 7) / 8;
@@ -308,7 +309,7 @@ pub fn write_grid(
     file: &mut [u8],
 ) -> WriteAnswer
     ensures { λ r. ⌜ writeOutcome r ≡ answered (first (writeChecks nodes constraints (now (limits .entry)) (now (factors .entry)) (length (now (file .entry))))) (pos (gridBytes nodes constraints) ∷ []) ⌝ }
-    ensures { λ r. ⌜ now (file .exit) ≡ cellsAfter (first (writeChecks nodes constraints (now (limits .entry)) (now (factors .entry)) (length (now (file .entry))))) (gridFile (grid nodes constraints (now (limits .entry)) (now (factors .entry)))) (now (file .entry)) ⌝ }
+    ensures { λ r. ⌜ now (file .exit) ≡ cellsAfter (first (writeChecks nodes constraints (now (limits .entry)) (now (factors .entry)) (length (now (file .entry))))) (gridFile (gridOf nodes constraints (now (limits .entry)) (now (factors .entry)))) (now (file .entry)) ⌝ }
 {
     match check_write(nodes, constraints, limits, factors, file.len()) {
         Checked::Refused(refusal) => WriteAnswer::Refused(refusal),

@@ -12,7 +12,7 @@ use Rattle.bits.proofs.Numbers.{Below}
 use Rattle.bits.proofs.Fields.{field-lt}
 use Rattle.bits.proofs.Files.{total-append, fit-append, length-file, below-file, written-holds, holds-written, holds-append}
 use Rattle.tariff.specs.declared.contracts.Contract.{Contract}
-use Rattle.layouts.specs.BookFile.{contract, contractBits, contractFields, packedBook, contractFrom, endBits, bookBytes, bookFile, contractCountIn, bookSpareIn, contractAt, bookIn}
+use Rattle.layouts.specs.BookFile.{contract, contractBits, contractFields, packedBook, contractFrom, endBits, bookBytes, bookFile, contractCountIn, bookSpareIn, bookIn}
 use Rattle.layouts.proofs.ContractBits.{kind-bit, period-bit, kind-lt, period-lt, contract-is}
 use Rattle.layouts.proofs.Records.{fit-records, total-records, record-stands, records-stand}
 

@@ -15,12 +15,11 @@ use Rattle.tariff.specs.Units.{maxPrice}
 use Rattle.tariff.specs.Refusals.{first}
 use Rattle.lists.specs.Lent.{overwrite}
 use Rattle.tariff.specs.Checks.{priceBad}
-use Rattle.tariff.proofs.Checks.{passed-cons}
+use Rattle.tariff.proofs.Checks.{passed-cons, same-of}
 use Rattle.lists.proofs.Search.{none-bad}
 use Rattle.layouts.specs.Files.{padFor}
 use Rattle.layouts.specs.PriceFile.{priceBits, priceBytes, priceFields, priceFile}
 use Rattle.runs.proofs.Penned.{Penned, penned-end}
-use Rattle.runs.proofs.Tests.{same-of}
 use Rattle.price_file.specs.PriceChecks.{readChecks, writeChecks}
 
 -- a file that is read

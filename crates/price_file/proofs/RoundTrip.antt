@@ -13,10 +13,9 @@ use lib.Seq.{getD-take, length-take-le}
 use Rattle.bits.proofs.Numbers.{Below}
 use Rattle.tariff.specs.declared.refusals.Checked.the-variants.{Passed}
 use Rattle.tariff.specs.Refusals.{first}
-use Rattle.tariff.proofs.Checks.{first-passes, passed-cons}
+use Rattle.tariff.proofs.Checks.{first-passes, passed-cons, same, same-of, last-passes}
 use Rattle.layouts.specs.PriceFile.{priceFile, periodIn, pricesIn}
 use Rattle.layouts.proofs.PriceFile.{PriceWritten, prices-written, prices-read}
-use Rattle.runs.proofs.Tests.{same, same-of, last-passes}
 use Rattle.price_file.specs.PriceChecks.{readChecks, writeChecks}
 use Rattle.price_file.proofs.PriceLaws.{Writable, writable}
 

@@ -5,7 +5,7 @@ use lib.ListN.{length, take}
 use Rattle.tariff.specs.Refusals.{Check}
 use Rattle.tariff.specs.Checks.{constraintCount, periodNumber, priceRange, shortTable}
 use Rattle.layouts.specs.Files.{shortFile, fileLength, padding}
-use Rattle.layouts.specs.PriceFile.{priceBytes, pricesIn, padIn, priceCount}
+use Rattle.layouts.specs.PriceFile.{priceBytes, pricesIn, pricePadIn, priceCount}
 
 -- "Reading prices for a stated constraint count. 3 for that count. 1: no byte. 14: the file's count differs. 5. 15: a price too large. 8, 9."
 abbrev pub readChecks : ℕ → List ℕ → ℕ → List Check
@@ -15,7 +15,7 @@ readChecks k s cells =
     ∷ priceCount s k
     ∷ fileLength s (priceBytes k)
     ∷ priceRange (pricesIn k s)
-    ∷ padding (padIn k s)
+    ∷ padding (pricePadIn k s)
     ∷ shortTable cells k
     ∷ []
 

@@ -8,8 +8,9 @@ ghost use Rattle.tariff.specs.Units.{maxPrice};
 ghost use Rattle.tariff.specs.Refusals.{first, answered, cellsAfter};
 ghost use Rattle.lists.specs.Lent.{overwrite};
 ghost use Rattle.tariff.specs.Checks.{priceRange, shortTable};
-ghost use Rattle.layouts.specs.Files.{padding, writeOutcome};
-ghost use Rattle.layouts.specs.PriceFile.{priceBytes, priceFile, periodIn, pricesIn, padIn};
+ghost use Rattle.layouts.specs.Files.{padding};
+ghost use Rattle.layouts.specs.Writing.{writeOutcome};
+ghost use Rattle.layouts.specs.PriceFile.{priceBytes, priceFile, periodIn, pricesIn, pricePadIn};
 ghost use Rattle.price_file.specs.PriceChecks.{readChecks, writeChecks};
 ghost use Rattle.price_file.specs.PriceAnswers.{priceOutcome};
 use bits::Pen;
@@ -26,7 +27,7 @@ pub enum PriceAnswer {
 // The reader's checks on a file of the right length.
 fn check_figures(constraints: usize, file: &[u8], cells: usize) -> Checked
     requires { ⌜ (constraints ≤ 64) × (length (now file) ≡ priceBytes constraints) ⌝ }
-    ensures { λ r. ⌜ r ≡ first (priceRange (pricesIn constraints (now (file .entry))) ∷ padding (padIn constraints (now (file .entry))) ∷ shortTable cells constraints ∷ []) ⌝ }
+    ensures { λ r. ⌜ r ≡ first (priceRange (pricesIn constraints (now (file .entry))) ∷ padding (pricePadIn constraints (now (file .entry))) ∷ shortTable cells constraints ∷ []) ⌝ }
 {
     let used = 8 + 19 * constraints;
     let size = (used + 7) / 8;

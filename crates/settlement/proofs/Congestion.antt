@@ -12,8 +12,9 @@ use Rattle.integers.specs.Sums.{sumTo}
 use Rattle.integers.proofs.Sizes.{natAbs-sub, natAbs-times}
 use Rattle.tariff.specs.declared.contracts.Contract.{Contract}
 use Rattle.tariff.specs.declared.contracts.Period.{Period}
-use Rattle.tariff.specs.Units.{Grid, grid, factor, price, maxFactor, maxPrice}
-use Rattle.tariff.specs.Contracts.{counted, samePeriod, InRange}
+use Rattle.tariff.specs.Units.{Grid, gridOf, factor, price, maxFactor, maxPrice}
+use Rattle.tariff.specs.Contracts.{counted, samePeriod}
+use Rattle.tariff.specs.Inner.{InRange}
 use Rattle.tariff.specs.Settlement.{congestion, mcc, amount}
 use Rattle.tariff.proofs.Sizes.{counted-sized, product-sized, congestion-sized, mcc-sized}
 use Rattle.lists.specs.Lists.{listTo}
@@ -43,18 +44,18 @@ module _ (n k : ℕ) (fs : List ℤ) (ps : List ℕ) (h : Hour n k fs ps) (node 
   price-small j hj = h .prices-in .price-sized j hj
 
   -- a sum so far, and one product more
-  pub congestion-small : (s : ℤ) (j : ℕ) → j ≤ k → s ≡ congestion (grid n k [] fs) ps node j → natAbs s ≤ 3200000000000
-  congestion-small s j hj e = rw e (omega (arith, congestion-sized (grid n k [] fs) ps (h .few) (h .factors-in) (h .prices-in) node j hn hj, h .few))
+  pub congestion-small : (s : ℤ) (j : ℕ) → j ≤ k → s ≡ congestion (gridOf n k [] fs) ps node j → natAbs s ≤ 3200000000000
+  congestion-small s j hj e = rw e (omega (arith, congestion-sized (gridOf n k [] fs) ps (h .few) (h .factors-in) (h .prices-in) node j hn hj, h .few))
 
   pub product-small : (x : ℤ) (j : ℕ) → j < k → x ≡ getD fs (node * k + j) (pos 0) *ℤ pos (getD ps j 0) → natAbs x ≤ 50000000000
-  product-small x j hj e = rw e (product-sized (grid n k [] fs) ps (h .few) (h .factors-in) (h .prices-in) node j hn hj)
+  product-small x j hj e = rw e (product-sized (gridOf n k [] fs) ps (h .few) (h .factors-in) (h .prices-in) node j hn hj)
 
   -- one negation at the end
-  pub mcc-end : (s r : ℤ) (j : ℕ) → j ≡ k → s ≡ congestion (grid n k [] fs) ps node j → r ≡ negℤ s → (r ≡ mcc (grid n k [] fs) ps node) × (natAbs r ≤ 3200000000000)
+  pub mcc-end : (s r : ℤ) (j : ℕ) → j ≡ k → s ≡ congestion (gridOf n k [] fs) ps node j → r ≡ negℤ s → (r ≡ mcc (gridOf n k [] fs) ps node) × (natAbs r ≤ 3200000000000)
   unfolding mcc
   mcc-end s r j hj e a =
-      let same : r ≡ mcc (grid n k [] fs) ps node = a ∙ ap negℤ (e ∙ ap (congestion (grid n k [] fs) ps node) hj) in
-      (same, rw same (mcc-sized (grid n k [] fs) ps (h .few) (h .factors-in) (h .prices-in) node hn))
+      let same : r ≡ mcc (gridOf n k [] fs) ps node = a ∙ ap negℤ (e ∙ ap (congestion (gridOf n k [] fs) ps node) hj) in
+      (same, rw same (mcc-sized (gridOf n k [] fs) ps (h .few) (h .factors-in) (h .prices-in) node hn))
 
 -- ---- a table of MCCs
 
@@ -65,18 +66,18 @@ module _ (n : ℕ) (f : ℕ → ℤ) (rest : List ℤ) where
   pub table-length : n ≤ length (listTo n f ++ rest)
   table-length = rw (length-append, length-listTo n f) (omega arith)
 
-module _ (n k : ℕ) (fs : List ℤ) (ps : List ℕ) (h : Hour n k fs ps) (mccs rest : List ℤ) (e : mccs ≡ listTo n (mcc (grid n k [] fs) ps) ++ rest) where
-  pub mcc-at : (i : ℕ) → i < n → getD mccs i (pos 0) ≡ mcc (grid n k [] fs) ps i
-  mcc-at i hi = rw e (table-at n (mcc (grid n k [] fs) ps) rest i hi)
+module _ (n k : ℕ) (fs : List ℤ) (ps : List ℕ) (h : Hour n k fs ps) (mccs rest : List ℤ) (e : mccs ≡ listTo n (mcc (gridOf n k [] fs) ps) ++ rest) where
+  pub mcc-at : (i : ℕ) → i < n → getD mccs i (pos 0) ≡ mcc (gridOf n k [] fs) ps i
+  mcc-at i hi = rw e (table-at n (mcc (gridOf n k [] fs) ps) rest i hi)
 
   pub mcc-table : MccTable n mccs
   mcc-table = record {
-    cells = rw e (table-length n (mcc (grid n k [] fs) ps) rest);
-    sized = λ i hi. rw (mcc-at i hi) (mcc-sized (grid n k [] fs) ps (h .few) (h .factors-in) (h .prices-in) i hi);
+    cells = rw e (table-length n (mcc (gridOf n k [] fs) ps) rest);
+    sized = λ i hi. rw (mcc-at i hi) (mcc-sized (gridOf n k [] fs) ps (h .few) (h .factors-in) (h .prices-in) i hi);
   }
 
   -- the amount by the table is the contract's
-  pub amount-by : (c : Contract) → InRange n c → amountBy mccs c ≡ amount (grid n k [] fs) ps c
+  pub amount-by : (c : Contract) → InRange n c → amountBy mccs c ≡ amount (gridOf n k [] fs) ps c
   unfolding amountBy amount
   amount-by c r = rw (mcc-at (c .sink) (r .sink-below), mcc-at (c .source) (r .source-below))
 

@@ -15,8 +15,9 @@ use Rattle.integers.proofs.Machine.{back, op-fits, op-is}
 use Rattle.integers.proofs.Division.{floor-split, floor-unique}
 use Rattle.tariff.specs.declared.contracts.Contract.{Contract}
 use Rattle.tariff.specs.declared.contracts.Period.{Period}
-use Rattle.tariff.specs.Units.{grid}
-use Rattle.tariff.specs.Contracts.{samePeriod, ofPeriod, InRange}
+use Rattle.tariff.specs.Units.{gridOf}
+use Rattle.tariff.specs.Contracts.{samePeriod, ofPeriod}
+use Rattle.tariff.specs.Inner.{InRange}
 use Rattle.tariff.specs.Settlement.{mcc, amount, exactTotal, cents, wholeCents, parts}
 use Rattle.tariff.proofs.Periods.{ofPeriod-same, ofPeriod-other, sumOver-more}
 use Rattle.lists.specs.Lists.{listTo}
@@ -83,39 +84,39 @@ split-values w p total e h = rw (← e) (sym (floor-unique w p 100000000 h .0), 
 
 -- ---- an hour's figures, by a table of MCCs
 
-module _ (n k : ℕ) (fs : List ℤ) (ps : List ℕ) (h : Hour n k fs ps) (mccs rest : List ℤ) (e : mccs ≡ listTo n (mcc (grid n k [] fs) ps) ++ rest) (t : Period)
+module _ (n k : ℕ) (fs : List ℤ) (ps : List ℕ) (h : Hour n k fs ps) (mccs rest : List ℤ) (e : mccs ≡ listTo n (mcc (gridOf n k [] fs) ps) ++ rest) (t : Period)
     (m : ℕ) (f : ℕ → Contract) (ok : (i : ℕ) → i < m → InRange n (f i)) where
-  by-table : (i : ℕ) → i < m → hourAmount mccs t (f i) ≡ cond (samePeriod (f i .period) t) (amount (grid n k [] fs) ps (f i)) (pos 0)
+  by-table : (i : ℕ) → i < m → hourAmount mccs t (f i) ≡ cond (samePeriod (f i .period) t) (amount (gridOf n k [] fs) ps (f i)) (pos 0)
   unfolding hourAmount
   by-table i b = ap (λ (x : ℤ). cond (samePeriod (f i .period) t) x (pos 0)) (amount-by n k fs ps h mccs rest e (f i) (ok i b))
 
-  cents-by-table : (i : ℕ) → i < m → cents (hourAmount mccs t (f i)) ≡ cond (samePeriod (f i .period) t) (cents (amount (grid n k [] fs) ps (f i))) (pos 0)
-  cents-by-table i b = ap cents (by-table i b) ∙ cents-cond (samePeriod (f i .period) t) (amount (grid n k [] fs) ps (f i))
+  cents-by-table : (i : ℕ) → i < m → cents (hourAmount mccs t (f i)) ≡ cond (samePeriod (f i .period) t) (cents (amount (gridOf n k [] fs) ps (f i))) (pos 0)
+  cents-by-table i b = ap cents (by-table i b) ∙ cents-cond (samePeriod (f i .period) t) (amount (gridOf n k [] fs) ps (f i))
 
-  cells-are : listTo m (λ i. cents (hourAmount mccs t (f i))) ≡ centsCells (grid n k [] fs) ps t (listTo m f)
+  cells-are : listTo m (λ i. cents (hourAmount mccs t (f i))) ≡ centsCells (gridOf n k [] fs) ps t (listTo m f)
   unfolding centsCells cellOf
-  cells-are = listTo-cong m _ _ cents-by-table ∙ sym (map-listTo m f (cellOf (grid n k [] fs) ps t))
+  cells-are = listTo-cong m _ _ cents-by-table ∙ sym (map-listTo m f (cellOf (gridOf n k [] fs) ps t))
 
-  sum-is : centsSum (grid n k [] fs) ps t (listTo m f) ≡ sumTo m (λ i. cents (hourAmount mccs t (f i)))
+  sum-is : centsSum (gridOf n k [] fs) ps t (listTo m f) ≡ sumTo m (λ i. cents (hourAmount mccs t (f i)))
   unfolding centsSum
-  sum-is = period-sum t m f (λ c. cents (amount (grid n k [] fs) ps c)) _ cents-by-table
+  sum-is = period-sum t m f (λ c. cents (amount (gridOf n k [] fs) ps c)) _ cents-by-table
 
-  total-is : hourTotal (grid n k [] fs) ps t (listTo m f) ≡ sumTo m (λ i. hourAmount mccs t (f i))
+  total-is : hourTotal (gridOf n k [] fs) ps t (listTo m f) ≡ sumTo m (λ i. hourAmount mccs t (f i))
   unfolding hourTotal exactTotal
-  total-is = period-sum t m f (amount (grid n k [] fs) ps) _ by-table
+  total-is = period-sum t m f (amount (gridOf n k [] fs) ps) _ by-table
 
   -- what settling gives: the values, the cells, and whole cents and parts that make the exact total
   pub record Figures (s w : ℤ) (p : ℕ) : Type 0 where
-    pub values : s ∷ w ∷ pos p ∷ [] ≡ settleValues (grid n k [] fs) ps t (listTo m f)
-    pub cells : listTo m (λ i. cents (hourAmount mccs t (f i))) ≡ centsCells (grid n k [] fs) ps t (listTo m f)
-    pub exact : w *ℤ pos 100000000 +ℤ pos p ≡ hourTotal (grid n k [] fs) ps t (listTo m f)
+    pub values : s ∷ w ∷ pos p ∷ [] ≡ settleValues (gridOf n k [] fs) ps t (listTo m f)
+    pub cells : listTo m (λ i. cents (hourAmount mccs t (f i))) ≡ centsCells (gridOf n k [] fs) ps t (listTo m f)
+    pub exact : w *ℤ pos 100000000 +ℤ pos p ≡ hourTotal (gridOf n k [] fs) ps t (listTo m f)
 
   pub figures : (s w : ℤ) (p : ℕ) → s ≡ sumTo m (λ i. cents (hourAmount mccs t (f i))) → w *ℤ pos 100000000 +ℤ pos p ≡ sumTo m (λ i. hourAmount mccs t (f i))
       → p < 100000000 → Figures s w p
   unfolding settleValues
   figures s w p sum exact small =
       let all = exact ∙ sym total-is in
-      let v = split-values w p (hourTotal (grid n k [] fs) ps t (listTo m f)) all small in
+      let v = split-values w p (hourTotal (gridOf n k [] fs) ps t (listTo m f)) all small in
       record { values = λ j. (sum ∙ sym sum-is) j ∷ v .0 j ∷ pos (v .1 j) ∷ []; cells = cells-are; exact = all }
 
 -- an answer of the exact total's figures makes it

@@ -18,7 +18,7 @@ use Rattle.lists.specs.Lists.{some}
 use Rattle.tariff.specs.Checks.{factorBad, priceBad, nodeCount, constraintCount, periodNumber, shortTable, factorRange, priceRange}
 use Rattle.tariff.proofs.Checks.{first-append, passed-cons, passed-append, nodes-few-of}
 use Rattle.lists.proofs.Search.{none-bad}
-use Rattle.layouts.specs.BookFile.{countIn}
+use Rattle.layouts.specs.BookFile.{contractCountIn}
 use Rattle.book_file.specs.BookChecks.{bookChecks}
 use Rattle.book_file.proofs.Accepted.{Accepted, book-accepted}
 use Rattle.grid_file.proofs.Factors.{good-small, place-in, cell-in}
@@ -81,11 +81,11 @@ module _ (n k period : ℕ) (fs : List ℤ) (ps : List ℕ) where
       hour-of n k fs ps (two .0) (three .0) (short .0) (shorter .0) (seven .0) (fifteen .0)
 
   module _ (s : List ℕ) (cells : ℕ) where
-    then-book : first (settleChecks n k period fs ps s cells) ≡ decided (first hourChecks) Refused (decided (first (bookChecks n s)) Refused (first (shortTable cells (countIn s) ∷ [])))
+    then-book : first (settleChecks n k period fs ps s cells) ≡ decided (first hourChecks) Refused (decided (first (bookChecks n s)) Refused (first (shortTable cells (contractCountIn s) ∷ [])))
     unfolding settleChecks
     then-book =
-        first-append hourChecks (bookChecks n s ++ shortTable cells (countIn s) ∷ [])
-        ∙ ap (λ (x : Checked). decided (first hourChecks) Refused x) (first-append (bookChecks n s) (shortTable cells (countIn s) ∷ []))
+        first-append hourChecks (bookChecks n s ++ shortTable cells (contractCountIn s) ∷ [])
+        ∙ ap (λ (x : Checked). decided (first hourChecks) Refused x) (first-append (bookChecks n s) (shortTable cells (contractCountIn s) ∷ []))
 
     pub hour-refuses : (r : Refusal) → first hourChecks ≡ Refused r → Refused r ≡ first (settleChecks n k period fs ps s cells)
     hour-refuses r e = sym (then-book ∙ rw e)
@@ -94,7 +94,7 @@ module _ (n k period : ℕ) (fs : List ℤ) (ps : List ℕ) where
       pub book-refuses : (r : Refusal) → first (bookChecks n s) ≡ Refused r → Refused r ≡ first (settleChecks n k period fs ps s cells)
       book-refuses r e = sym (then-book ∙ rw (hour, e))
 
-      module _ (own : first (bookChecks n s) ≡ Passed) (m : ℕ) (count : m ≡ countIn s) where
+      module _ (own : first (bookChecks n s) ≡ Passed) (m : ℕ) (count : m ≡ contractCountIn s) where
         pub no-room : cells < m → Refused ShortTable ≡ first (settleChecks n k period fs ps s cells)
         unfolding first
         no-room h = sym (then-book ∙ rw (hour, own, ← count, lt-ltb cells m h))
@@ -107,15 +107,15 @@ module _ (n k period : ℕ) (fs : List ℤ) (ps : List ℕ) where
     pub record Ready : Type 0 where
       pub hour : Hour n k fs ps
       pub book : Accepted n s
-      pub room : countIn s ≤ cells
+      pub room : contractCountIn s ≤ cells
 
     pub settle-ready : first (settleChecks n k period fs ps s cells) ≡ Passed → Ready
     unfolding settleChecks
     settle-ready e =
-        let all = passed-append hourChecks (bookChecks n s ++ shortTable cells (countIn s) ∷ []) e in
-        let rest = passed-append (bookChecks n s) (shortTable cells (countIn s) ∷ []) (all .1) in
+        let all = passed-append hourChecks (bookChecks n s ++ shortTable cells (contractCountIn s) ∷ []) e in
+        let rest = passed-append (bookChecks n s) (shortTable cells (contractCountIn s) ∷ []) (all .1) in
         record {
           hour = hour-ready (all .0);
           book = book-accepted n s (rest .0);
-          room = ltb-false cells (countIn s) (passed-cons _ _ (rest .1) .0);
+          room = ltb-false cells (contractCountIn s) (passed-cons _ _ (rest .1) .0);
         }

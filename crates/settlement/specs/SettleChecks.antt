@@ -5,7 +5,7 @@ use lib.ListN.{length, take}
 use lib.IntN.{ℤ}
 use Rattle.tariff.specs.Refusals.{Check}
 use Rattle.tariff.specs.Checks.{nodeCount, constraintCount, periodNumber, shortTable, factorRange, priceRange}
-use Rattle.layouts.specs.BookFile.{countIn}
+use Rattle.layouts.specs.BookFile.{contractCountIn}
 use Rattle.book_file.specs.BookChecks.{bookChecks}
 
 -- finding the MCC of all nodes: "2, 3, 9 (tables or the place for the answer), 7, 15"
@@ -18,4 +18,4 @@ mccChecks n k factors prices place =
 unfoldable pub settleChecks : ℕ → ℕ → ℕ → List ℤ → List ℕ → List ℕ → ℕ → List Check
 settleChecks n k period factors prices book cells =
     (nodeCount n ∷ constraintCount k ∷ periodNumber period ∷ shortTable (length factors) (n * k) ∷ shortTable (length prices) k
-    ∷ factorRange (take (n * k) factors) ∷ priceRange (take k prices) ∷ bookChecks n book) ++ shortTable cells (countIn book) ∷ []
+    ∷ factorRange (take (n * k) factors) ∷ priceRange (take k prices) ∷ bookChecks n book) ++ shortTable cells (contractCountIn book) ∷ []

@@ -6,7 +6,8 @@ use lib.ListN.{length, getD}
 use lib.IntN.{ℤ, pos, natAbs, _+ℤ_, _-ℤ_, _*ℤ_}
 use Rattle.tariff.specs.declared.contracts.Contract.{Contract}
 use Rattle.tariff.specs.declared.contracts.Period.{Period}
-use Rattle.tariff.specs.Units.{grid, maxNodes, maxConstraints, FactorsInRange, PricesInRange}
+use Rattle.tariff.specs.Units.{gridOf, maxNodes, maxConstraints}
+use Rattle.tariff.specs.Inner.{FactorsInRange, PricesInRange}
 use Rattle.tariff.specs.Contracts.{counted, samePeriod}
 use Rattle.settlement.specs.declared.Totals.{Totals}
 
@@ -16,8 +17,8 @@ pub record Hour (n k : ℕ) (factors : List ℤ) (prices : List ℕ) : Type 0 wh
   pub few : k ≤ maxConstraints
   pub factor-cells : n * k ≤ length factors
   pub price-cells : k ≤ length prices
-  pub factors-in : FactorsInRange (grid n k [] factors)
-  pub prices-in : PricesInRange (grid n k [] factors) prices
+  pub factors-in : FactorsInRange (gridOf n k [] factors)
+  pub prices-in : PricesInRange (gridOf n k [] factors) prices
 
 -- a table with an MCC for each of n nodes
 pub record MccTable (n : ℕ) (mccs : List ℤ) : Type 0 where

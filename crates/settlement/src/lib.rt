@@ -9,8 +9,9 @@ ghost use Rattle.tariff.specs.declared.refusals.Checked.the-variants.{Passed};
 ghost use Rattle.tariff.specs.Refusals.{first, answered, cellsAfter};
 ghost use Rattle.lists.specs.Lent.{overwrite};
 ghost use Rattle.tariff.specs.Checks.{nodeCount, constraintCount, periodNumber, shortTable, factorRange, priceRange};
-ghost use Rattle.tariff.specs.Units.{grid};
-ghost use Rattle.tariff.specs.Contracts.{periodOf, InRange};
+ghost use Rattle.tariff.specs.Units.{gridOf};
+ghost use Rattle.tariff.specs.Contracts.{periodOf};
+ghost use Rattle.tariff.specs.Inner.{InRange};
 ghost use Rattle.tariff.specs.Settlement.{mcc as mccOf, cents as centsOf};
 ghost use Rattle.lists.specs.Lists.{listTo};
 ghost use Rattle.layouts.specs.BookFile.{bookBytes, contractAt, bookIn};
@@ -170,7 +171,7 @@ fn check_settle(
 fn node_mcc(nodes: usize, constraints: usize, factors: &[i64], prices: &[u64], node: usize) -> Mcc
     requires { ⌜ Hour nodes constraints (now factors) (now prices) ⌝ }
     requires { ⌜ node < nodes ⌝ }
-    ensures { λ r. ⌜ (r .0 ≡ mccOf (grid nodes constraints [] (now (factors .entry))) (now (prices .entry)) node) × (natAbs (r .0) ≤ 3200000000000) ⌝ }
+    ensures { λ r. ⌜ (r .0 ≡ mccOf (gridOf nodes constraints [] (now (factors .entry))) (now (prices .entry)) node) × (natAbs (r .0) ≤ 3200000000000) ⌝ }
 {
     let base = node * constraints;
     let mut sum = Mcc(0);
@@ -187,7 +188,7 @@ fn node_mcc(nodes: usize, constraints: usize, factors: &[i64], prices: &[u64], n
 fn fill_mcc(nodes: usize, constraints: usize, factors: &[i64], prices: &[u64], out: &mut [i64])
     requires { ⌜ Hour nodes constraints (now factors) (now prices) ⌝ }
     requires { ⌜ nodes ≤ length (now out) ⌝ }
-    ensures { λ r. ⌜ now (out .exit) ≡ overwrite (listTo nodes (mccOf (grid nodes constraints [] (now (factors .entry))) (now (prices .entry)))) (now (out .entry)) ⌝ }
+    ensures { λ r. ⌜ now (out .exit) ≡ overwrite (listTo nodes (mccOf (gridOf nodes constraints [] (now (factors .entry))) (now (prices .entry)))) (now (out .entry)) ⌝ }
 {
     let mut node = 0;
     while node < nodes {
@@ -205,7 +206,7 @@ pub fn find_mcc(
     mcc: &mut [i64],
 ) -> MccAnswer
     ensures answer { λ r. ⌜ mccOutcome r ≡ answered (first (mccChecks nodes constraints (now (factors .entry)) (now (prices .entry)) (length (now (mcc .entry))))) [] ⌝ }
-    ensures cells { λ r. ⌜ now (mcc .exit) ≡ cellsAfter (first (mccChecks nodes constraints (now (factors .entry)) (now (prices .entry)) (length (now (mcc .entry))))) (listTo nodes (mccOf (grid nodes constraints [] (now (factors .entry))) (now (prices .entry)))) (now (mcc .entry)) ⌝ }
+    ensures cells { λ r. ⌜ now (mcc .exit) ≡ cellsAfter (first (mccChecks nodes constraints (now (factors .entry)) (now (prices .entry)) (length (now (mcc .entry))))) (listTo nodes (mccOf (gridOf nodes constraints [] (now (factors .entry))) (now (prices .entry)))) (now (mcc .entry)) ⌝ }
 {
     let checked = check_mcc(nodes, constraints, factors, prices, mcc.len());
     if let Checked::Refused(refusal) = checked {
@@ -280,9 +281,9 @@ pub fn settle_hour(
     book: &[u8],
     cents: &mut [i64],
 ) -> SettleAnswer
-    ensures answer { λ r. ⌜ settleOutcome r ≡ answered (first (settleChecks nodes constraints period (now (factors .entry)) (now (prices .entry)) (now (book .entry)) (length (now (cents .entry))))) (settleValues (grid nodes constraints [] (now (factors .entry))) (now (prices .entry)) (periodOf period) (bookIn (now (book .entry)))) ⌝ }
-    ensures cells { λ r. ⌜ now (cents .exit) ≡ cellsAfter (first (settleChecks nodes constraints period (now (factors .entry)) (now (prices .entry)) (now (book .entry)) (length (now (cents .entry))))) (centsCells (grid nodes constraints [] (now (factors .entry))) (now (prices .entry)) (periodOf period) (bookIn (now (book .entry)))) (now (cents .entry)) ⌝ }
-    ensures exact { λ r. ⌜ (first (settleChecks nodes constraints period (now (factors .entry)) (now (prices .entry)) (now (book .entry)) (length (now (cents .entry)))) ≡ Passed → (sum whole : ℤ) (parts : ℕ) → r ≡ SettleAnswer.Settled sum whole parts → whole *ℤ pos 100000000 +ℤ pos parts ≡ hourTotal (grid nodes constraints [] (now (factors .entry))) (now (prices .entry)) (periodOf period) (bookIn (now (book .entry)))) ⌝ }
+    ensures answer { λ r. ⌜ settleOutcome r ≡ answered (first (settleChecks nodes constraints period (now (factors .entry)) (now (prices .entry)) (now (book .entry)) (length (now (cents .entry))))) (settleValues (gridOf nodes constraints [] (now (factors .entry))) (now (prices .entry)) (periodOf period) (bookIn (now (book .entry)))) ⌝ }
+    ensures cells { λ r. ⌜ now (cents .exit) ≡ cellsAfter (first (settleChecks nodes constraints period (now (factors .entry)) (now (prices .entry)) (now (book .entry)) (length (now (cents .entry))))) (centsCells (gridOf nodes constraints [] (now (factors .entry))) (now (prices .entry)) (periodOf period) (bookIn (now (book .entry)))) (now (cents .entry)) ⌝ }
+    ensures exact { λ r. ⌜ (first (settleChecks nodes constraints period (now (factors .entry)) (now (prices .entry)) (now (book .entry)) (length (now (cents .entry)))) ≡ Passed → (sum whole : ℤ) (parts : ℕ) → r ≡ SettleAnswer.Settled sum whole parts → whole *ℤ pos 100000000 +ℤ pos parts ≡ hourTotal (gridOf nodes constraints [] (now (factors .entry))) (now (prices .entry)) (periodOf period) (bookIn (now (book .entry)))) ⌝ }
 {
     let checked = check_settle(
         nodes,

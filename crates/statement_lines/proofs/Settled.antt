@@ -11,8 +11,9 @@ use Rattle.integers.proofs.Sizes.{natAbs-sumOver}
 use Rattle.integers.proofs.Division.{floorMod-lt}
 use Rattle.tariff.specs.declared.contracts.Contract.{Contract}
 use Rattle.tariff.specs.declared.contracts.Period.{Period}
-use Rattle.tariff.specs.Units.{Grid, grid}
-use Rattle.tariff.specs.Contracts.{samePeriod, ofPeriod, InRange}
+use Rattle.tariff.specs.Units.{Grid, gridOf}
+use Rattle.tariff.specs.Contracts.{samePeriod, ofPeriod}
+use Rattle.tariff.specs.Inner.{InRange}
 use Rattle.tariff.specs.Settlement.{amount, exactTotal, cents, wholeCents, parts}
 use Rattle.tariff.proofs.Sizes.{amount-sized, total-sized, cents-sized, whole-sized, ofPeriod-in-range}
 use Rattle.lists.proofs.Lists.{length-listTo, getD-listTo, map-listTo, each-listTo}
@@ -54,7 +55,7 @@ module _ (g : Grid) (p : List ℕ) (t : Period) where
 
 module _ (n k : ℕ) (fs : List ℤ) (ps : List ℕ) (h : Hour n k fs ps) (t : Period) (m : ℕ) (f : ℕ → Contract) (few : m ≤ 1000) (ok : (i : ℕ) → i < m → InRange n (f i)) where
   abbrev g : Grid
-  g = grid n k [] fs
+  g = gridOf n k [] fs
 
   one-sized : (c : Contract) → InRange n c → natAbs (cents (amount g ps c)) ≤ 64000000000
   one-sized c r = cents-sized (amount g ps c) 64000000000 (amount-sized g ps (h .few) (h .factors-in) (h .prices-in) c r)

@@ -9,8 +9,9 @@ use Rattle.lists.specs.Lists.{Each}
 use Rattle.integers.proofs.Sizes.{sumOver-each}
 use Rattle.tariff.specs.declared.contracts.Contract.{Contract}
 use Rattle.tariff.specs.declared.contracts.Period.{Period}
-use Rattle.tariff.specs.Units.{Grid, grid}
-use Rattle.tariff.specs.Contracts.{counted, ofPeriod, InRange}
+use Rattle.tariff.specs.Units.{Grid, gridOf}
+use Rattle.tariff.specs.Contracts.{counted, ofPeriod}
+use Rattle.tariff.specs.Inner.{InRange}
 use Rattle.tariff.specs.Settlement.{congestion, mcc, amount, exactTotal, cents, wholeCents, parts}
 use Rattle.tariff.proofs.Sizes.{ofPeriod-in-range}
 use Rattle.grid_file.proofs.Factors.{place-in}
@@ -20,10 +21,10 @@ use Rattle.statement_lines.specs.Lines.{heading, lineOf, sumLine, exactLine, co
 module _ (n k : ℕ) (ls ls' : List ℕ) (fs fs' : List ℤ) (ps ps' : List ℕ) (factors : (i : ℕ) → i < n * k → getD fs i (pos 0) ≡ getD fs' i (pos 0))
     (prices : (j : ℕ) → j < k → getD ps j 0 ≡ getD ps' j 0) where
   abbrev g : Grid
-  g = grid n k ls fs
+  g = gridOf n k ls fs
 
   abbrev g' : Grid
-  g' = grid n k ls' fs'
+  g' = gridOf n k ls' fs'
 
   mcc-same : (node : ℕ) → node < n → mcc g ps node ≡ mcc g' ps' node
   unfolding mcc congestion

@@ -11,13 +11,12 @@ use Rattle.refusal_line.proofs.Lines.{refused-line}
 use Rattle.tariff.specs.declared.refusals.Refusal.{Refusal}
 use Rattle.tariff.specs.declared.refusals.Checked.{Checked}
 use Rattle.tariff.specs.declared.refusals.Checked.the-variants.{Passed, Refused}
-use Rattle.tariff.specs.Units.{grid}
+use Rattle.tariff.specs.Units.{gridOf}
 use Rattle.tariff.specs.Contracts.{periodOf}
 use Rattle.tariff.specs.Refusals.{first, decided, answered, refusedBy, given, cellsAfter}
 use Rattle.lists.specs.Lent.{overwrite}
 use Rattle.tariff.specs.Checks.{factorRange}
-use Rattle.runs.proofs.Tests.{last-passes}
-use Rattle.tariff.proofs.Checks.{first-passes, passed-cons}
+use Rattle.tariff.proofs.Checks.{last-passes, first-passes, passed-cons}
 use Rattle.tariff.proofs.Answers.{given-told}
 use Rattle.layouts.specs.GridFile.{gridIn, nodesIn, constraintsIn, limitsIn, factorsIn}
 use Rattle.layouts.proofs.GridFile.{length-factorsIn}
@@ -34,9 +33,9 @@ use Rattle.statement_text.specs.Parts.{gridChecks, pricedText, bookedTex
 use Rattle.statement_text.proofs.Agree.{lines-same}
 
 module _ (s book prices : List ℕ) (ls₀ : List ℕ) (fs₀ : List ℤ) (cells : length ls₀ ≡ 64) (places : length fs₀ ≡ 12800) where
-  pub grid-refused : (vs : List ℤ) (r : Refusal) → refusedBy r ≡ answered (first (grid-checks.readChecks s (length ls₀) (length fs₀))) vs → statement s book prices ≡ refusedLine (ascii "grid") r
+  pub grid-refused : (vs : List ℤ) (r : Refusal) → refusedBy r ≡ answered (first (grid-checks.readChecks s (length ls₀) (length fs₀))) vs → statement s book prices ≡ refusedLine (ascii "gridOf") r
   unfolding statement
-  grid-refused vs r e = refused-line (first (grid-checks.readChecks s 64 12800)) vs r (rw (cells, places) at e) (ascii "grid") _
+  grid-refused vs r e = refused-line (first (grid-checks.readChecks s 64 12800)) vs r (rw (cells, places) at e) (ascii "gridOf") _
 
   -- the reader has read: its counts n and k, and the factors as it left them
   module _ (n k : ℕ) (fs : List ℤ) (e : given (pos n ∷ pos k ∷ []) ≡ answered (first (grid-checks.readChecks s (length ls₀) (length fs₀))) (pos (nodesIn s) ∷ pos (constraintsIn s) ∷ []))
@@ -66,7 +65,7 @@ module _ (s book prices : List ℕ) (ls₀ : List ℕ) (fs₀ : List ℤ) (cells
     grid-passes = rw (counts-are .0, counts-are .1, factors-are) tables-pass
 
     same-lines : (ps : List ℕ) (t : ℕ) → first (bookChecks (nodesIn s) book) ≡ Passed
-        → lines (gridIn s) ps (periodOf t) (bookIn book) ≡ lines (grid (nodesIn s) (constraintsIn s) [] (overwrite (factorsIn s) fs₀)) ps (periodOf t) (bookIn book)
+        → lines (gridIn s) ps (periodOf t) (bookIn book) ≡ lines (gridOf (nodesIn s) (constraintsIn s) [] (overwrite (factorsIn s) fs₀)) ps (periodOf t) (bookIn book)
     same-lines ps t good =
         sym (lines-same (nodesIn s) (constraintsIn s) [] (limitsIn s) (overwrite (factorsIn s) fs₀) (factorsIn s) ps ps
         (λ i h. front-at (factorsIn s) fs₀ (nodesIn s * constraintsIn s) (length-factorsIn s) i (pos 0) h) (λ j h. refl) (periodOf t) (bookIn book) (all-in-range (nodesIn s) book (book-accepted (nodesIn s) book good)))
@@ -80,7 +79,7 @@ module _ (s book prices : List ℕ) (ls₀ : List ℕ) (fs₀ : List ℤ) (cells
       where
         by : (x : Checked) → first (bookChecks (nodesIn s) book) ≡ x
             → decided x (refusedLine (ascii "book")) (from-prices (lines (gridIn s) (pricesIn (constraintsIn s) prices) (periodOf (periodIn prices)) (bookIn book)))
-            ≡ decided x (refusedLine (ascii "book")) (from-prices (lines (grid (nodesIn s) (constraintsIn s) [] (overwrite (factorsIn s) fs₀)) (pricesIn (constraintsIn s) prices) (periodOf (periodIn prices)) (bookIn book)))
+            ≡ decided x (refusedLine (ascii "book")) (from-prices (lines (gridOf (nodesIn s) (constraintsIn s) [] (overwrite (factorsIn s) fs₀)) (pricesIn (constraintsIn s) prices) (periodOf (periodIn prices)) (bookIn book)))
         by Passed q = ap from-prices (same-lines (pricesIn (constraintsIn s) prices) (periodIn prices) q)
         by (Refused r) q = refl
 

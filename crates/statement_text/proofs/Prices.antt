@@ -12,15 +12,14 @@ use Rattle.refusal_line.specs.RefusedLine.{refusedLine}
 use Rattle.refusal_line.proofs.Lines.{refused-line}
 use Rattle.tariff.specs.declared.refusals.Refusal.{Refusal}
 use Rattle.tariff.specs.declared.refusals.Checked.the-variants.{Passed, Refused}
-use Rattle.tariff.specs.Units.{grid}
+use Rattle.tariff.specs.Units.{gridOf}
 use Rattle.tariff.specs.Contracts.{periodOf}
 use Rattle.tariff.specs.Refusals.{first, answered, refusedBy, given, cellsAfter}
 use Rattle.lists.specs.Lent.{overwrite}
 use Rattle.tariff.specs.Checks.{priceRange}
-use Rattle.runs.proofs.Tests.{last-passes}
-use Rattle.tariff.proofs.Checks.{first-passes, passed-cons}
+use Rattle.tariff.proofs.Checks.{last-passes, first-passes, passed-cons}
 use Rattle.tariff.proofs.Answers.{given-told}
-use Rattle.layouts.specs.BookFile.{countIn, bookIn}
+use Rattle.layouts.specs.BookFile.{contractCountIn, bookIn}
 use Rattle.layouts.specs.PriceFile.{periodIn, pricesIn}
 use Rattle.layouts.proofs.PriceFile.{length-pricesIn}
 use Rattle.grid_file.specs.GridChecks as grid-checks
@@ -73,12 +72,12 @@ module _ (n k : ℕ) (fs : List ℤ) (book s : List ℕ) (ps₀ : List ℕ) (cel
         ∙ last-passes (priceRange (take k (overwrite (pricesIn k s) ps₀))) (rw (front-is (pricesIn k s) ps₀ k (length-pricesIn k s)) (fifteen .0))
 
     settle-passes : first (settleChecks n k (periodIn s) fs (overwrite (pricesIn k s) ps₀) book 1000) ≡ Passed
-    settle-passes = sym (all-fits n k (periodIn s) fs (overwrite (pricesIn k s) ps₀) book 1000 tables-pass good (countIn book) refl (book-accepted n book good .few))
+    settle-passes = sym (all-fits n k (periodIn s) fs (overwrite (pricesIn k s) ps₀) book 1000 tables-pass good (contractCountIn book) refl (book-accepted n book good .few))
 
     pub hour-passes : first (settleChecks n k t fs ps book 1000) ≡ Passed
     hour-passes = rw (period-is, prices-are) settle-passes
 
-    pub priced-read : pricedText n k fs book s ≡ lines (grid n k [] fs) ps (periodOf t) (bookIn book)
+    pub priced-read : pricedText n k fs book s ≡ lines (gridOf n k [] fs) ps (periodOf t) (bookIn book)
     unfolding pricedText
     priced-read =
         rw (passes, period-is, prices-are)

@@ -8,12 +8,12 @@ use mir.Syntax.{w64}
 use mir.Val.{toZ, ofZ}
 use Rattle.tariff.specs.declared.refusals.Refusal.{Refusal}
 use Rattle.tariff.specs.declared.refusals.Checked.the-variants.{Passed}
-use Rattle.tariff.specs.Units.{grid}
+use Rattle.tariff.specs.Units.{gridOf}
 use Rattle.tariff.specs.Contracts.{periodOf}
 use Rattle.tariff.specs.Refusals.{first, answered, given, cellsAfter}
 use Rattle.lists.specs.Lent.{overwrite}
 use Rattle.tariff.proofs.Answers.{never-given, given-told}
-use Rattle.layouts.specs.BookFile.{countIn, contractAt, bookIn}
+use Rattle.layouts.specs.BookFile.{contractCountIn, contractAt, bookIn}
 use Rattle.settlement.specs.SettleChecks.{settleChecks}
 use Rattle.settlement.specs.declared.SettleAnswer.{SettleAnswer}
 use Rattle.settlement.specs.declared.SettleAnswer.the-variants.{Settled, Refused as NotSettled}
@@ -30,30 +30,30 @@ module _ (n k t : ℕ) (fs : List ℤ) (ps book : List ℕ) (passed : first (set
 
   module _ (zs₀ : List ℤ) (places : length zs₀ ≡ 1000) where
     -- settling answered
-    module _ (x : SettleAnswer) (e : settleOutcome x ≡ answered (first (settleChecks n k t fs ps book (length zs₀))) (settleValues (grid n k [] fs) ps (periodOf t) (bookIn book))) where
-      answer : settleOutcome x ≡ given (settleValues (grid n k [] fs) ps (periodOf t) (bookIn book))
+    module _ (x : SettleAnswer) (e : settleOutcome x ≡ answered (first (settleChecks n k t fs ps book (length zs₀))) (settleValues (gridOf n k [] fs) ps (periodOf t) (bookIn book))) where
+      answer : settleOutcome x ≡ given (settleValues (gridOf n k [] fs) ps (periodOf t) (bookIn book))
       answer = rw (places, passed) at e
 
       pub not-refused : (r : Refusal) → x ≡ NotSettled r → ⊥
-      not-refused r told = never-given r (settleValues (grid n k [] fs) ps (periodOf t) (bookIn book)) (ap settleOutcome (sym told) ∙ answer)
+      not-refused r told = never-given r (settleValues (gridOf n k [] fs) ps (periodOf t) (bookIn book)) (ap settleOutcome (sym told) ∙ answer)
 
       -- its totals, the cells of cents as it left them, and m contracts
       module _ (zs : List ℤ) (sum whole : ℤ) (part : ℕ) (told : x ≡ Settled sum whole part)
-          (left : zs ≡ cellsAfter (first (settleChecks n k t fs ps book (length zs₀))) (centsCells (grid n k [] fs) ps (periodOf t) (bookIn book)) zs₀) (m : ℕ) (count : m ≡ countIn book) where
-        values : sum ∷ whole ∷ pos part ∷ [] ≡ settleValues (grid n k [] fs) ps (periodOf t) (bookIn book)
-        values = given-told Passed (settleValues (grid n k [] fs) ps (periodOf t) (bookIn book)) (sum ∷ whole ∷ pos part ∷ []) (ap settleOutcome (sym told) ∙ answer) .1
+          (left : zs ≡ cellsAfter (first (settleChecks n k t fs ps book (length zs₀))) (centsCells (gridOf n k [] fs) ps (periodOf t) (bookIn book)) zs₀) (m : ℕ) (count : m ≡ contractCountIn book) where
+        values : sum ∷ whole ∷ pos part ∷ [] ≡ settleValues (gridOf n k [] fs) ps (periodOf t) (bookIn book)
+        values = given-told Passed (settleValues (gridOf n k [] fs) ps (periodOf t) (bookIn book)) (sum ∷ whole ∷ pos part ∷ []) (ap settleOutcome (sym told) ∙ answer) .1
 
-        cells : zs ≡ overwrite (centsCells (grid n k [] fs) ps (periodOf t) (bookIn book)) zs₀
+        cells : zs ≡ overwrite (centsCells (gridOf n k [] fs) ps (periodOf t) (bookIn book)) zs₀
         cells = rw (places, passed) at left
 
         fit : Sized m zs sum whole part
-        fit = rw count (settled-sized n k fs ps (ready .hour) (periodOf t) (countIn book) (contractAt book) (ready .book .few) (ready .book .each) zs _ cells sum whole part values)
+        fit = rw count (settled-sized n k fs ps (ready .hour) (periodOf t) (contractCountIn book) (contractAt book) (ready .book .few) (ready .book .each) zs _ cells sum whole part values)
 
         -- the totals as they are kept in an i64
         pub figures-fit : Sized m zs (toZ w64 (ofZ w64 sum)) (toZ w64 (ofZ w64 whole)) part
         figures-fit = rw (kept sum (fit .sum-sized), kept whole (fit .whole-sized)) fit
 
-        pub lines-are : lines (grid n k [] fs) ps (periodOf t) (bookIn book) ≡ settledLines (periodOf t) (contractAt book) zs m (toZ w64 (ofZ w64 sum)) (toZ w64 (ofZ w64 whole)) part
+        pub lines-are : lines (gridOf n k [] fs) ps (periodOf t) (bookIn book) ≡ settledLines (periodOf t) (contractAt book) zs m (toZ w64 (ofZ w64 sum)) (toZ w64 (ofZ w64 whole)) part
         lines-are =
             rw (kept sum (fit .sum-sized), kept whole (fit .whole-sized), count)
-            (settled-lines n k fs ps (ready .hour) (periodOf t) (countIn book) (contractAt book) (ready .book .few) (ready .book .each) zs _ cells sum whole part values)
+            (settled-lines n k fs ps (ready .hour) (periodOf t) (contractCountIn book) (contractAt book) (ready .book .few) (ready .book .each) zs _ cells sum whole part values)

@@ -5,7 +5,7 @@ use lib.ListN.{length, take}
 use lib.IntN.{ℤ}
 use Rattle.text.specs.Ascii.{ascii}
 use Rattle.refusal_line.specs.RefusedLine.{refusedLine}
-use Rattle.tariff.specs.Units.{grid}
+use Rattle.tariff.specs.Units.{gridOf}
 use Rattle.tariff.specs.Refusals.{Check, first, decided}
 use Rattle.tariff.specs.Checks.{nodeCount, constraintCount, shortTable, factorRange}
 use Rattle.tariff.specs.Contracts.{periodOf}
@@ -23,7 +23,7 @@ module _ (n k : ℕ) (factors : List ℤ) (bookBytes priceBytes : List ℕ) wher
   -- from the prices on
   unfoldable pub pricedText : List ℕ
   pricedText =
-      decided (first (readChecks k priceBytes 64)) (refusedLine (ascii "prices")) (lines (grid n k [] factors) (pricesIn k priceBytes) (periodOf (periodIn priceBytes)) (bookIn bookBytes))
+      decided (first (readChecks k priceBytes 64)) (refusedLine (ascii "prices")) (lines (gridOf n k [] factors) (pricesIn k priceBytes) (periodOf (periodIn priceBytes)) (bookIn bookBytes))
 
   -- from the book on
   unfoldable pub bookedText : List ℕ

@@ -6,11 +6,11 @@ ghost use lib.ListN.{length};
 ghost use lib.IntN.{pos};
 ghost use Rattle.text.specs.Decimal.{Put};
 ghost use Rattle.tariff.specs.declared.refusals.Checked.the-variants.{Passed};
-ghost use Rattle.tariff.specs.Units.{grid};
+ghost use Rattle.tariff.specs.Units.{gridOf};
 ghost use Rattle.tariff.specs.Contracts.{periodOf};
 ghost use Rattle.tariff.specs.Refusals.{first, answered, cellsAfter};
 ghost use Rattle.tariff.specs.Checks.{shortTable};
-ghost use Rattle.layouts.specs.Files.{writeOutcome};
+ghost use Rattle.layouts.specs.Writing.{writeOutcome};
 ghost use Rattle.layouts.specs.BookFile.{bookIn};
 ghost use Rattle.book_file.specs.BookChecks.{bookChecks};
 ghost use Rattle.settlement.specs.SettleChecks.{settleChecks};
@@ -37,7 +37,7 @@ fn put_settled(
 ) -> usize
     requires { ⌜ longest ≤ length (now buf) ⌝ }
     requires { ⌜ first (settleChecks nodes constraints period (now factors) (now prices) (now book) 1000) ≡ Passed ⌝ }
-    ensures { λ r. ⌜ Put (now (buf .entry)) 0 (lines (grid nodes constraints [] (now (factors .entry))) (now (prices .entry)) (periodOf period) (bookIn (now (book .entry)))) (now (buf .exit)) r ⌝ }
+    ensures { λ r. ⌜ Put (now (buf .entry)) 0 (lines (gridOf nodes constraints [] (now (factors .entry))) (now (prices .entry)) (periodOf period) (bookIn (now (book .entry)))) (now (buf .exit)) r ⌝ }
 {
     let mut cents = [0i64; 1000];
     match settlement::settle_hour(
@@ -107,7 +107,7 @@ fn put_statement(grid_file: &[u8], book_file: &[u8], price_file: &[u8], buf: &mu
     let mut limits = [0u64; 64];
     let mut factors = [0i64; 12800];
     match grid_file::read_grid(grid_file, &mut limits, &mut factors) {
-        GridAnswer::Refused(refusal) => refusal_line::put_refused(buf, b"grid", refusal),
+        GridAnswer::Refused(refusal) => refusal_line::put_refused(buf, b"gridOf", refusal),
         GridAnswer::Read { nodes, constraints } => {
             put_booked(buf, nodes, constraints, &factors, book_file, price_file)
         }

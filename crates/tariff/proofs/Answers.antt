@@ -1,4 +1,4 @@
--- What an answer says of its checks: values given mean that none refuses, and a refusal's number is the first one's.
+-- What an answer says of its checks, and what an entry that checks first answers: values given mean that none refuses, and a refusal's number is the first one's.
 use mathlib.Core.Path.{_≡_, refl, sym, ap, _∙_}
 use mathlib.Core.List.{List}
 use Prim.Native.Nat.{ℕ}
@@ -10,7 +10,8 @@ use Rattle.tariff.specs.declared.refusals.Refusal.the-variants.{ShortFil
 use Rattle.tariff.specs.declared.refusals.Refusal.the-variants.{ContractCount, NodeNumber, SameEnds, QuantityRange, PriceCount, PriceRange, ProcessNumber, PeriodOrKind, HolderRange}
 use Rattle.tariff.specs.declared.refusals.Checked.{Checked}
 use Rattle.tariff.specs.declared.refusals.Checked.the-variants.{Passed, Refused}
-use Rattle.tariff.specs.Refusals.{Outcome, numberOf, given, refusedBy, decided, answered, cellAfter, numberAfter}
+use Rattle.lists.specs.Lent.{overwrite}
+use Rattle.tariff.specs.Refusals.{Outcome, numberOf, given, refusedBy, decided, answered, cellsAfter, cellAfter, numberAfter}
 
 -- no refusal has the number 0
 pub numbered : (r : Refusal) → numberOf r ≡ 0 → ⊥
@@ -49,6 +50,21 @@ refused-number (Refused q) vs r e = ap (λ (o : Outcome). o .number) e
 pub refused-side : {A : Type 0} (checked : Checked) (vs : List ℤ) (r : Refusal) → refusedBy r ≡ answered checked vs → (a b : A) → decided checked (λ q. a) b ≡ a
 refused-side Passed vs r e a b = absurd (never-given r vs e)
 refused-side (Refused q) vs r e a b = refl
+
+-- ---- an entry that checks first: x is what the checking function gave
+
+module _ (x checked : Checked) (found : x ≡ checked) where
+  pub answer-refused : (r : Refusal) → x ≡ Refused r → (vs : List ℤ) → refusedBy r ≡ answered checked vs
+  answer-refused r told vs = rw (← found, told)
+
+  pub cells-refused : {A : Type 0} (r : Refusal) → x ≡ Refused r → (values entry : List A) → entry ≡ cellsAfter checked values entry
+  cells-refused r told values entry = rw (← found, told)
+
+  pub answer-passed : x ≡ Passed → (vs : List ℤ) → given vs ≡ answered checked vs
+  answer-passed told vs = rw (← found, told)
+
+  pub cells-passed : {A : Type 0} → x ≡ Passed → (values entry last : List A) → last ≡ overwrite values entry → last ≡ cellsAfter checked values entry
+  cells-passed told values entry last e = rw (← found, told) e
 
 -- ---- as a C caller gets it: the number, and each lent figure
 

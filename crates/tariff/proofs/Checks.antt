@@ -1,9 +1,9 @@
 -- Laws of the first check that holds, of the node count, and of a search for a bad element.
-use mathlib.Core.Path.{_≡_, refl}
-use mathlib.Core.Bool.{Bool, true, false, cond}
+use mathlib.Core.Path.{_≡_, refl, ap}
+use mathlib.Core.Bool.{Bool, true, false, cond, not}
 use mathlib.Core.List.{List, [], _∷_, _++_}
 use Prim.Native.Nat.{ℕ, _+_, _≤_}
-use borrow.Author.Tests.{ltb-false}
+use borrow.Author.Tests.{ltb-false, eqb-true, eq-eqb, ne-eqb, not-false}
 use lib.Dec.{ltb, eqb}
 use Rattle.lists.proofs.Search.{neither}
 use Rattle.tariff.specs.declared.refusals.Checked.the-variants.{Passed, Refused}
@@ -53,3 +53,18 @@ passed-append (c ∷ cs) ys e = by (c .fails) refl (passed-append cs ys) e
 -- one that the check accepts
 pub nodes-few-of : (n : ℕ) → nodeCount n .fails ≡ false → n ≤ maxNodes
 nodes-few-of n e = ltb-false maxNodes n (neither (eqb n 0) (ltb maxNodes n) e .1)
+
+-- ---- what a test in code says of a condition
+
+pub differs : (a b : ℕ) → (a ≡ b → ⊥) → not (eqb a b) ≡ true
+differs a b h = ap not (ne-eqb a b h)
+
+pub same : (a b : ℕ) → a ≡ b → not (eqb a b) ≡ false
+same a b e = ap not (eq-eqb a b e)
+
+pub same-of : (a b : ℕ) → not (eqb a b) ≡ false → a ≡ b
+same-of a b e = eqb-true a b (not-false (eqb a b) e)
+
+pub last-passes : (c : Check) → c .fails ≡ false → first (c ∷ []) ≡ Passed
+unfolding first
+last-passes c e = rw e

@@ -1,7 +1,7 @@
 -- `contract_at`.
 use mathlib.Core.Path.{sym, ap, _∙_}
 use Rattle.tariff.specs.Contracts.{kindOf, periodOf}
-use Rattle.layouts.proofs.BookFile.{contract-number}
+use Rattle.layouts.proofs.ContractNumber.{contract-at-number}
 use borrow.Author.Needs.{needs}
 use Rattle.book_file.proofs.contract_at.Statement.{statement}
 use Rattle.book_file.proofs.contract_at.Tie as tie
@@ -44,7 +44,7 @@ returns c =
     let p4 = c .before .before .before .before in
     let w = p4 .before .before .before .before in
     let a = w .before .before .args in
-    let number = contract-number (a .file .now) (a .i) (w .window6 .result) (λ i. w .before .shared-slice-known .given i .fits) (w .before .before .pre .1) (w .window6 .ensures) in
+    let number = contract-at-number (a .file .now) (a .i) (w .window6 .result) (λ i. w .before .shared-slice-known .given i .fits) (w .before .before .pre .1) (w .window6 .ensures) in
     (λ t. record {
       kind = (p4 .before .before .from-number .ensures ∙ ap kindOf (p4 .before .before .before .part .ensures .0)) t;
       period = (p4 .from-number2 .ensures ∙ ap periodOf (p4 .before .part2 .ensures .0)) t;

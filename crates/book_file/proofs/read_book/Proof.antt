@@ -9,7 +9,8 @@ use Rattle.tariff.specs.declared.refusals.Checked.the-variants.{Passed}
 use Rattle.tariff.specs.Refusals.{first, given}
 use Rattle.lists.specs.Lent.{overwrite}
 use Rattle.lists.specs.Lists.{listTo}
-use Rattle.layouts.specs.BookFile.{countIn, contractAt, cellsOf}
+use Rattle.layouts.specs.BookFile.{contractCountIn, contractAt}
+use Rattle.layouts.specs.BookTable.{cellsOf}
 use Rattle.book_file.specs.BookChecks.{readChecks}
 use Rattle.book_file.proofs.Accepted.{Accepted, read-accepted}
 use borrow.Author.Needs.{needs}
@@ -19,7 +20,7 @@ use Rattle.book_file.proofs.read_book.Tie as tie
 passed : (c : tie.After-enum-told) → let a = c .before .before .before .before .before .args in first (readChecks (a .nodes) (a .file .now) (length (a .book .now))) ≡ Passed
 passed c = sym (c .before .before .check-read .ensures) ∙ c .enum-told .given .1
 
-ok : (c : tie.After-enum-told) → let a = c .before .before .before .before .before .args in Accepted (a .nodes) (a .file .now) × (6 * countIn (a .file .now) ≤ length (a .book .now))
+ok : (c : tie.After-enum-told) → let a = c .before .before .before .before .before .args in Accepted (a .nodes) (a .file .now) × (6 * contractCountIn (a .file .now) ≤ length (a .book .now))
 ok c = let a = c .before .before .before .before .before .args in read-accepted (a .nodes) (a .file .now) (length (a .book .now)) (passed c)
 
 check-read-requires : tie.Need-check-read-requires

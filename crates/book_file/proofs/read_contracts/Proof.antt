@@ -6,9 +6,10 @@ use lib.ListN.{length, take, drop, take-append-drop}
 use borrow.Author.Needs.{needs}
 use mathlib.Core.List.{_++_, flatMap}
 use Rattle.lists.specs.Lists.{listTo}
-use Rattle.layouts.specs.BookFile.{contractAt, cellsOf}
+use Rattle.layouts.specs.BookFile.{contractAt}
+use Rattle.layouts.specs.BookTable.{cellsOf}
 use Rattle.book_file.proofs.Table.{block-front, block-rest, block-length, length-cell-row, length-rows}
-use Rattle.layouts.proofs.BookFile.{cells-more}
+use Rattle.layouts.proofs.BookTable.{cells-more}
 use Rattle.book_file.proofs.read_contracts.Statement.{statement}
 use Rattle.book_file.proofs.read_contracts.Tie as tie
 

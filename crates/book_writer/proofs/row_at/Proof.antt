@@ -1,7 +1,7 @@
 -- `row_at`.
 use Prim.Native.Nat.{_+_, _*_}
 use lib.ListN.{getD}
-use Rattle.layouts.specs.BookFile.{rowAt}
+use Rattle.layouts.specs.BookTable.{rowAt}
 use borrow.Author.Needs.{needs}
 use Rattle.book_writer.proofs.row_at.Statement.{statement}
 use Rattle.book_writer.proofs.row_at.Tie as tie

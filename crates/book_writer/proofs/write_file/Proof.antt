@@ -2,7 +2,7 @@
 use mathlib.Core.Path.{_∙_}
 use native.Mathlib.Omega.{arith}
 use lib.ListN.{length-set}
-use Rattle.layouts.specs.BookFile.{rowAt, rowsIn}
+use Rattle.layouts.specs.BookTable.{rowAt, rowsIn}
 use Rattle.lists.proofs.Lists.{length-listTo, each-listTo}
 use Rattle.layouts.proofs.BookFile.{ContractFits}
 use Rattle.book_writer.proofs.Accepted.{row-contract-fits}

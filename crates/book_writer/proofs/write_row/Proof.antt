@@ -3,7 +3,7 @@ use mathlib.Core.Path.{refl, sym, ap, _∙_}
 use mathlib.Core.List.{List, _++_}
 use Prim.Native.Nat.{ℕ, _+_, _*_}
 use lib.ListN.{take, drop, getD}
-use Rattle.layouts.specs.BookFile.{rowAt}
+use Rattle.layouts.specs.BookTable.{rowAt}
 use Rattle.book_writer.proofs.Bytes.{row-number}
 use borrow.Author.Needs.{needs}
 use Rattle.book_writer.proofs.write_row.Statement.{statement}

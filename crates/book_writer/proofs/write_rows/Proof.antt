@@ -6,7 +6,7 @@ use lib.ListN.{length, take, drop, take-append-drop}
 use borrow.Author.Needs.{needs}
 use mathlib.Core.List.{List, _++_, flatMap, append-assoc, append-nil}
 use Rattle.lists.specs.Lists.{listTo}
-use Rattle.layouts.specs.BookFile.{rowAt, rowsIn}
+use Rattle.layouts.specs.BookTable.{rowAt, rowsIn}
 use Rattle.lists.proofs.Lists.{flatMap-more}
 use Rattle.book_writer.specs.Rows.{rowBytes}
 use Rattle.book_file.proofs.Table.{block-front, block-rest, block-length}

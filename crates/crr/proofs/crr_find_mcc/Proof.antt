@@ -4,7 +4,7 @@ use lib.ListN.{length}
 use Rattle.tariff.specs.Refusals.{first}
 use Rattle.settlement.specs.SettleChecks.{mccChecks}
 use Rattle.settlement.specs.Answers.{mccOutcome}
-use Rattle.crr.proofs.Cells.{refused-answers, given-answers}
+use Rattle.tariff.proofs.Answers.{refused-answers, given-answers}
 use borrow.Author.Needs.{needs}
 use Rattle.crr.proofs.crr_find_mcc.Statement.{statement}
 use Rattle.crr.proofs.crr_find_mcc.Tie as tie

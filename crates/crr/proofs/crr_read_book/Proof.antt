@@ -2,9 +2,9 @@
 use mathlib.Core.Path.{sym, ap, _∙_}
 use lib.ListN.{length}
 use Rattle.tariff.specs.Refusals.{first}
-use Rattle.layouts.specs.BookFile.{countIn}
+use Rattle.layouts.specs.BookFile.{contractCountIn}
 use Rattle.book_file.specs.BookChecks.{readChecks, bookOutcome}
-use Rattle.crr.proofs.Cells.{refused-answers, refused-keeps, given-answers, given-count}
+use Rattle.tariff.proofs.Answers.{refused-answers, refused-keeps, given-answers, given-count}
 use borrow.Author.Needs.{needs}
 use Rattle.crr.proofs.crr_read_book.Statement.{statement}
 use Rattle.crr.proofs.crr_read_book.Tie as tie
@@ -32,7 +32,7 @@ returns c =
     let checked = first (readChecks (a .nodes) (a .file .now) (length (a .book .now))) in
     let told = sym (ap bookOutcome (refusal .1)) ∙ f .ensures .0 in
     let answer = refused-answers checked _ (refusal .0 .0) told (c .number .ensures) in
-    let contracts-cell = refused-keeps checked _ (refusal .0 .0) told (countIn (a .file .now)) (a .contracts .now) in
+    let contracts-cell = refused-keeps checked _ (refusal .0 .0) told (contractCountIn (a .file .now)) (a .contracts .now) in
     (answer, (f .ensures .1, contracts-cell))
 
 same-length-2 : tie.Need-same-length-2

@@ -4,7 +4,7 @@ use lib.ListN.{length}
 use Rattle.tariff.specs.Refusals.{first}
 use Rattle.layouts.specs.GridFile.{nodesIn, constraintsIn}
 use Rattle.grid_file.specs.GridChecks.{readChecks, gridOutcome}
-use Rattle.crr.proofs.Cells.{refused-answers, refused-keeps, given-answers, given-count}
+use Rattle.tariff.proofs.Answers.{refused-answers, refused-keeps, given-answers, given-count}
 use borrow.Author.Needs.{needs}
 use Rattle.crr.proofs.crr_read_grid.Statement.{statement}
 use Rattle.crr.proofs.crr_read_grid.Tie as tie

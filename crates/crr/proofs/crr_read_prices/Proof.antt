@@ -5,7 +5,7 @@ use Rattle.tariff.specs.Refusals.{first}
 use Rattle.layouts.specs.PriceFile.{periodIn}
 use Rattle.price_file.specs.PriceChecks.{readChecks}
 use Rattle.price_file.specs.PriceAnswers.{priceOutcome}
-use Rattle.crr.proofs.Cells.{refused-answers, refused-keeps, given-answers, given-count}
+use Rattle.tariff.proofs.Answers.{refused-answers, refused-keeps, given-answers, given-count}
 use borrow.Author.Needs.{needs}
 use Rattle.crr.proofs.crr_read_prices.Statement.{statement}
 use Rattle.crr.proofs.crr_read_prices.Tie as tie

@@ -4,14 +4,14 @@ use mathlib.Core.List.{[]}
 use lib.ListN.{length}
 use mir.Syntax.{w64}
 use mir.Facts.{toZ-ofZ}
-use Rattle.tariff.specs.Units.{grid}
+use Rattle.tariff.specs.Units.{gridOf}
 use Rattle.tariff.specs.Refusals.{first}
 use Rattle.tariff.specs.Contracts.{periodOf}
 use Rattle.tariff.specs.Settlement.{wholeCents, parts}
 use Rattle.layouts.specs.BookFile.{bookIn}
 use Rattle.settlement.specs.SettleChecks.{settleChecks}
 use Rattle.settlement.specs.Answers.{settleOutcome, settleValues, centsSum, hourTotal}
-use Rattle.crr.proofs.Cells.{refused-answers, refused-keeps, given-answers, given-signed, given-count}
+use Rattle.tariff.proofs.Answers.{refused-answers, refused-keeps, given-answers, given-signed, given-count}
 use borrow.Author.Needs.{needs}
 use Rattle.crr.proofs.crr_settle_hour.Statement.{statement}
 use Rattle.crr.proofs.crr_settle_hour.Tie as tie
@@ -39,7 +39,7 @@ returns c =
     let refusal = c .before .before .refusal .given in
     let checked = first (settleChecks (a .nodes) (a .constraints) (a .period) (a .factors .now) (a .prices .now) (a .book .now) (length (a .cents .now))) in
     let told = sym (ap settleOutcome (refusal .1)) ∙ f .ensures .0 in
-    let g = grid (a .nodes) (a .constraints) [] (a .factors .now) in
+    let g = gridOf (a .nodes) (a .constraints) [] (a .factors .now) in
     let cs = bookIn (a .book .now) in
     let total = hourTotal g (a .prices .now) (periodOf (a .period)) cs in
     let answer = refused-answers checked _ (refusal .0 .0) told (c .number .ensures) in

@@ -4,7 +4,7 @@ use mathlib.Core.List.{[], _∷_}
 use lib.IntN.{pos}
 use mir.Syntax.{w64}
 use mir.Facts.{toZ-ofZ}
-use Rattle.tariff.specs.Units.{grid}
+use Rattle.tariff.specs.Units.{gridOf}
 use Rattle.tariff.specs.Refusals.{first}
 use Rattle.tariff.specs.Contracts.{periodOf, ofPeriod}
 use Rattle.tariff.specs.Processes.{processOf}
@@ -12,7 +12,7 @@ use Rattle.layouts.specs.BookFile.{bookIn}
 use Rattle.feasibility_test.specs.TestChecks.{testChecks}
 use Rattle.feasibility_test.specs.Answer.{testOutcome, testValues}
 use Rattle.crr.specs.TestCells.{TestCells, testCells}
-use Rattle.crr.proofs.Cells.{refused-answers, refused-keeps, some-refuses, given-answers, given-values, given-cell}
+use Rattle.tariff.proofs.Answers.{refused-answers, refused-keeps, some-refuses, given-answers, given-values, given-cell}
 use Rattle.crr.proofs.Testing.{pass-cells, fail-cells, fail-set, pass-demand3, fail-demand3}
 use borrow.Author.Needs.{needs}
 use Rattle.crr.proofs.crr_test_book.Statement.{statement}
@@ -39,7 +39,7 @@ returns c =
     let a = c .before .before .before .before .before .before .before .args in
     let refusal = c .before .before .refusal .given in
     let checked = first (testChecks (a .nodes) (a .constraints) (a .process) (a .period) (a .limits .now) (a .factors .now) (a .book .now)) in
-    let g = grid (a .nodes) (a .constraints) (a .limits .now) (a .factors .now) in
+    let g = gridOf (a .nodes) (a .constraints) (a .limits .now) (a .factors .now) in
     let process = processOf (a .process) in
     let cs = ofPeriod (periodOf (a .period)) (bookIn (a .book .now)) in
     let vs = testValues g process cs in
@@ -57,7 +57,7 @@ returns-2 c =
     let f = c .before .before .test-book in
     let a = c .before .before .before .before .before .args in
     let checked = first (testChecks (a .nodes) (a .constraints) (a .process) (a .period) (a .limits .now) (a .factors .now) (a .book .now)) in
-    let g = grid (a .nodes) (a .constraints) (a .limits .now) (a .factors .now) in
+    let g = gridOf (a .nodes) (a .constraints) (a .limits .now) (a .factors .now) in
     let process = processOf (a .process) in
     let cs = ofPeriod (periodOf (a .period)) (bookIn (a .book .now)) in
     let vs = testValues g process cs in
@@ -80,7 +80,7 @@ returns-3 c =
     let lowest = fail .0 .1 .1 .0 in
     let over = fail .0 .1 .1 .1 .0 in
     let checked = first (testChecks (a .nodes) (a .constraints) (a .process) (a .period) (a .limits .now) (a .factors .now) (a .book .now)) in
-    let g = grid (a .nodes) (a .constraints) (a .limits .now) (a .factors .now) in
+    let g = gridOf (a .nodes) (a .constraints) (a .limits .now) (a .factors .now) in
     let process = processOf (a .process) in
     let cs = ofPeriod (periodOf (a .period)) (bookIn (a .book .now)) in
     let vs = testValues g process cs in

@@ -2,10 +2,10 @@
 use mathlib.Core.Path.{sym, ap, _∙_}
 use lib.ListN.{length}
 use Rattle.tariff.specs.Refusals.{first}
-use Rattle.layouts.specs.Files.{writeOutcome}
+use Rattle.layouts.specs.Writing.{writeOutcome}
 use Rattle.layouts.specs.GridFile.{gridBytes}
 use Rattle.grid_file.specs.GridChecks.{writeChecks}
-use Rattle.crr.proofs.Cells.{refused-answers, refused-keeps, given-answers, given-count}
+use Rattle.tariff.proofs.Answers.{refused-answers, refused-keeps, given-answers, given-count}
 use borrow.Author.Needs.{needs}
 use Rattle.crr.proofs.crr_write_grid.Statement.{statement}
 use Rattle.crr.proofs.crr_write_grid.Tie as tie

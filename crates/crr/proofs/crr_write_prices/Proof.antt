@@ -2,10 +2,10 @@
 use mathlib.Core.Path.{sym, ap, _∙_}
 use lib.ListN.{length}
 use Rattle.tariff.specs.Refusals.{first}
-use Rattle.layouts.specs.Files.{writeOutcome}
+use Rattle.layouts.specs.Writing.{writeOutcome}
 use Rattle.layouts.specs.PriceFile.{priceBytes}
 use Rattle.price_file.specs.PriceChecks.{writeChecks}
-use Rattle.crr.proofs.Cells.{refused-answers, refused-keeps, given-answers, given-count}
+use Rattle.tariff.proofs.Answers.{refused-answers, refused-keeps, given-answers, given-count}
 use borrow.Author.Needs.{needs}
 use Rattle.crr.proofs.crr_write_prices.Statement.{statement}
 use Rattle.crr.proofs.crr_write_prices.Tie as tie

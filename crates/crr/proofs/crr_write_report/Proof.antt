@@ -4,9 +4,9 @@ use mathlib.Core.List.{[], _∷_}
 use lib.ListN.{length}
 use Rattle.tariff.specs.Refusals.{first}
 use Rattle.tariff.specs.Checks.{shortTable}
-use Rattle.layouts.specs.Files.{writeOutcome}
+use Rattle.layouts.specs.Writing.{writeOutcome}
 use Rattle.feasibility_report.specs.Report.{report, longest}
-use Rattle.crr.proofs.Cells.{refused-answers, refused-keeps, given-answers, given-count}
+use Rattle.tariff.proofs.Answers.{refused-answers, refused-keeps, given-answers, given-count}
 use borrow.Author.Needs.{needs}
 use Rattle.crr.proofs.crr_write_report.Statement.{statement}
 use Rattle.crr.proofs.crr_write_report.Tie as tie

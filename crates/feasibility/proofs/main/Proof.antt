@@ -6,7 +6,7 @@ use lib.ListN.{length, take, replicate}
 use lib.Seq.{length-take-le}
 use Rattle.tariff.specs.Refusals.{first}
 use Rattle.tariff.specs.Checks.{shortTable}
-use Rattle.layouts.specs.Files.{writeOutcome}
+use Rattle.layouts.specs.Writing.{writeOutcome}
 use Rattle.feasibility_report.specs.Report.{report, longest}
 use Rattle.refusal_line.proofs.Lines.{written-fits}
 use borrow.Author.Needs.{needs}

@@ -4,7 +4,7 @@ use mathlib.Core.List.{[], _∷_}
 use native.Mathlib.Omega.{arith}
 use Rattle.tariff.specs.declared.processes.Process.{Process}
 use Rattle.tariff.specs.Refusals.{given}
-use Rattle.tariff.specs.Units.{grid}
+use Rattle.tariff.specs.Units.{gridOf}
 use Rattle.tariff.specs.Contracts.{periodOf, ofPeriod}
 use Rattle.tariff.specs.Processes.{processOf}
 use Rattle.layouts.specs.BookFile.{bookIn}
@@ -21,11 +21,11 @@ good : (c : tie.Start) → let a = c .args in Tested (a .nodes) (a .constraints)
 good c = let a = c .args in ok (a .nodes) (a .constraints) (a .process) (a .period) (a .limits .now) (a .factors .now) (a .book .now) (c .pre .1 .0)
 
 -- the answer's figures are the test's
-told : (c : tie.After-verdict) → let a = c .before .before .before .before .before .args in testOutcome (c .verdict .result) ≡ given (testValues (grid (a .nodes) (a .constraints) (a .limits .now) (a .factors .now)) (processOf (a .process)) (ofPeriod (periodOf (a .period)) (bookIn (a .book .now))))
+told : (c : tie.After-verdict) → let a = c .before .before .before .before .before .args in testOutcome (c .verdict .result) ≡ given (testValues (gridOf (a .nodes) (a .constraints) (a .limits .now) (a .factors .now)) (processOf (a .process)) (ofPeriod (periodOf (a .period)) (bookIn (a .book .now))))
 told c =
     let s = c .before .before .before .before .before in
     let a = s .args in
-    let g = grid (a .nodes) (a .constraints) (a .limits .now) (a .factors .now) in
+    let g = gridOf (a .nodes) (a .constraints) (a .limits .now) (a .factors .now) in
     subst (λ (p : Process). testOutcome (c .verdict .result) ≡ given (testValues g p (ofPeriod (periodOf (a .period)) (bookIn (a .book .now))))) (c .before .from-number .ensures)
     (c .verdict .ensures (a .nodes) (a .factors .now) (periodOf (a .period)) (bookIn (a .book .now)) (s .pre .1 .1) .0)
 

@@ -2,7 +2,7 @@
 use mathlib.Core.Path.{subst}
 use native.Mathlib.Omega.{arith}
 use Rattle.tariff.specs.declared.contracts.Period.{Period}
-use Rattle.tariff.specs.Units.{grid}
+use Rattle.tariff.specs.Units.{gridOf}
 use Rattle.tariff.specs.Contracts.{periodOf, ofPeriod}
 use Rattle.layouts.specs.BookFile.{bookIn}
 use Rattle.text.proofs.Putting.{put-then}
@@ -13,10 +13,10 @@ use borrow.Author.Needs.{needs}
 use Rattle.feasibility_report.proofs.put_period_lines.Statement.{statement}
 use Rattle.feasibility_report.proofs.put_period_lines.Tie as tie
 
-carried : (c : tie.After-carry) → let a = c .before .before .before .before .before .args in Carries (grid (a .nodes) (a .constraints) (a .limits .now) (a .factors .now)) (ofPeriod (periodOf (a .period)) (bookIn (a .book .now))) (c .carry .result)
+carried : (c : tie.After-carry) → let a = c .before .before .before .before .before .args in Carries (gridOf (a .nodes) (a .constraints) (a .limits .now) (a .factors .now)) (ofPeriod (periodOf (a .period)) (bookIn (a .book .now))) (c .carry .result)
 carried c =
     let a = c .before .before .before .before .before .args in
-    subst (λ (t : Period). Carries (grid (a .nodes) (a .constraints) (a .limits .now) (a .factors .now)) (ofPeriod t (bookIn (a .book .now))) (c .carry .result)) (c .before .from-number .ensures) (c .carry .ensures (a .limits .now))
+    subst (λ (t : Period). Carries (gridOf (a .nodes) (a .constraints) (a .limits .now) (a .factors .now)) (ofPeriod t (bookIn (a .book .now))) (c .carry .result)) (c .before .from-number .ensures) (c .carry .ensures (a .limits .now))
 
 from-number-requires : tie.Need-from-number-requires
 from-number-requires c κs = search needs

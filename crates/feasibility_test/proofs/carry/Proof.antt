@@ -5,10 +5,11 @@ use mathlib.Core.List.{List, []}
 use Prim.Native.Nat.{ℕ, _+_, _-_, _≤_, _<_}
 use native.Mathlib.Omega.{arith}
 use borrow.Author.Needs.{needs}
-use Rattle.tariff.specs.Units.{grid}
-use Rattle.tariff.specs.Contracts.{ofPeriod, InRange}
+use Rattle.tariff.specs.Units.{gridOf}
+use Rattle.tariff.specs.Contracts.{ofPeriod}
+use Rattle.tariff.specs.Inner.{InRange}
 use Rattle.lists.specs.Lists.{listTo}
-use Rattle.layouts.specs.BookFile.{countIn, contractAt}
+use Rattle.layouts.specs.BookFile.{contractCountIn, contractAt}
 use Rattle.book_file.proofs.Accepted.{Accepted, book-accepted}
 use Rattle.feasibility_test.specs.Carried.{Carries}
 use Rattle.feasibility_test.proofs.Checking.{row-fits, factors-in-range}
@@ -18,7 +19,7 @@ use Rattle.feasibility_test.proofs.carry.Tie as tie
 
 abbrev Inv-loop : tie.InvT-loop
 Inv-loop nodes constraints factors period book count flows₀ i₀ flows i =
-    (i ≤ count) × ((ls : List ℕ) → Carries (grid nodes constraints ls factors) (ofPeriod period (listTo i (contractAt book))) flows)
+    (i ≤ count) × ((ls : List ℕ) → Carries (gridOf nodes constraints ls factors) (ofPeriod period (listTo i (contractAt book))) flows)
 
 abbrev μ-loop : tie.MeasureT-loop
 μ-loop nodes constraints factors period book count flows₀ i₀ flows i = count - i
@@ -81,9 +82,9 @@ loop-again c =
     let at = contractAt (s .args .book .now) in (
       omega arith,
       λ ls. ⊎-elim
-          (λ w. subst (Carries (grid (s .args .nodes) (s .args .constraints) ls (s .args .factors .now)) (ofPeriod (s .args .period) (listTo (l .i + 1) at))) (sym (w .2))
+          (λ w. subst (Carries (gridOf (s .args .nodes) (s .args .constraints) ls (s .args .factors .now)) (ofPeriod (s .args .period) (listTo (l .i + 1) at))) (sym (w .2))
           (carry-same (s .args .nodes) (s .args .constraints) (l .i) ls (s .args .factors .now) (s .args .period) at _ (r .result) (r .ensures) (sym (c .before .same .ensures) ∙ w .0 .taken) (w .1 .ensures (s .args .nodes) ls _ (l .inv .1 ls))))
-          (λ w. subst (Carries (grid (s .args .nodes) (s .args .constraints) ls (s .args .factors .now)) (ofPeriod (s .args .period) (listTo (l .i + 1) at))) (sym (w .1))
+          (λ w. subst (Carries (gridOf (s .args .nodes) (s .args .constraints) ls (s .args .factors .now)) (ofPeriod (s .args .period) (listTo (l .i + 1) at))) (sym (w .1))
           (carry-other (s .args .nodes) (s .args .constraints) (l .i) ls (s .args .factors .now) (s .args .period) at _ (r .result) (r .ensures) (sym (c .before .same .ensures) ∙ w .0 .left) (l .inv .1 ls)))
           (c .if1 .came),
     )
@@ -92,8 +93,8 @@ returns : tie.Need-returns Inv-loop μ-loop
 returns c ls =
     let s = c .before .before .before .before .before in
     let l = c .before .loop in
-    let last : l .i ≡ countIn (s .args .book .now) = omega (arith, c .before .before .before .field .ensures .0) in
-    subst (λ (x : ℕ). Carries (grid (s .args .nodes) (s .args .constraints) ls (s .args .factors .now)) (ofPeriod (s .args .period) (listTo x (contractAt (s .args .book .now)))) (l .flows)) last (l .inv .1 ls)
+    let last : l .i ≡ contractCountIn (s .args .book .now) = omega (arith, c .before .before .before .field .ensures .0) in
+    subst (λ (x : ℕ). Carries (gridOf (s .args .nodes) (s .args .constraints) ls (s .args .factors .now)) (ofPeriod (s .args .period) (listTo x (contractAt (s .args .book .now)))) (l .flows)) last (l .inv .1 ls)
 
 pub carry-spec : {M : Type 1} → statement M
 carry-spec =

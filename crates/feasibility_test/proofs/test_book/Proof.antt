@@ -5,10 +5,10 @@ use Rattle.tariff.specs.declared.contracts.Period.{Period}
 use Rattle.tariff.specs.declared.processes.Process.{Process}
 use Rattle.tariff.specs.declared.refusals.Checked.the-variants.{Passed}
 use Rattle.tariff.specs.Refusals.{first, given}
-use Rattle.tariff.specs.Units.{grid}
+use Rattle.tariff.specs.Units.{gridOf}
 use Rattle.tariff.specs.Contracts.{periodOf, ofPeriod}
 use Rattle.layouts.specs.BookFile.{bookIn}
-use Rattle.runs.proofs.Answers.{answer-refused, answer-passed}
+use Rattle.tariff.proofs.Answers.{answer-refused, answer-passed}
 use Rattle.feasibility_test.specs.TestChecks.{testChecks}
 use Rattle.feasibility_test.specs.Answer.{testOutcome, testValues, Demand3}
 use Rattle.feasibility_test.specs.Carried.{Carries}
@@ -25,10 +25,10 @@ passed c = sym (c .before .before .check-test .ensures) ∙ c .enum-told .given 
 ok : (c : tie.After-enum-told) → let a = c .before .before .before .before .before .args in Tested (a .nodes) (a .constraints) (a .process) (a .period) (a .limits .now) (a .factors .now) (a .book .now)
 ok c = let a = c .before .before .before .before .before .args in tested (a .nodes) (a .constraints) (a .process) (a .period) (a .limits .now) (a .factors .now) (a .book .now) (passed c)
 
-carried : (c : tie.After-carry) → let a = c .before .before .before .before .before .before .before .args in Carries (grid (a .nodes) (a .constraints) (a .limits .now) (a .factors .now)) (ofPeriod (periodOf (a .period)) (bookIn (a .book .now))) (c .carry .result)
+carried : (c : tie.After-carry) → let a = c .before .before .before .before .before .before .before .args in Carries (gridOf (a .nodes) (a .constraints) (a .limits .now) (a .factors .now)) (ofPeriod (periodOf (a .period)) (bookIn (a .book .now))) (c .carry .result)
 carried c =
     let a = c .before .before .before .before .before .before .before .args in
-    subst (λ (t : Period). Carries (grid (a .nodes) (a .constraints) (a .limits .now) (a .factors .now)) (ofPeriod t (bookIn (a .book .now))) (c .carry .result)) (c .before .from-number .ensures) (c .carry .ensures (a .limits .now))
+    subst (λ (t : Period). Carries (gridOf (a .nodes) (a .constraints) (a .limits .now) (a .factors .now)) (ofPeriod t (bookIn (a .book .now))) (c .carry .result)) (c .before .from-number .ensures) (c .carry .ensures (a .limits .now))
 
 check-test-requires : tie.Need-check-test-requires
 check-test-requires c κs = search needs
@@ -65,7 +65,7 @@ returns-2 : tie.Need-returns-2
 returns-2 c =
     let e = c .before .before .before .before in
     let a = e .before .before .before .before .before .args in
-    let g = grid (a .nodes) (a .constraints) (a .limits .now) (a .factors .now) in
+    let g = gridOf (a .nodes) (a .constraints) (a .limits .now) (a .factors .now) in
     let cs = ofPeriod (periodOf (a .period)) (bookIn (a .book .now)) in
     let k = e .before .before .check-test in
     let v = subst (λ (p : Process). (testOutcome (c .verdict .result) ≡ given (testValues g p cs)) × Demand3 g p cs (c .verdict .result)) (c .before .from-number2 .ensures) (c .verdict .ensures (a .nodes) (a .factors .now) (periodOf (a .period)) (bookIn (a .book .now)) (carried (c .before .before))) in

@@ -4,9 +4,8 @@ use borrow.Author.Needs.{needs}
 use borrow.Author.Tests.{lt-ltb, le-ltb}
 use Rattle.lists.specs.Lists.{some}
 use Rattle.tariff.specs.Checks.{limitBad, factorBad}
-use Rattle.tariff.proofs.Checks.{first-passes, first-refuses}
-use Rattle.layouts.specs.GridFile.{limitsIn, factorsIn, padIn}
-use Rattle.runs.proofs.Tests.{differs, same, last-passes}
+use Rattle.tariff.proofs.Checks.{first-passes, first-refuses, differs, same, last-passes}
+use Rattle.layouts.specs.GridFile.{limitsIn, factorsIn, gridPadIn}
 use Rattle.grid_file.proofs.GridLaws.{limits-found, factors-found, pad-found}
 use Rattle.grid_file.proofs.check_figures.Statement.{statement}
 use Rattle.grid_file.proofs.check_figures.Tie as tie
@@ -22,7 +21,7 @@ factor c =
     let s = c .before .before .before .before .before in
     factors-found (s .args .file .now) (s .args .nodes) (s .args .constraints) (s .pre .0) (s .pre .1) _ (c .factor-bad-in .ensures)
 
-pad : (c : tie.After-field) → c .field .result ≡ padIn (c .before .before .before .before .before .before .before .args .file .now)
+pad : (c : tie.After-field) → c .field .result ≡ gridPadIn (c .before .before .before .before .before .before .before .args .file .now)
 pad c =
     let s = c .before .before .before .before .before .before .before in
     let u = c .before .before .before .before .before .used-bits in

@@ -2,8 +2,7 @@
 use mathlib.Core.Path.{sym, _∙_}
 use borrow.Author.Needs.{needs}
 use borrow.Author.Tests.{lt-ltb, le-ltb}
-use Rattle.tariff.proofs.Checks.{first-passes, first-refuses, nodes-few-of}
-use Rattle.runs.proofs.Tests.{differs, same}
+use Rattle.tariff.proofs.Checks.{first-passes, first-refuses, nodes-few-of, differs, same}
 use Rattle.grid_file.specs.GridChecks.{readChecks}
 use Rattle.grid_file.proofs.check_read.Statement.{statement}
 use Rattle.grid_file.proofs.check_read.Tie as tie

@@ -2,8 +2,7 @@
 use mathlib.Core.Path.{sym, _∙_}
 use borrow.Author.Needs.{needs}
 use borrow.Author.Tests.{lt-ltb, le-ltb}
-use Rattle.tariff.proofs.Checks.{first-passes, first-refuses, nodes-few-of}
-use Rattle.runs.proofs.Tests.{last-passes}
+use Rattle.tariff.proofs.Checks.{first-passes, first-refuses, nodes-few-of, last-passes}
 use Rattle.grid_file.specs.GridChecks.{writeChecks}
 use Rattle.grid_file.proofs.check_write.Statement.{statement}
 use Rattle.grid_file.proofs.check_write.Tie as tie

@@ -5,7 +5,7 @@ use native.Mathlib.Omega.{arith}
 use borrow.Author.Needs.{needs}
 use lib.ListN.{length}
 use Rattle.layouts.specs.GridFile.{nodesIn, constraintsIn, limitsIn, factorsIn}
-use Rattle.runs.proofs.Answers.{answer-refused, cells-refused, answer-passed, cells-passed}
+use Rattle.tariff.proofs.Answers.{answer-refused, cells-refused, answer-passed, cells-passed}
 use Rattle.grid_file.proofs.GridLaws.{readable, limits-read, factors-read}
 use Rattle.grid_file.proofs.read_grid.Statement.{statement}
 use Rattle.grid_file.proofs.read_grid.Tie as tie

@@ -2,9 +2,9 @@
 use mathlib.Core.Path.{sym, _∙_}
 use borrow.Author.Needs.{needs}
 use lib.ListN.{length}
-use Rattle.tariff.specs.Units.{grid}
+use Rattle.tariff.specs.Units.{gridOf}
 use Rattle.layouts.specs.GridFile.{gridFile}
-use Rattle.runs.proofs.Answers.{answer-refused, cells-refused, answer-passed, cells-passed}
+use Rattle.tariff.proofs.Answers.{answer-refused, cells-refused, answer-passed, cells-passed}
 use Rattle.grid_file.proofs.GridLaws.{writable}
 use Rattle.grid_file.proofs.write_grid.Statement.{statement}
 use Rattle.grid_file.proofs.write_grid.Tie as tie
@@ -29,7 +29,7 @@ returns c =
     let found = c .before .before .before .check-write .ensures in
     let told = c .before .refusal .given .1 in
     let a = c .before .before .before .before .before .before .args in
-    (answer-refused _ _ found _ told _, cells-refused _ _ found _ told (gridFile (grid (a .nodes) (a .constraints) (a .limits .now) (a .factors .now))) _)
+    (answer-refused _ _ found _ told _, cells-refused _ _ found _ told (gridFile (gridOf (a .nodes) (a .constraints) (a .limits .now) (a .factors .now))) _)
 
 same-length : tie.Need-same-length
 same-length c = search needs
@@ -40,7 +40,7 @@ returns-2 c =
     let told = c .before .before .before .before .enum-told .given .1 in
     let a = c .before .before .before .before .before .before .before .before .before .args in
     let e = c .before .before .fill .ensures in
-    (rw (e .0) (answer-passed _ _ found told _), cells-passed _ _ found told (gridFile (grid (a .nodes) (a .constraints) (a .limits .now) (a .factors .now))) (a .file .now) _ (e .1))
+    (rw (e .0) (answer-passed _ _ found told _), cells-passed _ _ found told (gridFile (gridOf (a .nodes) (a .constraints) (a .limits .now) (a .factors .now))) (a .file .now) _ (e .1))
 
 pub write-grid-spec : {M : Type 1} → statement M
 write-grid-spec =

@@ -1,8 +1,7 @@
 -- `price_file::check_figures`: each return by the tests that led there.
 use mathlib.Core.Path.{sym, _∙_}
 use borrow.Author.Tests.{lt-ltb, le-ltb}
-use Rattle.tariff.proofs.Checks.{first-passes, first-refuses}
-use Rattle.runs.proofs.Tests.{differs, same, last-passes}
+use Rattle.tariff.proofs.Checks.{first-passes, first-refuses, differs, same, last-passes}
 use Rattle.layouts.specs.PriceFile.{pricesIn}
 use borrow.Author.Needs.{needs}
 use Rattle.price_file.proofs.check_figures.Statement.{statement}

@@ -1,8 +1,7 @@
 -- `price_file::check_read`: each return by the tests that led there.
 use mathlib.Core.Path.{sym, _∙_}
 use borrow.Author.Tests.{lt-ltb, le-ltb}
-use Rattle.tariff.proofs.Checks.{first-passes, first-refuses}
-use Rattle.runs.proofs.Tests.{differs, same}
+use Rattle.tariff.proofs.Checks.{first-passes, first-refuses, differs, same}
 use borrow.Author.Needs.{needs}
 use Rattle.price_file.proofs.check_read.Statement.{statement}
 use Rattle.price_file.proofs.check_read.Tie as tie

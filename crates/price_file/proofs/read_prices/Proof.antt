@@ -3,7 +3,7 @@ use mathlib.Core.Path.{sym, _∙_}
 use native.Mathlib.Omega.{arith}
 use lib.ListN.{length}
 use Rattle.layouts.specs.PriceFile.{pricesIn}
-use Rattle.runs.proofs.Answers.{answer-refused, cells-refused, answer-passed, cells-passed}
+use Rattle.tariff.proofs.Answers.{answer-refused, cells-refused, answer-passed, cells-passed}
 use Rattle.price_file.proofs.PriceLaws.{readable}
 use borrow.Author.Needs.{needs}
 use Rattle.price_file.proofs.read_prices.Statement.{statement}

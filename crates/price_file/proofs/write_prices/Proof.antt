@@ -2,7 +2,7 @@
 use mathlib.Core.Path.{sym, _∙_}
 use lib.ListN.{length, take}
 use Rattle.layouts.specs.PriceFile.{priceFile}
-use Rattle.runs.proofs.Answers.{answer-refused, cells-refused, answer-passed, cells-passed}
+use Rattle.tariff.proofs.Answers.{answer-refused, cells-refused, answer-passed, cells-passed}
 use Rattle.price_file.proofs.PriceLaws.{writable}
 use borrow.Author.Needs.{needs}
 use Rattle.price_file.proofs.write_prices.Statement.{statement}

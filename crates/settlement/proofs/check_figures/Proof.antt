@@ -1,8 +1,7 @@
 -- `settlement::check_figures`: each return by the tests that led there.
 use mathlib.Core.Path.{sym, _∙_}
 use borrow.Author.Needs.{needs}
-use Rattle.tariff.proofs.Checks.{first-passes, first-refuses}
-use Rattle.runs.proofs.Tests.{last-passes}
+use Rattle.tariff.proofs.Checks.{first-passes, first-refuses, last-passes}
 use Rattle.settlement.proofs.check_figures.Statement.{statement}
 use Rattle.settlement.proofs.check_figures.Tie as tie
 

@@ -9,7 +9,7 @@ use lib.IntN.{ℤ, pos, _*ℤ_}
 use mir.Syntax.{w64}
 use mir.Val.{toZ, ofZ}
 use Rattle.integers.proofs.Machine.{back}
-use Rattle.tariff.specs.Units.{grid}
+use Rattle.tariff.specs.Units.{gridOf}
 use Rattle.tariff.specs.Settlement.{congestion}
 use Rattle.grid_file.proofs.Factors.{count-fits, place-in}
 use Rattle.settlement.proofs.Congestion.{congestion-start, congestion-more, factor-place, factor-small, price-small, congestion-small, product-small, mcc-end}
@@ -18,7 +18,7 @@ use Rattle.settlement.proofs.node_mcc.Tie as tie
 
 abbrev Inv-loop : tie.InvT-loop
 Inv-loop nodes constraints factors prices node base sum₀ k₀ sum k =
-    (k ≤ constraints) × (sum .0 ≡ congestion (grid nodes constraints [] factors) prices node k)
+    (k ≤ constraints) × (sum .0 ≡ congestion (gridOf nodes constraints [] factors) prices node k)
 
 abbrev μ-loop : tie.MeasureT-loop
 μ-loop nodes constraints factors prices node base sum₀ k₀ sum k = constraints - k
@@ -32,7 +32,7 @@ mul-base c =
 loop-holds : tie.Need-loop-holds Inv-loop μ-loop
 loop-holds c =
     let a = c .before .args in
-    (omega arith, congestion-start (grid (a .nodes) (a .constraints) [] (a .factors .now)) (a .prices .now) (a .node))
+    (omega arith, congestion-start (gridOf (a .nodes) (a .constraints) [] (a .factors .now)) (a .prices .now) (a .node))
 
 mul-t11 : tie.Need-mul-t11 Inv-loop μ-loop
 mul-t11 c = search needs
@@ -97,7 +97,7 @@ loop-again : tie.Need-loop-again Inv-loop μ-loop
 loop-again c =
     let a = c .before .before .before .before .before .before .before .args in
     let l = c .before .before .before .before .before .loop in
-    (omega arith, congestion-more (grid (a .nodes) (a .constraints) [] (a .factors .now)) (a .prices .now) (a .node) (l .k) (l .sum .0) (c .before .times .result .0) (c .plus .result .0) (l .inv .1) (product (c .before)) (c .plus .ensures))
+    (omega arith, congestion-more (gridOf (a .nodes) (a .constraints) [] (a .factors .now)) (a .prices .now) (a .node) (l .k) (l .sum .0) (c .before .times .result .0) (c .plus .result .0) (l .inv .1) (product (c .before)) (c .plus .ensures))
 
 negated-requires : tie.Need-negated-requires Inv-loop μ-loop
 negated-requires c κs =

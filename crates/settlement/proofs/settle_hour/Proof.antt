@@ -9,7 +9,7 @@ use Rattle.tariff.specs.declared.refusals.Checked.the-variants.{Passed}
 use Rattle.tariff.specs.Refusals.{first, given}
 use Rattle.lists.specs.Lent.{overwrite}
 use Rattle.tariff.specs.Contracts.{periodOf}
-use Rattle.layouts.specs.BookFile.{countIn, contractAt}
+use Rattle.layouts.specs.BookFile.{contractCountIn, contractAt}
 use Rattle.settlement.specs.SettleChecks.{settleChecks}
 use Rattle.settlement.specs.Tables.{MccTable}
 use Rattle.settlement.proofs.Passing.{Ready, settle-ready}
@@ -78,7 +78,7 @@ returns-2 c =
     let m = c .before .before .before .before .before .before .before .before .fill-mcc in
     let r = c .before .before .settle-contracts .result in
     let e = rw (c .before .before .before .before .before .before .field .ensures .0, c .before .before .before .before .before .from-number .ensures) at (c .before .before .settle-contracts .ensures) in
-    let h = figures (a .nodes) (a .constraints) (a .factors .now) (a .prices .now) (o .hour) (m .last .1 .1 .1 .1 .0) _ (m .ensures) (periodOf (a .period)) (countIn (a .book .now)) (contractAt (a .book .now)) (o .book .each) (r .sum) (r .whole) (r .parts) (e .1 .0) (e .1 .1) (e .1 .2 .parts-small) in
+    let h = figures (a .nodes) (a .constraints) (a .factors .now) (a .prices .now) (o .hour) (m .last .1 .1 .1 .1 .0) _ (m .ensures) (periodOf (a .period)) (contractCountIn (a .book .now)) (contractAt (a .book .now)) (o .book .each) (r .sum) (r .whole) (r .parts) (e .1 .0) (e .1 .1) (e .1 .2 .parts-small) in
     let sum = back (r .sum) (omega (arith, e .1 .2, o .book .few)) in
     let whole = back (r .whole) (omega (arith, e .1 .2, o .book .few)) in
     rw (passed (c .before .before .before .before .before .before .before .before .before .before)) (

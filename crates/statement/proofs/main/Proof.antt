@@ -7,7 +7,7 @@ use lib.Seq.{length-take-le}
 use Rattle.refusal_line.proofs.Lines.{written-fits}
 use Rattle.tariff.specs.Refusals.{first}
 use Rattle.tariff.specs.Checks.{shortTable}
-use Rattle.layouts.specs.Files.{writeOutcome}
+use Rattle.layouts.specs.Writing.{writeOutcome}
 use Rattle.statement_text.specs.Statement.{longest, statement as statementOf}
 use borrow.Author.Needs.{needs}
 use Rattle.statement.proofs.main.Statement.{statement}
