@@ -1,1 +1,3 @@
-pub mod BookChecks
+pub mod ReadBook
+pub mod WriteBook
+pub mod Inner

@@ -1,2 +1,2 @@
-pub mod GridChecks
-pub mod Searches
+pub mod ReadGrid
+pub mod WriteGrid

@@ -5,9 +5,10 @@ use mathlib.Core.List.{List, [], _∷_, _++_}
 use Prim.Native.Nat.{ℕ, zero, suc, _+_, _≤_, _<_}
 use native.Mathlib.Numerals.{add-one}
 use native.Mathlib.Omega.{arith}
+use borrow.Author.Tests.{lt-ltb, le-ltb}
 use lib.ListN.{length, getD, take}
 use lib.Seq.{take-suc, take-all, length-take-le}
-use Rattle.lists.specs.Lists.{some}
+use Rattle.lists.specs.Lists.{some, above}
 
 -- ---- two conditions
 
@@ -66,3 +67,12 @@ module _ {A : Type 0} (bad : A → Bool) where
 -- a cell of the first n
 pub cell-in : {A : Type 0} (cells : List A) (n i : ℕ) → n ≤ length cells → i < n → i < length (take n cells)
 cell-in cells n i le h = rw length-take-le h
+
+-- ---- a search for a figure above a limit
+
+module _ (xs : List ℕ) (most i v : ℕ) (h : i < length xs) (e : v ≡ getD xs i 0) where
+  pub above-found : most < v → true ≡ some (above most) xs
+  above-found l = sym (some-bad (above most) xs i 0 h (rw (← e) (lt-ltb most v l)))
+
+  pub above-turn : v ≤ most → some (above most) (take i xs) ≡ false → some (above most) (take (i + 1) xs) ≡ false
+  above-turn l none = some-good (above most) xs i 0 h none (rw (← e) (le-ltb most v l))

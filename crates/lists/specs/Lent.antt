@@ -4,6 +4,10 @@ use lib.ListN.{length, drop}
 use denote.Ref.{RefT}
 use denote.Triple.Both.{Both}
 
+-- a slice or a figure that may be written
+abbrev pub Lent : Type 0 → Type 0
+Lent X = Both (RefT X) (RefT X)
+
 -- at entry
 abbrev pub before : {X E : Type 0} → Both (RefT X) E → X
 before x = x .entry .now

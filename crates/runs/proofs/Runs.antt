@@ -21,23 +21,6 @@ run-at s o w n i at v h le a e = e ∙ ap (λ (x : ℕ). field s x w) a ∙ sym 
 pub run-in : (s : List ℕ) (o w n i : ℕ) → i < n → i < length (fields s o w n)
 run-in s o w n i h = rw length-fields h
 
--- ---- a search in a list, from the front
-
-module _ (xs : List ℕ) (most i v : ℕ) (h : i < length xs) (e : v ≡ getD xs i 0) where
-  pub above-found : most < v → true ≡ some (above most) xs
-  above-found l = sym (some-bad (above most) xs i 0 h (rw (← e) (lt-ltb most v l)))
-
-  pub above-turn : v ≤ most → some (above most) (take i xs) ≡ false → some (above most) (take (i + 1) xs) ≡ false
-  above-turn l none = some-good (above most) xs i 0 h none (rw (← e) (le-ltb most v l))
-
-pub above-end : (xs : List ℕ) (most i : ℕ) → length xs ≤ i → some (above most) (take i xs) ≡ false → false ≡ some (above most) xs
-above-end xs most i h none = sym (ap (some (above most)) (sym (take-all i xs h)) ∙ none)
-
--- nothing is searched yet
-pub above-start : (most : ℕ) → some (above most) [] ≡ false
-unfolding some
-above-start most = refl
-
 -- ---- a reading into the first cells: one cell more, and all
 
 module _ (s : List ℕ) (o w n : ℕ) (out out₀ : List ℕ) (i : ℕ) (done : take i out ≡ take i (fields s o w n)) (rest : drop i out ≡ drop i out₀) where

@@ -4,7 +4,7 @@ use mathlib.Core.List.{List}
 use Prim.Native.Nat.{ℕ}
 use lib.Dec.{leb, ltb, eqb}
 use lib.IntN.{ℤ, natAbs}
-use Rattle.lists.specs.Lists.{some}
+use Rattle.lists.specs.Lists.{some, above}
 use Rattle.tariff.specs.declared.refusals.Refusal.the-variants.{NodeCount, ConstraintCount, LimitRange, FactorRange, ShortTable, ContractCount}
 use Rattle.tariff.specs.declared.refusals.Refusal.the-variants.{NodeNumber, SameEnds, QuantityRange, PriceRange, ProcessNumber, PeriodOrKind, HolderRange}
 use Rattle.tariff.specs.Units.{maxNodes, maxConstraints, maxContracts, maxLimit, maxFactor, maxPrice, maxQuantity, maxHolder}
@@ -20,7 +20,7 @@ constraintCount k = record { fails = ltb maxConstraints k; refusal = ConstraintC
 
 -- 6: a limit too large
 abbrev pub limitBad : ℕ → Bool
-limitBad l = ltb maxLimit l
+limitBad l = above maxLimit l
 
 abbrev pub limitRange : List ℕ → Check
 limitRange ls = record { fails = some limitBad ls; refusal = LimitRange }
@@ -54,7 +54,7 @@ quantityRange q = record { fails = eqb q 0 || ltb maxQuantity q; refusal = Quant
 
 -- 15: a price too large
 abbrev pub priceBad : ℕ → Bool
-priceBad p = ltb maxPrice p
+priceBad p = above maxPrice p
 
 abbrev pub priceRange : List ℕ → Check
 priceRange ps = record { fails = some priceBad ps; refusal = PriceRange }
