@@ -1,18 +1,12 @@
 -- Laws of a search, a reading and a writing that go through a run from the front: one for a turn and one for each end.
-use mathlib.Core.Path.{_≡_, refl, sym, ap, _∙_}
-use mathlib.Core.Bool.{true, false}
-use mathlib.Core.List.{List, []}
+use mathlib.Core.Path.{_≡_, sym, ap, _∙_}
+use mathlib.Core.List.{List}
 use Prim.Native.Nat.{ℕ, _+_, _-_, _*_, _≤_, _<_}
-use borrow.Author.Tests.{lt-ltb, le-ltb}
 use lib.ListN.{length, getD, take, drop, set}
-use lib.Seq.{take-all, length-take-le}
 use Rattle.bits.specs.Bits.{field, fields}
 use Rattle.bits.proofs.Fields.{field-of-run, length-fields}
 use Rattle.lists.proofs.Fill.{fill-turn, rest-turn, fill-front}
-use Rattle.lists.specs.Lists.{some}
 use Rattle.lists.specs.Lent.{overwrite}
-use Rattle.lists.proofs.Search.{some-good, some-bad}
-use Rattle.runs.specs.Runs.{above}
 
 -- a field that is read is the run's
 pub run-at : (s : List ℕ) (o w n i at v : ℕ) → i < n → o + w * n ≤ 8 * length s → at ≡ o + w * i → v ≡ field s at w → v ≡ getD (fields s o w n) i 0

@@ -1,4 +1,4 @@
--- `grid_file::four_bad`: each answer is of the cell itself.
+-- `four_bad`: each answer is of the cell itself.
 use mathlib.Core.Path.{_≡_, ap, _∙_}
 use mathlib.Core.Bool.{_||_}
 use Prim.Native.Nat.{_+_}
@@ -9,8 +9,8 @@ use mir.Val.{SFits, toZ, ofZ}
 use mir.ValLaws.{toZ-ofZ}
 use borrow.Author.Needs.{needs}
 use Rattle.tariff.specs.Checks.{factorBad}
-use Rattle.grid_file.proofs.four_bad.Statement.{statement}
-use Rattle.grid_file.proofs.four_bad.Tie as tie
+use Rattle.tables.proofs.four_bad.Statement.{statement}
+use Rattle.tables.proofs.four_bad.Tie as tie
 
 mul-factor-bad : tie.Need-mul-factor-bad
 mul-factor-bad c = search needs

@@ -1,4 +1,4 @@
--- `grid_file::rest_bad`: no factor passed is out of range.
+-- `rest_bad`: no factor passed is out of range.
 use mathlib.Core.Path.{_≡_, sym, ap, _∙_}
 use mathlib.Core.Bool.{false}
 use Prim.Native.Nat.{_-_, _≤_}
@@ -6,14 +6,15 @@ use native.Mathlib.Omega.{arith}
 use borrow.Author.Needs.{needs}
 use lib.ListN.{take, getD}
 use lib.IntN.{pos}
-use lib.Seq.{length-take-le}
+use lib.Seq.{getD-take, length-take-le}
 use mir.Syntax.{w64}
 use mir.ValLaws.{toZ-ofZ}
 use Rattle.lists.specs.Lists.{some}
 use Rattle.tariff.specs.Checks.{factorBad}
-use Rattle.grid_file.proofs.Factors.{bad-found, bad-turn, bad-end, cell-in, cell-at}
-use Rattle.grid_file.proofs.rest_bad.Statement.{statement}
-use Rattle.grid_file.proofs.rest_bad.Tie as tie
+use Rattle.lists.proofs.Search.{some-end, cell-in}
+use Rattle.tables.proofs.Factors.{bad-found, bad-turn}
+use Rattle.tables.proofs.rest_bad.Statement.{statement}
+use Rattle.tables.proofs.rest_bad.Tie as tie
 
 abbrev Inv-loop : tie.InvT-loop
 Inv-loop factors start count i₀ i =
@@ -28,7 +29,7 @@ same : (c : tie.After-factor-bad Inv-loop μ-loop)
 same c =
     let a = c .before .before .before .before .args in
     let i = c .before .before .before .loop .i in
-    c .factor-bad .ensures ∙ ap factorBad (toZ-ofZ w64 (getD (a .factors .now) i (pos 0)) (record { sfits = c .before .factor-bad-arg .given }) ∙ sym (cell-at (a .factors .now) (a .count) i (omega arith) (omega arith) (pos 0)))
+    c .factor-bad .ensures ∙ ap factorBad (toZ-ofZ w64 (getD (a .factors .now) i (pos 0)) (record { sfits = c .before .factor-bad-arg .given }) ∙ sym (getD-take (a .count) (a .factors .now) i (pos 0) (omega arith)))
 
 loop-holds : tie.Need-loop-holds Inv-loop μ-loop
 loop-holds c = (c .pre .0, c .pre .2)
@@ -65,7 +66,7 @@ loop-again c =
 returns-2 : tie.Need-returns-2 Inv-loop μ-loop
 returns-2 c =
     let a = c .before .before .args in
-    bad-end (take (a .count) (a .factors .now)) (c .before .loop .i) (omega (arith, length-take-le (a .count) (a .factors .now) (omega arith))) (c .before .loop .inv .1)
+    some-end factorBad (take (a .count) (a .factors .now)) (c .before .loop .i) (omega (arith, length-take-le (a .count) (a .factors .now) (omega arith))) (c .before .loop .inv .1)
 
 pub rest-bad-spec : {M : Type 1} → statement M
 rest-bad-spec =

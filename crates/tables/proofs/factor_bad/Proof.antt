@@ -1,9 +1,9 @@
--- `grid_file::factor_bad`: the range of a factor.
+-- `factor_bad`: the range of a factor.
 use mir.Syntax.{w64}
 use mir.ValLaws.{toZ-ofZ}
-use Rattle.grid_file.proofs.Factors.{below-range, not-below}
-use Rattle.grid_file.proofs.factor_bad.Statement.{statement}
-use Rattle.grid_file.proofs.factor_bad.Tie as tie
+use Rattle.tables.proofs.Factors.{below-range, not-below}
+use Rattle.tables.proofs.factor_bad.Statement.{statement}
+use Rattle.tables.proofs.factor_bad.Tie as tie
 
 returns : tie.Need-returns
 returns c =

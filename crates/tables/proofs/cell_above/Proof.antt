@@ -1,4 +1,4 @@
--- `runs::cell_above`: no cell passed is above the limit.
+-- `cell_above`: no cell passed is above the limit.
 use mathlib.Core.Path.{_≡_, sym}
 use Prim.Native.Nat.{_-_, _≤_}
 use native.Mathlib.Omega.{arith}
@@ -6,12 +6,10 @@ use lib.ListN.{take}
 use borrow.Author.Needs.{needs}
 use mathlib.Core.Bool.{false}
 use lib.Seq.{getD-take, length-take-le}
-use Rattle.lists.specs.Lists.{some}
-use Rattle.runs.specs.Runs.{above}
-use Rattle.lists.proofs.Search.{cell-in}
-use Rattle.runs.proofs.Runs.{above-start, above-found, above-turn, above-end}
-use Rattle.runs.proofs.cell_above.Statement.{statement}
-use Rattle.runs.proofs.cell_above.Tie as tie
+use Rattle.lists.specs.Lists.{some, above}
+use Rattle.lists.proofs.Search.{cell-in, some-start, some-end, above-found, above-turn}
+use Rattle.tables.proofs.cell_above.Statement.{statement}
+use Rattle.tables.proofs.cell_above.Tie as tie
 
 abbrev Inv-loop : tie.InvT-loop
 Inv-loop cells count most i₀ i =
@@ -21,7 +19,7 @@ abbrev μ-loop : tie.MeasureT-loop
 μ-loop cells count most i₀ i = count - i
 
 loop-holds : tie.Need-loop-holds Inv-loop μ-loop
-loop-holds c = (search needs, above-start _)
+loop-holds c = (search needs, some-start (above _))
 
 mul-if1 : tie.Need-mul-if1 Inv-loop μ-loop
 mul-if1 c = search needs
@@ -52,7 +50,7 @@ loop-again c =
 returns-2 : tie.Need-returns-2 Inv-loop μ-loop
 returns-2 c =
     let a = c .before .before .args in
-    above-end (take (a .count) (a .cells .now)) (a .most) (c .before .loop .i) (omega (arith, length-take-le (a .count) (a .cells .now) (omega arith))) (c .before .loop .inv .1)
+    some-end (above (a .most)) (take (a .count) (a .cells .now)) (c .before .loop .i) (omega (arith, length-take-le (a .count) (a .cells .now) (omega arith))) (c .before .loop .inv .1)
 
 pub cell-above-spec : {M : Type 1} → statement M
 cell-above-spec =

@@ -1,4 +1,4 @@
--- `grid_file::factor_out_of_range`: no factor passed is out of range, four at a time.
+-- `factor_out_of_range`: no factor passed is out of range, four at a time.
 use mathlib.Core.Path.{_≡_, _∙_}
 use mathlib.Core.Bool.{false}
 use Prim.Native.Nat.{_+_, _-_, _≤_}
@@ -7,11 +7,12 @@ use borrow.Author.Needs.{needs}
 use lib.ListN.{length, take}
 use lib.Seq.{length-take-le}
 use Rattle.lists.specs.Lists.{some}
+use Rattle.lists.proofs.Search.{some-start}
 use Rattle.tariff.specs.Checks.{factorBad}
-use Rattle.grid_file.specs.Searches.{fourBad}
-use Rattle.grid_file.proofs.Factors.{bad-start, four-turn, four-found, four-same}
-use Rattle.grid_file.proofs.factor_out_of_range.Statement.{statement}
-use Rattle.grid_file.proofs.factor_out_of_range.Tie as tie
+use Rattle.tables.specs.Inner.{fourBad}
+use Rattle.tables.proofs.Factors.{four-turn, four-found, four-same}
+use Rattle.tables.proofs.factor_out_of_range.Statement.{statement}
+use Rattle.tables.proofs.factor_out_of_range.Tie as tie
 
 abbrev Inv-loop : tie.InvT-loop
 Inv-loop factors count i₀ i =
@@ -21,7 +22,7 @@ abbrev μ-loop : tie.MeasureT-loop
 μ-loop factors count i₀ i = count - i
 
 loop-holds : tie.Need-loop-holds Inv-loop μ-loop
-loop-holds c = (search needs, bad-start)
+loop-holds c = (search needs, some-start factorBad)
 
 sub-loop : tie.Need-sub-loop Inv-loop μ-loop
 sub-loop c = search needs
