@@ -1,6 +1,6 @@
 -- Reading prices for a stated constraint count (document 01, "When input is turned down" and "The three files").
 use mathlib.Core.Path.{_≡_}
-use mathlib.Core.List.{List, [], _∷_}
+use mathlib.Core.List.{List, [], _∷_, _++_}
 use Prim.Native.Nat.{ℕ}
 use lib.ListN.{length}
 use lib.IntN.{pos}
@@ -27,18 +27,21 @@ abbrev pub priceOutcome : PriceAnswer → Outcome
 priceOutcome (Read period) = given (pos period ∷ [])
 priceOutcome (Refused r) = refusedBy r
 
+-- the file's own: "3 for that count. 1: no byte. 14: the file's count differs. 5. 15: a price too large. 8"
+unfoldable pub priceFileChecks : ℕ → List ℕ → List Check
+priceFileChecks k file =
+    constraintCount k
+    ∷ shortFile file 1
+    ∷ priceCount file k
+    ∷ fileLength file (priceBytes k)
+    ∷ priceRange (pricesIn k file)
+    ∷ padding (pricePadIn k file)
+    ∷ []
+
 module _ (q : ReadPricesCall) where
-  -- "3 for that count. 1: no byte. 14: the file's count differs. 5. 15: a price too large. 8, 9."
+  -- then "9"
   unfoldable pub readPricesChecks : List Check
-  readPricesChecks =
-      constraintCount (q .constraints)
-      ∷ shortFile (q .file) 1
-      ∷ priceCount (q .file) (q .constraints)
-      ∷ fileLength (q .file) (priceBytes (q .constraints))
-      ∷ priceRange (pricesIn (q .constraints) (q .file))
-      ∷ padding (pricePadIn (q .constraints) (q .file))
-      ∷ shortTable (length (q .table)) (q .constraints)
-      ∷ []
+  readPricesChecks = priceFileChecks (q .constraints) (q .file) ++ shortTable (length (q .table)) (q .constraints) ∷ []
 
   abbrev pub readPricesChecked : Checked
   readPricesChecked = first readPricesChecks
