@@ -7,13 +7,22 @@ ghost use lib.ListN.{length, take, drop};
 ghost use Rattle.bits.specs.Bits.{number, digits, field as fieldOf};
 ghost use Rattle.bits.specs.Pen.{written, place, Ready, GoesOn};
 ghost use Rattle.bits.specs.Signed.{ofInt, toInt};
+ghost use Rattle.bits.specs.Inner.{filled};
+ghost use Rattle.lists.specs.Lent.{before, after};
+
+// A byte with its bound.
+fn wide(b: u8) -> u64
+    ensures { λ r. ⌜ (r ≡ b) × (r < 256) ⌝ }
+{
+    b as u64
+}
 
 // One byte more: `acc` is the number of `i` bytes from `first` on, and the result that of `i + 1`.
 fn more(s: &[u8], first: usize, i: usize, acc: u64) -> u64
     requires { ⌜ (first + i < length (now s)) × (i ≤ 6) × (acc ≡ number 8 (take i (drop first (now s)))) ⌝ }
-    ensures { λ r. ⌜ r ≡ number 8 (take (i + 1) (drop first (now (s .entry)))) ⌝ }
+    ensures { λ r. ⌜ r ≡ number 8 (take (i + 1) (drop first (before s))) ⌝ }
 {
-    let b = s[first + i] as u64;
+    let b = wide(s[first + i]);
     acc * 256 + b
 }
 
@@ -21,7 +30,7 @@ fn more(s: &[u8], first: usize, i: usize, acc: u64) -> u64
 pub fn window(s: &[u8], first: usize, count: usize) -> u64
     requires { ⌜ first + count ≤ length (now s) ⌝ }
     requires { ⌜ count ≤ 7 ⌝ }
-    ensures { λ r. ⌜ r ≡ number 8 (take count (drop first (now (s .entry)))) ⌝ }
+    ensures { λ r. ⌜ r ≡ number 8 (take count (drop first (before s))) ⌝ }
 {
     let mut acc: u64 = 0;
     let mut i = 0;
@@ -35,19 +44,19 @@ pub fn window(s: &[u8], first: usize, count: usize) -> u64
 // Four bytes from `first` on. The sum is written out flat, so that the compiler makes one load of it.
 fn window4(s: &[u8], first: usize) -> u64
     requires { ⌜ first + 4 ≤ length (now s) ⌝ }
-    ensures { λ r. ⌜ r ≡ number 8 (take 4 (drop first (now (s .entry)))) ⌝ }
+    ensures { λ r. ⌜ r ≡ number 8 (take 4 (drop first (before s))) ⌝ }
 {
-    let a = s[first] as u64;
-    let b = s[first + 1] as u64;
-    let c = s[first + 2] as u64;
-    let d = s[first + 3] as u64;
+    let a = wide(s[first]);
+    let b = wide(s[first + 1]);
+    let c = wide(s[first + 2]);
+    let d = wide(s[first + 3]);
     a * 16777216 + b * 65536 + c * 256 + d
 }
 
 // Five bytes from `first` on, with no loop: a field of 32 bits lies in five bytes.
 pub fn window5(s: &[u8], first: usize) -> u64
     requires { ⌜ first + 5 ≤ length (now s) ⌝ }
-    ensures { λ r. ⌜ r ≡ number 8 (take 5 (drop first (now (s .entry)))) ⌝ }
+    ensures { λ r. ⌜ r ≡ number 8 (take 5 (drop first (before s))) ⌝ }
 {
     more(s, first, 4, window4(s, first))
 }
@@ -55,7 +64,7 @@ pub fn window5(s: &[u8], first: usize) -> u64
 // Six bytes from `first` on, with no loop: a record of 48 bits.
 pub fn window6(s: &[u8], first: usize) -> u64
     requires { ⌜ first + 6 ≤ length (now s) ⌝ }
-    ensures { λ r. ⌜ r ≡ number 8 (take 6 (drop first (now (s .entry)))) ⌝ }
+    ensures { λ r. ⌜ r ≡ number 8 (take 6 (drop first (before s))) ⌝ }
 {
     more(s, first, 5, window5(s, first))
 }
@@ -72,7 +81,7 @@ pub fn part(v: u64, low: usize, width: usize) -> u64
 fn cut(s: &[u8], offset: usize, width: usize, count: usize, acc: u64) -> u64
     requires { ⌜ (offset % 8 + width ≤ 8 * count) × (offset / 8 + count ≤ length (now s)) × (count ≤ 5) × (width ≤ 32) ⌝ }
     requires { ⌜ acc ≡ number 8 (take count (drop (offset / 8) (now s))) ⌝ }
-    ensures { λ r. ⌜ (r ≡ fieldOf (now (s .entry)) offset width) × (r < 2 ^ width) ⌝ }
+    ensures { λ r. ⌜ (r ≡ fieldOf (before s) offset width) × (r < 2 ^ width) ⌝ }
 {
     part(acc, 8 * count - offset % 8 - width, width)
 }
@@ -81,7 +90,7 @@ fn cut(s: &[u8], offset: usize, width: usize, count: usize, acc: u64) -> u64
 pub fn field(s: &[u8], offset: usize, width: usize) -> u64
     requires { ⌜ offset + width ≤ 8 * length (now s) ⌝ }
     requires { ⌜ width ≤ 32 ⌝ }
-    ensures { λ r. ⌜ (r ≡ fieldOf (now (s .entry)) offset width) × (r < 2 ^ width) ⌝ }
+    ensures { λ r. ⌜ (r ≡ fieldOf (before s) offset width) × (r < 2 ^ width) ⌝ }
 {
     let first = offset / 8;
     let left = s.len() - first;
@@ -109,15 +118,36 @@ fn join(a: u64, v: u64, width: usize) -> u64
     (a << width) + v
 }
 
-// Stores the four bytes of a number of 32 bits at place `at`.
+// Stores byte `k` of the `n` lowest bytes of `v`, which stand from place `at` on. With the bytes before it still to come, what all of them make stays the same.
+fn store_byte(buf: &mut [u8], at: usize, v: u64, k: usize, n: usize)
+    requires { ⌜ (k < n) × (n ≤ 8) × (at + k < length (now buf)) ⌝ }
+    ensures { λ r. ⌜ filled at (digits 8 n v) k (after buf) ≡ filled at (digits 8 n v) (k + 1) (before buf) ⌝ }
+{
+    buf[at + k] = part(v, 8 * (n - (k + 1)), 8) as u8;
+}
+
+// Stores the four lowest bytes of `v` at place `at`. The last byte goes first: so the compiler makes one store of four bytes.
 fn store4(buf: &mut [u8], at: usize, v: u64)
     requires { ⌜ at + 4 ≤ length (now buf) ⌝ }
-    ensures { λ r. ⌜ now (buf .exit) ≡ take at (now (buf .entry)) ++ digits 8 4 v ++ drop (at + 4) (now (buf .entry)) ⌝ }
+    ensures { λ r. ⌜ after buf ≡ take at (before buf) ++ digits 8 4 v ++ drop (at + 4) (before buf) ⌝ }
 {
-    buf[at] = part(v, 24, 8) as u8;
-    buf[at + 1] = part(v, 16, 8) as u8;
-    buf[at + 2] = part(v, 8, 8) as u8;
-    buf[at + 3] = part(v, 0, 8) as u8;
+    store_byte(buf, at, v, 3, 4);
+    store_byte(buf, at, v, 2, 4);
+    store_byte(buf, at, v, 1, 4);
+    store_byte(buf, at, v, 0, 4);
+}
+
+// Stores the six lowest bytes of `v` at place `at`.
+pub fn store6(buf: &mut [u8], at: usize, v: u64)
+    requires { ⌜ at + 6 ≤ length (now buf) ⌝ }
+    ensures { λ r. ⌜ after buf ≡ take at (before buf) ++ digits 8 6 v ++ drop (at + 6) (before buf) ⌝ }
+{
+    store_byte(buf, at, v, 5, 6);
+    store_byte(buf, at, v, 4, 6);
+    store_byte(buf, at, v, 3, 6);
+    store_byte(buf, at, v, 2, 6);
+    store_byte(buf, at, v, 1, 6);
+    store_byte(buf, at, v, 0, 6);
 }
 
 // Writes `v` as the next `width` bits: four bytes leave the pen at once, as soon as it holds them.
@@ -125,9 +155,9 @@ pub fn put(buf: &mut [u8], pen: Pen, v: u64, width: usize) -> Pen
     requires { ⌜ Ready pen ⌝ }
     requires { ⌜ (v < 2 ^ width) × (width ≤ 32) ⌝ }
     requires { ⌜ place pen + width ≤ 8 * length (now buf) ⌝ }
-    ensures { λ r. ⌜ written (now (buf .exit)) r ≡ written (now (buf .entry)) pen * 2 ^ width + v ⌝ }
+    ensures { λ r. ⌜ written (after buf) r ≡ written (before buf) pen * 2 ^ width + v ⌝ }
     ensures { λ r. ⌜ (place r ≡ place pen + width) × Ready r ⌝ }
-    ensures { λ r. ⌜ GoesOn (now (buf .entry)) pen (now (buf .exit)) r ⌝ }
+    ensures { λ r. ⌜ GoesOn (before buf) pen (after buf) r ⌝ }
 {
     let at = pen.at;
     let held = pen.held + width;
@@ -148,16 +178,16 @@ pub fn put(buf: &mut [u8], pen: Pen, v: u64, width: usize) -> Pen
 fn shed(buf: &mut [u8], pen: Pen) -> Pen
     requires { ⌜ Ready pen ⌝ }
     requires { ⌜ place pen ≤ 8 * length (now buf) ⌝ }
-    ensures { λ r. ⌜ written (now (buf .exit)) r ≡ written (now (buf .entry)) pen ⌝ }
+    ensures { λ r. ⌜ written (after buf) r ≡ written (before buf) pen ⌝ }
     ensures { λ r. ⌜ (place r ≡ place pen) × (r .held ≤ 7) × Ready r ⌝ }
-    ensures { λ r. ⌜ GoesOn (now (buf .entry)) pen (now (buf .exit)) r ⌝ }
+    ensures { λ r. ⌜ GoesOn (before buf) pen (after buf) r ⌝ }
 {
     let mut at = pen.at;
     let mut held = pen.held;
     let bits = pen.bits;
     while 8 <= held {
         held -= 8;
-        buf[at] = part(bits, held, 8) as u8;
+        store_byte(buf, at, part(bits, held, 8), 0, 1);
         at += 1;
     }
     Pen { at, held, bits }
@@ -168,9 +198,9 @@ pub fn put_last(buf: &mut [u8], pen: Pen, v: u64, width: usize) -> Pen
     requires { ⌜ Ready pen ⌝ }
     requires { ⌜ (v < 2 ^ width) × (width ≤ 32) ⌝ }
     requires { ⌜ place pen + width ≤ 8 * length (now buf) ⌝ }
-    ensures { λ r. ⌜ written (now (buf .exit)) r ≡ written (now (buf .entry)) pen * 2 ^ width + v ⌝ }
+    ensures { λ r. ⌜ written (after buf) r ≡ written (before buf) pen * 2 ^ width + v ⌝ }
     ensures { λ r. ⌜ (place r ≡ place pen + width) × (r .held ≤ 7) × Ready r ⌝ }
-    ensures { λ r. ⌜ GoesOn (now (buf .entry)) pen (now (buf .exit)) r ⌝ }
+    ensures { λ r. ⌜ GoesOn (before buf) pen (after buf) r ⌝ }
 {
     let last = put(buf, pen, v, width);
     shed(buf, last)

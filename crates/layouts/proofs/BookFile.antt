@@ -13,19 +13,13 @@ use Rattle.bits.proofs.Fields.{field-lt}
 use Rattle.bits.proofs.Files.{total-append, fit-append, length-file, below-file, written-holds, holds-written, holds-append}
 use Rattle.tariff.specs.declared.contracts.Contract.{Contract}
 use Rattle.layouts.specs.BookFile.{contract, contractBits, contractFields, packedBook, contractFrom, endBits, bookBytes, bookFile, contractCountIn, bookSpareIn, bookIn}
+use Rattle.layouts.specs.Inner.{ContractFits}
 use Rattle.layouts.proofs.ContractBits.{kind-bit, period-bit, kind-lt, period-lt, contract-is}
 use Rattle.layouts.proofs.Records.{fit-records, total-records, record-stands, records-stand}
 
 -- the contracts of a file whose ends have w bits
 abbrev pub contractsIn : ℕ → List ℕ → List Contract
 contractsIn w s = listTo (contractCountIn s) (λ i. contractFrom w s (16 + contractBits w * i))
-
--- what the fields of a contract can hold, with ends of w bits
-pub record ContractFits (w : ℕ) (c : Contract) : Type 0 where
-  pub holder-fits : c .holder < 2 ^ 10
-  pub source-fits : c .source < 2 ^ w
-  pub sink-fits : c .sink < 2 ^ w
-  pub quantity-fits : c .quantity .0 < 2 ^ 20
 
 -- the bytes s are the file of a book, with the spare bits p: what each reader finds in them
 pub record Packed (w B p : ℕ) (cs : List Contract) (s : List ℕ) : Type 0 where

@@ -5,7 +5,7 @@ use native.Mathlib.Omega.{arith}
 use lib.ListN.{length}
 use borrow.Author.Needs.{needs}
 use Rattle.bits.specs.Pen.{written}
-use Rattle.bits.proofs.Writing.{word-turn, word-rest, put-more}
+use Rattle.bits.proofs.Writing.{bytes-turn, bytes-rest, put-more}
 use Rattle.bits.proofs.put.Statement.{statement}
 use Rattle.bits.proofs.put.Tie as tie
 
@@ -46,9 +46,9 @@ returns-2 c =
     let w = c .before .before .before .part in
     let st = c .before .before .store4 in
     let room : a .pen .at + 4 ≤ length (a .buf .now) = omega (arith, s .pre, i .if1 .left) in (
-      word-turn (a .buf .now) _ (a .pen .at) (w .result) room (st .ensures) (a .pen .held + a .width) (j .result) (omega (arith, i .if1 .left)) (w .ensures .1) (w .ensures .0)
+      bytes-turn 4 (a .buf .now) _ (a .pen .at) (w .result) room (st .ensures) (a .pen .held + a .width) (j .result) (omega (arith, i .if1 .left)) (w .ensures .0)
           ∙ put-more _ (a .pen .held) _ _ (a .v) (a .width) (j .ensures (a .pen .held) (omega (arith, s .pre))),
-      ((omega (arith, i .if1 .left), omega (arith, s .pre)), record { onward = omega arith; rest = word-rest (a .buf .now) _ (a .pen .at) (w .result) room (st .ensures) }),
+      ((omega (arith, i .if1 .left), omega (arith, s .pre)), record { onward = omega arith; rest = bytes-rest 4 (a .buf .now) _ (a .pen .at) (w .result) room (st .ensures) }),
     )
 
 pub put-spec : {M : Type 1} → statement M

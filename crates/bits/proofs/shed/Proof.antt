@@ -2,12 +2,12 @@
 use mathlib.Core.Path.{_≡_, _∙_}
 use Prim.Native.Nat.{_≤_, _+_, _*_, _%_, _^_}
 use native.Mathlib.Omega.{arith}
-use lib.ListN.{length, take, drop, length-set}
+use lib.ListN.{length, take, drop}
 use borrow.Author.Needs.{needs}
 use Rattle.bits.specs.Bits.{number}
 use Rattle.bits.specs.Pen.{written}
-use Rattle.bits.proofs.Writing.{put-turn}
-use Rattle.lists.proofs.Fill.{rest-turn}
+use Rattle.bits.proofs.Writing.{bytes-turn, bytes-rest}
+use Rattle.lists.proofs.Fill.{drop-later}
 use Rattle.bits.proofs.shed.Statement.{statement}
 use Rattle.bits.proofs.shed.Tie as tie
 
@@ -25,11 +25,8 @@ loop-holds c = search needs
 part-requires : tie.Need-part-requires Inv-loop μ-loop
 part-requires c κs = search needs
 
-cast-buf : tie.Need-cast-buf Inv-loop μ-loop
-cast-buf c = search needs
-
-slice-write-buf : tie.Need-slice-write-buf Inv-loop μ-loop
-slice-write-buf c = search needs
+store-byte-requires : tie.Need-store-byte-requires Inv-loop μ-loop
+store-byte-requires c κs = search needs
 
 add-at : tie.Need-add-at Inv-loop μ-loop
 add-at c = search needs
@@ -39,13 +36,16 @@ loop-less c = search needs
 
 loop-again : tie.Need-loop-again Inv-loop μ-loop
 loop-again c =
-    let l = c .before .before .loop in (
-      rest-turn (l .buf) _ (l .at) _ (l .inv .0),
-      simp length-set (omega arith),
+    let b = c .before .before .store-byte in
+    let p = c .before .before .before .part in
+    let l = c .before .before .before .before .before .before .loop in
+    let room : l .at + 1 ≤ length (l .buf) = omega arith in (
+      bytes-rest 1 (l .buf) (b .last .0) (l .at) (p .result) room (b .ensures) ∙ drop-later (l .buf) _ (l .at) (l .at + 1) (omega arith) (l .inv .0),
       omega arith,
       omega arith,
       omega arith,
-      put-turn (l .buf) (l .at) (l .held) _ _ (omega arith) (omega arith) (c .part .ensures .0) ∙ l .inv .5,
+      omega arith,
+      bytes-turn 1 (l .buf) (b .last .0) (l .at) (p .result) room (b .ensures) (l .held) _ (omega arith) (p .ensures .0) ∙ l .inv .5,
     )
 
 same-length : tie.Need-same-length Inv-loop μ-loop
@@ -58,17 +58,4 @@ returns c =
     (l .inv .5, ((l .inv .2, omega arith, omega arith), record { onward = l .inv .3; rest = l .inv .0 }))
 
 pub shed-spec : {M : Type 1} → statement M
-shed-spec =
-    tie.close
-    (tie.spec
-    Inv-loop
-    μ-loop
-    loop-holds
-    part-requires
-    cast-buf
-    slice-write-buf
-    add-at
-    loop-less
-    loop-again
-    same-length
-    returns)
+shed-spec = tie.close (tie.spec Inv-loop μ-loop loop-holds part-requires store-byte-requires add-at loop-less loop-again same-length returns)

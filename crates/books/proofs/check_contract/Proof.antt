@@ -2,10 +2,10 @@
 use mathlib.Core.Path.{sym, _∙_}
 use borrow.Author.Tests.{le-leb, lt-leb, eq-eqb, ne-eqb}
 use Rattle.tariff.specs.Refusals.{first}
-use Rattle.book_file.specs.BookChecks.{contractChecks}
+use Rattle.books.specs.BookChecks.{contractChecks}
 use borrow.Author.Needs.{needs}
-use Rattle.book_file.proofs.check_contract.Statement.{statement}
-use Rattle.book_file.proofs.check_contract.Tie as tie
+use Rattle.books.proofs.check_contract.Statement.{statement}
+use Rattle.books.proofs.check_contract.Tie as tie
 
 returns : tie.Need-returns
 unfolding first contractChecks

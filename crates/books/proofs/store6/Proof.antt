@@ -4,10 +4,10 @@ use mathlib.Core.List.{List, [], _∷_, _++_}
 use Prim.Native.Nat.{ℕ, _+_}
 use native.Mathlib.Omega.{arith}
 use lib.ListN.{take, drop, length-set}
-use Rattle.book_file.proofs.Table.{six-sets}
+use Rattle.books.proofs.Blocks.{six-sets}
 use borrow.Author.Needs.{needs}
-use Rattle.book_writer.proofs.store6.Statement.{statement}
-use Rattle.book_writer.proofs.store6.Tie as tie
+use Rattle.books.proofs.store6.Statement.{statement}
+use Rattle.books.proofs.store6.Tie as tie
 
 part-requires : tie.Need-part-requires
 part-requires c κs = search needs

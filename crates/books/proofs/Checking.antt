@@ -1,8 +1,7 @@
 -- Laws of checks that go contract by contract.
 use mathlib.Core.Path.{_≡_, refl, sym, _∙_}
 use mathlib.Core.Logic.{⊎-elim}
-use mathlib.Core.Bool.{false}
-use mathlib.Core.List.{List, [], _∷_}
+use mathlib.Core.List.{List}
 use Prim.Native.Nat.{ℕ, zero, suc, _+_, _*_, _<_, _≤_}
 use lib.ListN.{length}
 use borrow.Author.Tests.{lt-ltb, le-ltb, eq-eqb, ne-eqb}
@@ -10,14 +9,13 @@ use native.Mathlib.Nat.{eq-or-lt-of-le}
 use native.Mathlib.Numerals.{add-one}
 use native.Mathlib.Omega.{arith}
 use Rattle.tariff.specs.declared.refusals.Refusal.{Refusal}
-use Rattle.tariff.specs.declared.refusals.Checked.{Checked}
 use Rattle.tariff.specs.declared.refusals.Checked.the-variants.{Passed, Refused}
-use Rattle.tariff.specs.Refusals.{Check, first, decided}
-use Rattle.tariff.specs.Checks.{nodeCount, shortTable}
-use Rattle.tariff.proofs.Checks.{first-passes, first-append, passed-append}
-use Rattle.tariff.specs.declared.refusals.Refusal.the-variants.{ShortFile, SpareBits, FileLength, ShortTable, ContractCount}
-use Rattle.layouts.specs.BookFile.{contractCountIn, bookSpareIn}
-use Rattle.book_file.specs.BookChecks.{checksTo, checksAt, bookChecks, readChecks}
+use Rattle.tariff.specs.Refusals.{Check, first}
+use Rattle.tariff.specs.Units.{maxContracts}
+use Rattle.tariff.proofs.Checks.{first-append, passed-append}
+use Rattle.tariff.specs.declared.refusals.Refusal.the-variants.{ShortFile, SpareBits, FileLength, ContractCount}
+use Rattle.layouts.specs.BookFile.{bookBytes, contractCountIn, bookSpareIn, contractAt}
+use Rattle.books.specs.BookChecks.{checksTo, contractChecks, bookChecks}
 
 module _ (f : ℕ → List Check) where
   pub checks-start : first (checksTo 0 f) ≡ Passed
@@ -61,39 +59,19 @@ module _ (n : ℕ) (s : List ℕ) where
   short-book h = rw (lt-ltb (length s) 2 h)
 
   module _ (long : 2 ≤ length s) (m : ℕ) (count : m ≡ contractCountIn s) where
-    pub many-contracts : 1000 < m → Refused ContractCount ≡ first (bookChecks n s)
+    pub many-contracts : maxContracts < m → Refused ContractCount ≡ first (bookChecks n s)
     unfolding first bookChecks
-    many-contracts h = rw (le-ltb (length s) 2 long, ← count, lt-ltb 1000 m h)
+    many-contracts h = rw (le-ltb (length s) 2 long, ← count, lt-ltb maxContracts m h)
 
-    module _ (few : m ≤ 1000) (x : ℕ) (spare : x ≡ bookSpareIn s) where
+    module _ (few : m ≤ maxContracts) (x : ℕ) (spare : x ≡ bookSpareIn s) where
       pub spare-set : (x ≡ 0 → ⊥) → Refused SpareBits ≡ first (bookChecks n s)
       unfolding first bookChecks
-      spare-set h = rw (le-ltb (length s) 2 long, ← count, le-ltb 1000 m few, ← spare, ne-eqb x 0 h)
+      spare-set h = rw (le-ltb (length s) 2 long, ← count, le-ltb maxContracts m few, ← spare, ne-eqb x 0 h)
 
-      pub wrong-length : x ≡ 0 → (length s ≡ 2 + 6 * m → ⊥) → Refused FileLength ≡ first (bookChecks n s)
+      pub wrong-length : x ≡ 0 → (length s ≡ bookBytes m → ⊥) → Refused FileLength ≡ first (bookChecks n s)
       unfolding first bookChecks
-      wrong-length z h = rw (le-ltb (length s) 2 long, ← count, le-ltb 1000 m few, ← spare, eq-eqb x 0 z, ne-eqb (length s) (2 + 6 * m) h)
+      wrong-length z h = rw (le-ltb (length s) 2 long, ← count, le-ltb maxContracts m few, ← spare, eq-eqb x 0 z, ne-eqb (length s) (bookBytes m) h)
 
-      pub right-header : x ≡ 0 → length s ≡ 2 + 6 * m → first (checksTo m (checksAt n s)) ≡ first (bookChecks n s)
+      pub right-header : x ≡ 0 → length s ≡ bookBytes m → first (checksTo m (λ i. contractChecks n (contractAt s i))) ≡ first (bookChecks n s)
       unfolding first bookChecks
-      right-header z h = rw (le-ltb (length s) 2 long, ← count, le-ltb 1000 m few, ← spare, eq-eqb x 0 z, eq-eqb (length s) (2 + 6 * m) h)
-
--- ---- reading's checks
-module _ (n : ℕ) (s : List ℕ) (cells : ℕ) where
-  module _ (right-nodes : nodeCount n .fails ≡ false) where
-    -- past 2: the book's own, then 9
-    then-own : first (readChecks n s cells) ≡ decided (first (bookChecks n s)) Refused (first (shortTable cells (6 * contractCountIn s) ∷ []))
-    unfolding readChecks
-    then-own = first-passes (nodeCount n) _ right-nodes ∙ first-append (bookChecks n s) (shortTable cells (6 * contractCountIn s) ∷ [])
-
-    pub own-refuses : (r : Refusal) → first (bookChecks n s) ≡ Refused r → Refused r ≡ first (readChecks n s cells)
-    own-refuses r e = sym (then-own ∙ rw e)
-
-    module _ (own : first (bookChecks n s) ≡ Passed) (m : ℕ) (count : m ≡ contractCountIn s) where
-      pub short-cells : cells < 6 * m → Refused ShortTable ≡ first (readChecks n s cells)
-      unfolding first
-      short-cells h = sym (then-own ∙ rw (own, ← count, lt-ltb cells (6 * m) h))
-
-      pub all-fits : 6 * m ≤ cells → Passed ≡ first (readChecks n s cells)
-      unfolding first
-      all-fits h = sym (then-own ∙ rw (own, ← count, le-ltb cells (6 * m) h))
+      right-header z h = rw (le-ltb (length s) 2 long, ← count, le-ltb maxContracts m few, ← spare, eq-eqb x 0 z, eq-eqb (length s) (bookBytes m) h)

@@ -2,10 +2,10 @@
 use mathlib.Core.Path.{ap, _∙_}
 use Rattle.tariff.specs.declared.contracts.Contract.{Contract}
 use Rattle.tariff.specs.Refusals.{first}
-use Rattle.book_file.specs.BookChecks.{contractChecks, checksAt}
+use Rattle.books.specs.BookChecks.{contractChecks}
 use borrow.Author.Needs.{needs}
-use Rattle.book_file.proofs.check_at.Statement.{statement}
-use Rattle.book_file.proofs.check_at.Tie as tie
+use Rattle.books.proofs.check_at.Statement.{statement}
+use Rattle.books.proofs.check_at.Tie as tie
 
 contract-at-requires : tie.Need-contract-at-requires
 contract-at-requires c κs = search needs
@@ -14,7 +14,6 @@ check-contract-requires : tie.Need-check-contract-requires
 check-contract-requires c κs = search needs
 
 returns : tie.Need-returns
-unfolding checksAt
 returns c = c .check-contract .ensures ∙ ap (λ (x : Contract). first (contractChecks (c .before .before .before .args .nodes) x)) (c .before .contract-at .ensures)
 
 pub check-at-spec : {M : Type 1} → statement M

@@ -5,20 +5,21 @@ use native.Mathlib.Omega.{arith}
 use borrow.Author.Needs.{needs}
 use Rattle.tariff.specs.Refusals.{first}
 use Rattle.tariff.specs.declared.refusals.Checked.the-variants.{Passed}
-use Rattle.book_file.specs.BookChecks.{checksTo, checksAt}
-use Rattle.book_file.proofs.Checking.{checks-start, checks-more, checks-stop}
-use Rattle.book_file.proofs.check_contracts.Statement.{statement}
-use Rattle.book_file.proofs.check_contracts.Tie as tie
+use Rattle.layouts.specs.BookFile.{contractAt}
+use Rattle.books.specs.BookChecks.{checksTo, contractChecks}
+use Rattle.books.proofs.Checking.{checks-start, checks-more, checks-stop}
+use Rattle.books.proofs.check_contracts.Statement.{statement}
+use Rattle.books.proofs.check_contracts.Tie as tie
 
 abbrev Inv-loop : tie.InvT-loop
 Inv-loop nodes file count i₀ i =
-    (i ≤ count) × (first (checksTo i (checksAt nodes file)) ≡ Passed)
+    (i ≤ count) × (first (checksTo i (λ j. contractChecks nodes (contractAt file j))) ≡ Passed)
 
 abbrev μ-loop : tie.MeasureT-loop
 μ-loop nodes file count i₀ i = count - i
 
 loop-holds : tie.Need-loop-holds Inv-loop μ-loop
-loop-holds c = (omega arith, checks-start (checksAt (c .before .args .nodes) (c .before .args .file .now)))
+loop-holds c = (omega arith, checks-start (λ i. contractChecks (c .before .args .nodes) (contractAt (c .before .args .file .now) i)))
 
 check-at-requires : tie.Need-check-at-requires Inv-loop μ-loop
 check-at-requires c κs = search needs
@@ -30,7 +31,7 @@ returns : tie.Need-returns Inv-loop μ-loop
 returns c =
     let l = c .before .before .before .before .before .loop in
     let a = c .before .before .before .before .before .before .before .args in
-    sym (checks-stop (checksAt (a .nodes) (a .file .now)) (a .count) (l .i) _ (omega arith) (l .inv .1) (sym (c .before .before .before .check-at .ensures) ∙ c .before .checked .given .1))
+    sym (checks-stop (λ i. contractChecks (a .nodes) (contractAt (a .file .now) i)) (a .count) (l .i) _ (omega arith) (l .inv .1) (sym (c .before .before .before .check-at .ensures) ∙ c .before .checked .given .1))
 
 enum-told : tie.Need-enum-told Inv-loop μ-loop
 enum-told c = search needs
@@ -45,7 +46,7 @@ loop-again : tie.Need-loop-again Inv-loop μ-loop
 loop-again c =
     let l = c .before .before .before .before .loop in
     let a = c .before .before .before .before .before .before .args in
-    (omega arith, checks-more (checksAt (a .nodes) (a .file .now)) (l .i) (l .inv .1) (sym (c .before .before .check-at .ensures) ∙ c .enum-told .given .1))
+    (omega arith, checks-more (λ i. contractChecks (a .nodes) (contractAt (a .file .now) i)) (l .i) (l .inv .1) (sym (c .before .before .check-at .ensures) ∙ c .enum-told .given .1))
 
 returns-2 : tie.Need-returns-2 Inv-loop μ-loop
 returns-2 c =

@@ -3,8 +3,8 @@ use mathlib.Core.Path.{sym, ap, _∙_}
 use Rattle.tariff.specs.Contracts.{kindOf, periodOf}
 use Rattle.layouts.proofs.ContractNumber.{contract-at-number}
 use borrow.Author.Needs.{needs}
-use Rattle.book_file.proofs.contract_at.Statement.{statement}
-use Rattle.book_file.proofs.contract_at.Tie as tie
+use Rattle.books.proofs.contract_at.Statement.{statement}
+use Rattle.books.proofs.contract_at.Tie as tie
 
 mul-window6 : tie.Need-mul-window6
 mul-window6 c = search needs

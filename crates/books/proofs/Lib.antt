@@ -1,0 +1,5 @@
+pub mod Checking
+pub mod Accepted
+pub mod Blocks
+pub mod Bytes
+pub mod Making

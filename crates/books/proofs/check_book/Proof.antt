@@ -1,0 +1,65 @@
+-- `check_book`.
+use mathlib.Core.Path.{_∙_}
+use Rattle.books.proofs.Checking.{short-book, many-contracts, spare-set, wrong-length, right-header}
+use borrow.Author.Needs.{needs}
+use Rattle.books.proofs.check_book.Statement.{statement}
+use Rattle.books.proofs.check_book.Tie as tie
+
+returns : tie.Need-returns
+returns c = let a = c .before .before .args in short-book (a .nodes) (a .file .now) (c .if1 .taken)
+
+contract-count-requires : tie.Need-contract-count-requires
+contract-count-requires c κs = search needs
+
+returns-2 : tie.Need-returns-2
+returns-2 c =
+    let e = c .before .before in
+    many-contracts (e .before .before .args .nodes) (e .before .before .args .file .now) (e .if1 .left) _ (c .before .contract-count .ensures .0) (c .if2 .taken)
+
+field-requires : tie.Need-field-requires
+field-requires c κs = search needs
+
+returns-3 : tie.Need-returns-3
+returns-3 c =
+    let f = c .before .before in
+    let e = f .before .before in
+    spare-set (e .before .before .args .nodes) (e .before .before .args .file .now) (e .if1 .left) _ (f .before .contract-count .ensures .0) (f .if2 .left) _ (c .before .field .ensures .0) (c .if3 .taken)
+
+mul-if4 : tie.Need-mul-if4
+mul-if4 c = search needs
+
+add-if4 : tie.Need-add-if4
+add-if4 c = search needs
+
+returns-4 : tie.Need-returns-4
+returns-4 c =
+    let g = c .before in
+    let f = g .before .before in
+    let e = f .before .before in
+    wrong-length (e .before .before .args .nodes) (e .before .before .args .file .now) (e .if1 .left) _ (f .before .contract-count .ensures .0) (f .if2 .left) _ (g .before .field .ensures .0) (g .if3 .left) (c .if4 .taken)
+
+check-contracts-requires : tie.Need-check-contracts-requires
+check-contracts-requires c κs = search needs
+
+returns-5 : tie.Need-returns-5
+returns-5 c =
+    let g = c .before .before in
+    let f = g .before .before in
+    let e = f .before .before in
+    c .check-contracts .ensures
+    ∙ right-header (e .before .before .args .nodes) (e .before .before .args .file .now) (e .if1 .left) _ (f .before .contract-count .ensures .0) (f .if2 .left) _ (g .before .field .ensures .0) (g .if3 .left) (c .before .if4 .left)
+
+pub check-book-spec : {M : Type 1} → statement M
+check-book-spec =
+    tie.close
+    (tie.spec
+    returns
+    contract-count-requires
+    returns-2
+    field-requires
+    returns-3
+    mul-if4
+    add-if4
+    returns-4
+    check-contracts-requires
+    returns-5)
