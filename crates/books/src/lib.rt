@@ -78,19 +78,6 @@ fn period_bit(period: Period) -> u64
     }
 }
 
-// Stores the six bytes of a 48-bit number.
-fn store6(file: &mut [u8], at: usize, v: u64)
-    requires { ⌜ at + 6 ≤ length (now file) ⌝ }
-    ensures { λ r. ⌜ after file ≡ take at (before file) ++ digits 8 6 v ++ drop (at + 6) (before file) ⌝ }
-{
-    file[at] = bits::part(v, 40, 8) as u8;
-    file[at + 1] = bits::part(v, 32, 8) as u8;
-    file[at + 2] = bits::part(v, 24, 8) as u8;
-    file[at + 3] = bits::part(v, 16, 8) as u8;
-    file[at + 4] = bits::part(v, 8, 8) as u8;
-    file[at + 5] = bits::part(v, 0, 8) as u8;
-}
-
 // A contract's 48 bits as one number.
 fn contract_number(c: Contract) -> u64
     requires { ⌜ ContractFits endBits c ⌝ }
@@ -112,7 +99,7 @@ pub fn store_contract(file: &mut [u8], i: usize, c: Contract)
     ensures { λ r. ⌜ after file ≡ take (bookBytes i) (before file) ++ contractBytes c ++ drop (bookBytes i + 6) (before file) ⌝ }
 {
     let v = contract_number(c);
-    store6(file, BOOK_HEADER_BYTES + CONTRACT_BYTES * i, v);
+    bits::store6(file, BOOK_HEADER_BYTES + CONTRACT_BYTES * i, v);
 }
 
 // A contract's own checks: 11, 12, 13.

@@ -19,7 +19,7 @@ same-length : tie.Need-same-length
 same-length c = search needs
 
 returns : tie.Need-returns
-returns c = rw (c .before .before .before .contract-number .ensures) (c .before .before .store6 .ensures)
+returns c = rw (c .before .before .before .before .contract-number .ensures) (c .before .before .store6 .ensures)
 
 pub store-contract-spec : {M : Type 1} → statement M
 store-contract-spec =
