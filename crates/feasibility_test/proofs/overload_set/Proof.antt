@@ -37,22 +37,22 @@ shared-slice-read-released : tie.Need-shared-slice-read-released Inv-loop μ-loo
 shared-slice-read-released c = search needs
 
 released-requires : tie.Need-released-requires Inv-loop μ-loop
-released-requires c κs = c .before .before .before .before .before .before .pre .1 (c .before .before .before .loop .k) (c .before .before .loop-test .taken) .0
+released-requires c κs = c .before .before .before .before .before .before .pre .good-limits .sized (c .before .before .before .loop .k) (c .before .before .loop-test .taken)
 
 exceeds-requires : tie.Need-exceeds-requires Inv-loop μ-loop
 exceeds-requires c κs =
     let s = c .before .before .before .before .before .before .before in
     let k = c .before .before .before .before .loop .k in
-    let p = s .pre .1 k (c .before .before .before .loop-test .taken) in
-    let flow = kept-sized (getD (s .args .flows .flows) k (pos 0)) 4611686018427387904 (lit< tt) (omega (arith, p .1)) in
-    let limit = released-small (c .released .result .0) (getD (s .args .limits .now) k 0) (s .args .process) (p .0) (c .released .ensures) in
+    let t = c .before .before .before .loop-test .taken in
+    let flow = kept-sized (getD (s .args .flows .flows) k (pos 0)) 4611686018427387904 (lit< tt) (omega (arith, s .pre .flows-sized k t)) in
+    let limit = released-small (c .released .result .0) (getD (s .args .limits .now) k 0) (s .args .process) (s .pre .good-limits .sized k t) (c .released .ensures) in
     (omega (arith, flow, limit), omega (arith, flow, limit))
 
 is : (c : tie.After-exceeds Inv-loop μ-loop) → let s = c .before .before .before .before .before .before .before .before in over (s .args .limits .now) (s .args .process) (s .args .flows .flows) (c .before .before .before .before .before .loop .k) ≡ c .exceeds .result
 is c =
     let s = c .before .before .before .before .before .before .before .before in
     let k = c .before .before .before .before .before .loop .k in
-    over-is (s .args .limits .now) (s .args .process) (s .args .flows .flows) k (c .before .released .result .0) (c .exceeds .result) (s .pre .1 k (c .before .before .before .before .loop-test .taken) .1) (c .before .released .ensures) (c .exceeds .ensures)
+    over-is (s .args .limits .now) (s .args .process) (s .args .flows .flows) k (c .before .released .result .0) (c .exceeds .result) (s .pre .flows-sized k (c .before .before .before .before .loop-test .taken)) (c .before .released .ensures) (c .exceeds .ensures)
 
 shl-set : tie.Need-shl-set Inv-loop μ-loop
 shl-set c = search needs

@@ -1,0 +1,33 @@
+-- `check_test`: the tables' checks, then the book's own.
+use mathlib.Core.Path.{sym, _∙_}
+use Rattle.feasibility_test.specs.TestBook.{TestCall, testCall}
+use Rattle.feasibility_test.proofs.Checking.{table-refuses, then-book}
+use borrow.Author.Needs.{needs}
+use Rattle.feasibility_test.proofs.check_test.Statement.{statement}
+use Rattle.feasibility_test.proofs.check_test.Tie as tie
+
+abbrev call : tie.Start → TestCall
+call c = testCall (c .args .nodes) (c .args .constraints) (c .args .process) (c .args .period) (c .args .limits .now) (c .args .factors .now) (c .args .book .now)
+
+check-grid-tables-requires : tie.Need-check-grid-tables-requires
+check-grid-tables-requires c κs = search needs
+
+enum-known-checked : tie.Need-enum-known-checked
+enum-known-checked c = search needs
+
+returns : tie.Need-returns
+returns c = table-refuses (call (c .before .before .before .before .before .before)) _ (sym (c .before .before .before .check-grid-tables .ensures) ∙ c .before .checked .given .1)
+
+enum-told : tie.Need-enum-told
+enum-told c = search needs
+
+check-book-requires : tie.Need-check-book-requires
+check-book-requires c κs = search needs
+
+returns-2 : tie.Need-returns-2
+returns-2 c =
+    let t = c .before in
+    c .check-book .ensures ∙ then-book (call (t .before .before .before .before .before)) (sym (t .before .before .check-grid-tables .ensures) ∙ t .enum-told .given .1)
+
+pub check-test-spec : {M : Type 1} → statement M
+check-test-spec = tie.close (tie.spec check-grid-tables-requires enum-known-checked returns enum-told check-book-requires returns-2)
