@@ -15,8 +15,7 @@ use Rattle.tariff.specs.Refusals.{Outcome}
 use Rattle.tariff.specs.Feasibility.{excess, overloadSet, overloadCount, lowestOverload}
 use Rattle.feasibility_test.specs.declared.TestAnswer.{TestAnswer}
 use Rattle.feasibility_test.specs.declared.TestAnswer.the-variants.{Pass, Fail}
-use Rattle.feasibility_test.specs.Answer.{testOutcome, testValues, Demand3}
-use Rattle.crr.specs.TestCells.{TestCells, passCells, failCells, testCells, CellsDemand3}
+use Rattle.feasibility_test.specs.TestBook.{testOutcome, testValues, Demand3, TestCells, passCells, failCells, testCells, Demand3OfCells}
 
 module _ (g : Grid) (process : Process) (cs : List Contract) where
   abbrev cellsOf : ℕ → ℕ → ℕ → ℤ → TestCells
@@ -58,7 +57,7 @@ module _ (g : Grid) (process : Process) (cs : List Contract) where
     fail-set = some-by (eqb (overloadSet g process cs) 0) set count lowest over refl e
 
   -- demand 3, carried from the answer to its cells
-  pub pass-demand3 : (r : TestAnswer) → r ≡ Pass → Demand3 g process cs r → CellsDemand3 g process cs 0 0 (pos 0)
+  pub pass-demand3 : (r : TestAnswer) → r ≡ Pass → Demand3 g process cs r → Demand3OfCells g process cs 0 0 (pos 0)
   pass-demand3 r told d = record {
     empty-is-worst-zero = (λ z. d .pass-is-worst-zero .0 told, λ w. refl);
     named-is-a-list = λ n. absurd (n refl);
@@ -69,7 +68,7 @@ module _ (g : Grid) (process : Process) (cs : List Contract) where
   not-pass : (set count lowest : ℕ) (over : Flow) → Fail set count lowest over ≡ Pass → ⊥
   not-pass set count lowest over e = let q : pos set ∷ pos count ∷ pos lowest ∷ over .0 ∷ [] ≡ [] = ap (λ (o : Outcome). o .values) (ap testOutcome e) in let z : _≡_ {A = ℕ} 0 1 = cc in omega arith
 
-  pub fail-demand3 : (r : TestAnswer) (set count lowest : ℕ) (over : Flow) → r ≡ Fail set count lowest over → (set ≡ 0 → ⊥) → Demand3 g process cs r → CellsDemand3 g process cs set lowest (over .0)
+  pub fail-demand3 : (r : TestAnswer) (set count lowest : ℕ) (over : Flow) → r ≡ Fail set count lowest over → (set ≡ 0 → ⊥) → Demand3 g process cs r → Demand3OfCells g process cs set lowest (over .0)
   fail-demand3 r set count lowest over told some d = record {
     empty-is-worst-zero = (λ z. absurd (some z), λ w. absurd (not-pass set count lowest over (sym told ∙ d .pass-is-worst-zero .1 w)));
     named-is-a-list = λ n. d .fail-is-a-list set count lowest over told;
