@@ -32,9 +32,9 @@ use Rattle.feasibility_report.proofs.Answering.{read-told}
 
 module _ (s : List ℕ) (ls₀ : List ℕ) (fs₀ : List ℤ) (cells : length ls₀ ≡ 64) (places : length fs₀ ≡ 12800) where
   -- the reader refuses
-  pub report-refused : (a : GridAnswer) (vs : List ℤ) (r : Refusal) → gridOutcome a ≡ answered (first (readChecks s (length ls₀) (length fs₀))) vs → a ≡ NotRead r → (book : List ℕ) → report s book ≡ refusedLine (ascii "gridOf") r
+  pub report-refused : (a : GridAnswer) (vs : List ℤ) (r : Refusal) → gridOutcome a ≡ answered (first (readChecks s (length ls₀) (length fs₀))) vs → a ≡ NotRead r → (book : List ℕ) → report s book ≡ refusedLine (ascii "grid") r
   unfolding report
-  report-refused a vs r e told book = refused-line (first (readChecks s 64 12800)) vs r (ap gridOutcome (sym told) ∙ rw (cells, places) at e) (ascii "gridOf") _
+  report-refused a vs r e told book = refused-line (first (readChecks s 64 12800)) vs r (ap gridOutcome (sym told) ∙ rw (cells, places) at e) (ascii "grid") _
 
   module _ (passed : first (readChecks s 64 12800) ≡ Passed) where
     ok : Readable s 64 12800

@@ -273,7 +273,7 @@ fn put_report(grid_file: &[u8], book_file: &[u8], buf: &mut [u8]) -> usize
     let mut limits = [0u64; 64];
     let mut factors = [0i64; 12800];
     match grid_file::read_grid(grid_file, &mut limits, &mut factors) {
-        GridAnswer::Refused(refusal) => refusal_line::put_refused(buf, b"gridOf", refusal),
+        GridAnswer::Refused(refusal) => refusal_line::put_refused(buf, b"grid", refusal),
         GridAnswer::Read { nodes, constraints } => {
             put_tested(buf, nodes, constraints, &limits, &factors, book_file)
         }

@@ -33,9 +33,9 @@ use Rattle.statement_text.specs.Parts.{gridChecks, pricedText, bookedTex
 use Rattle.statement_text.proofs.Agree.{lines-same}
 
 module _ (s book prices : List ℕ) (ls₀ : List ℕ) (fs₀ : List ℤ) (cells : length ls₀ ≡ 64) (places : length fs₀ ≡ 12800) where
-  pub grid-refused : (vs : List ℤ) (r : Refusal) → refusedBy r ≡ answered (first (grid-checks.readChecks s (length ls₀) (length fs₀))) vs → statement s book prices ≡ refusedLine (ascii "gridOf") r
+  pub grid-refused : (vs : List ℤ) (r : Refusal) → refusedBy r ≡ answered (first (grid-checks.readChecks s (length ls₀) (length fs₀))) vs → statement s book prices ≡ refusedLine (ascii "grid") r
   unfolding statement
-  grid-refused vs r e = refused-line (first (grid-checks.readChecks s 64 12800)) vs r (rw (cells, places) at e) (ascii "gridOf") _
+  grid-refused vs r e = refused-line (first (grid-checks.readChecks s 64 12800)) vs r (rw (cells, places) at e) (ascii "grid") _
 
   -- the reader has read: its counts n and k, and the factors as it left them
   module _ (n k : ℕ) (fs : List ℤ) (e : given (pos n ∷ pos k ∷ []) ≡ answered (first (grid-checks.readChecks s (length ls₀) (length fs₀))) (pos (nodesIn s) ∷ pos (constraintsIn s) ∷ []))
