@@ -1,4 +1,5 @@
--- The report's parts as they are put one behind the other: a set's members, and the figures of the test's answer.
+-- The report's parts as they are put one behind the other: a set's members, and the figures of the test's answer; and what is reported on.
+use mathlib.Core.Path.{_≡_}
 use mathlib.Core.Bool.{Bool, cond}
 use mathlib.Core.List.{List, [], _++_}
 use Prim.Native.Nat.{ℕ, _/_, _%_, _^_}
@@ -6,13 +7,20 @@ use lib.Dec.{eqb}
 use lib.IntN.{ℤ, pos}
 use Rattle.text.specs.Ascii.{ascii}
 use Rattle.text.specs.Decimal.{decimal, decimalZ}
-use Rattle.tariff.specs.declared.contracts.Contract.{Contract}
-use Rattle.tariff.specs.declared.contracts.Period.{Period}
-use Rattle.tariff.specs.declared.processes.Process.the-variants.{Annual, TierLt, Monthly}
-use Rattle.tariff.specs.Units.{Grid}
+use Rattle.tariff.specs.declared.refusals.Checked.the-variants.{Passed}
+use Rattle.tariff.specs.Units.{maxLimit}
+use Rattle.tariff.specs.Refusals.{first}
+use Rattle.tables.specs.Inner.{GoodFactors, GoodCells}
+use Rattle.books.specs.BookChecks.{bookChecks}
 use Rattle.feasibility_test.specs.declared.TestAnswer.{TestAnswer}
 use Rattle.feasibility_test.specs.declared.TestAnswer.the-variants.{Pass, Fail, Refused}
-use Rattle.feasibility_report.specs.Report.{numbersTo, line}
+use Rattle.feasibility_report.specs.Report.{numbersTo}
+
+-- tables and a book that the test accepts in every process and period
+pub record Reportable (n k : ℕ) (limits : List ℕ) (factors : List ℤ) (book : List ℕ) : Type 0 where
+  pub good-limits : GoodCells maxLimit k limits
+  pub good-factors : GoodFactors n k factors
+  pub good-book : first (bookChecks n book) ≡ Passed
 
 -- bit k of a set
 abbrev pub inSet : ℕ → ℕ → Bool
@@ -36,7 +44,3 @@ abbrev pub overBy : TestAnswer → ℤ
 overBy Pass = pos 0
 overBy (Fail set count lowest over) = over .0
 overBy (Refused r) = pos 0
-
--- the lines of one period
-unfoldable pub periodLines : Grid → List Contract → Period → List ℕ
-periodLines g book period = line g book period Annual ++ line g book period TierLt ++ line g book period Monthly
