@@ -1,3 +1,2 @@
 pub mod ReadBook
 pub mod WriteBook
-pub mod Inner

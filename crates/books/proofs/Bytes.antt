@@ -22,7 +22,8 @@ use Rattle.books.specs.Inner.{headerBytes, contractBytes, bookFront}
 digits-append : (w a b v : ℕ) → digits w (a + b) v ≡ digits w a (v / 2 ^ (w * b)) ++ digits w b v
 digits-append w zero b v = rw zero-add
 digits-append w (suc a) b v =
-    rw suc-add (λ t. (ap (λ (x : ℕ). v / 2 ^ x % 2 ^ w) {x = w * (a + b)} {y = w * b + w * a} (omega (arith, mul-add w a b)) ∙ ap (λ (x : ℕ). x % 2 ^ w) (sym (shr-shr v (w * b) (w * a)))) t ∷ digits-append w a b v t)
+    let same : w * (a + b) ≡ w * b + w * a = omega (arith, mul-add w a b) in
+    rw suc-add (λ t. (ap (λ (x : ℕ). v / 2 ^ x % 2 ^ w) same ∙ ap (λ (x : ℕ). x % 2 ^ w) (sym (shr-shr v (w * b) (w * a)))) t ∷ digits-append w a b v t)
 
 -- fields that fill whole bytes, behind others that do
 file-append : (xs ys : List Field) (a b : ℕ) → total xs ≡ 8 * a → total ys ≡ 8 * b → Fit ys → fileOf (xs ++ ys) ≡ fileOf xs ++ fileOf ys

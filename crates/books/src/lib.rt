@@ -60,7 +60,8 @@ pub fn store_header(file: &mut [u8], contracts: usize)
     file[1] = (contracts % 4 * 64) as u8;
 }
 
-fn kind_bit(kind: Kind) -> u64
+// A kind and a period by the numbers that a book has for them.
+pub fn kind_bit(kind: Kind) -> u64
     ensures { λ r. ⌜ (r ≡ kindBit kind) × (r < 2) ⌝ }
 {
     match kind {
@@ -69,7 +70,7 @@ fn kind_bit(kind: Kind) -> u64
     }
 }
 
-fn period_bit(period: Period) -> u64
+pub fn period_bit(period: Period) -> u64
     ensures { λ r. ⌜ (r ≡ periodBit period) × (r < 2) ⌝ }
 {
     match period {

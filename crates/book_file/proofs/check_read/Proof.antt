@@ -1,10 +1,16 @@
--- `check_read`.
+-- `check_read`: each return by the tests that led there.
 use mathlib.Core.Path.{sym, _∙_}
+use Prim.Native.Nat.{_*_, _<_, _≤_}
 use native.Mathlib.Omega.{arith}
-use Rattle.tariff.proofs.Checks.{first-refuses}
-use Rattle.book_file.specs.BookChecks.{readChecks}
-use Rattle.book_file.proofs.Checking.{own-refuses, short-cells, all-fits}
-use Rattle.book_file.proofs.Accepted.{book-accepted}
+use borrow.Author.Tests.{lt-ltb, le-ltb}
+use lib.ListN.{length}
+use Rattle.tariff.proofs.Checks.{first-passes, first-refuses, last-passes}
+use Rattle.layouts.specs.BookFile.{contractCountIn}
+use Rattle.layouts.specs.BookTable.{contractCells}
+use Rattle.books.specs.BookChecks.{bookChecks}
+use Rattle.books.proofs.Accepted.{book-accepted}
+use Rattle.book_file.specs.ReadBook.{readBookChecks}
+use Rattle.book_file.proofs.Checking.{append-refuses, append-passes}
 use borrow.Author.Needs.{needs}
 use Rattle.book_file.proofs.check_read.Statement.{statement}
 use Rattle.book_file.proofs.check_read.Tie as tie
@@ -13,26 +19,29 @@ nodes-bad-requires : tie.Need-nodes-bad-requires
 nodes-bad-requires c κs = search needs
 
 returns : tie.Need-returns
-unfolding readChecks
-returns c = sym (first-refuses _ _ (sym (c .before .nodes-bad .ensures) ∙ c .if1 .taken))
+unfolding readBookChecks
+returns c = λ table e. sym (first-refuses _ _ (sym (c .before .nodes-bad .ensures) ∙ c .if1 .taken))
 
 check-book-requires : tie.Need-check-book-requires
 check-book-requires c κs = search needs
 
-enum-known-own : tie.Need-enum-known-own
-enum-known-own c = search needs
+enum-known-refusal : tie.Need-enum-known-refusal
+enum-known-refusal c = search needs
 
 returns-2 : tie.Need-returns-2
-returns-2 c =
-    let e = c .before .before .before .before in
-    let a = e .before .before .before .args in
-    own-refuses (a .nodes) (a .file .now) (a .cells) (sym (e .before .nodes-bad .ensures) ∙ e .if1 .left) _ (sym (c .before .before .before .check-book .ensures) ∙ c .before .own .given .1)
+unfolding readBookChecks
+returns-2 c = λ table e.
+    let k = c .before .before .before in
+    let n = k .before in
+    let a = n .before .before .before .args in
+    sym (first-passes _ _ (sym (n .before .nodes-bad .ensures) ∙ n .if1 .left)
+    ∙ append-refuses (bookChecks (a .nodes) (a .file .now)) _ _ (sym (k .check-book .ensures) ∙ c .before .refusal .given .1))
 
 enum-told : tie.Need-enum-told
 enum-told c = search needs
 
-field-requires : tie.Need-field-requires
-field-requires c κs =
+contract-count-requires : tie.Need-contract-count-requires
+contract-count-requires c κs =
     let a = c .before .before .before .before .before .before .args in
     let ok = book-accepted (a .nodes) (a .file .now) (sym (c .before .before .check-book .ensures) ∙ c .enum-told .given .1) in
     omega (arith, ok .size)
@@ -41,18 +50,24 @@ mul-if2 : tie.Need-mul-if2
 mul-if2 c = search needs
 
 returns-3 : tie.Need-returns-3
-returns-3 c =
+unfolding readBookChecks
+returns-3 c = λ table e.
     let k = c .before .before .before .before in
-    let e = k .before in
-    let a = e .before .before .before .args in
-    short-cells (a .nodes) (a .file .now) (a .cells) (sym (e .before .nodes-bad .ensures) ∙ e .if1 .left) (sym (k .check-book .ensures) ∙ c .before .before .enum-told .given .1) _ (c .before .field .ensures .0) (c .if2 .taken)
+    let n = k .before in
+    let a = n .before .before .before .args in
+    let room : length table < contractCells * contractCountIn (a .file .now) = omega (arith, c .before .contract-count .ensures .0) in
+    sym (first-passes _ _ (sym (n .before .nodes-bad .ensures) ∙ n .if1 .left)
+    ∙ append-passes (bookChecks (a .nodes) (a .file .now)) _ (sym (k .check-book .ensures) ∙ c .before .before .enum-told .given .1) ∙ first-refuses _ _ (lt-ltb _ _ room))
 
 returns-4 : tie.Need-returns-4
-returns-4 c =
+unfolding readBookChecks
+returns-4 c = λ table e.
     let k = c .before .before .before .before in
-    let e = k .before in
-    let a = e .before .before .before .args in
-    all-fits (a .nodes) (a .file .now) (a .cells) (sym (e .before .nodes-bad .ensures) ∙ e .if1 .left) (sym (k .check-book .ensures) ∙ c .before .before .enum-told .given .1) _ (c .before .field .ensures .0) (c .if2 .left)
+    let n = k .before in
+    let a = n .before .before .before .args in
+    let room : contractCells * contractCountIn (a .file .now) ≤ length table = omega (arith, c .before .contract-count .ensures .0) in
+    sym (first-passes _ _ (sym (n .before .nodes-bad .ensures) ∙ n .if1 .left)
+    ∙ append-passes (bookChecks (a .nodes) (a .file .now)) _ (sym (k .check-book .ensures) ∙ c .before .before .enum-told .given .1) ∙ last-passes _ (le-ltb _ _ room))
 
 pub check-read-spec : {M : Type 1} → statement M
 check-read-spec =
@@ -61,10 +76,10 @@ check-read-spec =
     nodes-bad-requires
     returns
     check-book-requires
-    enum-known-own
+    enum-known-refusal
     returns-2
     enum-told
-    field-requires
+    contract-count-requires
     mul-if2
     returns-3
     returns-4)

@@ -14,7 +14,8 @@ contract-count-requires c κs = search needs
 returns-2 : tie.Need-returns-2
 returns-2 c =
     let e = c .before .before in
-    many-contracts (e .before .before .args .nodes) (e .before .before .args .file .now) (e .if1 .left) _ (c .before .contract-count .ensures .0) (c .if2 .taken)
+    let a = e .before .before .args in
+    many-contracts (a .nodes) (a .file .now) (e .if1 .left) _ (c .before .contract-count .ensures .0) (c .if2 .taken)
 
 field-requires : tie.Need-field-requires
 field-requires c κs = search needs
@@ -23,7 +24,8 @@ returns-3 : tie.Need-returns-3
 returns-3 c =
     let f = c .before .before in
     let e = f .before .before in
-    spare-set (e .before .before .args .nodes) (e .before .before .args .file .now) (e .if1 .left) _ (f .before .contract-count .ensures .0) (f .if2 .left) _ (c .before .field .ensures .0) (c .if3 .taken)
+    let a = e .before .before .args in
+    spare-set (a .nodes) (a .file .now) (e .if1 .left) _ (f .before .contract-count .ensures .0) (f .if2 .left) _ (c .before .field .ensures .0) (c .if3 .taken)
 
 mul-if4 : tie.Need-mul-if4
 mul-if4 c = search needs
@@ -36,7 +38,8 @@ returns-4 c =
     let g = c .before in
     let f = g .before .before in
     let e = f .before .before in
-    wrong-length (e .before .before .args .nodes) (e .before .before .args .file .now) (e .if1 .left) _ (f .before .contract-count .ensures .0) (f .if2 .left) _ (g .before .field .ensures .0) (g .if3 .left) (c .if4 .taken)
+    let a = e .before .before .args in
+    wrong-length (a .nodes) (a .file .now) (e .if1 .left) _ (f .before .contract-count .ensures .0) (f .if2 .left) _ (g .before .field .ensures .0) (g .if3 .left) (c .if4 .taken)
 
 check-contracts-requires : tie.Need-check-contracts-requires
 check-contracts-requires c κs = search needs
@@ -46,8 +49,9 @@ returns-5 c =
     let g = c .before .before in
     let f = g .before .before in
     let e = f .before .before in
+    let a = e .before .before .args in
     c .check-contracts .ensures
-    ∙ right-header (e .before .before .args .nodes) (e .before .before .args .file .now) (e .if1 .left) _ (f .before .contract-count .ensures .0) (f .if2 .left) _ (g .before .field .ensures .0) (g .if3 .left) (c .before .if4 .left)
+    ∙ right-header (a .nodes) (a .file .now) (e .if1 .left) _ (f .before .contract-count .ensures .0) (f .if2 .left) _ (g .before .field .ensures .0) (g .if3 .left) (c .before .if4 .left)
 
 pub check-book-spec : {M : Type 1} → statement M
 check-book-spec =

@@ -31,7 +31,8 @@ returns : tie.Need-returns Inv-loop μ-loop
 returns c =
     let l = c .before .before .before .before .before .loop in
     let a = c .before .before .before .before .before .before .before .args in
-    sym (checks-stop (λ i. contractChecks (a .nodes) (contractAt (a .file .now) i)) (a .count) (l .i) _ (omega arith) (l .inv .1) (sym (c .before .before .before .check-at .ensures) ∙ c .before .checked .given .1))
+    sym (checks-stop (λ i. contractChecks (a .nodes) (contractAt (a .file .now) i)) (a .count) (l .i) _ (omega arith) (l .inv .1)
+    (sym (c .before .before .before .check-at .ensures) ∙ c .before .checked .given .1))
 
 enum-told : tie.Need-enum-told Inv-loop μ-loop
 enum-told c = search needs

@@ -5,11 +5,11 @@ use native.Mathlib.Omega.{arith}
 use borrow.Author.Needs.{needs}
 use Rattle.tariff.specs.Refusals.{first}
 use Rattle.tariff.specs.declared.refusals.Checked.the-variants.{Passed}
-use Rattle.book_file.specs.BookChecks.{checksTo}
-use Rattle.book_writer.specs.WriteChecks.{rowChecks}
-use Rattle.book_file.proofs.Checking.{checks-start, checks-more, checks-stop}
-use Rattle.book_writer.proofs.check_rows.Statement.{statement}
-use Rattle.book_writer.proofs.check_rows.Tie as tie
+use Rattle.books.specs.BookChecks.{checksTo}
+use Rattle.book_file.specs.WriteBook.{rowChecks}
+use Rattle.books.proofs.Checking.{checks-start, checks-more, checks-stop}
+use Rattle.book_file.proofs.check_rows.Statement.{statement}
+use Rattle.book_file.proofs.check_rows.Tie as tie
 
 abbrev Inv-loop : tie.InvT-loop
 Inv-loop nodes contracts cells i₀ i =
