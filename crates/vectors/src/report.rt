@@ -3,7 +3,7 @@ use layouts::WriteAnswer;
 use printing::figure;
 use printing::print;
 
-fn report(name: &[u8], first_limit: u64, quantity: u64) {
+fn reported(name: &[u8], first_limit: u64, quantity: u64) {
     let mut grid = [0u8; 23];
     grid_file::write_grid(
         3,
@@ -13,7 +13,7 @@ fn report(name: &[u8], first_limit: u64, quantity: u64) {
         &mut grid,
     );
     let mut book = [0u8; 8];
-    book_writer::write_book(3, 1, &[0, 1, 7, 0, 1, quantity], &mut book);
+    book_file::write_book(3, 1, &[0, 1, 7, 0, 1, quantity], &mut book);
     let mut text = [0u8; 2048];
     print(name);
     match feasibility_report::write_report(&grid, &book, &mut text) {
@@ -27,8 +27,8 @@ fn report(name: &[u8], first_limit: u64, quantity: u64) {
 }
 
 pub fn go_through() {
-    report(b"P4, first limit 6,000, quantity 10,000\n", 6000, 10000);
-    report(b"P5, first limit 6,000, quantity 10,001\n", 6000, 10001);
-    report(b"P6, first limit 8,000, quantity 10,000\n", 8000, 10000);
-    report(b"P7, first limit 7,999, quantity 10,000\n", 7999, 10000);
+    reported(b"P4, first limit 6,000, quantity 10,000\n", 6000, 10000);
+    reported(b"P5, first limit 6,000, quantity 10,001\n", 6000, 10001);
+    reported(b"P6, first limit 8,000, quantity 10,000\n", 8000, 10000);
+    reported(b"P7, first limit 7,999, quantity 10,000\n", 7999, 10000);
 }

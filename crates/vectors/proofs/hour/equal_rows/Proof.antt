@@ -3,8 +3,8 @@ use mathlib.Core.Path.{_≡_}
 use Prim.Native.Nat.{_-_, _≤_}
 use lib.ListN.{length}
 use borrow.Author.Needs.{needs}
-use Rattle.hour_vectors.proofs.equal_rows.Statement.{statement}
-use Rattle.hour_vectors.proofs.equal_rows.Tie as tie
+use Rattle.vectors.proofs.hour.equal_rows.Statement.{statement}
+use Rattle.vectors.proofs.hour.equal_rows.Tie as tie
 
 abbrev Inv-loop : tie.InvT-loop
 Inv-loop source sink cells₀ i₀ cells i =

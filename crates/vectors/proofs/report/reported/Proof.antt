@@ -3,8 +3,8 @@ use mathlib.Core.Path.{sym}
 use native.Mathlib.Omega.{arith}
 use lib.Seq.{length-take-le}
 use borrow.Author.Needs.{needs}
-use Rattle.report_vectors.proofs.report.Statement.{statement}
-use Rattle.report_vectors.proofs.report.Tie as tie
+use Rattle.vectors.proofs.report.reported.Statement.{statement}
+use Rattle.vectors.proofs.report.reported.Tie as tie
 
 slice-aggregate-write-grid : tie.Need-slice-aggregate-write-grid
 slice-aggregate-write-grid c = search needs
@@ -77,8 +77,8 @@ returns-2 c = search needs
 returns-3 : tie.Need-returns-3
 returns-3 c = search needs
 
-pub report-spec : {M : Type 1} → statement M
-report-spec =
+pub reported-spec : {M : Type 1} → statement M
+reported-spec =
     tie.close
     (tie.spec
     slice-aggregate-write-grid

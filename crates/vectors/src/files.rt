@@ -60,7 +60,7 @@ fn edges() {
 // P10: an on-peak obligation 0 to 1 of 10,000, holder 7.
 fn p10() {
     let mut file = [0u8; 8];
-    let n = written(book_writer::write_book(3, 1, &[0, 1, 7, 0, 1, 10000], &mut file));
+    let n = written(book_file::write_book(3, 1, &[0, 1, 7, 0, 1, 10000], &mut file));
     figure(b"P10, length", n as u64, 8);
     bytes(b"P10", &file, b"\x00\x40\x40\x70\x00\x10\x27\x10");
 }
@@ -111,7 +111,7 @@ fn case_l_book() {
             figure(b"L, kind of contract 1", book[6], 1);
             figure(b"L, quantity of contract 1", book[11], 500);
             let mut again = [0u8; 26];
-            let n = written(book_writer::write_book(3, contracts, &book, &mut again));
+            let n = written(book_file::write_book(3, contracts, &book, &mut again));
             figure(b"L, book length", n as u64, 26);
             bytes(b"L, book", &again, file);
         }

@@ -65,7 +65,7 @@ fn one_contract(
     parts_expected: u64,
 ) {
     let mut file = [0u8; 8];
-    book_writer::write_book(2, 1, &[0, 1, 0, 0, 1, quantity], &mut file);
+    book_file::write_book(2, 1, &[0, 1, 0, 0, 1, quantity], &mut file);
     let mut cents = [0i64; 1];
     match settlement::settle_hour(2, 1, 1, &[source, sink], &[price], &file, &mut cents) {
         SettleAnswer::Settled {
@@ -114,7 +114,7 @@ fn end_factors() -> [i64; 12800] {
 fn extreme(name: &[u8], source: u64, sink: u64, cents_expected: i64, sum_expected: i64) {
     let mut file = [0u8; 6002];
     let cells = equal_rows(source, sink);
-    book_writer::write_book(200, 1000, &cells, &mut file);
+    book_file::write_book(200, 1000, &cells, &mut file);
     let factors = end_factors();
     let mut cents = [0i64; 1000];
     match settlement::settle_hour(200, 64, 1, &factors, &[500000; 64], &file, &mut cents) {

@@ -3,8 +3,8 @@ use mathlib.Core.Path.{_≡_}
 use Prim.Native.Nat.{_-_, _≤_}
 use lib.ListN.{length}
 use borrow.Author.Needs.{needs}
-use Rattle.hour_vectors.proofs.end_factors.Statement.{statement}
-use Rattle.hour_vectors.proofs.end_factors.Tie as tie
+use Rattle.vectors.proofs.hour.end_factors.Statement.{statement}
+use Rattle.vectors.proofs.hour.end_factors.Tie as tie
 
 abbrev Inv-loop : tie.InvT-loop
 Inv-loop factors₀ i₀ factors i =
