@@ -1,3 +1,4 @@
 pub mod Factors
-pub mod GridLaws
+pub mod Passing
+pub mod Filling
 pub mod RoundTrip

@@ -1,2 +1,3 @@
 pub mod ReadGrid
 pub mod WriteGrid
+pub mod Inner

@@ -1,7 +1,7 @@
--- `grid_file::bits_bad`: the range of a factor, by its bits.
+-- `bits_bad`: the range of a factor, by its bits.
 use Rattle.grid_file.proofs.Factors.{bits-low, bits-high}
-use Rattle.grid_file.proofs.bits_bad.Statement.{statement}
-use Rattle.grid_file.proofs.bits_bad.Tie as tie
+use Rattle.grid_file.proofs.reading.bits_bad.Statement.{statement}
+use Rattle.grid_file.proofs.reading.bits_bad.Tie as tie
 
 returns : tie.Need-returns
 returns c = bits-low (c .before .args .bits) (c .if1 .taken)
