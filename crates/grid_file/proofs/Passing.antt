@@ -24,7 +24,7 @@ use Rattle.tables.proofs.Passing.{grid-tables}
 use Rattle.layouts.specs.GridFile.{limitWidth, factorWidth, gridHeaderBits, gridBits, gridBytes, gridFields, gridFile}
 use Rattle.layouts.specs.GridFile.{nodesIn, constraintsIn, gridSpareIn, limitsFrom, factorsFrom, limitsIn, factorsIn, gridPadIn}
 use Rattle.layouts.proofs.GridFile.{GridFits, total-grid}
-use Rattle.grid_file.specs.ReadGrid.{ReadGridCall, readGridChecks, readGridChecked}
+use Rattle.grid_file.specs.ReadGrid.{ReadGridCall, gridFileChecks, readGridChecks, readGridChecked}
 use Rattle.grid_file.specs.WriteGrid.{WriteGridCall, writeGridChecks, writeGridChecked}
 use Rattle.grid_file.specs.Inner.{GoodCounts, Counted, Writable, mostBytes, factorsAt}
 use Rattle.grid_file.proofs.Factors.{small-mag, cell-small}
@@ -58,7 +58,7 @@ pub record Readable (q : ReadGridCall) : Type 0 where
   pub factor-room : nodesIn (q .file) * constraintsIn (q .file) ≤ length (q .factors)
 
 pub readable : (q : ReadGridCall) → readGridChecked q ≡ Passed → Readable q
-unfolding readGridChecks
+unfolding gridFileChecks readGridChecks
 readable q e =
     let two = passed-cons _ _ (passed-cons _ _ e .1) in
     let three = passed-cons _ _ (two .1) in

@@ -12,7 +12,7 @@ use Rattle.tariff.specs.declared.refusals.Checked.the-variants.{Passed}
 use Rattle.tariff.proofs.Checks.{first-passes, passed-cons, same, last-passes}
 use Rattle.layouts.specs.GridFile.{gridBytes, gridFile, gridIn, nodesIn, constraintsIn, limitsIn, factorsIn}
 use Rattle.layouts.proofs.GridFile.{GridWritten, grid-written, grid-file-read}
-use Rattle.grid_file.specs.ReadGrid.{ReadGridCall, readGridCall, readGridChecks, readGridChecked}
+use Rattle.grid_file.specs.ReadGrid.{ReadGridCall, readGridCall, gridFileChecks, readGridChecks, readGridChecked}
 use Rattle.grid_file.specs.WriteGrid.{WriteGridCall, writeGridChecks, writeGridChecked, gridWritten}
 use Rattle.grid_file.proofs.Passing.{readable, writable, written-fits}
 
@@ -40,7 +40,7 @@ module _ (q : WriteGridCall) (e : writeGridChecked q ≡ Passed) where
 
   -- each check of the reader is one that the writer made, or is settled by the file
   not-refused : (ls : List ℕ) (fs : List ℤ) → q .constraints ≤ length ls → q .nodes * q .constraints ≤ length fs → readGridChecked (readGridCall (gridWritten q) ls fs) ≡ Passed
-  unfolding readGridChecks writeGridChecks
+  unfolding gridFileChecks readGridChecks writeGridChecks
   not-refused ls fs h j =
       let s = gridWritten q in
       let size : length s ≡ gridBytes (nodesIn s) (constraintsIn s) = rw (found .nodes, found .constraints) (found .size) in

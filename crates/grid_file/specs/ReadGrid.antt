@@ -1,6 +1,6 @@
 -- Reading a grid (document 01, "When input is turned down" and "The three files"): what is handed in, the checks in order, what is given, the promise.
 use mathlib.Core.Path.{_≡_}
-use mathlib.Core.List.{List, [], _∷_}
+use mathlib.Core.List.{List, [], _∷_, _++_}
 use Prim.Native.Nat.{ℕ, _*_}
 use lib.ListN.{length}
 use lib.IntN.{ℤ, pos}
@@ -27,20 +27,26 @@ abbrev pub gridOutcome : GridAnswer → Outcome
 gridOutcome (Read n k) = given (pos n ∷ pos k ∷ [])
 gridOutcome (Refused r) = refusedBy r
 
+-- the file's own: "1: under two bytes. 2: nodes 0 or above 200. 3: constraints above 64. 4: spare bit set. 5: length differs from what the counts fix.
+-- 6: a limit too large. 7: a factor out of range. 8: a padding bit set."
+unfoldable pub gridFileChecks : List ℕ → List Check
+gridFileChecks file =
+    shortFile file 2
+    ∷ nodeCount (nodesIn file)
+    ∷ constraintCount (constraintsIn file)
+    ∷ spareBits (gridSpareIn file)
+    ∷ fileLength file (gridBytes (nodesIn file) (constraintsIn file))
+    ∷ limitRange (limitsIn file)
+    ∷ factorRange (factorsIn file)
+    ∷ padding (gridPadIn file)
+    ∷ []
+
 module _ (q : ReadGridCall) where
-  -- "1: under two bytes. 2: nodes 0 or above 200. 3: constraints above 64. 4: spare bit set. 5: length differs from what the counts fix. 6: a limit too large.
-  -- 7: a factor out of range. 8: a padding bit set. 9: a lent table too short."
+  -- then "9: a lent table too short"
   unfoldable pub readGridChecks : List Check
   readGridChecks =
-      shortFile (q .file) 2
-      ∷ nodeCount (nodesIn (q .file))
-      ∷ constraintCount (constraintsIn (q .file))
-      ∷ spareBits (gridSpareIn (q .file))
-      ∷ fileLength (q .file) (gridBytes (nodesIn (q .file)) (constraintsIn (q .file)))
-      ∷ limitRange (limitsIn (q .file))
-      ∷ factorRange (factorsIn (q .file))
-      ∷ padding (gridPadIn (q .file))
-      ∷ shortTable (length (q .limits)) (constraintsIn (q .file))
+      gridFileChecks (q .file)
+      ++ shortTable (length (q .limits)) (constraintsIn (q .file))
       ∷ shortTable (length (q .factors)) (nodesIn (q .file) * constraintsIn (q .file))
       ∷ []
 

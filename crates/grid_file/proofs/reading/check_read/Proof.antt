@@ -8,7 +8,7 @@ use Rattle.tariff.specs.Refusals.{Check, first}
 use Rattle.tariff.specs.Checks.{nodeCount}
 use Rattle.tariff.proofs.Checks.{first-passes, first-refuses, nodes-few-of, differs, same}
 use Rattle.layouts.specs.GridFile.{nodesIn}
-use Rattle.grid_file.specs.ReadGrid.{readGridCall, readGridChecks}
+use Rattle.grid_file.specs.ReadGrid.{readGridCall, gridFileChecks, readGridChecks}
 use Rattle.grid_file.specs.Inner.{GoodCounts, figureChecks}
 use Rattle.grid_file.proofs.reading.check_read.Statement.{statement}
 use Rattle.grid_file.proofs.reading.check_read.Tie as tie
@@ -22,19 +22,19 @@ abbrev checks : tie.Start → List Check
 checks s = readGridChecks (readGridCall (s .args .file .now) (s .args .limits .now) (s .args .factors .now))
 
 past : (c : tie.Else1) → first (checks (c .before .before .before)) ≡ first (drop 1 (checks (c .before .before .before)))
-unfolding readGridChecks
+unfolding gridFileChecks readGridChecks
 past c = first-passes _ _ (le-ltb _ _ (c .if1 .left))
 
 past-2 : (c : tie.Else2) → first (checks (c .before .before .before .before .before .before .before)) ≡ first (drop 2 (checks (c .before .before .before .before .before .before .before)))
-unfolding readGridChecks
+unfolding gridFileChecks readGridChecks
 past-2 c = past (c .before .before .before .before) ∙ first-passes _ _ (sym (bad (c .before)) ∙ c .if2 .left)
 
 past-3 : (c : tie.Else3) → first (checks (c .before .before .before .before .before .before .before .before)) ≡ first (drop 3 (checks (c .before .before .before .before .before .before .before .before)))
-unfolding readGridChecks
+unfolding gridFileChecks readGridChecks
 past-3 c = past-2 (c .before) ∙ first-passes _ _ (le-ltb _ _ (rw (c .before .before .before .constraints-in .ensures) at (c .if3 .left)))
 
 past-4 : (c : tie.Else4) → first (checks (c .before .before .before .before .before .before .before .before .before .before)) ≡ first (drop 4 (checks (c .before .before .before .before .before .before .before .before .before .before)))
-unfolding readGridChecks
+unfolding gridFileChecks readGridChecks
 past-4 c = past-3 (c .before .before) ∙ first-passes _ _ (same _ _ (sym (c .before .field .ensures .0) ∙ c .if4 .left))
 
 -- counts that passed
@@ -45,7 +45,7 @@ good c =
     record { nodes-few = nodes-few-of _ (sym (n .before .nodes-bad .ensures) ∙ n .if2 .left); few = few .if3 .left }
 
 returns : tie.Need-returns
-unfolding readGridChecks
+unfolding gridFileChecks readGridChecks
 returns c = sym (first-refuses _ _ (lt-ltb _ _ (c .if1 .taken)))
 
 nodes-in-requires : tie.Need-nodes-in-requires
@@ -58,25 +58,25 @@ nodes-bad-requires : tie.Need-nodes-bad-requires
 nodes-bad-requires c κs = search needs
 
 returns-2 : tie.Need-returns-2
-unfolding readGridChecks
+unfolding gridFileChecks readGridChecks
 returns-2 c = sym (past (c .before .before .before .before) ∙ first-refuses _ _ (sym (bad (c .before)) ∙ c .if2 .taken))
 
 returns-3 : tie.Need-returns-3
-unfolding readGridChecks
+unfolding gridFileChecks readGridChecks
 returns-3 c = sym (past-2 (c .before) ∙ first-refuses _ _ (lt-ltb _ _ (rw (c .before .before .before .constraints-in .ensures) at (c .if3 .taken))))
 
 field-requires : tie.Need-field-requires
 field-requires c κs = search needs
 
 returns-4 : tie.Need-returns-4
-unfolding readGridChecks
+unfolding gridFileChecks readGridChecks
 returns-4 c = sym (past-3 (c .before .before) ∙ first-refuses _ _ (differs _ _ (rw (c .before .field .ensures .0) at (c .if4 .taken))))
 
 file-bytes-requires : tie.Need-file-bytes-requires
 file-bytes-requires c κs = good c
 
 returns-5 : tie.Need-returns-5
-unfolding readGridChecks
+unfolding gridFileChecks readGridChecks
 returns-5 c =
     let n = c .before .before .before .before .before .before .before .before in
     let k = c .before .before .before .before .before .before .before in
@@ -92,7 +92,7 @@ check-figures-requires c κs =
     }
 
 returns-6 : tie.Need-returns-6
-unfolding readGridChecks figureChecks
+unfolding gridFileChecks readGridChecks figureChecks
 returns-6 c =
     let e = c .before in
     let n = e .before .before .before .before .before .before .before .before in
