@@ -21,7 +21,7 @@ use Rattle.lists.proofs.Lists.{listTo-cong, map-listTo}
 use Rattle.tariff.specs.declared.contracts.Contract.{Contract}
 use Rattle.tariff.specs.declared.contracts.Period.{Period}
 use Rattle.tariff.specs.declared.refusals.Checked.the-variants.{Passed}
-use Rattle.tariff.specs.Units.{factorsOf, perCent, maxContracts}
+use Rattle.tariff.specs.Units.{Factors, factorsOf, perCent, maxContracts}
 use Rattle.tariff.specs.Contracts.{samePeriod, ofPeriod}
 use Rattle.tariff.specs.Refusals.{first}
 use Rattle.tariff.specs.Inner.{InRange, maxCents}
@@ -32,6 +32,7 @@ use Rattle.layouts.specs.BookFile.{contractCountIn, contractAt, bookIn}
 use Rattle.books.specs.BookChecks.{bookChecks}
 use Rattle.books.proofs.Accepted.{book-accepted}
 use Rattle.settlement.specs.declared.Totals.{Totals}
+use Rattle.settlement.specs.declared.SettleAnswer.the-variants.{Settled}
 use Rattle.settlement.specs.SettleHour.{centsOf, centsSum, hourTotal}
 use Rattle.settlement.specs.Inner.{Hour, mccIn, hourAmount, exactOf, Bounded, SettlesBy, Settles}
 use Rattle.settlement.proofs.Congestion.{prices-in, front-at, amount-by}
@@ -96,9 +97,21 @@ cond-sized : (b : Bool) (x : ℤ) (most : ℕ) → natAbs x ≤ most → natAbs 
 cond-sized true x most h = h
 cond-sized false x most h = omega arith
 
--- whole cents and parts that make the total are its own
-pub split-values : (w : ℤ) (p : ℕ) (total : ℤ) → w *ℤ pos perCent +ℤ pos p ≡ total → p < perCent → (w ≡ wholeCents total) × (p ≡ parts total)
-split-values w p total e h = rw (← e) (sym (floor-unique w p perCent h .0), sym (floor-unique w p perCent h .1))
+-- ---- an answer
+
+-- of totals that are those of contracts, the figures are the contracts'
+pub values-are : (f : Factors) (p : List ℕ) (t : Period) (cs : List Contract) (r : Totals) → r .parts < perCent → r .sum ≡ centsSum f p t cs → exactOf r ≡ hourTotal f p t cs
+    → r .sum ∷ r .whole ∷ pos (r .parts) ∷ [] ≡ centsSum f p t cs ∷ wholeCents (hourTotal f p t cs) ∷ pos (parts (hourTotal f p t cs)) ∷ []
+values-are f p t cs r small sum exact =
+    let only = floor-unique (r .whole) (r .parts) perCent small in
+    rw (← exact, ← sum) (λ i. r .sum ∷ sym (only .0) i ∷ pos (sym (only .1) i) ∷ [])
+
+-- an answer of the exact total's figures makes it
+pub exact-of : (S W s w : ℤ) (P p : ℕ) (total : ℤ) → W *ℤ pos perCent +ℤ pos P ≡ total → Settled S W P ≡ Settled s w p → w *ℤ pos perCent +ℤ pos p ≡ total
+exact-of S W s w P p total e q =
+    let whole : W ≡ w = cc in
+    let part : P ≡ p = cc in
+    rw (← whole, ← part) e
 
 -- ---- an hour's figures, by a table of MCCs
 
