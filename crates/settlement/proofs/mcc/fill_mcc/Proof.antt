@@ -1,4 +1,4 @@
--- `settlement::fill_mcc`: the cells passed hold the MCCs passed, and those behind are as they were.
+-- `fill_mcc`: the cells passed hold the MCCs passed, and those behind are as they were.
 use mathlib.Core.Path.{_≡_, sym, _∙_}
 use Prim.Native.Nat.{_-_, _≤_, _<_}
 use native.Mathlib.Omega.{arith}
@@ -9,16 +9,14 @@ use mir.Facts.{toZ-ofZ}
 use Rattle.lists.proofs.Fill.{fill-turn, rest-turn, fill-front}
 use Rattle.lists.proofs.Lists.{length-listTo, getD-listTo}
 use borrow.Author.Needs.{needs}
-use mathlib.Core.List.{[]}
-use Rattle.tariff.specs.Units.{gridOf}
-use Rattle.tariff.specs.Settlement.{mcc}
 use Rattle.lists.specs.Lists.{listTo}
-use Rattle.settlement.proofs.fill_mcc.Statement.{statement}
-use Rattle.settlement.proofs.fill_mcc.Tie as tie
+use Rattle.settlement.specs.Inner.{mccIn}
+use Rattle.settlement.proofs.mcc.fill_mcc.Statement.{statement}
+use Rattle.settlement.proofs.mcc.fill_mcc.Tie as tie
 
 abbrev Inv-loop : tie.InvT-loop
 Inv-loop nodes constraints factors prices out₀ node₀ out node =
-    (node ≤ nodes) × (length out ≡ length out₀) × (take node out ≡ take node (listTo nodes (mcc (gridOf nodes constraints [] factors) prices))) × (drop node out ≡ drop node out₀)
+    (node ≤ nodes) × (length out ≡ length out₀) × (take node out ≡ take node (listTo nodes (mccIn nodes constraints factors prices))) × (drop node out ≡ drop node out₀)
 
 abbrev μ-loop : tie.MeasureT-loop
 μ-loop nodes constraints factors prices out₀ node₀ out node = nodes - node
@@ -48,7 +46,7 @@ loop-again : tie.Need-loop-again Inv-loop μ-loop
 loop-again c =
     let a = c .before .before .before .before .before .args in
     let l = c .before .before .before .loop in
-    let f = mcc (gridOf (a .nodes) (a .constraints) [] (a .factors .now)) (a .prices .now) in
+    let f = mccIn (a .nodes) (a .constraints) (a .factors .now) (a .prices .now) in
     let h : l .node < a .nodes = omega arith in
     let v = toZ-ofZ {w = w64} (record { sfits = c .cell .ok }) ∙ c .cell .ensures ∙ c .before .node-mcc .ensures .0 ∙ sym (getD-listTo (a .nodes) f (l .node) (pos 0) h) in (
       omega arith,
@@ -64,7 +62,7 @@ returns : tie.Need-returns Inv-loop μ-loop
 returns c =
     let a = c .before .before .before .args in
     let l = c .before .loop in
-    let f = mcc (gridOf (a .nodes) (a .constraints) [] (a .factors .now)) (a .prices .now) in
+    let f = mccIn (a .nodes) (a .constraints) (a .factors .now) (a .prices .now) in
     fill-front (listTo (a .nodes) f) (l .out) (a .out .now) (l .node) (l .inv .2) (l .inv .3) (rw (length-listTo (a .nodes) f) (omega arith))
 
 pub fill-mcc-spec : {M : Type 1} → statement M

@@ -1,4 +1,4 @@
--- `settlement::settle_contracts`: the cells passed hold the cents of the contracts passed, and the totals are theirs.
+-- `settle_contracts`: the cells passed hold the cents of the contracts passed, and the totals are theirs.
 use mathlib.Core.Path.{_≡_, refl, sym, ap, _∙_}
 use Prim.Native.Nat.{ℕ, _-_, _≤_, _<_}
 use native.Mathlib.Omega.{arith}
@@ -6,19 +6,20 @@ use lib.ListN.{length, take, drop, length-set}
 use lib.IntN.{ℤ, pos}
 use mir.Syntax.{w64}
 use mir.Facts.{toZ-ofZ}
+use Rattle.lists.specs.Lists.{listTo}
 use Rattle.lists.proofs.Fill.{fill-turn, rest-turn, fill-front}
 use Rattle.lists.proofs.Lists.{length-listTo, getD-listTo}
-use Rattle.settlement.proofs.HourSums.{sum-start, sum-more}
 use borrow.Author.Needs.{needs}
 use mathlib.Core.List.{List}
 use Rattle.integers.specs.Sums.{sumTo}
 use Rattle.tariff.specs.declared.contracts.Period.{Period}
+use Rattle.tariff.specs.Units.{maxContracts}
 use Rattle.tariff.specs.Settlement.{cents as centsOf}
-use Rattle.lists.specs.Lists.{listTo}
 use Rattle.layouts.specs.BookFile.{contractAt}
-use Rattle.settlement.specs.Tables.{hourAmount, exactOf, Bounded}
-use Rattle.settlement.proofs.settle_contracts.Statement.{statement}
-use Rattle.settlement.proofs.settle_contracts.Tie as tie
+use Rattle.settlement.specs.Inner.{hourAmount, exactOf, Bounded}
+use Rattle.settlement.proofs.HourSums.{sum-start, sum-more, bounded-most}
+use Rattle.settlement.proofs.hour.settle_contracts.Statement.{statement}
+use Rattle.settlement.proofs.hour.settle_contracts.Tie as tie
 
 -- what contract i adds, and its cents
 abbrev amountAt : List ℤ → Period → List ℕ → ℕ → ℤ
@@ -29,7 +30,8 @@ centsAt mccs t s i = centsOf (amountAt mccs t s i)
 
 abbrev Inv-loop : tie.InvT-loop
 Inv-loop nodes mccs period book count cents₀ totals₀ i₀ cents totals i =
-    (i ≤ count) × (length cents ≡ length cents₀) × (take i cents ≡ take i (listTo count (centsAt mccs period book))) × (drop i cents ≡ drop i cents₀) × (totals .sum ≡ sumTo i (centsAt mccs period book)) × (exactOf totals ≡ sumTo i (amountAt mccs period book)) × Bounded i totals
+    (i ≤ count) × (length cents ≡ length cents₀) × (take i cents ≡ take i (listTo count (centsAt mccs period book))) × (drop i cents ≡ drop i cents₀)
+    × (totals .sum ≡ sumTo i (centsAt mccs period book)) × (exactOf totals ≡ sumTo i (amountAt mccs period book)) × Bounded i totals
 
 abbrev μ-loop : tie.MeasureT-loop
 μ-loop nodes mccs period book count cents₀ totals₀ i₀ cents totals i = count - i
@@ -47,7 +49,7 @@ loop-holds c =
     )
 
 contract-at-requires : tie.Need-contract-at-requires Inv-loop μ-loop
-contract-at-requires c κs = search needs
+contract-at-requires c κs = (omega arith, omega arith)
 
 hour-amount-requires : tie.Need-hour-amount-requires Inv-loop μ-loop
 hour-amount-requires c κs =
@@ -55,22 +57,24 @@ hour-amount-requires c κs =
     (s .pre .0 .0, rw (c .contract-at .ensures) (s .pre .0 .1 (c .before .before .loop .i) (omega arith)))
 
 cents-requires : tie.Need-cents-requires Inv-loop μ-loop
-cents-requires c κs = search needs
+cents-requires c κs = c .hour-amount .ensures .1
 
 mul-t13 : tie.Need-mul-t13 Inv-loop μ-loop
 mul-t13 c = search needs
 
 slice-set-from-cents : tie.Need-slice-set-from-cents Inv-loop μ-loop
-slice-set-from-cents c = search needs
+slice-set-from-cents c = omega arith
 
 plus-requires : tie.Need-plus-requires Inv-loop μ-loop
-plus-requires c κs = search needs
+plus-requires c κs =
+    let l = c .before .before .before .before .loop in
+    (c .before .hour-amount .ensures .1, bounded-most (l .i) maxContracts (l .totals) (omega arith) (l .inv .6))
 
 add-i : tie.Need-add-i Inv-loop μ-loop
 add-i c = search needs
 
 loop-less : tie.Need-loop-less Inv-loop μ-loop
-loop-less c = search needs
+loop-less c = omega arith
 
 loop-again : tie.Need-loop-again Inv-loop μ-loop
 loop-again c =
@@ -86,13 +90,9 @@ loop-again c =
       simp length-set (omega arith),
       fill-turn (listTo (a .count) F) (l .cents) (l .i) (l .inv .2) _ (pos 0) (omega arith) (rw (length-listTo (a .count) F) h) v,
       rest-turn (l .cents) (a .cents .now) (l .i) _ (l .inv .3),
-      sum-more (l .i) F (l .totals .sum) (centsOf (amount .result .0)) (c .plus .result .sum) (l .inv .4) (ap centsOf is) (p .0 .0),
-      sum-more (l .i) (amountAt (a .mccs .now) (a .period) (a .book .now)) (exactOf (l .totals)) (amount .result .0) (exactOf (c .plus .result)) (l .inv .5) is (p .0 .1),
-      record {
-        parts-small = p .1 .0;
-        sum-sized = omega (arith, p .1, l .inv .6);
-        whole-sized = omega (arith, p .1, l .inv .6);
-      },
+      sum-more (l .i) F (l .totals .sum) (centsOf (amount .result .0)) (c .plus .result .sum) (l .inv .4) (ap centsOf is) (p .sum),
+      sum-more (l .i) (amountAt (a .mccs .now) (a .period) (a .book .now)) (exactOf (l .totals)) (amount .result .0) (exactOf (c .plus .result)) (l .inv .5) is (p .exact),
+      p .bounded (l .i) (l .inv .6),
     )
 
 same-length : tie.Need-same-length Inv-loop μ-loop
@@ -103,10 +103,13 @@ returns c =
     let a = c .before .before .before .args in
     let l = c .before .loop in
     let F = centsAt (a .mccs .now) (a .period) (a .book .now) in
-    let last : l .i ≡ a .count = omega arith in (
-      fill-front (listTo (a .count) F) (l .cents) (a .cents .now) (l .i) (l .inv .2) (l .inv .3) (rw (length-listTo (a .count) F) last),
-      (rw last at (l .inv .4), rw last at (l .inv .5), rw last at (l .inv .6)),
-    )
+    let last : l .i ≡ a .count = omega arith in
+    record {
+      cells = fill-front (listTo (a .count) F) (l .cents) (a .cents .now) (l .i) (l .inv .2) (l .inv .3) (rw (length-listTo (a .count) F) last);
+      sum = rw last at (l .inv .4);
+      exact = rw last at (l .inv .5);
+      bounded = rw last at (l .inv .6);
+    }
 
 pub settle-contracts-spec : {M : Type 1} → statement M
 settle-contracts-spec =

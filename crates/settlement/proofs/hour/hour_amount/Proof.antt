@@ -1,10 +1,10 @@
--- `settlement::hour_amount`: nothing for the other period's.
+-- `hour_amount`: nothing for the other period's.
 use mathlib.Core.Path.{sym, _∙_}
 use native.Mathlib.Omega.{arith}
 use Rattle.settlement.proofs.Congestion.{amount-same, amount-other}
 use borrow.Author.Needs.{needs}
-use Rattle.settlement.proofs.hour_amount.Statement.{statement}
-use Rattle.settlement.proofs.hour_amount.Tie as tie
+use Rattle.settlement.proofs.hour.hour_amount.Statement.{statement}
+use Rattle.settlement.proofs.hour.hour_amount.Tie as tie
 
 same-requires : tie.Need-same-requires
 same-requires c κs = search needs
