@@ -136,8 +136,7 @@ pub fn settle_hour(
     book: &[u8],
     cents: &mut [i64],
 ) -> SettleAnswer
-    ensures { λ r. ⌜ SettlesHour (
-        settleCall nodes constraints period (before factors) (before prices) (before book) (before cents)) r (after cents) ⌝ }
+    ensures { λ r. ⌜ SettlesHour (settleCall nodes constraints period (before factors) (before prices) (before book) (before cents)) r (after cents) ⌝ }
 {
     match check_settle(nodes, constraints, period, factors, prices, book, cents.len()) {
         Checked::Refused(refusal) => SettleAnswer::Refused(refusal),
