@@ -23,10 +23,10 @@ ghost use Rattle.feasibility_test.specs.Inner.{Carries, Ends, Room, Judg
 use tariff::Checked;
 use tariff::Contract;
 use tariff::Flow;
+use tariff::MAX_CONSTRAINTS;
 use tariff::Period;
 use tariff::Process;
 use tariff::Refusal;
-use tariff::MAX_CONSTRAINTS;
 
 // The flow on all constraints, carried together with the number of contracts counted.
 pub struct Flows {
@@ -164,8 +164,7 @@ fn check_test(
 ) -> Checked
     ensures { λ r. ⌜ r ≡ testChecked (testCall nodes constraints process period (before limits) (before factors) (before book)) ⌝ }
 {
-    let checked =
-        tables::check_grid_tables(nodes, constraints, process, period, limits, factors);
+    let checked = tables::check_grid_tables(nodes, constraints, process, period, limits, factors);
     if let Checked::Refused(refusal) = checked {
         return Checked::Refused(refusal);
     }

@@ -13,13 +13,13 @@ ghost use Rattle.tables.specs.Inner.{GoodCells};
 ghost use Rattle.price_file.specs.ReadPrices.{readPricesCall, readPricesChecked, ReadsPrices};
 ghost use Rattle.price_file.specs.WritePrices.{writePricesCall, writePricesChecked, WritesPrices};
 use bits::Pen;
-use layouts::WriteAnswer;
-use tariff::Checked;
-use tariff::Refusal;
-use tariff::MAX_CONSTRAINTS;
-use tariff::MAX_PRICE;
 use layouts::PRICE_HEADER_BITS;
 use layouts::PRICE_WIDTH;
+use layouts::WriteAnswer;
+use tariff::Checked;
+use tariff::MAX_CONSTRAINTS;
+use tariff::MAX_PRICE;
+use tariff::Refusal;
 
 // What reading a price file gives: the period, or the refusal.
 pub enum PriceAnswer {

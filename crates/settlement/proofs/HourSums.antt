@@ -154,7 +154,7 @@ module _ (n k : ℕ) (fs : List ℤ) (ps : List ℕ) (h : Hour n k fs ps) (t : P
       let each = book-accepted n s passed .each in
       let b = rw count at by in
       let are : exit ≡ overwrite (map (centsOf (factorsOf n k fs) (take k ps) t) (bookIn s)) entry =
-          b .cells ∙ ap (λ (xs : List ℤ). overwrite xs entry) (cells-are (contractCountIn s) (contractAt s) each mccs rest e) in
+      b .cells ∙ ap (λ (xs : List ℤ). overwrite xs entry) (cells-are (contractCountIn s) (contractAt s) each mccs rest e) in
       record {
         cells = are;
         sum = b .sum ∙ sym (sum-is (contractCountIn s) (contractAt s) each mccs rest e);

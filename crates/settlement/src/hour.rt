@@ -13,16 +13,16 @@ ghost use Rattle.layouts.specs.BookFile.{bookBytes, contractCountIn, contractAt
 ghost use Rattle.books.specs.BookChecks.{bookChecks};
 ghost use Rattle.settlement.specs.SettleHour.{settleCall, settleChecked, SettlesHour};
 ghost use Rattle.settlement.specs.Inner.{Hour, MccTable, amountBy, hourAmount, SettlesBy, Settles};
-use crate::mcc::fill_mcc;
 use crate::SettleAnswer;
 use crate::Totals;
+use crate::mcc::fill_mcc;
 use tariff::Amount;
 use tariff::Checked;
 use tariff::Contract;
+use tariff::MAX_NODES;
 use tariff::Mcc;
 use tariff::Period;
 use tariff::Refusal;
-use tariff::MAX_NODES;
 
 // The exact amount of a contract (003, 36.2.1 and 36.2.2): sink minus source, by a table of MCCs of `nodes` nodes.
 fn amount_of(nodes: usize, mccs: &[i64], c: Contract) -> Amount
@@ -138,7 +138,15 @@ pub fn settle_hour(
 ) -> SettleAnswer
     ensures { λ r. ⌜ SettlesHour (settleCall nodes constraints period (before factors) (before prices) (before book) (before cents)) r (after cents) ⌝ }
 {
-    match check_settle(nodes, constraints, period, factors, prices, book, cents.len()) {
+    match check_settle(
+        nodes,
+        constraints,
+        period,
+        factors,
+        prices,
+        book,
+        cents.len(),
+    ) {
         Checked::Refused(refusal) => SettleAnswer::Refused(refusal),
         Checked::Passed => {
             let hour = Period::from_number(period);

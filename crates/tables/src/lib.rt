@@ -12,11 +12,11 @@ ghost use Rattle.tariff.specs.Checks.{factorBad, shortTable, limitRange, factor
 ghost use Rattle.tables.specs.TableChecks.{gridTableChecks};
 ghost use Rattle.tables.specs.Inner.{fourBad, hourTableChecks};
 use tariff::Checked;
-use tariff::Refusal;
 use tariff::MAX_CONSTRAINTS;
 use tariff::MAX_FACTOR;
 use tariff::MAX_LIMIT;
 use tariff::MAX_PRICE;
+use tariff::Refusal;
 
 // Whether one of the first `count` cells is above `most`.
 pub fn cell_above(cells: &[u64], count: usize, most: u64) -> bool

@@ -1,5 +1,5 @@
 -- Laws of the first check that holds, of the node count, and of a search for a bad element.
-use mathlib.Core.Path.{_≡_, refl, ap}
+use mathlib.Core.Path.{_≡_, refl, ap, _∙_}
 use mathlib.Core.Bool.{Bool, true, false, cond, not}
 use mathlib.Core.List.{List, [], _∷_, _++_}
 use Prim.Native.Nat.{ℕ, _+_, _≤_}
@@ -29,6 +29,14 @@ first-append (c ∷ cs) ys = by (c .fails) (first-append cs ys)
     by : (b : Bool) → first (cs ++ ys) ≡ decided (first cs) Refused (first ys) → cond b (Refused (c .refusal)) (first (cs ++ ys)) ≡ decided (cond b (Refused (c .refusal)) (first cs)) Refused (first ys)
     by true e = refl
     by false e = e
+
+-- checks behind others that pass where those do
+pub first-room : (xs ys : List Check) → (first xs ≡ Passed → first ys ≡ Passed) → first (xs ++ ys) ≡ first xs
+first-room xs ys h = first-append xs ys ∙ by (first xs) refl
+  where
+    by : (x : Checked) → first xs ≡ x → decided x Refused (first ys) ≡ x
+    by Passed e = h e
+    by (Refused r) e = refl
 
 -- where none refuses, no condition holds
 pub passed-cons : (c : Check) (cs : List Check) → first (c ∷ cs) ≡ Passed → (c .fails ≡ false) × (first cs ≡ Passed)

@@ -94,8 +94,12 @@ pub excess-sized : (g : Grid) → FactorsInRange (g .factors) → LimitsInRange 
     → natAbs (excess g process cs k) ≤ maxFlow * length cs + 10000000000000
 unfolding excess
 excess-sized g fs ls process cs k h hk =
-    omega (arith, natAbs-sub (totalFlow (g .factors) cs k) (pos (released (g .limits) process k)), totalFlow-sized (g .factors) fs cs k h hk,
-      released-sized (g .factors .constraints) (g .limits) ls process k hk)
+    omega (
+      arith,
+      natAbs-sub (totalFlow (g .factors) cs k) (pos (released (g .limits) process k)),
+      totalFlow-sized (g .factors) fs cs k h hk,
+      released-sized (g .factors .constraints) (g .limits) ls process k hk,
+    )
 
 -- a period's contracts are no more than the book's, and in range where those are
 pub ofPeriod-in-range : (n : ℕ) (t : Period) (cs : List Contract) → Each (InRange n) cs → Each (InRange n) (ofPeriod t cs) × (length (ofPeriod t cs) ≤ length cs)

@@ -3,13 +3,14 @@ mod contracts;
 mod processes;
 mod refusals;
 mod units;
+
 pub use contracts::Contract;
 pub use contracts::Kind;
 pub use contracts::Period;
 pub use processes::Process;
-pub use refusals::nodes_bad;
 pub use refusals::Checked;
 pub use refusals::Refusal;
+pub use refusals::nodes_bad;
 pub use units::Amount;
 pub use units::Flow;
 pub use units::Mcc;

@@ -9,9 +9,9 @@ ghost use Rattle.tariff.specs.Checks.{quantityRange};
 ghost use Rattle.tariff.specs.Contracts.{counted as countedAs};
 ghost use Rattle.tariff.specs.Settlement.{cents as centsOf, wholeCents, parts as partsOf};
 ghost use Rattle.tariff.specs.Inner.{maxSpread, maxAmount, maxCents};
-use crate::contracts::Kind;
 use crate::MAX_QUANTITY;
 use crate::PER_CENT;
+use crate::contracts::Kind;
 
 // The largest parts of a cent.
 const LAST_PART: u64 = PER_CENT - 1;

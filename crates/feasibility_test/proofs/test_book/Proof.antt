@@ -63,7 +63,7 @@ returns-2 c =
     let q = call (e .before .before .before .before .before) in
     let k = e .before .before .check-test in
     let v = subst (λ (p : Process). Judges (testedGrid q) p (testedContracts q) (c .verdict .result)) (c .before .from-number2 .ensures)
-        (c .verdict .ensures (q .nodes) (q .factors) (periodOf (q .period)) (bookIn (q .book)) (carried (c .before .before))) in
+    (c .verdict .ensures (q .nodes) (q .factors) (periodOf (q .period)) (bookIn (q .book)) (carried (c .before .before))) in
     record { figures = v .figures ∙ answer-passed (k .result) _ (k .ensures) (e .enum-told .given .1) _; demand3 = λ p. v .demand3 }
 
 pub test-book-spec : {M : Type 1} → statement M
