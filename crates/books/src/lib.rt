@@ -1,7 +1,7 @@
 // A book's bytes: its contracts read and stored one by one, and the checks that every operation on a book has.
 ghost use mathlib.Core.Path.{_≡_};
 ghost use mathlib.Core.List.{_++_};
-ghost use Prim.Native.Nat.{_+_, _*_, _≤_, _<_};
+ghost use Prim.Native.Nat.{_+_, _≤_, _<_};
 ghost use lib.ListN.{length, take, drop};
 ghost use Rattle.lists.specs.Lent.{before, after, overwrite};
 ghost use Rattle.bits.specs.Bits.{digits};

@@ -6,39 +6,6 @@ use borrow.Author.Needs.{needs}
 use Rattle.books.proofs.contract_at.Statement.{statement}
 use Rattle.books.proofs.contract_at.Tie as tie
 
-mul-window6 : tie.Need-mul-window6
-mul-window6 c = search needs
-
-add-window6 : tie.Need-add-window6
-add-window6 c = search needs
-
-window6-requires : tie.Need-window6-requires
-window6-requires c κs = search needs
-
-part-requires : tie.Need-part-requires
-part-requires c κs = search needs
-
-from-number-requires : tie.Need-from-number-requires
-from-number-requires c κs = search needs
-
-part-requires-2 : tie.Need-part-requires-2
-part-requires-2 c κs = search needs
-
-from-number-requires-2 : tie.Need-from-number-requires-2
-from-number-requires-2 c κs = search needs
-
-part-requires-3 : tie.Need-part-requires-3
-part-requires-3 c κs = search needs
-
-part-requires-4 : tie.Need-part-requires-4
-part-requires-4 c κs = search needs
-
-part-requires-5 : tie.Need-part-requires-5
-part-requires-5 c κs = search needs
-
-part-requires-6 : tie.Need-part-requires-6
-part-requires-6 c κs = search needs
-
 returns : tie.Need-returns
 returns c =
     let p4 = c .before .before .before .before in
@@ -59,15 +26,15 @@ pub contract-at-spec : {M : Type 1} → statement M
 contract-at-spec =
     tie.close
     (tie.spec
-    mul-window6
-    add-window6
-    window6-requires
-    part-requires
-    from-number-requires
-    part-requires-2
-    from-number-requires-2
-    part-requires-3
-    part-requires-4
-    part-requires-5
-    part-requires-6
+    (λ c. search needs)
+    (λ c. search needs)
+    (λ c κs. search needs)
+    (λ c κs. search needs)
+    (λ c κs. search needs)
+    (λ c κs. search needs)
+    (λ c κs. search needs)
+    (λ c κs. search needs)
+    (λ c κs. search needs)
+    (λ c κs. search needs)
+    (λ c κs. search needs)
     returns)
