@@ -2,9 +2,10 @@
 mod reading;
 mod sizes;
 mod writing;
+
 pub use reading::read_grid;
-pub use writing::write_grid;
 use tariff::Refusal;
+pub use writing::write_grid;
 
 // What reading a grid gives: its counts, or the refusal.
 pub enum GridAnswer {

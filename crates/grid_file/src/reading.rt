@@ -10,16 +10,16 @@ ghost use Rattle.tariff.specs.Checks.{factorBad};
 ghost use Rattle.layouts.specs.GridFile.{factorWidth, gridHeaderBits, nodesIn, constraintsIn, limitsIn, factorsIn};
 ghost use Rattle.grid_file.specs.ReadGrid.{readGridCall, readGridChecked, ReadsGrid};
 ghost use Rattle.grid_file.specs.Inner.{mostBytes, Counted, figureChecks, factorsAt};
-use crate::sizes;
 use crate::GridAnswer;
+use crate::sizes;
 use layouts::FACTOR_WIDTH;
 use layouts::GRID_HEADER_BITS;
 use layouts::LIMIT_WIDTH;
 use tariff::Checked;
-use tariff::Refusal;
 use tariff::MAX_CONSTRAINTS;
 use tariff::MAX_FACTOR;
 use tariff::MAX_LIMIT;
+use tariff::Refusal;
 
 const HEADER_BYTES: usize = GRID_HEADER_BITS / 8;
 
@@ -159,7 +159,12 @@ fn read_tables(
 {
     let count = sizes::factor_count(nodes, constraints);
     runs::read_run(file, GRID_HEADER_BITS, LIMIT_WIDTH, constraints, limits);
-    read_factors(file, GRID_HEADER_BITS + LIMIT_WIDTH * constraints, count, factors);
+    read_factors(
+        file,
+        GRID_HEADER_BITS + LIMIT_WIDTH * constraints,
+        count,
+        factors,
+    );
 }
 
 // Reads a grid's file: its counts, and its limits and factors into the first cells of the tables.

@@ -10,8 +10,8 @@ ghost use Rattle.tariff.specs.Units.{gridOf, maxFactor};
 ghost use Rattle.layouts.specs.GridFile.{factorWidth, gridFile};
 ghost use Rattle.grid_file.specs.WriteGrid.{writeGridCall, writeGridChecked, WritesGrid};
 ghost use Rattle.grid_file.specs.Inner.{Writable, coded};
-use bits::Pen;
 use crate::sizes;
+use bits::Pen;
 use layouts::FACTOR_WIDTH;
 use layouts::LIMIT_WIDTH;
 use layouts::WriteAnswer;
@@ -51,7 +51,12 @@ fn write_factors(buf: &mut [u8], from: Pen, factors: &[i64], count: usize) -> Pe
     let mut pen = from;
     let mut i = 0;
     while i < count {
-        pen = bits::put(buf, pen, bits::unsigned(factors[i], FACTOR_WIDTH), FACTOR_WIDTH);
+        pen = bits::put(
+            buf,
+            pen,
+            bits::unsigned(factors[i], FACTOR_WIDTH),
+            FACTOR_WIDTH,
+        );
         i += 1;
     }
     pen

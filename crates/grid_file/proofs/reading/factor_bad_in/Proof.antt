@@ -145,7 +145,7 @@ returns c =
     let n = c .before .nodes in
     let past : a .nodes * a .constraints ≤ n .node * a .constraints = mul-le-mul-right (a .constraints) (c .nodes-test .left) in
     rw (factors-are (a .file .now) (a .nodes) (a .constraints) (s .pre)) at
-        (n .inv .1 ∙ some-end factorBad (all (a .file .now) (a .nodes) (a .constraints)) (n .node * a .constraints) (rw length-factors past) (n .inv .3))
+    (n .inv .1 ∙ some-end factorBad (all (a .file .now) (a .nodes) (a .constraints)) (n .node * a .constraints) (rw length-factors past) (n .inv .3))
 
 returns-2 : tie.Need-returns-2 Inv-loop μ-loop Inv-nodes μ-nodes
 returns-2 c =
@@ -153,7 +153,7 @@ returns-2 c =
     let a = s .args in
     let l = c .before .before .before in
     rw (factors-are (a .file .now) (a .nodes) (a .constraints) (s .pre)) at
-        (bad-found (all (a .file .now) (a .nodes) (a .constraints)) (next l) (toInt factorWidth 0) _ (rw length-factors (inside l)) (same (c .before)) (c .if1 .taken))
+    (bad-found (all (a .file .now) (a .nodes) (a .constraints)) (next l) (toInt factorWidth 0) _ (rw length-factors (inside l)) (same (c .before)) (c .if1 .taken))
 
 pub factor-bad-in-spec : {M : Type 1} → statement M
 factor-bad-in-spec =

@@ -108,9 +108,9 @@ returns c =
     let s = entry h in
     let a = s .args in
     let limits = penned-run (header h) limitWidth _ _ (take (a .constraints) (a .limits .now)) (a .constraints)
-            (length-take-le (a .constraints) (a .limits .now) (s .pre .good-limits .long)) (r .write-run .ensures) in
+    (length-take-le (a .constraints) (a .limits .now) (s .pre .good-limits .long)) (r .write-run .ensures) in
     let factors = penned-run limits factorWidth _ _ (coded (m .result) (a .factors .now)) (m .result)
-            (length-coded (a .factors .now) (m .result) (omega (arith, m .ensures .0, s .pre .good-factors .long))) (f .write-factors .ensures) in
+    (length-coded (a .factors .now) (m .result) (omega (arith, m .ensures .0, s .pre .good-factors .long))) (f .write-factors .ensures) in
     let all = penned-last factors _ _ _ 0 (p .ensures) in
     let size = sizes h .before .file-bytes .ensures .0 in (
       size ∙ sym (length-written (a .nodes) (a .constraints) (a .limits .now) (a .factors .now) (a .file .now) (s .pre)),
