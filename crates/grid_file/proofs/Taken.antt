@@ -87,5 +87,5 @@ room-enough s ls fs cells places = first-room (gridFileChecks s) _ rooms
     rooms : first (gridFileChecks s) ≡ Passed → first (shortTable (length ls) (constraintsIn s) ∷ shortTable (length fs) (nodesIn s * constraintsIn s) ∷ []) ≡ Passed
     rooms e =
         let g = taken-by s [] [] e .good-factors in
-        first-passes _ _ (le-ltb _ _ (omega (arith, g .few)))
-        ∙ last-passes _ (le-ltb _ _ (omega (arith, count-fits (nodesIn s) (constraintsIn s) (g .nodes-few) (g .few))))
+        first-passes _ _ (le-ltb (length ls) (constraintsIn s) (omega (arith, g .few)))
+        ∙ last-passes _ (le-ltb (length fs) (nodesIn s * constraintsIn s) (omega (arith, count-fits (nodesIn s) (constraintsIn s) (g .nodes-few) (g .few))))

@@ -59,4 +59,4 @@ pub room-enough : (k : ℕ) (s table : List ℕ) → length table ≡ maxConstra
 unfolding priceFileChecks readPricesChecks
 room-enough k s table cells =
     first-room (priceFileChecks k s) (shortTable (length table) k ∷ [])
-    (λ e. last-passes _ (le-ltb _ _ (omega (arith, ltb-false maxConstraints k (passed-cons _ _ e .0)))))
+    (λ e. last-passes _ (le-ltb (length table) k (omega (arith, ltb-false maxConstraints k (passed-cons _ _ e .0)))))

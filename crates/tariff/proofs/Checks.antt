@@ -6,6 +6,7 @@ use Prim.Native.Nat.{ℕ, _+_, _≤_}
 use borrow.Author.Tests.{ltb-false, eqb-true, eq-eqb, ne-eqb, not-false}
 use lib.Dec.{ltb, eqb}
 use Rattle.lists.proofs.Search.{neither}
+use Rattle.tariff.specs.declared.refusals.Checked.{Checked}
 use Rattle.tariff.specs.declared.refusals.Checked.the-variants.{Passed, Refused}
 use Rattle.tariff.specs.Units.{maxNodes}
 use Rattle.tariff.specs.Refusals.{Check, first, decided}
