@@ -1,6 +1,7 @@
 -- `check_figures`: each return by the tests that led there.
 use mathlib.Core.Path.{_≡_, sym, _∙_}
 use mathlib.Core.List.{List}
+use Prim.Native.Nat.{ℕ}
 use borrow.Author.Needs.{needs}
 use borrow.Author.Tests.{lt-ltb, le-ltb}
 use lib.ListN.{drop}
@@ -30,19 +31,22 @@ pad c =
 abbrev checks : tie.Start → List Check
 checks s = figureChecks (s .args .file .now) (s .args .limits .now) (s .args .factors .now)
 
-past : (c : tie.Else1) → first (checks (c .before .before .before .before .before)) ≡ first (drop 1 (checks (c .before .before .before .before .before)))
+abbrev Left : ℕ → tie.Start → Type 0
+Left n s = first (checks s) ≡ first (drop n (checks s))
+
+past : (c : tie.Else1) → Left 1 (c .before .before .before .before .before)
 unfolding figureChecks
 past c = first-passes _ _ (sym (limit (c .before)) ∙ c .if1 .left)
 
-past-2 : (c : tie.Else2) → first (checks (c .before .before .before .before .before .before .before)) ≡ first (drop 2 (checks (c .before .before .before .before .before .before .before)))
+past-2 : (c : tie.Else2) → Left 2 (c .before .before .before .before .before .before .before)
 unfolding figureChecks
 past-2 c = past (c .before .before) ∙ first-passes _ _ (sym (c .before .factor-bad-in .ensures) ∙ c .if2 .left)
 
-past-3 : (c : tie.Else3) → first (checks (c .before .before .before .before .before .before .before .before .before)) ≡ first (drop 3 (checks (c .before .before .before .before .before .before .before .before .before)))
+past-3 : (c : tie.Else3) → Left 3 (c .before .before .before .before .before .before .before .before .before)
 unfolding figureChecks
 past-3 c = past-2 (c .before .before) ∙ first-passes _ _ (same _ _ (sym (pad (c .before)) ∙ c .if3 .left))
 
-past-4 : (c : tie.Else4) → first (checks (c .before .before .before .before .before .before .before .before .before .before)) ≡ first (drop 4 (checks (c .before .before .before .before .before .before .before .before .before .before)))
+past-4 : (c : tie.Else4) → Left 4 (c .before .before .before .before .before .before .before .before .before .before)
 unfolding figureChecks
 past-4 c =
     let s = c .before .before .before .before .before .before .before .before .before .before in

@@ -116,11 +116,12 @@ loop-again c =
     let j = c .before .before .before .before .before .before .nodes .node in
     let l = c .before .before .before .before .loop in
     let fs = all (a .file .now) (a .nodes) (a .constraints) in
-    let i = j * a .constraints + l .constraint in (
+    let i = j * a .constraints + l .constraint in
+    let one : i < length fs = rw length-factors (inside (c .before .before .before)) in (
       omega arith,
       l .inv .1,
       omega arith,
-      bad-so-far fs (i + 1) (j * a .constraints + (l .constraint + 1)) (omega arith) (bad-turn fs i (toInt factorWidth 0) _ (rw length-factors (inside (c .before .before .before))) (same (c .before)) (c .if1 .left) (l .inv .3)),
+      bad-so-far fs (i + 1) (j * a .constraints + (l .constraint + 1)) (omega arith) (bad-turn fs i (toInt factorWidth 0) _ one (same (c .before)) (c .if1 .left) (l .inv .3)),
     )
 
 add-node : tie.Need-add-node Inv-loop μ-loop Inv-nodes μ-nodes

@@ -51,7 +51,8 @@ loop-again c =
     let a = s .args in
     let l = c .before .before .before .loop in
     let fs = factorsAt (a .file .now) (a .offset) (a .count) in
-    let v = toZ-ofZ {w = w64} (record { sfits = c .signed .ok }) ∙ c .signed .ensures ∙ factor-at (a .file .now) (a .offset) (a .count) (l .i) (l .at) _ (omega arith) (s .pre .0) (l .inv .2) (c .before .field .ensures .0) in (
+    let read = factor-at (a .file .now) (a .offset) (a .count) (l .i) (l .at) _ (omega arith) (s .pre .0) (l .inv .2) (c .before .field .ensures .0) in
+    let v = toZ-ofZ {w = w64} (record { sfits = c .signed .ok }) ∙ c .signed .ensures ∙ read in (
       omega arith,
       simp length-set (omega arith),
       omega arith,

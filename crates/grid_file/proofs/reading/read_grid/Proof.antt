@@ -4,13 +4,16 @@ use native.Mathlib.Omega.{arith}
 use borrow.Author.Needs.{needs}
 use Rattle.tariff.proofs.Answers.{answer-refused, cells-refused, answer-passed, cells-passed}
 use Rattle.layouts.specs.GridFile.{limitsIn, factorsIn}
-use Rattle.grid_file.specs.ReadGrid.{readGridCall}
+use Rattle.grid_file.specs.ReadGrid.{ReadGridCall, readGridCall}
 use Rattle.grid_file.specs.Inner.{Counted}
 use Rattle.grid_file.proofs.Passing.{Readable, readable}
 use Rattle.grid_file.proofs.reading.read_grid.Statement.{statement}
 use Rattle.grid_file.proofs.reading.read_grid.Tie as tie
 
-ok : (c : tie.After-enum-told) → Readable (readGridCall (c .before .before .before .before .before .before .before .args .file .now) (c .before .before .before .before .before .before .before .args .limits .now) (c .before .before .before .before .before .before .before .args .factors .now))
+abbrev call : tie.Start → ReadGridCall
+call s = readGridCall (s .args .file .now) (s .args .limits .now) (s .args .factors .now)
+
+ok : (c : tie.After-enum-told) → Readable (call (c .before .before .before .before .before .before .before))
 ok c = readable _ (sym (c .before .before .check-read .ensures) ∙ c .enum-told .given .1)
 
 check-read-requires : tie.Need-check-read-requires

@@ -37,8 +37,11 @@ header c =
 past-limits : (c : tie.After-write-run) → place (c .write-run .result) ≡ gridHeaderBits + limitWidth * entry (c .before .before .before .before) .args .constraints
 past-limits c = omega (arith, c .write-run .ensures .1 .0 .0, header (c .before .before .before .before) .end)
 
-past-factors : (c : tie.After-write-factors) → place (c .write-factors .result) ≡ gridBits (entry (c .before .before .before .before .before .before .before .before) .args .nodes) (entry (c .before .before .before .before .before .before .before .before) .args .constraints)
-past-factors c = omega (arith, c .write-factors .ensures .1 .0 .0, past-limits (c .before .before .before .before), sizes (c .before .before .before .before .before .before .before .before) .factor-count .ensures .0)
+past-factors : (c : tie.After-write-factors) →
+    let a = entry (c .before .before .before .before .before .before .before .before) .args in place (c .write-factors .result) ≡ gridBits (a .nodes) (a .constraints)
+past-factors c =
+    let r = c .before .before .before .before in
+    omega (arith, c .write-factors .ensures .1 .0 .0, past-limits r, sizes (r .before .before .before .before) .factor-count .ensures .0)
 
 -- the place stays as long as it was
 long : (c : tie.After-put3) → length (c .put3 .last .0) ≡ length (entry c .args .file .now)
@@ -77,7 +80,8 @@ write-factors-requires c κs =
     let h = r .before .before .before .before in
     let ok = entry h .pre in
     let e = sizes h .factor-count .ensures .0 in
-    (r .write-run .ensures .1 .0 .1, ((rw e (ok .good-factors .long), λ k l. cell-small _ _ _ (ok .good-factors) k (rw e at l)), omega (arith, ok .room, e, past-limits r, r .write-run .kept .0, long h)))
+    let small = cell-small _ _ _ (ok .good-factors) in
+    (r .write-run .ensures .1 .0 .1, ((rw e (ok .good-factors .long), λ k l. small k (rw e at l)), omega (arith, ok .room, e, past-limits r, r .write-run .kept .0, long h)))
 
 mul-put-last : tie.Need-mul-put-last
 mul-put-last c = omega (arith, sizes (c .before .before .before .before .before .before .before .before .before .before .before) .before .file-bytes .ensures .1)
@@ -107,10 +111,10 @@ returns c =
     let m = sizes h .factor-count in
     let s = entry h in
     let a = s .args in
-    let limits = penned-run (header h) limitWidth _ _ (take (a .constraints) (a .limits .now)) (a .constraints)
-    (length-take-le (a .constraints) (a .limits .now) (s .pre .good-limits .long)) (r .write-run .ensures) in
-    let factors = penned-run limits factorWidth _ _ (coded (m .result) (a .factors .now)) (m .result)
-    (length-coded (a .factors .now) (m .result) (omega (arith, m .ensures .0, s .pre .good-factors .long))) (f .write-factors .ensures) in
+    let one-limit = length-take-le (a .constraints) (a .limits .now) (s .pre .good-limits .long) in
+    let limits = penned-run (header h) limitWidth _ _ (take (a .constraints) (a .limits .now)) _ one-limit (r .write-run .ensures) in
+    let one-factor = length-coded (a .factors .now) (m .result) (omega (arith, m .ensures .0, s .pre .good-factors .long)) in
+    let factors = penned-run limits factorWidth _ _ (coded (m .result) (a .factors .now)) _ one-factor (f .write-factors .ensures) in
     let all = penned-last factors _ _ _ 0 (p .ensures) in
     let size = sizes h .before .file-bytes .ensures .0 in (
       size ∙ sym (length-written (a .nodes) (a .constraints) (a .limits .now) (a .factors .now) (a .file .now) (s .pre)),
