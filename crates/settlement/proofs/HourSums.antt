@@ -4,7 +4,6 @@ use mathlib.Core.Bool.{Bool, true, false, cond}
 use mathlib.Core.List.{List, [], _∷_, _++_, map}
 use Prim.Native.Nat.{ℕ, zero, suc, _+_, _*_, _-_, _^_, _≤_, _<_}
 use native.Mathlib.Numerals.{add-one}
-use native.Mathlib.Nat.{mul-le-mul}
 use native.Mathlib.Omega.{arith}
 use lib.ListN.{getD, take}
 use lib.IntN.{ℤ, pos, natAbs, _+ℤ_, _*ℤ_, +ℤ-idr}
@@ -21,7 +20,7 @@ use Rattle.lists.proofs.Lists.{listTo-cong, map-listTo}
 use Rattle.tariff.specs.declared.contracts.Contract.{Contract}
 use Rattle.tariff.specs.declared.contracts.Period.{Period}
 use Rattle.tariff.specs.declared.refusals.Checked.the-variants.{Passed}
-use Rattle.tariff.specs.Units.{Factors, factorsOf, perCent, maxContracts}
+use Rattle.tariff.specs.Units.{Factors, factorsOf, perCent}
 use Rattle.tariff.specs.Contracts.{samePeriod, ofPeriod}
 use Rattle.tariff.specs.Refusals.{first}
 use Rattle.tariff.specs.Inner.{InRange, maxCents}
@@ -139,6 +138,9 @@ module _ (n k : ℕ) (fs : List ℤ) (ps : List ℕ) (h : Hour n k fs ps) (t : P
       unfolding centsOf
       cells-are = listTo-cong m _ _ cents-by-table ∙ sym (map-listTo m f (centsOf (factorsOf n k fs) (take k ps) t))
 
+      cells-settled : (entry exit : List ℤ) → exit ≡ overwrite (listTo m (λ i. cents (hourAmount mccs t (f i)))) entry → exit ≡ overwrite (map (centsOf (factorsOf n k fs) (take k ps) t) (listTo m f)) entry
+      cells-settled entry exit x = x ∙ ap (λ (xs : List ℤ). overwrite xs entry) cells-are
+
       sum-is : centsSum (factorsOf n k fs) (take k ps) t (listTo m f) ≡ sumTo m (λ i. cents (hourAmount mccs t (f i)))
       unfolding centsSum
       sum-is = period-sum t m f (λ c. cents (amount (factorsOf n k fs) (take k ps) c)) _ cents-by-table
@@ -153,8 +155,7 @@ module _ (n k : ℕ) (fs : List ℤ) (ps : List ℕ) (h : Hour n k fs ps) (t : P
   settled s passed mccs rest e m count entry exit r by =
       let each = book-accepted n s passed .each in
       let b = rw count at by in
-      let are : exit ≡ overwrite (map (centsOf (factorsOf n k fs) (take k ps) t) (bookIn s)) entry =
-          b .cells ∙ ap (λ (xs : List ℤ). overwrite xs entry) (cells-are (contractCountIn s) (contractAt s) each mccs rest e) in
+      let are = cells-settled (contractCountIn s) (contractAt s) each mccs rest e entry exit (b .cells) in
       record {
         cells = are;
         sum = b .sum ∙ sym (sum-is (contractCountIn s) (contractAt s) each mccs rest e);

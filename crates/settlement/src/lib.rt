@@ -4,14 +4,16 @@ ghost use Prim.Native.Nat.{_≤_};
 ghost use Rattle.tariff.specs.Units.{maxContracts};
 ghost use Rattle.tariff.specs.Inner.{maxAmount};
 ghost use Rattle.settlement.specs.Inner.{Bounded, Added};
+
 mod hour;
 mod mcc;
+
 pub use hour::settle;
 pub use hour::settle_hour;
 pub use mcc::find_mcc;
 use tariff::Amount;
-use tariff::Refusal;
 use tariff::PER_CENT;
+use tariff::Refusal;
 
 // What finding the MCC gives beside the cells.
 pub enum MccAnswer {

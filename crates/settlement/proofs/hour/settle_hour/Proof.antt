@@ -63,9 +63,9 @@ returns-2 c =
     let whole = back (r .whole) (omega (arith, e .bounded .whole-sized, few)) in
     record {
       totals =
-        (λ j. given (sum j ∷ whole j ∷ pos (r .parts) ∷ []))
-        ∙ ap given (values-are (hourFactors q) (hourPrices q) (hourPeriod q) (bookIn (a .book .now)) r (e .bounded .parts-small) (e .sum) (e .exact))
-        ∙ answer-passed _ _ found told _;
+          (λ j. given (sum j ∷ whole j ∷ pos (r .parts) ∷ []))
+          ∙ ap given (values-are (hourFactors q) (hourPrices q) (hourPeriod q) (bookIn (a .book .now)) r (e .bounded .parts-small) (e .sum) (e .exact))
+          ∙ answer-passed _ _ found told _;
       cents-settled = cells-passed _ _ found told (centsCells q) (a .cents .now) _ (e .cells);
       exact = λ p s w part z. exact-of _ _ s w _ part _ (ap (λ (x : ℤ). x *ℤ pos perCent +ℤ pos (r .parts)) whole ∙ e .exact) z;
     }
