@@ -27,7 +27,7 @@ use Rattle.tariff.specs.Inner.{InRange, maxCents}
 use Rattle.tariff.specs.Settlement.{amount, exactTotal, cents, wholeCents, parts}
 use Rattle.tariff.proofs.Periods.{ofPeriod-same, ofPeriod-other, sumOver-more}
 use Rattle.tariff.proofs.Sizes.{amount-sized, cents-sized}
-use Rattle.layouts.specs.BookFile.{contractCountIn, contractAt, bookIn}
+use Rattle.layouts.specs.BookFile.{contractCountIn, contractAt}
 use Rattle.books.specs.BookChecks.{bookChecks}
 use Rattle.books.proofs.Accepted.{book-accepted}
 use Rattle.settlement.specs.declared.Totals.{Totals}
@@ -67,9 +67,9 @@ pub sum-start : (f : ℕ → ℤ) → pos 0 ≡ sumTo 0 f
 unfolding sumTo
 sum-start f = refl
 
-pub sum-more : (m : ℕ) (f : ℕ → ℤ) (s x r : ℤ) → s ≡ sumTo m f → x ≡ f m → r ≡ s +ℤ x → r ≡ sumTo (m + 1) f
+pub sum-more : (m : ℕ) (f : ℕ → ℤ) {s x r : ℤ} → s ≡ sumTo m f → x ≡ f m → r ≡ s +ℤ x → r ≡ sumTo (m + 1) f
 unfolding sumTo
-sum-more m f s x r a b e = e ∙ ap₂ _+ℤ_ a b ∙ rw add-one
+sum-more m f a b e = e ∙ ap₂ _+ℤ_ a b ∙ rw add-one
 
 -- totals of fewer contracts are within the bounds of more
 pub bounded-most : (m n : ℕ) (t : Totals) → m ≤ n → Bounded m t → Bounded n t
@@ -138,7 +138,8 @@ module _ (n k : ℕ) (fs : List ℤ) (ps : List ℕ) (h : Hour n k fs ps) (t : P
       unfolding centsOf
       cells-are = listTo-cong m _ _ cents-by-table ∙ sym (map-listTo m f (centsOf (factorsOf n k fs) (take k ps) t))
 
-      cells-settled : (entry exit : List ℤ) → exit ≡ overwrite (listTo m (λ i. cents (hourAmount mccs t (f i)))) entry → exit ≡ overwrite (map (centsOf (factorsOf n k fs) (take k ps) t) (listTo m f)) entry
+      cells-settled : (entry exit : List ℤ) → exit ≡ overwrite (listTo m (λ i. cents (hourAmount mccs t (f i)))) entry
+          → exit ≡ overwrite (map (centsOf (factorsOf n k fs) (take k ps) t) (listTo m f)) entry
       cells-settled entry exit x = x ∙ ap (λ (xs : List ℤ). overwrite xs entry) cells-are
 
       sum-is : centsSum (factorsOf n k fs) (take k ps) t (listTo m f) ≡ sumTo m (λ i. cents (hourAmount mccs t (f i)))

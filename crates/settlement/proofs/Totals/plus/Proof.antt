@@ -17,10 +17,12 @@ cents-requires : tie.Need-cents-requires
 cents-requires c κs = search needs
 
 -- the machine's sums are those of the numbers
-sum-is : (c : tie.After-cents) → let a = c .before .args in toZ w64 (ofZ w64 (toZ w64 (ofZ w64 (a .self .sum)) +ℤ toZ w64 (ofZ w64 (c .cents .result)))) ≡ a .self .sum +ℤ c .cents .result
+sum-is : (c : tie.After-cents)
+    → let a = c .before .args in toZ w64 (ofZ w64 (toZ w64 (ofZ w64 (a .self .sum)) +ℤ toZ w64 (ofZ w64 (c .cents .result)))) ≡ a .self .sum +ℤ c .cents .result
 sum-is c = add-is (c .before .args .self .sum) (c .cents .result) (omega (arith, c .before .pre .1 .sum-sized, c .cents .ensures .1))
 
-whole-is : (c : tie.After-whole) → let a = c .before .before .before .before .args in toZ w64 (ofZ w64 (toZ w64 (ofZ w64 (a .self .whole)) +ℤ toZ w64 (ofZ w64 (c .whole .result)))) ≡ a .self .whole +ℤ c .whole .result
+whole-is : (c : tie.After-whole)
+    → let a = c .before .before .before .before .args in toZ w64 (ofZ w64 (toZ w64 (ofZ w64 (a .self .whole)) +ℤ toZ w64 (ofZ w64 (c .whole .result)))) ≡ a .self .whole +ℤ c .whole .result
 whole-is c = let s = c .before .before .before .before in add-is (s .args .self .whole) (c .whole .result) (omega (arith, s .pre .1 .whole-sized, c .whole .ensures .1))
 
 add-sum : tie.Need-add-sum

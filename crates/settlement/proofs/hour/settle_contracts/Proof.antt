@@ -86,8 +86,8 @@ loop-again c =
       simp length-set (omega arith),
       fill-turn (listTo (a .count) F) (l .cents) (l .i) (l .inv .2) _ (pos 0) (omega arith) (rw (length-listTo (a .count) F) h) v,
       rest-turn (l .cents) (a .cents .now) (l .i) _ (l .inv .3),
-      sum-more (l .i) F (l .totals .sum) (centsOf (amount .result .0)) (c .plus .result .sum) (l .inv .4) (ap centsOf (amount .ensures .0)) (p .sum),
-      sum-more (l .i) (amountAt (a .mccs .now) (a .period) (a .book .now)) (exactOf (l .totals)) (amount .result .0) (exactOf (c .plus .result)) (l .inv .5) (amount .ensures .0) (p .exact),
+      sum-more (l .i) F (l .inv .4) (ap centsOf (amount .ensures .0)) (p .sum),
+      sum-more (l .i) (amountAt (a .mccs .now) (a .period) (a .book .now)) (l .inv .5) (amount .ensures .0) (p .exact),
       p .bounded (l .i) (l .inv .6),
     )
 
