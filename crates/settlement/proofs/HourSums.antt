@@ -45,6 +45,10 @@ module _ (x y : ℤ) (h : natAbs x + natAbs y < 2 ^ 63) where
   pub add-is : toZ w64 (ofZ w64 (toZ w64 (ofZ w64 x) +ℤ toZ w64 (ofZ w64 y))) ≡ x +ℤ y
   add-is = op-is _+ℤ_ (back x (omega arith)) (back y (omega arith)) (omega (arith, natAbs-add x y))
 
+-- one more, or none, on top of a sum z
+pub carry-fits : {v z : ℤ} → v ≡ z → (d : ℤ) → natAbs z + 1 < 2 ^ 63 → natAbs d ≤ 1 → SFits w64 (v +ℤ d)
+carry-fits {v} {z} e d h one = op-fits _+ℤ_ e refl (omega (arith, natAbs-add z d))
+
 -- ---- one amount more
 
 split-more : (W w : ℤ) (P p : ℕ) (a : ℤ) → w *ℤ pos perCent +ℤ pos p ≡ a → (W +ℤ w) *ℤ pos perCent +ℤ pos (P + p) ≡ W *ℤ pos perCent +ℤ pos P +ℤ a

@@ -7,9 +7,9 @@ use lib.IntN.{ℤ, pos, natAbs, _+ℤ_}
 use mir.Syntax.{w64}
 use mir.Val.{toZ, ofZ}
 use Rattle.integers.proofs.Sizes.{natAbs-add}
-use Rattle.integers.proofs.Machine.{op-fits, op-is}
+use Rattle.integers.proofs.Machine.{op-is}
 use Rattle.tariff.specs.Inner.{maxCents}
-use Rattle.settlement.proofs.HourSums.{add-fits, add-is, exact-more, exact-carry}
+use Rattle.settlement.proofs.HourSums.{add-fits, add-is, carry-fits, exact-more, exact-carry}
 use Rattle.settlement.proofs.Totals.plus.Statement.{statement}
 use Rattle.settlement.proofs.Totals.plus.Tie as tie
 
@@ -54,7 +54,9 @@ small c =
 add-t10 : tie.Need-add-t10
 add-t10 c =
     let w = c .before .before .before .before .before in
-    op-fits _+ℤ_ (whole-is w) refl (omega (arith, small w, w .before .before .before .before .pre .1 .whole-sized))
+    let s = w .before .before .before .before in
+    let W = s .args .self .whole in
+    carry-fits (whole-is w) _ (omega (arith, natAbs-add W (w .whole .result), s .pre .1 .whole-sized, w .whole .ensures .1)) (omega arith)
 
 returns : tie.Need-returns
 returns c =
