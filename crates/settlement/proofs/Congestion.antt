@@ -33,9 +33,9 @@ pub congestion-start : (f : Factors) (p : List ℕ) (n : ℕ) → pos 0 ≡ cong
 unfolding congestion sumTo
 congestion-start f p n = refl
 
-pub congestion-more : (f : Factors) (p : List ℕ) (n k : ℕ) (s x r : ℤ) → s ≡ congestion f p n k → x ≡ factor f n k *ℤ pos (price p k) → r ≡ s +ℤ x → r ≡ congestion f p n (k + 1)
+pub congestion-more : (f : Factors) (p : List ℕ) (n k : ℕ) {s x r : ℤ} → s ≡ congestion f p n k → x ≡ factor f n k *ℤ pos (price p k) → r ≡ s +ℤ x → r ≡ congestion f p n (k + 1)
 unfolding congestion sumTo
-congestion-more f p n k s x r a b e = e ∙ ap₂ _+ℤ_ a b ∙ rw add-one
+congestion-more f p n k a b e = e ∙ ap₂ _+ℤ_ a b ∙ rw add-one
 
 -- ---- an hour's tables
 

@@ -4,7 +4,6 @@ use mathlib.Core.Bool.{Bool, true, false, cond}
 use mathlib.Core.List.{List, [], _∷_, _++_, map}
 use Prim.Native.Nat.{ℕ, zero, suc, _+_, _*_, _-_, _^_, _≤_, _<_}
 use native.Mathlib.Numerals.{add-one}
-use native.Mathlib.Nat.{mul-le-mul}
 use native.Mathlib.Omega.{arith}
 use lib.ListN.{getD, take}
 use lib.IntN.{ℤ, pos, natAbs, _+ℤ_, _*ℤ_, +ℤ-idr}
@@ -21,14 +20,14 @@ use Rattle.lists.proofs.Lists.{listTo-cong, map-listTo}
 use Rattle.tariff.specs.declared.contracts.Contract.{Contract}
 use Rattle.tariff.specs.declared.contracts.Period.{Period}
 use Rattle.tariff.specs.declared.refusals.Checked.the-variants.{Passed}
-use Rattle.tariff.specs.Units.{Factors, factorsOf, perCent, maxContracts}
+use Rattle.tariff.specs.Units.{Factors, factorsOf, perCent}
 use Rattle.tariff.specs.Contracts.{samePeriod, ofPeriod}
 use Rattle.tariff.specs.Refusals.{first}
 use Rattle.tariff.specs.Inner.{InRange, maxCents}
 use Rattle.tariff.specs.Settlement.{amount, exactTotal, cents, wholeCents, parts}
 use Rattle.tariff.proofs.Periods.{ofPeriod-same, ofPeriod-other, sumOver-more}
 use Rattle.tariff.proofs.Sizes.{amount-sized, cents-sized}
-use Rattle.layouts.specs.BookFile.{contractCountIn, contractAt, bookIn}
+use Rattle.layouts.specs.BookFile.{contractCountIn, contractAt}
 use Rattle.books.specs.BookChecks.{bookChecks}
 use Rattle.books.proofs.Accepted.{book-accepted}
 use Rattle.settlement.specs.declared.Totals.{Totals}
@@ -45,6 +44,10 @@ module _ (x y : ℤ) (h : natAbs x + natAbs y < 2 ^ 63) where
 
   pub add-is : toZ w64 (ofZ w64 (toZ w64 (ofZ w64 x) +ℤ toZ w64 (ofZ w64 y))) ≡ x +ℤ y
   add-is = op-is _+ℤ_ (back x (omega arith)) (back y (omega arith)) (omega (arith, natAbs-add x y))
+
+-- one more, or none, on top of a sum z
+pub carry-fits : {v z : ℤ} → v ≡ z → (d : ℤ) → natAbs z + 1 < 2 ^ 63 → natAbs d ≤ 1 → SFits w64 (v +ℤ d)
+carry-fits {v} {z} e d h one = op-fits _+ℤ_ e refl (omega (arith, natAbs-add z d))
 
 -- ---- one amount more
 
@@ -68,9 +71,9 @@ pub sum-start : (f : ℕ → ℤ) → pos 0 ≡ sumTo 0 f
 unfolding sumTo
 sum-start f = refl
 
-pub sum-more : (m : ℕ) (f : ℕ → ℤ) (s x r : ℤ) → s ≡ sumTo m f → x ≡ f m → r ≡ s +ℤ x → r ≡ sumTo (m + 1) f
+pub sum-more : (m : ℕ) (f : ℕ → ℤ) {s x r : ℤ} → s ≡ sumTo m f → x ≡ f m → r ≡ s +ℤ x → r ≡ sumTo (m + 1) f
 unfolding sumTo
-sum-more m f s x r a b e = e ∙ ap₂ _+ℤ_ a b ∙ rw add-one
+sum-more m f a b e = e ∙ ap₂ _+ℤ_ a b ∙ rw add-one
 
 -- totals of fewer contracts are within the bounds of more
 pub bounded-most : (m n : ℕ) (t : Totals) → m ≤ n → Bounded m t → Bounded n t
@@ -139,6 +142,10 @@ module _ (n k : ℕ) (fs : List ℤ) (ps : List ℕ) (h : Hour n k fs ps) (t : P
       unfolding centsOf
       cells-are = listTo-cong m _ _ cents-by-table ∙ sym (map-listTo m f (centsOf (factorsOf n k fs) (take k ps) t))
 
+      cells-settled : (entry exit : List ℤ) → exit ≡ overwrite (listTo m (λ i. cents (hourAmount mccs t (f i)))) entry
+          → exit ≡ overwrite (map (centsOf (factorsOf n k fs) (take k ps) t) (listTo m f)) entry
+      cells-settled entry exit x = x ∙ ap (λ (xs : List ℤ). overwrite xs entry) cells-are
+
       sum-is : centsSum (factorsOf n k fs) (take k ps) t (listTo m f) ≡ sumTo m (λ i. cents (hourAmount mccs t (f i)))
       unfolding centsSum
       sum-is = period-sum t m f (λ c. cents (amount (factorsOf n k fs) (take k ps) c)) _ cents-by-table
@@ -153,8 +160,7 @@ module _ (n k : ℕ) (fs : List ℤ) (ps : List ℕ) (h : Hour n k fs ps) (t : P
   settled s passed mccs rest e m count entry exit r by =
       let each = book-accepted n s passed .each in
       let b = rw count at by in
-      let are : exit ≡ overwrite (map (centsOf (factorsOf n k fs) (take k ps) t) (bookIn s)) entry =
-      b .cells ∙ ap (λ (xs : List ℤ). overwrite xs entry) (cells-are (contractCountIn s) (contractAt s) each mccs rest e) in
+      let are = cells-settled (contractCountIn s) (contractAt s) each mccs rest e entry exit (b .cells) in
       record {
         cells = are;
         sum = b .sum ∙ sym (sum-is (contractCountIn s) (contractAt s) each mccs rest e);

@@ -10,7 +10,7 @@ use Rattle.lists.specs.Lists.{listTo}
 use Rattle.lists.specs.Lent.{overwrite}
 use Rattle.tariff.specs.declared.contracts.Contract.{Contract}
 use Rattle.tariff.specs.declared.contracts.Period.{Period}
-use Rattle.tariff.specs.Units.{Factors, factorsOf, maxPrice, perCent}
+use Rattle.tariff.specs.Units.{factorsOf, maxPrice, perCent}
 use Rattle.tariff.specs.Contracts.{counted, samePeriod}
 use Rattle.tariff.specs.Inner.{maxMcc, maxCents}
 use Rattle.tariff.specs.Settlement.{mcc, cents}

@@ -1,7 +1,7 @@
 // Settling an hour: each contract's amount by a table of MCCs, its cents, and the totals.
 ghost use mathlib.Core.Path.{_≡_};
 ghost use mathlib.Core.List.{List};
-ghost use Prim.Native.Nat.{ℕ, _≤_, _<_};
+ghost use Prim.Native.Nat.{ℕ, _+_, _≤_, _<_};
 ghost use lib.ListN.{length};
 ghost use lib.IntN.{ℤ, natAbs};
 ghost use Rattle.lists.specs.Lent.{before, after};
@@ -37,13 +37,16 @@ fn amount_of(nodes: usize, mccs: &[i64], c: Contract) -> Amount
     spread.times(quantity).counted(kind)
 }
 
-// What a contract adds to an hour of the period: nothing for the other period's.
-fn hour_amount(nodes: usize, mccs: &[i64], period: Period, c: Contract) -> Amount
-    requires { ⌜ MccTable nodes (now mccs) × InRange nodes c ⌝ }
-    ensures { λ r. ⌜ (r .0 ≡ hourAmount (before mccs) period c) × (natAbs (r .0) ≤ maxAmount) ⌝ }
+// What contract i of a book adds to an hour of the period: nothing for the other period's.
+fn hour_amount(nodes: usize, mccs: &[i64], period: Period, book: &[u8], i: usize) -> Amount
+    requires { ⌜ MccTable nodes (now mccs) × InRange nodes (contractAt (now book) i) ⌝ }
+    requires { ⌜ (i < maxContracts) × (bookBytes i + 6 ≤ length (now book)) ⌝ }
+    ensures { λ r. ⌜ (r .0 ≡ hourAmount (before mccs) period (contractAt (before book) i)) × (natAbs (r .0) ≤ maxAmount) ⌝ }
 {
+    let c = books::contract_at(book, i);
     let own = c.period;
-    if own.same(period) {
+    let counts = own.same(period);
+    if counts {
         amount_of(nodes, mccs, c)
     } else {
         Amount(0)
@@ -70,7 +73,7 @@ fn settle_contracts(
     };
     let mut i = 0;
     while i < count {
-        let amount = hour_amount(nodes, mccs, period, books::contract_at(book, i));
+        let amount = hour_amount(nodes, mccs, period, book, i);
         cents[i] = amount.cents();
         totals = totals.plus(amount);
         i += 1;

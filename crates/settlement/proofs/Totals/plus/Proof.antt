@@ -7,9 +7,9 @@ use lib.IntN.{ℤ, pos, natAbs, _+ℤ_}
 use mir.Syntax.{w64}
 use mir.Val.{toZ, ofZ}
 use Rattle.integers.proofs.Sizes.{natAbs-add}
-use Rattle.integers.proofs.Machine.{op-fits, op-is}
+use Rattle.integers.proofs.Machine.{op-is}
 use Rattle.tariff.specs.Inner.{maxCents}
-use Rattle.settlement.proofs.HourSums.{add-fits, add-is, exact-more, exact-carry}
+use Rattle.settlement.proofs.HourSums.{add-fits, add-is, carry-fits, exact-more, exact-carry}
 use Rattle.settlement.proofs.Totals.plus.Statement.{statement}
 use Rattle.settlement.proofs.Totals.plus.Tie as tie
 
@@ -17,10 +17,12 @@ cents-requires : tie.Need-cents-requires
 cents-requires c κs = search needs
 
 -- the machine's sums are those of the numbers
-sum-is : (c : tie.After-cents) → let a = c .before .args in toZ w64 (ofZ w64 (toZ w64 (ofZ w64 (a .self .sum)) +ℤ toZ w64 (ofZ w64 (c .cents .result)))) ≡ a .self .sum +ℤ c .cents .result
+sum-is : (c : tie.After-cents)
+    → let a = c .before .args in toZ w64 (ofZ w64 (toZ w64 (ofZ w64 (a .self .sum)) +ℤ toZ w64 (ofZ w64 (c .cents .result)))) ≡ a .self .sum +ℤ c .cents .result
 sum-is c = add-is (c .before .args .self .sum) (c .cents .result) (omega (arith, c .before .pre .1 .sum-sized, c .cents .ensures .1))
 
-whole-is : (c : tie.After-whole) → let a = c .before .before .before .before .args in toZ w64 (ofZ w64 (toZ w64 (ofZ w64 (a .self .whole)) +ℤ toZ w64 (ofZ w64 (c .whole .result)))) ≡ a .self .whole +ℤ c .whole .result
+whole-is : (c : tie.After-whole)
+    → let a = c .before .before .before .before .args in toZ w64 (ofZ w64 (toZ w64 (ofZ w64 (a .self .whole)) +ℤ toZ w64 (ofZ w64 (c .whole .result)))) ≡ a .self .whole +ℤ c .whole .result
 whole-is c = let s = c .before .before .before .before in add-is (s .args .self .whole) (c .whole .result) (omega (arith, s .pre .1 .whole-sized, c .whole .ensures .1))
 
 add-sum : tie.Need-add-sum
@@ -52,7 +54,9 @@ small c =
 add-t10 : tie.Need-add-t10
 add-t10 c =
     let w = c .before .before .before .before .before in
-    op-fits _+ℤ_ (whole-is w) refl (omega (arith, small w, w .before .before .before .before .pre .1 .whole-sized))
+    let s = w .before .before .before .before in
+    let W = s .args .self .whole in
+    carry-fits (whole-is w) _ (omega (arith, natAbs-add W (w .whole .result), s .pre .1 .whole-sized, w .whole .ensures .1)) (omega arith)
 
 returns : tie.Need-returns
 returns c =

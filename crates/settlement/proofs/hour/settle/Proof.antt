@@ -40,7 +40,8 @@ returns c =
     let a = s .args in
     let m = c .before .before .before .before .before .before .fill-mcc in
     let n = c .before .before .before .before .contract-count in
-    settled (a .nodes) (a .constraints) (a .factors .now) (a .prices .now) (s .pre .0) (a .period) (a .book .now) (s .pre .1 .0) _ _ (m .ensures) (n .result) (n .ensures .0) _ _ _ (c .before .settle-contracts .ensures)
+    let by = c .before .settle-contracts .ensures in
+    settled (a .nodes) (a .constraints) (a .factors .now) (a .prices .now) (s .pre .0) (a .period) (a .book .now) (s .pre .1 .0) _ _ (m .ensures) (n .result) (n .ensures .0) _ _ _ by
 
 pub settle-spec : {M : Type 1} → statement M
 settle-spec =

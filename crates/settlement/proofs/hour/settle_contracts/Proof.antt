@@ -48,26 +48,23 @@ loop-holds c =
       record { parts-small = omega arith; sum-sized = omega arith; whole-sized = omega arith },
     )
 
-contract-at-requires : tie.Need-contract-at-requires Inv-loop μ-loop
-contract-at-requires c κs = (omega arith, omega arith)
-
 hour-amount-requires : tie.Need-hour-amount-requires Inv-loop μ-loop
 hour-amount-requires c κs =
-    let s = c .before .before .before .before in
-    (s .pre .0 .0, rw (c .contract-at .ensures) (s .pre .0 .1 (c .before .before .loop .i) (omega arith)))
+    let s = c .before .before .before in
+    ((s .pre .0 .0, s .pre .0 .1 (c .before .loop .i) (omega arith)), (omega arith, omega arith))
 
 cents-requires : tie.Need-cents-requires Inv-loop μ-loop
 cents-requires c κs = c .hour-amount .ensures .1
 
-mul-t13 : tie.Need-mul-t13 Inv-loop μ-loop
-mul-t13 c = search needs
+mul-t12 : tie.Need-mul-t12 Inv-loop μ-loop
+mul-t12 c = search needs
 
 slice-set-from-cents : tie.Need-slice-set-from-cents Inv-loop μ-loop
 slice-set-from-cents c = omega arith
 
 plus-requires : tie.Need-plus-requires Inv-loop μ-loop
 plus-requires c κs =
-    let l = c .before .before .before .before .loop in
+    let l = c .before .before .before .loop in
     (c .before .hour-amount .ensures .1, bounded-most (l .i) maxContracts (l .totals) (omega arith) (l .inv .6))
 
 add-i : tie.Need-add-i Inv-loop μ-loop
@@ -78,20 +75,19 @@ loop-less c = omega arith
 
 loop-again : tie.Need-loop-again Inv-loop μ-loop
 loop-again c =
-    let a = c .before .before .before .before .before .before .before .args in
-    let l = c .before .before .before .before .before .loop in
+    let a = c .before .before .before .before .before .before .args in
+    let l = c .before .before .before .before .loop in
     let p = c .plus .ensures in
     let amount = c .before .before .hour-amount in
     let F = centsAt (a .mccs .now) (a .period) (a .book .now) in
     let h : l .i < a .count = omega arith in
-    let is : amount .result .0 ≡ amountAt (a .mccs .now) (a .period) (a .book .now) (l .i) = amount .ensures .0 ∙ ap (hourAmount (a .mccs .now) (a .period)) (c .before .before .before .contract-at .ensures) in
-    let v = toZ-ofZ {w = w64} (record { sfits = c .before .cents .ok }) ∙ c .before .cents .ensures .0 ∙ ap centsOf is ∙ sym (getD-listTo (a .count) F (l .i) (pos 0) h) in (
+    let v = toZ-ofZ {w = w64} (record { sfits = c .before .cents .ok }) ∙ c .before .cents .ensures .0 ∙ ap centsOf (amount .ensures .0) ∙ sym (getD-listTo (a .count) F (l .i) (pos 0) h) in (
       omega arith,
       simp length-set (omega arith),
       fill-turn (listTo (a .count) F) (l .cents) (l .i) (l .inv .2) _ (pos 0) (omega arith) (rw (length-listTo (a .count) F) h) v,
       rest-turn (l .cents) (a .cents .now) (l .i) _ (l .inv .3),
-      sum-more (l .i) F (l .totals .sum) (centsOf (amount .result .0)) (c .plus .result .sum) (l .inv .4) (ap centsOf is) (p .sum),
-      sum-more (l .i) (amountAt (a .mccs .now) (a .period) (a .book .now)) (exactOf (l .totals)) (amount .result .0) (exactOf (c .plus .result)) (l .inv .5) is (p .exact),
+      sum-more (l .i) F (l .inv .4) (ap centsOf (amount .ensures .0)) (p .sum),
+      sum-more (l .i) (amountAt (a .mccs .now) (a .period) (a .book .now)) (l .inv .5) (amount .ensures .0) (p .exact),
       p .bounded (l .i) (l .inv .6),
     )
 
@@ -118,10 +114,9 @@ settle-contracts-spec =
     Inv-loop
     μ-loop
     loop-holds
-    contract-at-requires
     hour-amount-requires
     cents-requires
-    mul-t13
+    mul-t12
     slice-set-from-cents
     plus-requires
     add-i

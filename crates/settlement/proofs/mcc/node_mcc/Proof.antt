@@ -89,7 +89,7 @@ loop-again c =
     let x = c .before .times in
     let is = product-is (a .nodes) (a .constraints) (a .factors .now) (a .prices .now) (s .pre .0) (a .node) (s .pre .1) (l .k) (omega arith) (x .result .0) (x .ensures) in (
       omega arith,
-      congestion-more (factorsOf (a .nodes) (a .constraints) (a .factors .now)) (take (a .constraints) (a .prices .now)) (a .node) (l .k) (l .sum .0) (x .result .0) (c .plus .result .0) (l .inv .1) is (c .plus .ensures),
+      congestion-more (factorsOf (a .nodes) (a .constraints) (a .factors .now)) (take (a .constraints) (a .prices .now)) (a .node) (l .k) (l .inv .1) is (c .plus .ensures),
     )
 
 negated-requires : tie.Need-negated-requires Inv-loop μ-loop
