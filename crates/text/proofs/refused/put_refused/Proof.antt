@@ -11,7 +11,10 @@ use Rattle.text.proofs.refused.put_refused.Statement.{statement}
 use Rattle.text.proofs.refused.put_refused.Tie as tie
 
 short : (c : tie.After-number) → length (decimal (c .number .result)) ≤ 2
-short c = ?
+short c =
+    let c2 = c .before .before .before .before .before .before in
+    let s = c2 .before .before .before .before .before .before .before .before .before .before .before in
+    number-short (c .number .result) (s .args .refusal) (c .number .ensures)
 
 slice-aggregate-put-text : tie.Need-slice-aggregate-put-text
 slice-aggregate-put-text c = search needs
@@ -65,4 +68,3 @@ put-refused-spec =
     put-char-requires-2
     same-length
     returns)
--- 1
