@@ -54,8 +54,12 @@ module _ (s : List ℕ) (ls₀ : List ℕ) (fs₀ : List ℤ) where
       let long : N * K ≤ length (overwrite (factorsIn s) fs₀) = front-room (factorsIn s) fs₀ (N * K) (length-factors s gridHeaderBits N K) in
       record {
         passes = e;
-        grid-is = rw (front-limits, front-factors, take-all K (limitsIn s) (omega (arith, length-limits s gridHeaderBits N K)),
-            take-all (N * K) (factorsIn s) (omega (arith, length-factors s gridHeaderBits N K)));
+        grid-is = rw (
+          front-limits,
+          front-factors,
+          take-all K (limitsIn s) (omega (arith, length-limits s gridHeaderBits N K)),
+          take-all (N * K) (factorsIn s) (omega (arith, length-factors s gridHeaderBits N K)),
+        );
         good-limits = good-cells maxLimit K (overwrite (limitsIn s) ls₀) (front-room (limitsIn s) ls₀ K (length-limits s gridHeaderBits N K)) (rw front-limits (six .0));
         good-factors = record {
           nodes-few = nodes-few-of N (two .0);
