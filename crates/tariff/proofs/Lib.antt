@@ -7,3 +7,5 @@ pub mod Checks
 pub mod Periods
 pub mod Rounding
 pub mod Answers
+pub mod Maximum
+pub mod WorstNumber

@@ -54,3 +54,15 @@ ofPeriod-other t cs c e = ofPeriod-append t cs (c ∷ []) ∙ rw e (nil (ofPerio
 pub sumOver-more : {A : Type 0} (xs : List A) (x : A) (g : A → ℤ) → sumOver (xs ++ x ∷ []) g ≡ sumOver xs g +ℤ g x
 unfolding sumOver
 sumOver-more xs x g = sumOver-append xs (x ∷ []) g ∙ ap (λ (z : ℤ). sumOver xs g +ℤ z) (+ℤ-idr (g x))
+
+-- a contract of the period is tested, at its place in the book's order
+same-self : (t : Period) → samePeriod t t ≡ true
+same-self OffPeak = refl
+same-self OnPeak = refl
+
+pub ofPeriod-at : (t : Period) (earlier later : List Contract) (c : Contract) → c .period ≡ t
+    → ofPeriod t (earlier ++ c ∷ later) ≡ ofPeriod t earlier ++ c ∷ ofPeriod t later
+unfolding ofPeriod
+ofPeriod-at t earlier later c e =
+    let same : samePeriod (c .period) t ≡ true = rw e (same-self t) in
+    ofPeriod-append t earlier (c ∷ later) ∙ rw same

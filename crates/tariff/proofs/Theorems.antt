@@ -1,11 +1,11 @@
 -- THE THEOREMS over document 01's definitions, each for every grid, book, period and process. Statements only: the proofs are in Worst.antt,
--- Overloads.antt and Periods.antt.
+-- WorstNumber.antt, Overloads.antt and Periods.antt.
 use mathlib.Core.Path.{_≡_}
 use mathlib.Core.Logic.{_↔_}
-use mathlib.Core.List.{List, []}
+use mathlib.Core.List.{List, [], _∷_, _++_}
 use Prim.Native.Nat.{ℕ, _<_, _≤_}
 use lib.Count.{ones, trailingZeros}
-use lib.IntN.{pos}
+use lib.IntN.{ℤ, pos}
 use lib.Signed.{_≤ℤ_, _<ℤ_}
 use Rattle.lists.specs.Lists.{Each}
 use Rattle.lists.proofs.Sets.{Lowest, set-ones, set-trailing}
@@ -20,6 +20,7 @@ use Rattle.tariff.specs.Shortfall.{PriceList, shortfall, oneCent, IsWors
 use Rattle.tariff.proofs.Worst as W
 use Rattle.tariff.proofs.Overloads as O
 use Rattle.tariff.proofs.Periods as P
+use Rattle.tariff.proofs.WorstNumber as N
 
 module _ (g : Grid) (process : Process) (period : Period) (book : List Contract) where
   abbrev tested : List Contract
@@ -50,9 +51,22 @@ module _ (g : Grid) (process : Process) (period : Period) (book : List Contract)
   unfolding overloadSet lowestOverload
   lowest-is-trailing h s = set-trailing (g .factors .constraints) 64 (overloaded g process tested) h s
 
+  -- "this number exists": the worst shortfall is one number
+  pub worst-is-one-number : (w : ℤ) × IsWorst g process tested w × ((v : ℤ) → IsWorst g process tested v → v ≡ w)
+  worst-is-one-number = N.worst-is-one-number g process tested
+
+  -- and it is above 0 where the test does not pass
+  pub fail-worst-above-zero : (Passes g process tested → ⊥) → (w : ℤ) → IsWorst g process tested w → pos 0 <ℤ w
+  fail-worst-above-zero = N.fail-worst-above g process tested
+
 -- the contracts tested are of the period, every one
 pub tested-are-of-the-period : (period : Period) (book : List Contract) → Each (λ (c : Contract). c .period ≡ period) (ofPeriod period book)
 tested-are-of-the-period = P.ofPeriod-each
+
+-- and every contract of the period is tested, at its place in the book's order
+pub of-the-period-is-tested : (period : Period) (earlier later : List Contract) (c : Contract) → c .period ≡ period
+    → ofPeriod period (earlier ++ c ∷ later) ≡ ofPeriod period earlier ++ c ∷ ofPeriod period later
+of-the-period-is-tested = P.ofPeriod-at
 
 -- the empty book passes
 pub empty-book-passes : (g : Grid) (process : Process) (period : Period) → Passes g process (ofPeriod period [])
