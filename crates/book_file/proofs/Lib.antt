@@ -2,3 +2,4 @@ pub mod Checking
 pub mod Accepted
 pub mod Rows
 pub mod RoundTrip
+pub mod Taken
