@@ -1,12 +1,11 @@
 -- Laws of a pen, which writes one field after the other: a turn of its loop, and what it has written after many fields.
 use mathlib.Core.Path.{_≡_, refl, sym, ap, ap₂, _∙_}
 use Prim.Native.Nat.{ℕ, _+_, _-_, _*_, _/_, _%_, _^_, _≤_, _<_}
-use native.Mathlib.Nat.{add-zero, mul-zero, mod-mod, mod-one, mod-lt, mod-eq-of-lt}
-use native.Mathlib.Numerals.{add-one}
+use native.Mathlib.Nat.{add-zero, mul-zero, mod-mod, mod-one, mod-lt}
 use native.Mathlib.Omega.{arith}
 use mathlib.Core.List.{List, [], _∷_, _++_, map}
-use lib.ListN.{length, set, getD, take, drop, length-append}
-use lib.Seq.{take-suc-set, take-all, take-at, drop-at, length-take-le}
+use lib.ListN.{length, getD, take, drop, length-append}
+use lib.Seq.{take-all, take-at, drop-at, length-take-le}
 use lib.Pow.{shl-shr, high, low, mod-pow-add, mod-mod-pow, pow-add, pow-pos}
 use lib.Arith.{digits-lt}
 use Rattle.bits.specs.Bits.{number, digits}

@@ -7,7 +7,6 @@ ghost use lib.ListN.{length, take, drop};
 ghost use Rattle.bits.specs.Bits.{number, digits, field as fieldOf};
 ghost use Rattle.bits.specs.Pen.{written, place, Ready, GoesOn};
 ghost use Rattle.bits.specs.Signed.{ofInt, toInt};
-ghost use Rattle.bits.specs.Inner.{filled};
 ghost use Rattle.lists.specs.Lent.{before, after};
 
 // A byte with its bound.
@@ -118,36 +117,39 @@ fn join(a: u64, v: u64, width: usize) -> u64
     (a << width) + v
 }
 
-// Stores byte `k` of the `n` lowest bytes of `v`, which stand from place `at` on. With the bytes before it still to come, what all of them make stays the same.
-fn store_byte(buf: &mut [u8], at: usize, v: u64, k: usize, n: usize)
-    requires { ⌜ (k < n) × (n ≤ 8) × (at + k < length (now buf)) ⌝ }
-    ensures { λ r. ⌜ filled at (digits 8 n v) k (after buf) ≡ filled at (digits 8 n v) (k + 1) (before buf) ⌝ }
+// Stores the lowest byte of `v` at place `at`.
+fn store1(buf: &mut [u8], at: usize, v: u64)
+    requires { ⌜ at + 1 ≤ length (now buf) ⌝ }
+    ensures { λ r. ⌜ after buf ≡ take at (before buf) ++ digits 8 1 v ++ drop (at + 1) (before buf) ⌝ }
 {
-    buf[at + k] = part(v, 8 * (n - (k + 1)), 8) as u8;
+    buf[at] = part(v, 0, 8) as u8;
 }
 
-// Stores the four lowest bytes of `v` at place `at`. The last byte goes first: so the compiler makes one store of four bytes.
+// Stores the two lowest bytes of `v` from place `at` on. The lower one goes first, here and below: in that order the compiler makes one store of four bytes.
+fn store2(buf: &mut [u8], at: usize, v: u64)
+    requires { ⌜ at + 2 ≤ length (now buf) ⌝ }
+    ensures { λ r. ⌜ after buf ≡ take at (before buf) ++ digits 8 2 v ++ drop (at + 2) (before buf) ⌝ }
+{
+    store1(buf, at + 1, v);
+    store1(buf, at, v >> 8);
+}
+
+// Stores the four lowest bytes of `v` from place `at` on.
 fn store4(buf: &mut [u8], at: usize, v: u64)
     requires { ⌜ at + 4 ≤ length (now buf) ⌝ }
     ensures { λ r. ⌜ after buf ≡ take at (before buf) ++ digits 8 4 v ++ drop (at + 4) (before buf) ⌝ }
 {
-    store_byte(buf, at, v, 3, 4);
-    store_byte(buf, at, v, 2, 4);
-    store_byte(buf, at, v, 1, 4);
-    store_byte(buf, at, v, 0, 4);
+    store2(buf, at + 2, v);
+    store2(buf, at, v >> 16);
 }
 
-// Stores the six lowest bytes of `v` at place `at`.
+// Stores the six lowest bytes of `v` from place `at` on: a record of 48 bits.
 pub fn store6(buf: &mut [u8], at: usize, v: u64)
     requires { ⌜ at + 6 ≤ length (now buf) ⌝ }
     ensures { λ r. ⌜ after buf ≡ take at (before buf) ++ digits 8 6 v ++ drop (at + 6) (before buf) ⌝ }
 {
-    store_byte(buf, at, v, 5, 6);
-    store_byte(buf, at, v, 4, 6);
-    store_byte(buf, at, v, 3, 6);
-    store_byte(buf, at, v, 2, 6);
-    store_byte(buf, at, v, 1, 6);
-    store_byte(buf, at, v, 0, 6);
+    store4(buf, at + 2, v);
+    store2(buf, at, v >> 32);
 }
 
 // Writes `v` as the next `width` bits: four bytes leave the pen at once, as soon as it holds them.
@@ -187,7 +189,7 @@ fn shed(buf: &mut [u8], pen: Pen) -> Pen
     let bits = pen.bits;
     while 8 <= held {
         held -= 8;
-        store_byte(buf, at, part(bits, held, 8), 0, 1);
+        store1(buf, at, part(bits, held, 8));
         at += 1;
     }
     Pen { at, held, bits }
@@ -206,14 +208,23 @@ pub fn put_last(buf: &mut [u8], pen: Pen, v: u64, width: usize) -> Pen
     shed(buf, last)
 }
 
+// 2 to the power of `k`.
+fn power(k: usize) -> u64
+    requires { ⌜ k ≤ 32 ⌝ }
+    ensures { λ r. ⌜ (r ≡ 2 ^ k) × (0 < r) × (r ≤ 2 ^ 32) ⌝ }
+{
+    1u64 << k
+}
+
 // The integer that `v` is in two's complement of `width` bits.
 pub fn signed(v: u64, width: usize) -> i64
     requires { ⌜ (1 ≤ width) × (width ≤ 32) ⌝ }
     requires { ⌜ v < 2 ^ width ⌝ }
     ensures { λ r. ⌜ r ≡ toInt width v ⌝ }
 {
-    let half = 1u64 << (width - 1);
-    let raised = (v + half) % (1u64 << width);
+    let whole = power(width);
+    let half = power(width - 1);
+    let raised = (v + half) % whole;
     (raised as i64) - (half as i64)
 }
 
@@ -223,6 +234,6 @@ pub fn unsigned(z: i64, width: usize) -> u64
     requires { ⌜ mag z < 2 ^ (width - 1) ⌝ }
     ensures { λ r. ⌜ (r ≡ ofInt width z) × (r < 2 ^ width) ⌝ }
 {
-    let power = 1u64 << width;
-    ((z + (power as i64)) as u64) % power
+    let whole = power(width);
+    ((z + (whole as i64)) as u64) % whole
 }

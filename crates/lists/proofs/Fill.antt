@@ -1,11 +1,11 @@
 -- A loop that fills the first cells of a list with the elements of a list F, at any type: a turn, and the end, when the rest is as it was.
 use mathlib.Core.Path.{_≡_, sym, ap, ap₂, _∙_}
-use Prim.Native.Nat.{ℕ, suc, _+_, _-_, _≤_, _<_}
+use Prim.Native.Nat.{ℕ, _+_, _-_, _≤_, _<_}
 use native.Mathlib.Numerals.{add-one}
 use native.Mathlib.Omega.{arith}
-use mathlib.Core.List.{List, [], _∷_, _++_}
+use mathlib.Core.List.{List, _++_}
 use lib.ListN.{length, set, getD, take, drop, take-append-drop}
-use lib.Seq.{sets-eq, take-suc, take-suc-set, take-all, drop-drop, drop-set-lt}
+use lib.Seq.{take-suc, take-suc-set, take-all, drop-drop, drop-set-lt}
 
 module _ {A : Type 0} (F out : List A) (i : ℕ) (done : take i out ≡ take i F) where
   pub fill-turn : (v d : A) → i < length out → i < length F → v ≡ getD F i d → take (i + 1) (set out i v) ≡ take (i + 1) F
@@ -26,12 +26,3 @@ pub drop-later : {A : Type 0} (xs ys : List A) (i j : ℕ) → i ≤ j → drop 
 drop-later xs ys i j h e =
     let k : j ≡ i + (j - i) = omega arith in
     rw (k, ← drop-drop (j - i) i xs, ← drop-drop (j - i) i ys) (ap (drop (j - i)) e)
-
--- four cells set one after the other
-pub four-sets : {A : Type 0} (l : List A) (at : ℕ) (a b c d : A) → at + 4 ≤ length l
-    → set (set (set (set l at a) (at + 1) b) (at + 2) c) (at + 3) d ≡ take at l ++ (a ∷ b ∷ c ∷ d ∷ []) ++ drop (at + 4) l
-four-sets l at a b c d h =
-    let e1 : at + 1 ≡ suc at = omega arith in
-    let e2 : at + 2 ≡ suc (suc at) = omega arith in
-    let e3 : at + 3 ≡ suc (suc (suc at)) = omega arith in
-    rw (e1, e2, e3) (sets-eq (a ∷ b ∷ c ∷ d ∷ []) l at h)

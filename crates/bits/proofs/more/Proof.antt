@@ -6,15 +6,6 @@ use Rattle.bits.proofs.Fields.{window-more, window-fits}
 use Rattle.bits.proofs.more.Statement.{statement}
 use Rattle.bits.proofs.more.Tie as tie
 
-add-wide : tie.Need-add-wide
-add-wide c = search needs
-
-shared-slice-read-wide : tie.Need-shared-slice-read-wide
-shared-slice-read-wide c = search needs
-
-wide-requires : tie.Need-wide-requires
-wide-requires c κs = search needs
-
 -- `acc` is a number of at most 6 bytes
 small : (c : tie.After-wide) → c .before .before .before .args .acc < 2 ^ (8 * 6)
 small c =
@@ -35,4 +26,4 @@ returns c =
     omega (arith, window-more (a .s .now) (a .first) (a .i) (a .acc) (s .pre .0) (s .pre .2))
 
 pub more-spec : {M : Type 1} → statement M
-more-spec = tie.close (tie.spec add-wide shared-slice-read-wide wide-requires mul-result add-result returns)
+more-spec = tie.close (tie.spec (λ c. search needs) (λ c. search needs) (λ c κs. search needs) mul-result add-result returns)

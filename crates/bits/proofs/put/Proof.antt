@@ -9,12 +9,6 @@ use Rattle.bits.proofs.Writing.{bytes-turn, bytes-rest, put-more}
 use Rattle.bits.proofs.put.Statement.{statement}
 use Rattle.bits.proofs.put.Tie as tie
 
-add-held : tie.Need-add-held
-add-held c = search needs
-
-join-requires : tie.Need-join-requires
-join-requires c κs = search needs
-
 returns : tie.Need-returns
 unfolding written
 returns c =
@@ -23,18 +17,6 @@ returns c =
       put-more _ (a .pen .held) _ _ (a .v) (a .width) (j .ensures (a .pen .held) (omega arith)),
       ((omega arith, omega (arith, c .if1 .taken)), record { onward = omega arith; rest = refl }),
     )
-
-part-requires : tie.Need-part-requires
-part-requires c κs = search needs
-
-store4-requires : tie.Need-store4-requires
-store4-requires c κs = search needs
-
-add-t14 : tie.Need-add-t14
-add-t14 c = search needs
-
-same-length : tie.Need-same-length
-same-length c = search needs
 
 returns-2 : tie.Need-returns-2
 unfolding written
@@ -52,14 +34,4 @@ returns-2 c =
     )
 
 pub put-spec : {M : Type 1} → statement M
-put-spec =
-    tie.close
-    (tie.spec
-    add-held
-    join-requires
-    returns
-    part-requires
-    store4-requires
-    add-t14
-    same-length
-    returns-2)
+put-spec = tie.close (tie.spec (λ c. search needs) (λ c κs. search needs) returns (λ c κs. search needs) (λ c κs. search needs) (λ c. search needs) (λ c. search needs) returns-2)

@@ -19,24 +19,9 @@ Inv-loop buf₀ at₀ held₀ bits buf at held =
 abbrev μ-loop : tie.MeasureT-loop
 μ-loop buf₀ at₀ held₀ bits buf at held = held
 
-loop-holds : tie.Need-loop-holds Inv-loop μ-loop
-loop-holds c = search needs
-
-part-requires : tie.Need-part-requires Inv-loop μ-loop
-part-requires c κs = search needs
-
-store-byte-requires : tie.Need-store-byte-requires Inv-loop μ-loop
-store-byte-requires c κs = search needs
-
-add-at : tie.Need-add-at Inv-loop μ-loop
-add-at c = search needs
-
-loop-less : tie.Need-loop-less Inv-loop μ-loop
-loop-less c = search needs
-
 loop-again : tie.Need-loop-again Inv-loop μ-loop
 loop-again c =
-    let b = c .before .before .store-byte in
+    let b = c .before .before .store1 in
     let p = c .before .before .before .part in
     let l = c .before .before .before .before .before .before .loop in
     let room : l .at + 1 ≤ length (l .buf) = omega arith in (
@@ -48,9 +33,6 @@ loop-again c =
       bytes-turn 1 (l .buf) (b .last .0) (l .at) (p .result) room (b .ensures) (l .held) _ (omega arith) (p .ensures .0) ∙ l .inv .5,
     )
 
-same-length : tie.Need-same-length Inv-loop μ-loop
-same-length c = search needs
-
 returns : tie.Need-returns Inv-loop μ-loop
 unfolding written
 returns c =
@@ -58,4 +40,4 @@ returns c =
     (l .inv .5, ((l .inv .2, omega arith, omega arith), record { onward = l .inv .3; rest = l .inv .0 }))
 
 pub shed-spec : {M : Type 1} → statement M
-shed-spec = tie.close (tie.spec Inv-loop μ-loop loop-holds part-requires store-byte-requires add-at loop-less loop-again same-length returns)
+shed-spec = tie.close (tie.spec Inv-loop μ-loop (λ c. search needs) (λ c κs. search needs) (λ c κs. search needs) (λ c. search needs) (λ c. search needs) loop-again (λ c. search needs) returns)
