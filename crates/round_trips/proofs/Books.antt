@@ -1,9 +1,7 @@
 -- The book's file there and back.
-use mathlib.Core.Path.{_≡_, refl, sym, ap, _∙_}
+use mathlib.Core.Path.{_≡_, ap, _∙_}
 use mathlib.Core.List.{List, [], _∷_, flatMap}
 use Prim.Native.Nat.{ℕ, _*_, _≤_}
-use native.Mathlib.Omega.{arith}
-use borrow.Author.Tests.{le-ltb}
 use lib.ListN.{length, take}
 use lib.IntN.{pos}
 use Rattle.bits.proofs.Bytes.{Bytes, bytes-below}
@@ -16,7 +14,7 @@ use Rattle.layouts.specs.BookFile.{contractCountIn, bookIn, bookFile}
 use Rattle.layouts.specs.BookTable.{contractCells, cellsOf, rowsIn}
 use Rattle.book_file.specs.declared.BookAnswer.{BookAnswer}
 use Rattle.book_file.specs.declared.BookAnswer.the-variants.{Read, Refused}
-use Rattle.book_file.specs.ReadBook.{readBookCall, readBookChecked, bookOutcome, bookCells, ReadsBook}
+use Rattle.book_file.specs.ReadBook.{readBookCall, readBookChecked, bookOutcome, ReadsBook}
 use Rattle.book_file.specs.WriteBook.{writeBookCall, writeBookChecked, bookWritten, WritesBook}
 use Rattle.book_file.proofs.RoundTrip.{ReadBack, read-then-written, written-then-read}
 use Rattle.book_file.proofs.Taken.{rows-left, rows-accepted}

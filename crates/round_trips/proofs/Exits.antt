@@ -1,9 +1,9 @@
 -- What a writer's promise says where no check refuses, and a slice of bytes as digits.
 use mathlib.Core.Path.{_≡_, refl, ap}
 use mathlib.Core.List.{List, [], _∷_}
-use Prim.Native.Nat.{ℕ, _<_}
-use lib.ListN.{length, getD, take}
-use lib.IntN.{ℤ, pos}
+use Prim.Native.Nat.{ℕ}
+use lib.ListN.{length, take}
+use lib.IntN.{pos}
 use Rattle.lists.specs.Lent.{overwrite}
 use Rattle.lists.proofs.Fronts.{front-is}
 use Rattle.tariff.specs.declared.refusals.Checked.{Checked}

@@ -1,5 +1,5 @@
 -- The grid's file there and back.
-use mathlib.Core.Path.{_≡_, refl, sym, ap, ap₂, _∙_}
+use mathlib.Core.Path.{_≡_, sym, ap, ap₂, _∙_}
 use mathlib.Core.List.{List, [], _∷_}
 use Prim.Native.Nat.{ℕ, _*_, _≤_}
 use native.Mathlib.Omega.{arith}
@@ -10,7 +10,6 @@ use Rattle.bits.proofs.Bytes.{Bytes, bytes-below}
 use Rattle.lists.specs.Lent.{overwrite}
 use Rattle.lists.proofs.Fronts.{front-is, front-room}
 use Rattle.tariff.specs.declared.refusals.Checked.the-variants.{Passed}
-use Rattle.tariff.specs.Units.{gridOf}
 use Rattle.tariff.proofs.Checks.{first-passes, last-passes, passed-cons}
 use Rattle.tariff.proofs.Answers.{never-given, given-told}
 use Rattle.layouts.specs.declared.WriteAnswer.{WriteAnswer}

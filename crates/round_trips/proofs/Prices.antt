@@ -1,5 +1,5 @@
 -- The price file there and back.
-use mathlib.Core.Path.{_≡_, refl, sym, ap, _∙_}
+use mathlib.Core.Path.{_≡_, sym, ap, _∙_}
 use mathlib.Core.List.{List, [], _∷_}
 use Prim.Native.Nat.{ℕ, _≤_}
 use native.Mathlib.Omega.{arith}
@@ -14,7 +14,7 @@ use Rattle.tariff.proofs.Checks.{first-passes, last-passes, passed-cons}
 use Rattle.tariff.proofs.Answers.{never-given, given-told}
 use Rattle.layouts.specs.declared.WriteAnswer.{WriteAnswer}
 use Rattle.layouts.specs.declared.WriteAnswer.the-variants.{Written}
-use Rattle.layouts.specs.PriceFile.{priceBytes, priceFile, periodIn, pricesIn}
+use Rattle.layouts.specs.PriceFile.{priceBytes, periodIn, pricesIn}
 use Rattle.price_file.specs.declared.PriceAnswer.{PriceAnswer}
 use Rattle.price_file.specs.declared.PriceAnswer.the-variants.{Read, Refused}
 use Rattle.price_file.specs.ReadPrices.{readPricesCall, priceFileChecks, readPricesChecks, readPricesChecked, priceOutcome, ReadsPrices}
