@@ -57,12 +57,10 @@ slice-aggregate-put-tested-2 : tie.Need-slice-aggregate-put-tested-2
 slice-aggregate-put-tested-2 c = search needs
 
 -- the tables as the reader left them
-taken : (c : tie.After-nodes) → let r = c .before .before .before .before .read-grid in
-    GridTaken (c .before .before .before .before .before .before .before .before .before .before .args .grid-file .now) (c .nodes .given .0 .0) (c .nodes .given .0 .1 .0) (r .last .1 .0) (r .last .1 .1 .0)
+taken : (c : tie.After-nodes) → let r = c .before .before .before .before in let s = r .before .before .before .before .before .before in
+    GridTaken (s .args .grid-file .now) (c .nodes .given .0 .0) (c .nodes .given .0 .1 .0) (r .read-grid .last .1 .0) (r .read-grid .last .1 .1 .0)
 unfolding cells places
-taken c =
-    let r = c .before .before .before .before .read-grid in
-    grid-taken _ cells places _ _ _ _ (rw (c .nodes .given .1) at (r .ensures))
+taken c = grid-taken _ cells places _ _ _ _ (rw (c .nodes .given .1) at (c .before .before .before .before .read-grid .ensures))
 
 put-tested-requires : tie.Need-put-tested-requires
 put-tested-requires c κs =

@@ -1,5 +1,4 @@
 -- `write_report`.
-use mathlib.Core.Path.{refl}
 use mathlib.Core.List.{[]}
 use lib.ListN.{length}
 use borrow.Author.Tests.{lt-ltb, le-ltb}

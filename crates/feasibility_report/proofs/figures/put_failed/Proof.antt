@@ -14,7 +14,9 @@ put-counts-requires : tie.Need-put-counts-requires
 put-counts-requires c κs = search needs
 
 put-signed-requires : tie.Need-put-signed-requires
-put-signed-requires c κs = let s = c .before .before .before .before .before .before .before in rw (back (s .args .excess .0) (s .pre .2)) (omega (arith, length-decimalZ (s .args .excess .0)), s .pre .2)
+put-signed-requires c κs =
+    let s = c .before .before .before .before .before .before .before in
+    rw (back (s .args .excess .0) (s .pre .2)) (omega (arith, length-decimalZ (s .args .excess .0)), s .pre .2)
 
 put-char-requires : tie.Need-put-char-requires
 put-char-requires c κs = search needs

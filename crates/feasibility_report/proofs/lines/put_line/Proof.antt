@@ -41,7 +41,8 @@ put-figures-requires c κs =
     let s = v .before .before .before .before in
     let a = s .args in
     let ok = s .pre .1 .0 in
-    (ok .good-factors .few, omega (arith, s .pre .0), over-bound (a .nodes) (a .constraints) (a .limits .now) (a .factors .now) (a .book .now) (a .process) (a .period) (v .verdict .result) (judged v) ok)
+    let small = over-bound (a .nodes) (a .constraints) (a .limits .now) (a .factors .now) (a .book .now) (a .process) (a .period) (v .verdict .result) (judged v) ok in
+    (ok .good-factors .few, omega (arith, s .pre .0), small)
 
 put-char-requires : tie.Need-put-char-requires
 put-char-requires c κs = search needs

@@ -1,6 +1,6 @@
 -- `put_period`.
 use mathlib.Core.Path.{_≡_, ap}
-use mathlib.Core.List.{List, _++_}
+use mathlib.Core.List.{_++_}
 use native.Mathlib.Omega.{arith}
 use Rattle.text.specs.Ascii.{ascii}
 use Rattle.tariff.specs.declared.contracts.Period.{Period}
