@@ -13,7 +13,7 @@ use Rattle.text.specs.Decimal.{decimal}
 use Rattle.lists.specs.Sets.{setOf}
 use Rattle.lists.proofs.Sets.{set-bit}
 use Rattle.feasibility_report.specs.Report.{numbersTo, blankAfter}
-use Rattle.feasibility_report.specs.Parts.{inSet, member}
+use Rattle.feasibility_report.specs.Inner.{inSet, member}
 
 -- ---- one number more
 

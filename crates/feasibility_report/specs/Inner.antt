@@ -2,13 +2,14 @@
 use mathlib.Core.Path.{_≡_}
 use mathlib.Core.Bool.{Bool, cond}
 use mathlib.Core.List.{List, [], _++_}
-use Prim.Native.Nat.{ℕ, _/_, _%_, _^_}
+use Prim.Native.Nat.{ℕ, _+_, _*_, _/_, _%_, _^_}
 use lib.Dec.{eqb}
+use lib.ListN.{length}
 use lib.IntN.{ℤ, pos}
 use Rattle.text.specs.Ascii.{ascii}
 use Rattle.text.specs.Decimal.{decimal, decimalZ}
 use Rattle.tariff.specs.declared.refusals.Checked.the-variants.{Passed}
-use Rattle.tariff.specs.Units.{maxLimit}
+use Rattle.tariff.specs.Units.{maxConstraints, maxLimit}
 use Rattle.tariff.specs.Refusals.{first}
 use Rattle.tables.specs.Inner.{GoodFactors, GoodCells}
 use Rattle.books.specs.BookChecks.{bookChecks}
@@ -44,3 +45,30 @@ abbrev pub overBy : TestAnswer → ℤ
 overBy Pass = pos 0
 overBy (Fail set count lowest over) = over .0
 overBy (Refused r) = pos 0
+
+-- ---- the most characters of each part: figures are taken for 64 bits
+
+abbrev pub periodRoom : ℕ
+periodRoom = length (ascii "off-peak,")
+
+abbrev pub processRoom : ℕ
+processRoom = length (ascii "monthly,")
+
+-- a constraint in a list
+abbrev pub memberRoom : ℕ
+memberRoom = length (ascii " 63")
+
+abbrev pub numbersRoom : ℕ
+numbersRoom = maxConstraints * memberRoom
+
+abbrev pub countsRoom : ℕ
+countsRoom = length (ascii "fail,18446744073709551615,18446744073709551615,")
+
+abbrev pub figuresRoom : ℕ
+figuresRoom = countsRoom + length (ascii "-18446744073709551615,") + numbersRoom
+
+abbrev pub lineRoom : ℕ
+lineRoom = periodRoom + processRoom + figuresRoom + length (ascii "\n")
+
+abbrev pub periodLinesRoom : ℕ
+periodLinesRoom = 3 * lineRoom

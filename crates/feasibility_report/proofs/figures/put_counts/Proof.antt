@@ -1,13 +1,10 @@
 -- `put_counts`.
-use mathlib.Core.Path.{refl}
-use mathlib.Core.List.{[], _∷_}
 use native.Mathlib.Omega.{arith}
-use Rattle.text.specs.Decimal.{decimal}
-use Rattle.text.proofs.Laws.{length-decimal}
-use Rattle.text.proofs.Putting.{put-as, then-text}
+use Rattle.text.proofs.Digits.{length-decimal}
+use Rattle.text.proofs.Putting.{_then_}
 use borrow.Author.Needs.{needs}
-use Rattle.feasibility_report.proofs.put_counts.Statement.{statement}
-use Rattle.feasibility_report.proofs.put_counts.Tie as tie
+use Rattle.feasibility_report.proofs.figures.put_counts.Statement.{statement}
+use Rattle.feasibility_report.proofs.figures.put_counts.Tie as tie
 
 slice-aggregate-put-text : tie.Need-slice-aggregate-put-text
 slice-aggregate-put-text c = search needs
@@ -36,22 +33,12 @@ returns c =
     let c3 = c4 .before .before .before .before in
     let c2 = c3 .before .before .before .before in
     let c1 = c2 .before .before .before .before in
-    let p1 = c1 .before .before .put-text in
-    let p2 = c2 .before .before .put-decimal in
-    let p3 = c3 .before .before .put-char in
-    let p4 = c4 .before .before .put-decimal2 in
-    let p5 = c .before .before .put-char2 in
-    let s = c1 .before .before .before .before .before .before in
-    let f = s .pre in
-    let b2 = p2 .ensures .1 in
-    let b4 = p4 .ensures .1 in
-    let q1 = put-as refl (p1 .ensures .0) (p1 .ensures .1) in
-    let q2 = then-text q1 (omega (arith, f, p1 .ensures .1)) (decimal (s .args .count)) (p2 .ensures .0) (b2 .0) in
-    let q3 = then-text q2 (omega (arith, f, p1 .ensures .1, b2 .1)) (44 ∷ []) (p3 .ensures .0) (p3 .ensures .1) in
-    let q4 = then-text q3 (omega (arith, f, p1 .ensures .1, b2 .1, p3 .ensures .1)) (decimal (s .args .lowest)) (p4 .ensures .0) (b4 .0) in (
-      then-text q4 (omega (arith, f, p1 .ensures .1, b2 .1, p3 .ensures .1, b4 .1)) (44 ∷ []) (p5 .ensures .0) (p5 .ensures .1),
-      omega (arith, p1 .ensures .1, b2 .1, p3 .ensures .1, b4 .1, p5 .ensures .1),
-    )
+    let p1 = c1 .before .before .put-text .ensures in
+    let p2 = c2 .before .before .put-decimal .ensures in
+    let p3 = c3 .before .before .put-char .ensures in
+    let p4 = c4 .before .before .put-decimal2 .ensures in
+    let p5 = c .before .before .put-char2 .ensures in
+    (p1 then p2 .0 then p3 then p4 .0 then p5, omega (arith, p1 .place, p2 .1, p3 .place, p4 .1, p5 .place))
 
 pub put-counts-spec : {M : Type 1} → statement M
 put-counts-spec =

@@ -1,10 +1,20 @@
 -- `put_process`.
+use mathlib.Core.Path.{_≡_, ap}
+use mathlib.Core.List.{_++_}
 use native.Mathlib.Omega.{arith}
-use Rattle.text.proofs.Putting.{put-as}
-use Rattle.feasibility_report.proofs.Words.{annual, tier-lt, monthly}
+use Rattle.text.specs.Ascii.{ascii}
+use Rattle.tariff.specs.declared.processes.Process.{Process}
+use Rattle.text.proofs.Putting.{put-same}
+use Rattle.feasibility_report.specs.Report.{processWord}
 use borrow.Author.Needs.{needs}
-use Rattle.feasibility_report.proofs.put_process.Statement.{statement}
-use Rattle.feasibility_report.proofs.put_process.Tie as tie
+use Rattle.feasibility_report.proofs.lines.put_process.Statement.{statement}
+use Rattle.feasibility_report.proofs.lines.put_process.Tie as tie
+
+comma : {a b : Process} → a ≡ b → processWord a ++ ascii "," ≡ processWord b ++ ascii ","
+comma = ap (λ (x : Process). processWord x ++ ascii ",")
+
+enum-told : tie.Need-enum-told
+enum-told c = search needs
 
 slice-aggregate-put-text : tie.Need-slice-aggregate-put-text
 slice-aggregate-put-text c = search needs
@@ -12,11 +22,17 @@ slice-aggregate-put-text c = search needs
 put-text-requires : tie.Need-put-text-requires
 put-text-requires c κs = search needs
 
+enum-told-2 : tie.Need-enum-told-2
+enum-told-2 c = search needs
+
 slice-aggregate-put-text-2 : tie.Need-slice-aggregate-put-text-2
 slice-aggregate-put-text-2 c = search needs
 
 put-text-requires-2 : tie.Need-put-text-requires-2
 put-text-requires-2 c κs = search needs
+
+enum-told-3 : tie.Need-enum-told-3
+enum-told-3 c = search needs
 
 slice-aggregate-put-text-3 : tie.Need-slice-aggregate-put-text-3
 slice-aggregate-put-text-3 c = search needs
@@ -29,36 +45,36 @@ same-length c = search needs
 
 returns : tie.Need-returns
 returns c =
-    let d = c .before .before .put-text in
-    let i = c .before .before .before .before .before in
-    (put-as (annual _ (i .if1 .taken)) (d .ensures .0) (d .ensures .1), omega (arith, d .ensures .1))
+    let d = c .before .before .put-text .ensures in
+    (put-same (comma (c .before .before .before .before .before .enum-told .given .1)) d, omega (arith, d .place))
 
 same-length-2 : tie.Need-same-length-2
 same-length-2 c = search needs
 
 returns-2 : tie.Need-returns-2
 returns-2 c =
-    let d = c .before .before .put-text2 in
-    let i = c .before .before .before .before .before in
-    (put-as (tier-lt _ (i .if2 .taken)) (d .ensures .0) (d .ensures .1), omega (arith, d .ensures .1))
+    let d = c .before .before .put-text2 .ensures in
+    (put-same (comma (c .before .before .before .before .before .enum-told2 .given .1)) d, omega (arith, d .place))
 
 same-length-3 : tie.Need-same-length-3
 same-length-3 c = search needs
 
 returns-3 : tie.Need-returns-3
 returns-3 c =
-    let d = c .before .before .put-text3 in
-    let i = c .before .before .before .before .before in
-    (put-as (monthly _ (i .before .if1 .left) (i .if2 .left)) (d .ensures .0) (d .ensures .1), omega (arith, d .ensures .1))
+    let d = c .before .before .put-text3 .ensures in
+    (put-same (comma (c .before .before .before .before .before .enum-told3 .given .1)) d, omega (arith, d .place))
 
 pub put-process-spec : {M : Type 1} → statement M
 put-process-spec =
     tie.close
     (tie.spec
+    enum-told
     slice-aggregate-put-text
     put-text-requires
+    enum-told-2
     slice-aggregate-put-text-2
     put-text-requires-2
+    enum-told-3
     slice-aggregate-put-text-3
     put-text-requires-3
     same-length

@@ -1,11 +1,11 @@
 -- `put_figures`.
 use mathlib.Core.Path.{ap}
 use native.Mathlib.Omega.{arith}
-use Rattle.feasibility_report.specs.Parts.{answerFigures}
-use Rattle.text.proofs.Putting.{put-none, put-as, put-same}
+use Rattle.feasibility_report.specs.Inner.{answerFigures}
+use Rattle.text.proofs.Putting.{put-none, put-same}
 use borrow.Author.Needs.{needs}
-use Rattle.feasibility_report.proofs.put_figures.Statement.{statement}
-use Rattle.feasibility_report.proofs.put_figures.Tie as tie
+use Rattle.feasibility_report.proofs.figures.put_figures.Statement.{statement}
+use Rattle.feasibility_report.proofs.figures.put_figures.Tie as tie
 
 enum-told : tie.Need-enum-told
 enum-told c = search needs
@@ -32,9 +32,9 @@ same-length c = search needs
 
 returns : tie.Need-returns
 returns c =
-    let d = c .before .before .put-text in
+    let d = c .before .before .put-text .ensures in
     let s = c .before .before .before .before .before .before .before .before in
-    (put-as (ap (answerFigures (s .args .constraints)) (c .before .before .before .before .before .enum-told .given .1)) (d .ensures .0) (d .ensures .1), omega (arith, d .ensures .1))
+    (put-same (ap (answerFigures (s .args .constraints)) (c .before .before .before .before .before .enum-told .given .1)) d, omega (arith, d .place))
 
 same-length-2 : tie.Need-same-length-2
 same-length-2 c = search needs
@@ -48,7 +48,7 @@ returns-2 c =
 returns-3 : tie.Need-returns-3
 returns-3 c =
     let s = c .before .before .before in
-    (put-same (ap (answerFigures (s .args .constraints)) (c .enum-told2 .given .1)) (put-none (s .args .buf .now) (s .args .at)), omega arith)
+    (put-same (ap (answerFigures (s .args .constraints)) (c .enum-told2 .given .1)) (put-none (omega arith)), omega arith)
 
 pub put-figures-spec : {M : Type 1} → statement M
 put-figures-spec =
