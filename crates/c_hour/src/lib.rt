@@ -1,7 +1,7 @@
 // Finding the MCC and settling an hour for C: figures go into lent cells, and the answer is the refusal's number, 0 for none.
 ghost use Rattle.lists.specs.Lent.{before, after};
 ghost use Rattle.settlement.specs.FindMcc.{findMccCall, FindsMccForC};
-ghost use Rattle.settlement.specs.SettleHour.{settleCall, SettlesHourForC};
+ghost use Rattle.settlement.specs.SettleHour.{hourCall, SettlesForC};
 use settlement::MccAnswer;
 use settlement::SettleAnswer;
 
@@ -32,9 +32,9 @@ pub fn settle_hour(
     cents: &mut [i64],
     sum: &mut i64,
     whole: &mut i64,
-    parts: &mut u64,
+    part: &mut u64,
 ) -> u64
-    ensures { λ r. ⌜ SettlesHourForC (settleCall nodes constraints period (before factors) (before prices) (before book) (before cents)) r (after cents) sum whole parts ⌝ }
+    ensures { λ r. ⌜ SettlesForC (hourCall nodes constraints period (before factors) (before prices) (before book) (before cents)) r (after cents) sum whole part ⌝ }
 {
     match settlement::settle_hour(nodes, constraints, period, factors, prices, book, cents) {
         SettleAnswer::Refused(refusal) => refusal.number(),
@@ -45,7 +45,7 @@ pub fn settle_hour(
         } => {
             *sum = added;
             *whole = down;
-            *parts = rest;
+            *part = rest;
             0
         }
     }

@@ -8,7 +8,7 @@ ghost use Rattle.price_file.specs.ReadPrices.{readPricesCall, ReadsPricesForC};
 ghost use Rattle.price_file.specs.WritePrices.{writePricesCall, WritesPricesForC};
 ghost use Rattle.feasibility_test.specs.TestBook.{testCall, TestsBookForC};
 ghost use Rattle.settlement.specs.FindMcc.{findMccCall, FindsMccForC};
-ghost use Rattle.settlement.specs.SettleHour.{settleCall, SettlesHourForC};
+ghost use Rattle.settlement.specs.SettleHour.{hourCall, SettlesForC};
 ghost use Rattle.feasibility_report.specs.WriteReport.{reportCall, WritesReportForC};
 ghost use Rattle.statement_text.specs.WriteStatement.{statementCall, WritesStatementForC};
 
@@ -153,9 +153,9 @@ pub extern "C" fn crr_settle_hour(
     cents: &mut [i64],
     sum: &mut i64,
     whole: &mut i64,
-    parts: &mut u64,
+    part: &mut u64,
 ) -> u64
-    ensures { λ r. ⌜ SettlesHourForC (settleCall nodes constraints period (before factors) (before prices) (before book) (before cents)) r (after cents) sum whole parts ⌝ }
+    ensures { λ r. ⌜ SettlesForC (hourCall nodes constraints period (before factors) (before prices) (before book) (before cents)) r (after cents) sum whole part ⌝ }
 {
     c_hour::settle_hour(
         nodes,
@@ -167,7 +167,7 @@ pub extern "C" fn crr_settle_hour(
         cents,
         sum,
         whole,
-        parts,
+        part,
     )
 }
 

@@ -22,7 +22,7 @@ use Rattle.settlement.specs.declared.SettleAnswer.{SettleAnswer}
 use Rattle.settlement.specs.declared.SettleAnswer.the-variants.{Settled, Refused}
 
 -- the counts, the period by number, the tables, the book's bytes, and the place for the cents as it is at entry
-pub record SettleCall : Type 0 where
+pub record HourCall : Type 0 where
   pub nodes : ℕ
   pub constraints : ℕ
   pub period : ℕ
@@ -31,8 +31,8 @@ pub record SettleCall : Type 0 where
   pub book : List ℕ
   pub place : List ℤ
 
-abbrev pub settleCall : ℕ → ℕ → ℕ → List ℤ → List ℕ → List ℕ → List ℤ → SettleCall
-settleCall n k period factors prices book place =
+abbrev pub hourCall : ℕ → ℕ → ℕ → List ℤ → List ℕ → List ℕ → List ℤ → HourCall
+hourCall n k period factors prices book place =
     record { nodes = n; constraints = k; period = period; factors = factors; prices = prices; book = book; place = place }
 
 -- the sum of the rounded cents, and the exact total as whole cents and parts
@@ -53,7 +53,7 @@ module _ (f : Factors) (p : List ℕ) (t : Period) where
   unfoldable pub hourTotal : List Contract → ℤ
   hourTotal book = exactTotal f p (ofPeriod t book)
 
-module _ (q : SettleCall) where
+module _ (q : HourCall) where
   -- "2, 3, 17, 9 (tables), 7, 15, the book's own from 1 to 13, then 9 if the cents don't fit"
   unfoldable pub settleChecks : List Check
   settleChecks =
@@ -92,13 +92,13 @@ module _ (q : SettleCall) where
   exactGiven = hourTotal hourFactors hourPrices hourPeriod (bookIn (q .book))
 
 -- the promise: the answer, and the place at exit
-pub record SettlesHour (q : SettleCall) (answer : SettleAnswer) (exit : List ℤ) : Type 0 where
+pub record SettlesHour (q : HourCall) (answer : SettleAnswer) (exit : List ℤ) : Type 0 where
   pub totals : settleOutcome answer ≡ answered (settleChecked q) (sumGiven q ∷ wholeCents (exactGiven q) ∷ pos (parts (exactGiven q)) ∷ [])
   pub cents-settled : exit ≡ cellsAfter (settleChecked q) (centsCells q) (q .place)
   pub exact : settleChecked q ≡ Passed → (sum whole : ℤ) (part : ℕ) → answer ≡ Settled sum whole part → whole *ℤ pos perCent +ℤ pos part ≡ exactGiven q
 
 -- the same for C: the refusal's number, and the totals in lent figures
-pub record SettlesHourForC (q : SettleCall) (number : ℕ) (exit : List ℤ) (sum whole : Lent ℤ) (part : Lent ℕ) : Type 0 where
+pub record SettlesForC (q : HourCall) (number : ℕ) (exit : List ℤ) (sum whole : Lent ℤ) (part : Lent ℕ) : Type 0 where
   pub refusal-number : number ≡ numberAfter (settleChecked q)
   pub cents-settled : exit ≡ cellsAfter (settleChecked q) (centsCells q) (q .place)
   pub sum-given : after sum ≡ cellAfter (settleChecked q) (sumGiven q) (before sum)

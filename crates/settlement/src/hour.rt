@@ -11,7 +11,7 @@ ghost use Rattle.tariff.specs.Refusals.{first};
 ghost use Rattle.tariff.specs.Inner.{InRange, maxAmount};
 ghost use Rattle.layouts.specs.BookFile.{bookBytes, contractCountIn, contractAt};
 ghost use Rattle.books.specs.BookChecks.{bookChecks};
-ghost use Rattle.settlement.specs.SettleHour.{settleCall, settleChecked, SettlesHour};
+ghost use Rattle.settlement.specs.SettleHour.{hourCall, settleChecked, SettlesHour};
 ghost use Rattle.settlement.specs.Inner.{Hour, MccTable, amountBy, hourAmount, SettlesBy, Settles};
 use crate::SettleAnswer;
 use crate::Totals;
@@ -112,7 +112,7 @@ fn check_settle(
     cells: usize,
 ) -> Checked
     ensures { λ r. ⌜ ((place : List ℤ) → length place ≡ cells
-        → r ≡ settleChecked (settleCall nodes constraints period (before factors) (before prices) (before book) place)) ⌝ }
+        → r ≡ settleChecked (hourCall nodes constraints period (before factors) (before prices) (before book) place)) ⌝ }
 {
     // No answer of a cell a node is given: as many cells as nodes suffice.
     let hour = tables::check_hour_tables(nodes, constraints, period, factors, prices, nodes);
@@ -139,7 +139,7 @@ pub fn settle_hour(
     book: &[u8],
     cents: &mut [i64],
 ) -> SettleAnswer
-    ensures { λ r. ⌜ SettlesHour (settleCall nodes constraints period (before factors) (before prices) (before book) (before cents)) r (after cents) ⌝ }
+    ensures { λ r. ⌜ SettlesHour (hourCall nodes constraints period (before factors) (before prices) (before book) (before cents)) r (after cents) ⌝ }
 {
     match check_settle(
         nodes,

@@ -6,13 +6,13 @@ use mir.Facts.{toZ-ofZ}
 use Rattle.tariff.specs.Units.{perCent}
 use Rattle.tariff.specs.Settlement.{wholeCents, parts}
 use Rattle.tariff.proofs.Answers.{refused-answers, refused-keeps, some-refuses, given-answers, given-signed, given-count}
-use Rattle.settlement.specs.SettleHour.{SettleCall, settleCall, settleChecked, settleOutcome, sumGiven, exactGiven}
+use Rattle.settlement.specs.SettleHour.{HourCall, hourCall, settleChecked, settleOutcome, sumGiven, exactGiven}
 use borrow.Author.Needs.{needs}
 use Rattle.c_hour.proofs.settle_hour.Statement.{statement}
 use Rattle.c_hour.proofs.settle_hour.Tie as tie
 
-abbrev call : tie.Start → SettleCall
-call c = settleCall (c .args .nodes) (c .args .constraints) (c .args .period) (c .args .factors .now) (c .args .prices .now) (c .args .book .now) (c .args .cents .now)
+abbrev call : tie.Start → HourCall
+call c = hourCall (c .args .nodes) (c .args .constraints) (c .args .period) (c .args .factors .now) (c .args .prices .now) (c .args .book .now) (c .args .cents .now)
 
 settle-hour-requires : tie.Need-settle-hour-requires
 settle-hour-requires c κs = search needs
@@ -42,7 +42,7 @@ returns c =
       cents-settled = f .cents-settled;
       sum-given = refused-keeps (settleChecked q) _ r told (sumGiven q) (s .args .sum .now);
       whole-given = refused-keeps (settleChecked q) _ r told (wholeCents (exactGiven q)) (s .args .whole .now);
-      parts-given = refused-keeps (settleChecked q) _ r told (parts (exactGiven q)) (s .args .parts .now);
+      parts-given = refused-keeps (settleChecked q) _ r told (parts (exactGiven q)) (s .args .part .now);
       exact = λ h. absurd (some-refuses (settleChecked q) _ r told h);
     }
 
@@ -64,7 +64,7 @@ returns-2 c =
       cents-settled = f .cents-settled;
       sum-given = sum-back ∙ given-signed (settleChecked q) _ _ told 0 (s .args .sum .now);
       whole-given = whole-back ∙ given-signed (settleChecked q) _ _ told 1 (s .args .whole .now);
-      parts-given = given-count (settleChecked q) _ _ told 2 (s .args .parts .now);
+      parts-given = given-count (settleChecked q) _ _ told 2 (s .args .part .now);
       exact = λ h. ap (λ (w : ℤ). w *ℤ pos perCent +ℤ pos (given .0 .1 .1 .0)) whole-back ∙ f .exact h _ _ _ (given .1);
     }
 

@@ -3,7 +3,7 @@ use mathlib.Core.Path.{sym, _∙_}
 use native.Mathlib.Omega.{arith}
 use borrow.Author.Needs.{needs}
 use Rattle.books.proofs.Accepted.{book-accepted}
-use Rattle.settlement.specs.SettleHour.{settleCall}
+use Rattle.settlement.specs.SettleHour.{hourCall}
 use Rattle.settlement.proofs.Passing.{tables-refuse, book-refuses, no-room, all-fits}
 use Rattle.settlement.proofs.hour.check_settle.Statement.{statement}
 use Rattle.settlement.proofs.hour.check_settle.Tie as tie
@@ -17,7 +17,7 @@ enum-known-hour c = search needs
 returns : tie.Need-returns
 returns c place e =
     let a = c .before .before .before .before .before .before .args in
-    let q = settleCall (a .nodes) (a .constraints) (a .period) (a .factors .now) (a .prices .now) (a .book .now) place in
+    let q = hourCall (a .nodes) (a .constraints) (a .period) (a .factors .now) (a .prices .now) (a .book .now) place in
     tables-refuse q _ (sym (c .before .before .before .check-hour-tables .ensures) ∙ c .before .hour .given .1)
 
 enum-told : tie.Need-enum-told
@@ -32,7 +32,7 @@ enum-known-own c = search needs
 returns-2 : tie.Need-returns-2
 returns-2 c place e =
     let a = c .before .before .before .before .before .before .before .before .before .args in
-    let q = settleCall (a .nodes) (a .constraints) (a .period) (a .factors .now) (a .prices .now) (a .book .now) place in
+    let q = hourCall (a .nodes) (a .constraints) (a .period) (a .factors .now) (a .prices .now) (a .book .now) place in
     let tables = sym (c .before .before .before .before .before .before .check-hour-tables .ensures) ∙ c .before .before .before .before .enum-told .given .1 in
     book-refuses q tables _ (sym (c .before .before .before .check-book .ensures) ∙ c .before .own .given .1)
 
@@ -47,7 +47,7 @@ contract-count-requires c κs =
 returns-3 : tie.Need-returns-3
 returns-3 c place e =
     let a = c .before .before .before .before .before .before .before .before .before .before .args in
-    let q = settleCall (a .nodes) (a .constraints) (a .period) (a .factors .now) (a .prices .now) (a .book .now) place in
+    let q = hourCall (a .nodes) (a .constraints) (a .period) (a .factors .now) (a .prices .now) (a .book .now) place in
     let tables = sym (c .before .before .before .before .before .before .before .check-hour-tables .ensures) ∙ c .before .before .before .before .before .enum-told .given .1 in
     let own = sym (c .before .before .before .before .check-book .ensures) ∙ c .before .before .enum-told2 .given .1 in
     no-room q tables own _ (c .before .contract-count .ensures .0) (rw e (c .if1 .taken))
@@ -55,7 +55,7 @@ returns-3 c place e =
 returns-4 : tie.Need-returns-4
 returns-4 c place e =
     let a = c .before .before .before .before .before .before .before .before .before .before .args in
-    let q = settleCall (a .nodes) (a .constraints) (a .period) (a .factors .now) (a .prices .now) (a .book .now) place in
+    let q = hourCall (a .nodes) (a .constraints) (a .period) (a .factors .now) (a .prices .now) (a .book .now) place in
     let tables = sym (c .before .before .before .before .before .before .before .check-hour-tables .ensures) ∙ c .before .before .before .before .before .enum-told .given .1 in
     let own = sym (c .before .before .before .before .check-book .ensures) ∙ c .before .before .enum-told2 .given .1 in
     all-fits q tables own _ (c .before .contract-count .ensures .0) (rw e (c .if1 .left))

@@ -9,7 +9,7 @@ use Rattle.tariff.specs.Refusals.{given}
 use Rattle.tariff.proofs.Answers.{answer-refused, cells-refused, answer-passed, cells-passed}
 use Rattle.layouts.specs.BookFile.{bookIn}
 use Rattle.books.proofs.Accepted.{book-accepted}
-use Rattle.settlement.specs.SettleHour.{settleCall, hourFactors, hourPrices, hourPeriod, centsCells}
+use Rattle.settlement.specs.SettleHour.{hourCall, hourFactors, hourPrices, hourPeriod, centsCells}
 use Rattle.settlement.proofs.Passing.{settle-ready}
 use Rattle.settlement.proofs.HourSums.{values-are, exact-of}
 use borrow.Author.Needs.{needs}
@@ -31,14 +31,14 @@ from-number-requires c κs = search needs
 settle-requires : tie.Need-settle-requires
 settle-requires c κs =
     let a = c .before .before .before .before .before .before .before .args in
-    let q = settleCall (a .nodes) (a .constraints) (a .period) (a .factors .now) (a .prices .now) (a .book .now) (a .cents .now) in
+    let q = hourCall (a .nodes) (a .constraints) (a .period) (a .factors .now) (a .prices .now) (a .book .now) (a .cents .now) in
     let o = settle-ready q (sym (c .before .before .before .before .check-settle .ensures (a .cents .now) refl) ∙ c .before .before .enum-told .given .1) in
     (o .hour, (o .own, o .room))
 
 returns : tie.Need-returns
 returns c =
     let a = c .before .before .before .before .before .before .args in
-    let q = settleCall (a .nodes) (a .constraints) (a .period) (a .factors .now) (a .prices .now) (a .book .now) (a .cents .now) in
+    let q = hourCall (a .nodes) (a .constraints) (a .period) (a .factors .now) (a .prices .now) (a .book .now) (a .cents .now) in
     let found = c .before .before .before .check-settle .ensures (a .cents .now) refl in
     let told = c .before .refusal .given .1 in
     record {
@@ -53,7 +53,7 @@ same-length c = search needs
 returns-2 : tie.Need-returns-2
 returns-2 c =
     let a = c .before .before .before .before .before .before .before .before .before .before .args in
-    let q = settleCall (a .nodes) (a .constraints) (a .period) (a .factors .now) (a .prices .now) (a .book .now) (a .cents .now) in
+    let q = hourCall (a .nodes) (a .constraints) (a .period) (a .factors .now) (a .prices .now) (a .book .now) (a .cents .now) in
     let found = c .before .before .before .before .before .before .before .check-settle .ensures (a .cents .now) refl in
     let told = c .before .before .before .before .before .enum-told .given .1 in
     let few = book-accepted (a .nodes) (a .book .now) (settle-ready q (sym found ∙ told) .own) .few in
