@@ -1,12 +1,15 @@
 // Writes the feasibility report of grid.bin and book.bin, in the folder that it is started in, to standard output.
+use feasibility_report::REPORT_ROOM;
+use layouts::MAX_BOOK_BYTES;
+use layouts::MAX_GRID_BYTES;
 use layouts::WriteAnswer;
 use libc::STDOUT_FILENO;
 
 // The buffers hold one byte more than the longest file allowed, so that the length of a longer one is refused.
 fn main() {
-    let mut grid = [0u8; 29019];
-    let mut book = [0u8; 6003];
-    let mut text = [0u8; 2048];
+    let mut grid = [0u8; MAX_GRID_BYTES + 1];
+    let mut book = [0u8; MAX_BOOK_BYTES + 1];
+    let mut text = [0u8; REPORT_ROOM];
     let grid_bytes = files::read_file(b"grid.bin", &mut grid);
     let book_bytes = files::read_file(b"book.bin", &mut book);
     let answer = feasibility_report::write_report(
