@@ -59,7 +59,8 @@ module _ (f : Factors) (p : List ℕ) (t : Period) where
 
 -- ---- a book as it was settled
 
-module _ (n k : ℕ) (t : Period) (fs : List ℤ) (ps book : List ℕ) (entry exit : List ℤ) (r : Totals) (s : Settles n k t fs ps book entry r exit) (m : ℕ) (count : m ≡ contractCountIn book) where
+module _ {n k : ℕ} {t : Period} {fs : List ℤ} {ps book : List ℕ} {entry exit : List ℤ} {r : Totals} (s : Settles n k t fs ps book entry r exit)
+    {m : ℕ} (count : m ≡ contractCountIn book) where
   pub settled-sized : Sized m exit r
   settled-sized = rw count (record { cells-sized = s .cells-sized; bounded = s .bounded })
 
@@ -69,8 +70,7 @@ module _ (n k : ℕ) (t : Period) (fs : List ℤ) (ps book : List ℕ) (entry ex
       let f = factorsOf n k fs in
       let p = take k ps in
       let total = hourTotal f p t (bookIn book) in
-      let values : r .sum ∷ r .whole ∷ pos (r .parts) ∷ [] ≡ centsSum f p t (bookIn book) ∷ wholeCents total ∷ pos (parts total) ∷ [] =
-      values-are f p t (bookIn book) r (s .bounded .parts-small) (s .sum) (s .exact) in
+      let values = values-are f p t (bookIn book) r (s .bounded .parts-small) (s .sum) (s .exact) in
       let sum : r .sum ≡ centsSum f p t (bookIn book) = s .sum in
       let whole : r .whole ≡ wholeCents total = cc in
       let part : r .parts ≡ parts total = cc in
