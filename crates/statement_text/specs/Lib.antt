@@ -1,1 +1,2 @@
 pub mod WriteStatement
+pub mod Inner

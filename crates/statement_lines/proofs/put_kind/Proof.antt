@@ -1,9 +1,8 @@
 -- `put_kind`.
 use mathlib.Core.Path.{ap}
 use mathlib.Core.List.{_++_}
-use native.Mathlib.Omega.{arith}
 use Rattle.text.specs.Ascii.{ascii}
-use Rattle.text.proofs.Putting.{put-as}
+use Rattle.text.proofs.Putting.{put-same}
 use Rattle.tariff.specs.declared.contracts.Kind.{Kind}
 use Rattle.statement_lines.specs.Lines.{kindWord}
 use borrow.Author.Needs.{needs}
@@ -33,16 +32,14 @@ same-length c = search needs
 
 returns : tie.Need-returns
 returns c =
-    let d = c .before .before .put-text in
-    (put-as (ap (λ (k : Kind). kindWord k ++ ascii ",") (c .before .before .before .before .before .enum-told .given .1)) (d .ensures .0) (d .ensures .1), omega (arith, d .ensures .1))
+    put-same (ap (λ (k : Kind). kindWord k ++ ascii ",") (c .before .before .before .before .before .enum-told .given .1)) (c .before .before .put-text .ensures)
 
 same-length-2 : tie.Need-same-length-2
 same-length-2 c = search needs
 
 returns-2 : tie.Need-returns-2
 returns-2 c =
-    let d = c .before .before .put-text2 in
-    (put-as (ap (λ (k : Kind). kindWord k ++ ascii ",") (c .before .before .before .before .before .enum-told2 .given .1)) (d .ensures .0) (d .ensures .1), omega (arith, d .ensures .1))
+    put-same (ap (λ (k : Kind). kindWord k ++ ascii ",") (c .before .before .before .before .before .enum-told2 .given .1)) (c .before .before .put-text2 .ensures)
 
 pub put-kind-spec : {M : Type 1} → statement M
 put-kind-spec =

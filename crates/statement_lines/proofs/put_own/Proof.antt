@@ -21,13 +21,16 @@ returns : tie.Need-returns
 returns c =
     let p = c .before .before .put-contract in
     let i = c .before .before .before .before in
-    let a = i .before .before .before .args in
-    (put-same (own-line (a .period) (a .number) (a .c) (a .cents) (i .before .same .result) (i .before .same .ensures) (i .if1 .taken) ∙ ap (contractLine (a .number) (a .c)) (sym (kept (a .cents) (omega (arith, i .before .before .before .pre .2))))) (p .ensures .0), p .ensures .1)
+    let s = i .before .before .before in
+    let a = s .args in
+    let own = own-line (a .period) (a .number) (a .c) (a .cents) (i .before .same .result) (i .before .same .ensures) (i .if1 .taken) in
+    (put-same (own ∙ ap (contractLine (a .number) (a .c)) (sym (kept (a .cents) (omega (arith, s .pre .2))))) (p .ensures .0), p .ensures .1)
 
 returns-2 : tie.Need-returns-2
 returns-2 c =
-    let a = c .before .before .before .args in
-    (put-same (no-line (a .period) (a .number) (a .c) (a .cents) (c .before .same .result) (c .before .same .ensures) (c .if1 .left)) (put-none (a .buf .now) (a .at)), omega arith)
+    let s = c .before .before .before in
+    let a = s .args in
+    (put-same (no-line (a .period) (a .number) (a .c) (a .cents) (c .before .same .result) (c .before .same .ensures) (c .if1 .left)) (put-none (omega (arith, s .pre .3))), omega arith)
 
 pub put-own-spec : {M : Type 1} → statement M
 put-own-spec =

@@ -2,7 +2,7 @@
 use mathlib.Core.Path.{sym, _∙_}
 use native.Mathlib.Omega.{arith}
 use Rattle.text.proofs.Putting.{put-same}
-use Rattle.statement_text.proofs.Prices.{book-refused, book-passed}
+use Rattle.texts.proofs.WithFiles.{book-refused, book-text}
 use borrow.Author.Needs.{needs}
 use Rattle.statement_text.proofs.put_booked.Statement.{statement}
 use Rattle.statement_text.proofs.put_booked.Tie as tie
@@ -33,9 +33,8 @@ same-length c = search needs
 returns : tie.Need-returns
 returns c =
     let k = c .before .before .before .before .before .before .before .before .check-book in
-    let s = c .before .before .before .before .before .before .before .before .before .before .before .before in
-    let a = s .args in
-    put-same (book-refused (a .nodes) (a .constraints) (a .factors .now) (a .book .now) (a .price-file .now) _ (sym (k .ensures) ∙ c .before .before .before .before .before .before .refusal .given .1)) (c .before .before .put-refused .ensures)
+    let a = c .before .before .before .before .before .before .before .before .before .before .before .before .args in
+    put-same (book-refused (a .nodes) (a .book .now) _ _ (sym (k .ensures) ∙ c .before .before .before .before .before .before .refusal .given .1)) (c .before .before .put-refused .ensures)
 
 same-length-2 : tie.Need-same-length-2
 same-length-2 c = search needs
@@ -43,9 +42,8 @@ same-length-2 c = search needs
 returns-2 : tie.Need-returns-2
 returns-2 c =
     let k = c .before .before .before .before .before .before .check-book in
-    let s = c .before .before .before .before .before .before .before .before .before .before in
-    let a = s .args in
-    put-same (book-passed (a .nodes) (a .constraints) (a .factors .now) (a .book .now) (a .price-file .now) (sym (k .ensures) ∙ c .before .before .before .before .enum-told .given .1)) (c .before .before .put-priced .ensures)
+    let a = c .before .before .before .before .before .before .before .before .before .before .args in
+    put-same (book-text (a .nodes) (a .book .now) _ (sym (k .ensures) ∙ c .before .before .before .before .enum-told .given .1)) (c .before .before .put-priced .ensures)
 
 pub put-booked-spec : {M : Type 1} → statement M
 put-booked-spec =

@@ -1,4 +1,0 @@
-pub mod Agree
-pub mod Settling
-pub mod Prices
-pub mod Grids
