@@ -2,7 +2,7 @@
 use mathlib.Core.Path.{sym}
 use native.Mathlib.Omega.{arith}
 use lib.Seq.{length-take-le}
-use Rattle.text.proofs.Laws.{length-decimal}
+use Rattle.text.proofs.Digits.{length-decimal}
 use borrow.Author.Needs.{needs}
 use Rattle.printing.proofs.print_number.Statement.{statement}
 use Rattle.printing.proofs.print_number.Tie as tie
@@ -19,7 +19,7 @@ array-share-prefix-digits c = search needs
 slice-aggregate-print : tie.Need-slice-aggregate-print
 slice-aggregate-print c =
     let d = c .before .before .put-decimal in
-    sym (length-take-le (d .result) (d .last .0) (omega (arith, d .ensures .1 .1, d .kept .0)))
+    sym (length-take-le (d .result) (d .last .0) (omega (arith, d .ensures .1, d .kept .0)))
 
 print-requires : tie.Need-print-requires
 print-requires c κs = search needs

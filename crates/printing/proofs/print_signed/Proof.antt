@@ -10,7 +10,7 @@ use lib.Signed.{mag, ltZ}
 use mir.Syntax.{w64}
 use mir.Val.{toZ, ofZ}
 use mir.Facts.{toZ-ofZ}
-use Rattle.text.proofs.Laws.{length-decimalZ}
+use Rattle.text.proofs.Digits.{length-decimalZ}
 use borrow.Author.Needs.{needs}
 use Rattle.printing.proofs.print_signed.Statement.{statement}
 use Rattle.printing.proofs.print_signed.Tie as tie
@@ -43,7 +43,7 @@ array-share-prefix-digits c = search needs
 slice-aggregate-print-2 : tie.Need-slice-aggregate-print-2
 slice-aggregate-print-2 c =
     let d = c .before .before .put-signed in
-    sym (length-take-le (d .result) (d .last .0) (omega (arith, d .ensures .1 .1, d .kept .0)))
+    sym (length-take-le (d .result) (d .last .0) (omega (arith, d .ensures .1, d .kept .0)))
 
 print-requires-2 : tie.Need-print-requires-2
 print-requires-2 c κs = search needs
