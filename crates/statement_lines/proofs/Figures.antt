@@ -1,11 +1,11 @@
 -- How long figures are, and a contract's line as it is put.
-use mathlib.Core.Path.{_≡_, refl, sym}
+use mathlib.Core.Path.{_≡_, sym}
 use mathlib.Core.Bool.{Bool, true, false}
 use mathlib.Core.List.{List, [], _++_, append-assoc}
 use Prim.Native.Nat.{ℕ, _+_, _^_, _≤_, _<_}
 use native.Mathlib.Numerals.{add-one}
 use native.Mathlib.Omega.{arith}
-use lib.ListN.{length, getD, length-append}
+use lib.ListN.{length, getD}
 use lib.IntN.{ℤ, pos, natAbs}
 use mir.Syntax.{w64}
 use mir.Val.{toZ, ofZ}
@@ -13,8 +13,6 @@ use Rattle.integers.proofs.Machine.{back}
 use Rattle.text.specs.Ascii.{ascii}
 use Rattle.text.specs.Decimal.{decimal, decimalZ}
 use Rattle.text.proofs.Digits.{decimal-below, decimalZ-below}
-use Rattle.tariff.specs.declared.contracts.Kind.{Kind}
-use Rattle.tariff.specs.declared.contracts.Kind.the-variants.{Obligation, Option}
 use Rattle.tariff.specs.declared.contracts.Period.{Period}
 use Rattle.tariff.specs.declared.contracts.Contract.{Contract}
 use Rattle.tariff.specs.Units.{maxContracts, maxHolder, perCent}
@@ -33,13 +31,6 @@ holder-long n h = decimal-below 4 n (omega arith) (omega arith)
 
 pub parts-long : (n : ℕ) → n < perCent → length (decimal n) ≤ 8
 parts-long n h = decimal-below 8 n (omega arith) (omega arith)
-
-pub numbers-long : (a b : List ℕ) → length (a ++ ascii "," ++ b ++ ascii ",") ≡ length a + length b + 2
-numbers-long a b = simp length-append (omega arith)
-
-pub word-long : (k : Kind) → length (kindWord k ++ ascii ",") ≡ 4
-word-long Obligation = refl
-word-long Option = refl
 
 -- a signed figure that is kept in an i64
 module _ (z : ℤ) (h : natAbs z ≤ maxTotal) where

@@ -1,4 +1,5 @@
 // The hour statement's lines, put into a lent buffer. Each function puts a part of them at a place and gives the place behind it.
+ghost use mathlib.Core.Path.{_≡_};
 ghost use mathlib.Core.List.{_++_};
 ghost use Prim.Native.Nat.{ℕ, _+_, _*_, _≤_, _<_};
 ghost use lib.ListN.{length, getD};
@@ -37,6 +38,7 @@ pub const LONGEST_STATEMENT: usize = HEADING.len()
 fn put_numbers(buf: &mut [u8], at: usize, number: u64, holder: u64) -> usize
     requires { ⌜ at + length (decimal number) + length (decimal holder) + 2 ≤ length (now buf) ⌝ }
     ensures { λ r. ⌜ Put (before buf) at (decimal number ++ ascii "," ++ decimal holder ++ ascii ",") (after buf) r ⌝ }
+    ensures { λ r. ⌜ r ≡ at + length (decimal number) + length (decimal holder) + 2 ⌝ }
 {
     let first = text::put_decimal(buf, at, number);
     let comma = text::put_char(buf, first, b',');
@@ -48,6 +50,7 @@ fn put_numbers(buf: &mut [u8], at: usize, number: u64, holder: u64) -> usize
 fn put_kind(buf: &mut [u8], at: usize, kind: Kind) -> usize
     requires { ⌜ at + 4 ≤ length (now buf) ⌝ }
     ensures { λ r. ⌜ Put (before buf) at (kindWord kind ++ ascii ",") (after buf) r ⌝ }
+    ensures { λ r. ⌜ r ≡ at + 4 ⌝ }
 {
     match kind {
         Kind::Obligation => text::put_text(buf, at, b"OBL,"),

@@ -1,14 +1,13 @@
 -- `main`: what was written fits into the buffer.
-use mathlib.Core.Path.{sym, ap, _∙_}
-use mathlib.Core.List.{[], _∷_}
-use Prim.Native.Nat.{_≤_}
-use lib.ListN.{length, take, replicate}
+use mathlib.Core.Path.{sym}
+use mathlib.Core.List.{List}
+use Prim.Native.Nat.{ℕ, _≤_}
+use lib.ListN.{length}
 use lib.Seq.{length-take-le}
-use Rattle.refusal_line.proofs.Lines.{written-fits}
-use Rattle.tariff.specs.Refusals.{first}
-use Rattle.tariff.specs.Checks.{shortTable}
-use Rattle.layouts.specs.Writing.{writeOutcome}
-use Rattle.statement_text.specs.Statement.{longest, statement as statementOf}
+use Rattle.text.proofs.Answering.{written-fits}
+use Rattle.tariff.specs.declared.refusals.Checked.{Checked}
+use Rattle.layouts.specs.declared.WriteAnswer.the-variants.{Written}
+use Rattle.layouts.specs.Writing.{Writes}
 use borrow.Author.Needs.{needs}
 use Rattle.statement.proofs.main.Statement.{statement}
 use Rattle.statement.proofs.main.Tie as tie
@@ -68,14 +67,11 @@ enum-known-answer : tie.Need-enum-known-answer
 enum-known-answer c = search needs
 
 -- what was written fits into the buffer
+fits : {checked : Checked} {text entry exit : List ℕ} {n : ℕ} → Writes checked text entry (Written n) exit → n ≤ length exit
+fits {checked} {text} {entry} {exit} {n} h = written-fits checked text entry exit n (h .length-given) (h .bytes-written)
+
 inside : (c : tie.After-known-told) → c .before .answer .given .0 .0 ≤ length (c .before .before .before .before .write-statement .last .1 .1 .1 .0)
-inside c =
-    let w = c .before .before .before .before .write-statement in
-    let p = c .before .before .before .before .before .before .before .before .before .before .read-file3 in
-    let b = c .before .before .before .before .before .before .before .before .before .before .before .before .before .before .read-file2 in
-    let g = c .before .before .before .before .before .before .before .before .before .before .before .before .before .before .before .before .before .before .read-file in
-    written-fits (first (shortTable 26078 longest ∷ [])) (statementOf (take (g .result) (g .last .1 .0)) (take (b .result) (b .last .1 .0)) (take (p .result) (p .last .1 .0))) (replicate 26078 0) _ _
-    (ap writeOutcome (sym (c .before .answer .given .1)) ∙ w .ensures .0) (w .ensures .1)
+inside c = fits (rw (c .before .answer .given .1) at (c .before .before .before .before .write-statement .ensures))
 
 array-share-prefix-text : tie.Need-array-share-prefix-text
 array-share-prefix-text c = inside c

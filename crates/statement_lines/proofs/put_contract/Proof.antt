@@ -1,25 +1,16 @@
 -- `put_contract`.
-use mathlib.Core.List.{List, _++_}
-use Prim.Native.Nat.{ℕ, _+_, _≤_}
+use Prim.Native.Nat.{_+_, _≤_}
 use native.Mathlib.Omega.{arith}
 use lib.ListN.{length}
-use Rattle.text.specs.Ascii.{ascii}
 use Rattle.text.specs.Decimal.{decimal}
 use Rattle.text.proofs.Putting.{_then_, put-same}
-use Rattle.statement_lines.proofs.Figures.{number-long, holder-long, numbers-long, word-long, kept, kept-small, cents-long, contract-text}
+use Rattle.statement_lines.proofs.Figures.{number-long, holder-long, kept, kept-small, cents-long, contract-text}
 use borrow.Author.Needs.{needs}
 use Rattle.statement_lines.proofs.put_contract.Statement.{statement}
 use Rattle.statement_lines.proofs.put_contract.Tie as tie
 
-abbrev numbers : tie.Start → List ℕ
-numbers s = decimal (s .args .number) ++ ascii "," ++ decimal (s .args .c .holder) ++ ascii ","
-
--- the numbers, and then the word
-long : (s : tie.Start) → (length (decimal (s .args .number)) + length (decimal (s .args .c .holder)) ≤ 7) × (length (numbers s) ≤ 9)
-long s =
-    let number = number-long (s .args .number) (s .pre .0) in
-    let holder = holder-long (s .args .c .holder) (s .pre .1) in
-    (omega arith, omega (arith, numbers-long (decimal (s .args .number)) (decimal (s .args .c .holder))))
+long : (s : tie.Start) → length (decimal (s .args .number)) + length (decimal (s .args .c .holder)) ≤ 7
+long s = omega (arith, number-long (s .args .number) (s .pre .0), holder-long (s .args .c .holder) (s .pre .1))
 
 put-numbers-requires : tie.Need-put-numbers-requires
 put-numbers-requires c κs = omega (arith, long (c .before .before))
@@ -30,12 +21,12 @@ put-kind-requires c κs = omega (arith, long (c .before .before .before .before 
 put-signed-requires : tie.Need-put-signed-requires
 put-signed-requires c κs =
     let s = c .before .before .before .before .before .before .before .before .before .before in
-    (omega (arith, long s, word-long (s .args .c .kind), cents-long (s .args .cents) (s .pre .2)), kept-small (s .args .cents) (omega (arith, s .pre .2)))
+    (omega (arith, long s, cents-long (s .args .cents) (s .pre .2)), kept-small (s .args .cents) (omega (arith, s .pre .2)))
 
 put-char-requires : tie.Need-put-char-requires
 put-char-requires c κs =
     let s = c .before .before .before .before .before .before .before .before .before .before .before .before .before .before in
-    omega (arith, long s, word-long (s .args .c .kind), cents-long (s .args .cents) (s .pre .2))
+    omega (arith, long s, cents-long (s .args .cents) (s .pre .2))
 
 same-length : tie.Need-same-length
 same-length c = search needs
@@ -48,8 +39,8 @@ returns c =
     let p1 = c .before .before .before .before .before .before .before .before .before .before .before .before .before .before .put-numbers in
     let s = c .before .before .before .before .before .before .before .before .before .before .before .before .before .before .before .before .before in
     let a = s .args in (
-      put-same (contract-text (a .number) (a .c) (a .cents)) (p1 .ensures then p2 .ensures then rw (kept (a .cents) (omega (arith, s .pre .2))) at (p3 .ensures .0) then p4 .ensures),
-      omega (arith, long s, word-long (a .c .kind), cents-long (a .cents) (s .pre .2)),
+      put-same (contract-text (a .number) (a .c) (a .cents)) (p1 .ensures .0 then p2 .ensures .0 then rw (kept (a .cents) (omega (arith, s .pre .2))) at (p3 .ensures .0) then p4 .ensures),
+      omega (arith, long s, cents-long (a .cents) (s .pre .2)),
     )
 
 pub put-contract-spec : {M : Type 1} → statement M

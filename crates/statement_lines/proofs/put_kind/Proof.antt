@@ -32,14 +32,16 @@ same-length c = search needs
 
 returns : tie.Need-returns
 returns c =
-    put-same (ap (λ (k : Kind). kindWord k ++ ascii ",") (c .before .before .before .before .before .enum-told .given .1)) (c .before .before .put-text .ensures)
+    let d = c .before .before .put-text .ensures in
+    (put-same (ap (λ (k : Kind). kindWord k ++ ascii ",") (c .before .before .before .before .before .enum-told .given .1)) d, d .place)
 
 same-length-2 : tie.Need-same-length-2
 same-length-2 c = search needs
 
 returns-2 : tie.Need-returns-2
 returns-2 c =
-    put-same (ap (λ (k : Kind). kindWord k ++ ascii ",") (c .before .before .before .before .before .enum-told2 .given .1)) (c .before .before .put-text2 .ensures)
+    let d = c .before .before .put-text2 .ensures in
+    (put-same (ap (λ (k : Kind). kindWord k ++ ascii ",") (c .before .before .before .before .before .enum-told2 .given .1)) d, d .place)
 
 pub put-kind-spec : {M : Type 1} → statement M
 put-kind-spec =

@@ -2,6 +2,8 @@
 use Prim.Native.Nat.{_≤_}
 use native.Mathlib.Omega.{arith}
 use lib.IntN.{natAbs}
+use mir.Syntax.{w64}
+use mir.Val.{toZ, ofZ}
 use Rattle.text.proofs.Putting.{_then_}
 use Rattle.statement_lines.specs.Inner.{maxTotal, settledLines}
 use Rattle.statement_lines.proofs.Figures.{kept, kept-total}
@@ -9,8 +11,13 @@ use borrow.Author.Needs.{needs}
 use Rattle.statement_lines.proofs.put_lines.Statement.{statement}
 use Rattle.statement_lines.proofs.put_lines.Tie as tie
 
+-- the totals are within their bounds
 most : (s : tie.Start) → (natAbs (s .args .totals .sum) ≤ maxTotal) × (natAbs (s .args .totals .whole) ≤ maxTotal)
 most s = let b = s .pre .0 .3 .bounded in (omega (arith, s .pre .0 .0, b .sum-sized), omega (arith, s .pre .0 .0, b .whole-sized))
+
+-- so they are as they are kept in an i64
+kept-most : (s : tie.Start) → (natAbs (toZ w64 (ofZ w64 (s .args .totals .sum))) ≤ maxTotal) × (natAbs (toZ w64 (ofZ w64 (s .args .totals .whole))) ≤ maxTotal)
+kept-most s = (kept-total (s .args .totals .sum) (most s .0), kept-total (s .args .totals .whole) (most s .1))
 
 slice-aggregate-put-text : tie.Need-slice-aggregate-put-text
 slice-aggregate-put-text c = search needs
@@ -27,12 +34,12 @@ put-contracts-requires c κs =
 put-sum-requires : tie.Need-put-sum-requires
 put-sum-requires c κs =
     let s = c .before .before .before .before .before .before .before .before .before .before .before .before .before in
-    (kept-total (s .args .totals .sum) (most s .0), omega (arith, s .pre .1))
+    (omega (arith, kept-most s), omega (arith, s .pre .1))
 
 put-exact-requires : tie.Need-put-exact-requires
 put-exact-requires c κs =
     let s = c .before .before .before .before .before .before .before .before .before .before .before .before .before .before .before .before .before .before in
-    (kept-total (s .args .totals .whole) (most s .1), s .pre .0 .3 .bounded .parts-small, omega (arith, s .pre .1))
+    (omega (arith, kept-most s), s .pre .0 .3 .bounded .parts-small, omega (arith, s .pre .1))
 
 same-length : tie.Need-same-length
 same-length c = search needs
