@@ -1,4 +1,4 @@
--- The report's parts as they are put one behind the other: a set's members, and the figures of the test's answer; and what is reported on.
+-- What inner functions and proofs say of the report: its parts as they are put one behind the other and their longest texts, and what is reported on.
 use mathlib.Core.Path.{_≡_}
 use mathlib.Core.Bool.{Bool, cond}
 use mathlib.Core.List.{List, [], _++_}
@@ -46,7 +46,7 @@ overBy Pass = pos 0
 overBy (Fail set count lowest over) = over .0
 overBy (Refused r) = pos 0
 
--- ---- the most characters of each part: figures are taken for 64 bits
+-- ---- the most characters of each part, where a figure is any of 64 bits
 
 abbrev pub periodRoom : ℕ
 periodRoom = length (ascii "off-peak,")

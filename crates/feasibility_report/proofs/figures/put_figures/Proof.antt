@@ -1,8 +1,6 @@
 -- `put_figures`.
-use mathlib.Core.Path.{ap}
 use native.Mathlib.Omega.{arith}
-use Rattle.feasibility_report.specs.Inner.{answerFigures}
-use Rattle.text.proofs.Putting.{put-none, put-same}
+use Rattle.text.proofs.Putting.{put-none}
 use borrow.Author.Needs.{needs}
 use Rattle.feasibility_report.proofs.figures.put_figures.Statement.{statement}
 use Rattle.feasibility_report.proofs.figures.put_figures.Tie as tie
@@ -33,8 +31,7 @@ same-length c = search needs
 returns : tie.Need-returns
 returns c =
     let d = c .before .before .put-text .ensures in
-    let s = c .before .before .before .before .before .before .before .before in
-    (put-same (ap (answerFigures (s .args .constraints)) (c .before .before .before .before .before .enum-told .given .1)) d, omega (arith, d .place))
+    (rw (c .before .before .before .before .before .enum-told .given .1) d, omega (arith, d .place))
 
 same-length-2 : tie.Need-same-length-2
 same-length-2 c = search needs
@@ -42,13 +39,10 @@ same-length-2 c = search needs
 returns-2 : tie.Need-returns-2
 returns-2 c =
     let d = c .before .before .put-failed in
-    let s = c .before .before .before .before .before .before .before .before in
-    (put-same (ap (answerFigures (s .args .constraints)) (c .before .before .before .before .before .answer .given .1)) (d .ensures .0), d .ensures .1)
+    (rw (c .before .before .before .before .before .answer .given .1) (d .ensures .0), d .ensures .1)
 
 returns-3 : tie.Need-returns-3
-returns-3 c =
-    let s = c .before .before .before in
-    (put-same (ap (answerFigures (s .args .constraints)) (c .enum-told2 .given .1)) (put-none (omega arith)), omega arith)
+returns-3 c = (rw (c .enum-told2 .given .1) (put-none (omega arith)), omega arith)
 
 pub put-figures-spec : {M : Type 1} → statement M
 put-figures-spec =

@@ -1,17 +1,8 @@
 -- `put_period`.
-use mathlib.Core.Path.{_≡_, ap}
-use mathlib.Core.List.{_++_}
 use native.Mathlib.Omega.{arith}
-use Rattle.text.specs.Ascii.{ascii}
-use Rattle.tariff.specs.declared.contracts.Period.{Period}
-use Rattle.text.proofs.Putting.{put-same}
-use Rattle.feasibility_report.specs.Report.{periodWord}
 use borrow.Author.Needs.{needs}
 use Rattle.feasibility_report.proofs.lines.put_period.Statement.{statement}
 use Rattle.feasibility_report.proofs.lines.put_period.Tie as tie
-
-comma : {a b : Period} → a ≡ b → periodWord a ++ ascii "," ≡ periodWord b ++ ascii ","
-comma = ap (λ (x : Period). periodWord x ++ ascii ",")
 
 enum-told : tie.Need-enum-told
 enum-told c = search needs
@@ -37,7 +28,7 @@ same-length c = search needs
 returns : tie.Need-returns
 returns c =
     let d = c .before .before .put-text .ensures in
-    (put-same (comma (c .before .before .before .before .before .enum-told .given .1)) d, omega (arith, d .place))
+    (rw (c .before .before .before .before .before .enum-told .given .1) d, omega (arith, d .place))
 
 same-length-2 : tie.Need-same-length-2
 same-length-2 c = search needs
@@ -45,7 +36,7 @@ same-length-2 c = search needs
 returns-2 : tie.Need-returns-2
 returns-2 c =
     let d = c .before .before .put-text2 .ensures in
-    (put-same (comma (c .before .before .before .before .before .enum-told2 .given .1)) d, omega (arith, d .place))
+    (rw (c .before .before .before .before .before .enum-told2 .given .1) d, omega (arith, d .place))
 
 pub put-period-spec : {M : Type 1} → statement M
 put-period-spec =

@@ -1,17 +1,8 @@
 -- `put_process`.
-use mathlib.Core.Path.{_≡_, ap}
-use mathlib.Core.List.{_++_}
 use native.Mathlib.Omega.{arith}
-use Rattle.text.specs.Ascii.{ascii}
-use Rattle.tariff.specs.declared.processes.Process.{Process}
-use Rattle.text.proofs.Putting.{put-same}
-use Rattle.feasibility_report.specs.Report.{processWord}
 use borrow.Author.Needs.{needs}
 use Rattle.feasibility_report.proofs.lines.put_process.Statement.{statement}
 use Rattle.feasibility_report.proofs.lines.put_process.Tie as tie
-
-comma : {a b : Process} → a ≡ b → processWord a ++ ascii "," ≡ processWord b ++ ascii ","
-comma = ap (λ (x : Process). processWord x ++ ascii ",")
 
 enum-told : tie.Need-enum-told
 enum-told c = search needs
@@ -46,7 +37,7 @@ same-length c = search needs
 returns : tie.Need-returns
 returns c =
     let d = c .before .before .put-text .ensures in
-    (put-same (comma (c .before .before .before .before .before .enum-told .given .1)) d, omega (arith, d .place))
+    (rw (c .before .before .before .before .before .enum-told .given .1) d, omega (arith, d .place))
 
 same-length-2 : tie.Need-same-length-2
 same-length-2 c = search needs
@@ -54,7 +45,7 @@ same-length-2 c = search needs
 returns-2 : tie.Need-returns-2
 returns-2 c =
     let d = c .before .before .put-text2 .ensures in
-    (put-same (comma (c .before .before .before .before .before .enum-told2 .given .1)) d, omega (arith, d .place))
+    (rw (c .before .before .before .before .before .enum-told2 .given .1) d, omega (arith, d .place))
 
 same-length-3 : tie.Need-same-length-3
 same-length-3 c = search needs
@@ -62,7 +53,7 @@ same-length-3 c = search needs
 returns-3 : tie.Need-returns-3
 returns-3 c =
     let d = c .before .before .put-text3 .ensures in
-    (put-same (comma (c .before .before .before .before .before .enum-told3 .given .1)) d, omega (arith, d .place))
+    (rw (c .before .before .before .before .before .enum-told3 .given .1) d, omega (arith, d .place))
 
 pub put-process-spec : {M : Type 1} → statement M
 put-process-spec =
