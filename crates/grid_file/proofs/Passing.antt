@@ -9,6 +9,7 @@ use lib.IntN.{ℤ, pos}
 use lib.Signed.{mag}
 use lib.Pow.{pow-pos}
 use lib.Seq.{getD-take, length-take-le}
+use Rattle.lists.proofs.Lists.{every-cell}
 use Rattle.bits.specs.Bits.{field, fields}
 use Rattle.bits.proofs.Files.{length-file}
 use Rattle.tariff.specs.declared.refusals.Checked.{Checked}
@@ -100,12 +101,6 @@ module _ (q : WriteGridCall) where
       let both = passed-append tableChecks (roomCheck ∷ []) e in
       let t = grid-tables (q .nodes) (q .constraints) 0 0 (q .limits) (q .factors) (both .0) in
       record { good-limits = t .good-limits; good-factors = t .good-factors; room = ltb-false _ _ (passed-cons roomCheck [] (both .1) .0) }
-
--- a cell of a list, or the default past its end
-every-cell : {A : Type 0} (P : A → Type 0) (xs : List A) (d : A) → P d → ((i : ℕ) → i < length xs → P (getD xs i d)) → (i : ℕ) → P (getD xs i d)
-every-cell P [] d h f i = h
-every-cell P (x ∷ xs) d h f zero = f 0 (omega arith)
-every-cell P (x ∷ xs) d h f (suc i) = every-cell P xs d h (λ j l. f (suc j) (omega arith)) i
 
 module _ (n k : ℕ) (limits : List ℕ) (factors : List ℤ) (place : List ℕ) (w : Writable n k limits factors place) where
   abbrev ls : List ℕ

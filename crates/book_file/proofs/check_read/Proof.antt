@@ -15,18 +15,9 @@ use borrow.Author.Needs.{needs}
 use Rattle.book_file.proofs.check_read.Statement.{statement}
 use Rattle.book_file.proofs.check_read.Tie as tie
 
-nodes-bad-requires : tie.Need-nodes-bad-requires
-nodes-bad-requires c κs = search needs
-
 returns : tie.Need-returns
 unfolding readBookChecks
 returns c = λ table e. sym (first-refuses _ _ (sym (c .before .nodes-bad .ensures) ∙ c .if1 .taken))
-
-check-book-requires : tie.Need-check-book-requires
-check-book-requires c κs = search needs
-
-enum-known-refusal : tie.Need-enum-known-refusal
-enum-known-refusal c = search needs
 
 returns-2 : tie.Need-returns-2
 unfolding readBookChecks
@@ -37,17 +28,11 @@ returns-2 c = λ table e.
     sym (first-passes _ _ (sym (n .before .nodes-bad .ensures) ∙ n .if1 .left)
     ∙ append-refuses (bookChecks (a .nodes) (a .file .now)) _ _ (sym (k .check-book .ensures) ∙ c .before .refusal .given .1))
 
-enum-told : tie.Need-enum-told
-enum-told c = search needs
-
 contract-count-requires : tie.Need-contract-count-requires
 contract-count-requires c κs =
     let a = c .before .before .before .before .before .before .args in
     let ok = book-accepted (a .nodes) (a .file .now) (sym (c .before .before .check-book .ensures) ∙ c .enum-told .given .1) in
     omega (arith, ok .size)
-
-mul-if2 : tie.Need-mul-if2
-mul-if2 c = search needs
 
 returns-3 : tie.Need-returns-3
 unfolding readBookChecks
@@ -71,15 +56,6 @@ returns-4 c = λ table e.
 
 pub check-read-spec : {M : Type 1} → statement M
 check-read-spec =
-    tie.close
-    (tie.spec
-    nodes-bad-requires
-    returns
-    check-book-requires
-    enum-known-refusal
-    returns-2
-    enum-told
-    contract-count-requires
-    mul-if2
-    returns-3
-    returns-4)
+    tie.close (tie.spec
+    (λ c κs. search needs) returns (λ c κs. search needs) (λ c. search needs) returns-2 (λ c. search needs)
+    contract-count-requires (λ c. search needs) returns-3 returns-4)

@@ -13,9 +13,6 @@ use borrow.Author.Needs.{needs}
 use Rattle.book_file.proofs.check_write.Statement.{statement}
 use Rattle.book_file.proofs.check_write.Tie as tie
 
-nodes-bad-requires : tie.Need-nodes-bad-requires
-nodes-bad-requires c κs = search needs
-
 returns : tie.Need-returns
 unfolding writeBookChecks
 returns c = λ place e. sym (first-refuses _ _ (sym (c .before .nodes-bad .ensures) ∙ c .if1 .taken))
@@ -25,20 +22,11 @@ unfolding writeBookChecks
 returns-2 c = λ place e.
     sym (first-passes _ _ (sym (c .before .before .nodes-bad .ensures) ∙ c .before .if1 .left) ∙ first-refuses _ _ (lt-ltb _ _ (c .if2 .taken)))
 
-mul-if3 : tie.Need-mul-if3
-mul-if3 c = search needs
-
 returns-3 : tie.Need-returns-3
 unfolding writeBookChecks
 returns-3 c = λ place e.
     let n = c .before .before in
     sym (first-passes _ _ (sym (n .before .nodes-bad .ensures) ∙ n .if1 .left) ∙ first-passes _ _ (le-ltb _ _ (c .before .if2 .left)) ∙ first-refuses _ _ (lt-ltb _ _ (c .if3 .taken)))
-
-check-rows-requires : tie.Need-check-rows-requires
-check-rows-requires c κs = search needs
-
-enum-known-refusal : tie.Need-enum-known-refusal
-enum-known-refusal c = search needs
 
 returns-4 : tie.Need-returns-4
 returns-4 c = λ place e.
@@ -48,15 +36,6 @@ returns-4 c = λ place e.
     let a = n .before .before .before .args in
     sym (then-rows (writeBookCall (a .nodes) (a .contracts) (a .book .now) place) (sym (n .before .nodes-bad .ensures) ∙ n .if1 .left) (l .before .if2 .left) (l .if3 .left)
     ∙ append-refuses (checksTo (a .contracts) (rowChecks (a .nodes) (a .book .now))) _ _ (sym (k .check-rows .ensures) ∙ c .before .refusal .given .1))
-
-enum-told : tie.Need-enum-told
-enum-told c = search needs
-
-mul-if4 : tie.Need-mul-if4
-mul-if4 c = search needs
-
-add-if4 : tie.Need-add-if4
-add-if4 c = search needs
 
 returns-5 : tie.Need-returns-5
 returns-5 c = λ place e.
@@ -80,18 +59,6 @@ returns-6 c = λ place e.
 
 pub check-write-spec : {M : Type 1} → statement M
 check-write-spec =
-    tie.close
-    (tie.spec
-    nodes-bad-requires
-    returns
-    returns-2
-    mul-if3
-    returns-3
-    check-rows-requires
-    enum-known-refusal
-    returns-4
-    enum-told
-    mul-if4
-    add-if4
-    returns-5
-    returns-6)
+    tie.close (tie.spec
+    (λ c κs. search needs) returns returns-2 (λ c. search needs) returns-3 (λ c κs. search needs) (λ c. search needs) returns-4
+    (λ c. search needs) (λ c. search needs) (λ c. search needs) returns-5 returns-6)

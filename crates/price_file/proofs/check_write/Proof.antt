@@ -21,17 +21,11 @@ returns-3 c = λ place e.
     sym (first-passes _ _ (le-ltb _ _ (c .before .before .if1 .left)) ∙ first-passes _ _ (le-ltb _ _ (c .before .if2 .left))
     ∙ first-refuses _ _ (lt-ltb _ _ (c .if3 .taken)))
 
-cell-above-requires : tie.Need-cell-above-requires
-cell-above-requires c κs = search needs
-
 returns-4 : tie.Need-returns-4
 unfolding writePricesChecks
 returns-4 c = λ place e.
     sym (first-passes _ _ (le-ltb _ _ (c .before .before .before .before .if1 .left)) ∙ first-passes _ _ (le-ltb _ _ (c .before .before .before .if2 .left)) ∙ first-passes _ _ (le-ltb _ _ (c .before .before .if3 .left))
     ∙ first-refuses _ _ (sym (c .before .cell-above .ensures) ∙ c .if4 .taken))
-
-file-bytes-requires : tie.Need-file-bytes-requires
-file-bytes-requires c κs = search needs
 
 returns-5 : tie.Need-returns-5
 unfolding writePricesChecks
@@ -54,14 +48,4 @@ returns-6 c = λ place e.
     ∙ last-passes _ (rw (c .before .file-bytes .ensures) at (le-ltb _ _ (c .if5 .left)))))
 
 pub check-write-spec : {M : Type 1} → statement M
-check-write-spec =
-    tie.close
-    (tie.spec
-    returns
-    returns-2
-    returns-3
-    cell-above-requires
-    returns-4
-    file-bytes-requires
-    returns-5
-    returns-6)
+check-write-spec = tie.close (tie.spec returns returns-2 returns-3 (λ c κs. search needs) returns-4 (λ c κs. search needs) returns-5 returns-6)

@@ -8,15 +8,6 @@ use borrow.Author.Needs.{needs}
 use Rattle.price_file.proofs.read_prices.Statement.{statement}
 use Rattle.price_file.proofs.read_prices.Tie as tie
 
-check-read-requires : tie.Need-check-read-requires
-check-read-requires c κs = search needs
-
-enum-known-refusal : tie.Need-enum-known-refusal
-enum-known-refusal c = search needs
-
-enum-told : tie.Need-enum-told
-enum-told c = search needs
-
 read-run-requires : tie.Need-read-run-requires
 read-run-requires c κs =
     let s = c .before .before .before .before .before .before in
@@ -36,9 +27,6 @@ returns c =
     let told = c .before .refusal .given .1 in
     record { period-given = answer-refused _ _ found _ told _; prices-read = cells-refused _ _ found _ told (pricesIn (a .constraints) (a .file .now)) _ }
 
-same-length : tie.Need-same-length
-same-length c = search needs
-
 returns-2 : tie.Need-returns-2
 unfolding pricesIn
 returns-2 c =
@@ -52,13 +40,6 @@ returns-2 c =
 
 pub read-prices-spec : {M : Type 1} → statement M
 read-prices-spec =
-    tie.close
-    (tie.spec
-    check-read-requires
-    enum-known-refusal
-    enum-told
-    read-run-requires
-    field-requires
-    returns
-    same-length
+    tie.close (tie.spec
+    (λ c κs. search needs) (λ c. search needs) (λ c. search needs) read-run-requires field-requires returns (λ c. search needs)
     returns-2)

@@ -8,15 +8,6 @@ use borrow.Author.Needs.{needs}
 use Rattle.price_file.proofs.write_prices.Statement.{statement}
 use Rattle.price_file.proofs.write_prices.Tie as tie
 
-check-write-requires : tie.Need-check-write-requires
-check-write-requires c κs = search needs
-
-enum-known-refusal : tie.Need-enum-known-refusal
-enum-known-refusal c = search needs
-
-enum-told : tie.Need-enum-told
-enum-told c = search needs
-
 fill-requires : tie.Need-fill-requires
 fill-requires c κs =
     let s = c .before .before .before .before .before .before in
@@ -31,9 +22,6 @@ returns c =
     let file = priceFile (a .period) (a .constraints) (take (a .constraints) (a .prices .now)) in
     record { length-given = answer-refused _ _ found _ told _; bytes-written = cells-refused _ _ found _ told file _ }
 
-same-length : tie.Need-same-length
-same-length c = search needs
-
 returns-2 : tie.Need-returns-2
 returns-2 c =
     let a = c .before .before .before .before .before .before .before .before .before .args in
@@ -46,13 +34,4 @@ returns-2 c =
     }
 
 pub write-prices-spec : {M : Type 1} → statement M
-write-prices-spec =
-    tie.close
-    (tie.spec
-    check-write-requires
-    enum-known-refusal
-    enum-told
-    fill-requires
-    returns
-    same-length
-    returns-2)
+write-prices-spec = tie.close (tie.spec (λ c κs. search needs) (λ c. search needs) (λ c. search needs) fill-requires returns (λ c. search needs) returns-2)

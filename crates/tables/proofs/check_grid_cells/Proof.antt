@@ -17,17 +17,11 @@ returns c = sym (first-refuses _ _ (lt-ltb _ _ (c .if1 .taken)))
 returns-2 : tie.Need-returns-2
 returns-2 c = sym (first-passes _ _ (le-ltb _ _ (c .before .if1 .left)) ∙ first-refuses _ _ (lt-ltb _ _ (c .if2 .taken)))
 
-cell-above-requires : tie.Need-cell-above-requires
-cell-above-requires c κs = search needs
-
 returns-3 : tie.Need-returns-3
 returns-3 c =
     let t = c .before .before in
     sym (first-passes _ _ (le-ltb _ _ (t .before .if1 .left)) ∙ first-passes _ _ (le-ltb _ _ (t .if2 .left))
     ∙ first-refuses _ _ (sym (c .before .cell-above .ensures) ∙ c .if3 .taken))
-
-factor-out-of-range-requires : tie.Need-factor-out-of-range-requires
-factor-out-of-range-requires c κs = search needs
 
 returns-4 : tie.Need-returns-4
 returns-4 c =
@@ -45,14 +39,4 @@ returns-5 c =
     ∙ first-passes _ _ (sym (l .before .cell-above .ensures) ∙ l .if3 .left) ∙ last-passes _ (sym (f .factor-out-of-range .ensures) ∙ c .if4 .left))
 
 pub check-grid-cells-spec : {M : Type 1} → statement M
-check-grid-cells-spec =
-    tie.close
-    (tie.spec
-    mul-cells
-    returns
-    returns-2
-    cell-above-requires
-    returns-3
-    factor-out-of-range-requires
-    returns-4
-    returns-5)
+check-grid-cells-spec = tie.close (tie.spec mul-cells returns returns-2 (λ c κs. search needs) returns-3 (λ c κs. search needs) returns-4 returns-5)

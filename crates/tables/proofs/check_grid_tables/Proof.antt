@@ -7,9 +7,6 @@ use borrow.Author.Needs.{needs}
 use Rattle.tables.proofs.check_grid_tables.Statement.{statement}
 use Rattle.tables.proofs.check_grid_tables.Tie as tie
 
-nodes-bad-requires : tie.Need-nodes-bad-requires
-nodes-bad-requires c κs = search needs
-
 returns : tie.Need-returns
 unfolding gridTableChecks
 returns c = sym (first-refuses _ _ (sym (c .before .nodes-bad .ensures) ∙ c .if1 .taken))
@@ -44,6 +41,4 @@ returns-5 c =
     ∙ first-passes _ _ (le-ltb _ _ (p .before .if3 .left)) ∙ first-passes _ _ (le-ltb _ _ (p .if4 .left)))
 
 pub check-grid-tables-spec : {M : Type 1} → statement M
-check-grid-tables-spec =
-    tie.close
-    (tie.spec nodes-bad-requires returns returns-2 returns-3 returns-4 check-grid-cells-requires returns-5)
+check-grid-tables-spec = tie.close (tie.spec (λ c κs. search needs) returns returns-2 returns-3 returns-4 check-grid-cells-requires returns-5)

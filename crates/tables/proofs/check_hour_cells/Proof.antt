@@ -21,17 +21,11 @@ returns-3 : tie.Need-returns-3
 returns-3 c =
     sym (first-passes _ _ (le-ltb _ _ (c .before .before .if1 .left)) ∙ first-passes _ _ (le-ltb _ _ (c .before .if2 .left)) ∙ first-refuses _ _ (lt-ltb _ _ (c .if3 .taken)))
 
-factor-out-of-range-requires : tie.Need-factor-out-of-range-requires
-factor-out-of-range-requires c κs = search needs
-
 returns-4 : tie.Need-returns-4
 returns-4 c =
     let t = c .before .before in
     sym (first-passes _ _ (le-ltb _ _ (t .before .before .if1 .left)) ∙ first-passes _ _ (le-ltb _ _ (t .before .if2 .left)) ∙ first-passes _ _ (le-ltb _ _ (t .if3 .left))
     ∙ first-refuses _ _ (sym (c .before .factor-out-of-range .ensures) ∙ c .if4 .taken))
-
-cell-above-requires : tie.Need-cell-above-requires
-cell-above-requires c κs = search needs
 
 returns-5 : tie.Need-returns-5
 returns-5 c =
@@ -48,15 +42,4 @@ returns-6 c =
     ∙ first-passes _ _ (sym (f .before .factor-out-of-range .ensures) ∙ f .if4 .left) ∙ last-passes _ (sym (c .before .cell-above .ensures) ∙ c .if5 .left))
 
 pub check-hour-cells-spec : {M : Type 1} → statement M
-check-hour-cells-spec =
-    tie.close
-    (tie.spec
-    mul-cells
-    returns
-    returns-2
-    returns-3
-    factor-out-of-range-requires
-    returns-4
-    cell-above-requires
-    returns-5
-    returns-6)
+check-hour-cells-spec = tie.close (tie.spec mul-cells returns returns-2 returns-3 (λ c κs. search needs) returns-4 (λ c κs. search needs) returns-5 returns-6)

@@ -7,9 +7,6 @@ use borrow.Author.Needs.{needs}
 use Rattle.tables.proofs.check_hour_tables.Statement.{statement}
 use Rattle.tables.proofs.check_hour_tables.Tie as tie
 
-nodes-bad-requires : tie.Need-nodes-bad-requires
-nodes-bad-requires c κs = search needs
-
 returns : tie.Need-returns
 unfolding hourTableChecks
 returns c = sym (first-refuses _ _ (sym (c .before .nodes-bad .ensures) ∙ c .if1 .taken))
@@ -36,4 +33,4 @@ returns-4 c =
     ∙ sym (first-passes _ _ (sym (n .before .nodes-bad .ensures) ∙ n .if1 .left) ∙ first-passes _ _ (le-ltb _ _ (p .before .if2 .left)) ∙ first-passes _ _ (le-ltb _ _ (p .if3 .left)))
 
 pub check-hour-tables-spec : {M : Type 1} → statement M
-check-hour-tables-spec = tie.close (tie.spec nodes-bad-requires returns returns-2 returns-3 check-hour-cells-requires returns-4)
+check-hour-tables-spec = tie.close (tie.spec (λ c κs. search needs) returns returns-2 returns-3 check-hour-cells-requires returns-4)
