@@ -57,5 +57,5 @@ returns-4 c = λ table e.
 pub check-read-spec : {M : Type 1} → statement M
 check-read-spec =
     tie.close (tie.spec
-    (λ c κs. search needs) returns (λ c κs. search needs) (λ c. search needs) returns-2 (λ c. search needs)
-    contract-count-requires (λ c. search needs) returns-3 returns-4)
+    (λ c κs. search needs) returns (λ c κs. search needs) (λ c. search needs) returns-2 (λ c. search needs) contract-count-requires (λ c. search needs)
+    returns-3 returns-4)

@@ -60,5 +60,5 @@ returns-6 c = λ place e.
 pub check-write-spec : {M : Type 1} → statement M
 check-write-spec =
     tie.close (tie.spec
-    (λ c κs. search needs) returns returns-2 (λ c. search needs) returns-3 (λ c κs. search needs) (λ c. search needs) returns-4
-    (λ c. search needs) (λ c. search needs) (λ c. search needs) returns-5 returns-6)
+    (λ c κs. search needs) returns returns-2 (λ c. search needs) returns-3 (λ c κs. search needs) (λ c. search needs) returns-4 (λ c. search needs)
+    (λ c. search needs) (λ c. search needs) returns-5 returns-6)

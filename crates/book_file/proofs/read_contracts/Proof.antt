@@ -47,5 +47,5 @@ returns c =
 pub read-contracts-spec : {M : Type 1} → statement M
 read-contracts-spec =
     tie.close (tie.spec
-    Inv-loop μ-loop loop-holds (λ c. search needs) (λ c κs. search needs) store-row-requires (λ c. search needs)
-    (λ c. search needs) loop-again (λ c. search needs) returns)
+    Inv-loop μ-loop loop-holds (λ c. search needs) (λ c κs. search needs) store-row-requires (λ c. search needs) (λ c. search needs) loop-again
+    (λ c. search needs) returns)

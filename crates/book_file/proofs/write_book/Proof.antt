@@ -47,5 +47,4 @@ returns-2 c =
 pub write-book-spec : {M : Type 1} → statement M
 write-book-spec =
     tie.close (tie.spec
-    (λ c κs. search needs) (λ c. search needs) (λ c. search needs) write-contracts-requires mul-t12 add-t13 returns
-    (λ c. search needs) returns-2)
+    (λ c κs. search needs) (λ c. search needs) (λ c. search needs) write-contracts-requires mul-t12 add-t13 returns (λ c. search needs) returns-2)

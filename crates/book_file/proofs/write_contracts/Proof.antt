@@ -64,5 +64,5 @@ returns c =
 pub write-contracts-spec : {M : Type 1} → statement M
 write-contracts-spec =
     tie.close (tie.spec
-    Inv-loop μ-loop (λ c κs. search needs) loop-holds (λ c. search needs) (λ c κs. search needs) store-contract-requires
-    (λ c. search needs) (λ c. search needs) loop-again same-length returns)
+    Inv-loop μ-loop (λ c κs. search needs) loop-holds (λ c. search needs) (λ c κs. search needs) store-contract-requires (λ c. search needs) (λ c. search needs)
+    loop-again same-length returns)

@@ -41,5 +41,4 @@ returns-5 c =
 pub check-book-spec : {M : Type 1} → statement M
 check-book-spec =
     tie.close (tie.spec
-    returns (λ c κs. search needs) returns-2 (λ c κs. search needs) returns-3 (λ c. search needs) (λ c. search needs) returns-4
-    (λ c κs. search needs) returns-5)
+    returns (λ c κs. search needs) returns-2 (λ c κs. search needs) returns-3 (λ c. search needs) (λ c. search needs) returns-4 (λ c κs. search needs) returns-5)

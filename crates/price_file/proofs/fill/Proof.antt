@@ -58,5 +58,5 @@ returns c =
 pub fill-spec : {M : Type 1} → statement M
 fill-spec =
     tie.close (tie.spec
-    (λ c. search needs) (λ c. search needs) (λ c. search needs) (λ c κs. search needs) (λ c κs. search needs) write-run-requires
-    (λ c. search needs) (λ c. search needs) put-last-requires (λ c. search needs) returns)
+    (λ c. search needs) (λ c. search needs) (λ c. search needs) (λ c κs. search needs) (λ c κs. search needs) write-run-requires (λ c. search needs)
+    (λ c. search needs) put-last-requires (λ c. search needs) returns)

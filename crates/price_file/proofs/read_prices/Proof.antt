@@ -41,5 +41,4 @@ returns-2 c =
 pub read-prices-spec : {M : Type 1} → statement M
 read-prices-spec =
     tie.close (tie.spec
-    (λ c κs. search needs) (λ c. search needs) (λ c. search needs) read-run-requires field-requires returns (λ c. search needs)
-    returns-2)
+    (λ c κs. search needs) (λ c. search needs) (λ c. search needs) read-run-requires field-requires returns (λ c. search needs) returns-2)

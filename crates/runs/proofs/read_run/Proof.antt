@@ -47,5 +47,5 @@ returns c =
 pub read-run-spec : {M : Type 1} → statement M
 read-run-spec =
     tie.close (tie.spec
-    Inv-loop μ-loop (λ c. search needs) field-requires (λ c. search needs) (λ c. search needs) add-at (λ c. search needs)
-    (λ c. search needs) loop-again (λ c. search needs) returns)
+    Inv-loop μ-loop (λ c. search needs) field-requires (λ c. search needs) (λ c. search needs) add-at (λ c. search needs) (λ c. search needs) loop-again
+    (λ c. search needs) returns)

@@ -63,5 +63,5 @@ returns c =
 pub write-run-spec : {M : Type 1} → statement M
 write-run-spec =
     tie.close (tie.spec
-    Inv-loop μ-loop loop-holds (λ c. search needs) (λ c. search needs) put-requires (λ c. search needs) (λ c. search needs)
-    loop-again (λ c. search needs) returns)
+    Inv-loop μ-loop loop-holds (λ c. search needs) (λ c. search needs) put-requires (λ c. search needs) (λ c. search needs) loop-again (λ c. search needs)
+    returns)

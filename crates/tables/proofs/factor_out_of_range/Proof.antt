@@ -50,5 +50,5 @@ loop-again c =
 pub factor-out-of-range-spec : {M : Type 1} → statement M
 factor-out-of-range-spec =
     tie.close (tie.spec
-    Inv-loop μ-loop loop-holds (λ c. search needs) (λ c κs. search needs) returns (λ c. search needs) (λ c. search needs)
-    loop-again (λ c κs. search needs) (λ c. search needs))
+    Inv-loop μ-loop loop-holds (λ c. search needs) (λ c κs. search needs) returns (λ c. search needs) (λ c. search needs) loop-again (λ c κs. search needs)
+    (λ c. search needs))

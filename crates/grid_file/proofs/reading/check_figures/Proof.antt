@@ -85,5 +85,5 @@ returns-6 c =
 pub check-figures-spec : {M : Type 1} → statement M
 check-figures-spec =
     tie.close (tie.spec
-    (λ c κs. search needs) (λ c κs. search needs) returns (λ c κs. search needs) returns-2 (λ c. search needs) (λ c. search needs)
-    (λ c κs. search needs) returns-3 returns-4 (λ c κs. search needs) returns-5 returns-6)
+    (λ c κs. search needs) (λ c κs. search needs) returns (λ c κs. search needs) returns-2 (λ c. search needs) (λ c. search needs) (λ c κs. search needs)
+    returns-3 returns-4 (λ c κs. search needs) returns-5 returns-6)

@@ -95,5 +95,5 @@ returns-6 c =
 pub check-read-spec : {M : Type 1} → statement M
 check-read-spec =
     tie.close (tie.spec
-    returns (λ c κs. search needs) (λ c κs. search needs) (λ c κs. search needs) returns-2 returns-3 (λ c κs. search needs)
-    returns-4 file-bytes-requires returns-5 check-figures-requires returns-6)
+    returns (λ c κs. search needs) (λ c κs. search needs) (λ c κs. search needs) returns-2 returns-3 (λ c κs. search needs) returns-4 file-bytes-requires
+    returns-5 check-figures-requires returns-6)

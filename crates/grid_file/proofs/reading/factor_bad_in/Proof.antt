@@ -138,6 +138,5 @@ returns-2 c =
 pub factor-bad-in-spec : {M : Type 1} → statement M
 factor-bad-in-spec =
     tie.close (tie.spec
-    Inv-loop μ-loop Inv-nodes μ-nodes (λ c. search needs) (λ c. search needs) nodes-holds loop-holds field-requires
-    (λ c κs. search needs) add-at-2 (λ c. search needs) (λ c. search needs) loop-again (λ c. search needs) (λ c. search needs)
-    nodes-again returns returns-2)
+    Inv-loop μ-loop Inv-nodes μ-nodes (λ c. search needs) (λ c. search needs) nodes-holds loop-holds field-requires (λ c κs. search needs) add-at-2
+    (λ c. search needs) (λ c. search needs) loop-again (λ c. search needs) (λ c. search needs) nodes-again returns returns-2)

@@ -59,5 +59,5 @@ returns-2 c =
 pub read-grid-spec : {M : Type 1} → statement M
 read-grid-spec =
     tie.close (tie.spec
-    (λ c κs. search needs) (λ c. search needs) (λ c. search needs) nodes-in-requires constraints-in-requires read-tables-requires
-    (λ c. search needs) (λ c. search needs) returns (λ c. search needs) (λ c. search needs) returns-2)
+    (λ c κs. search needs) (λ c. search needs) (λ c. search needs) nodes-in-requires constraints-in-requires read-tables-requires (λ c. search needs)
+    (λ c. search needs) returns (λ c. search needs) (λ c. search needs) returns-2)

@@ -77,5 +77,5 @@ returns c =
 pub write-factors-spec : {M : Type 1} → statement M
 write-factors-spec =
     tie.close (tie.spec
-    Inv-loop μ-loop loop-holds (λ c. search needs) (λ c. search needs) unsigned-requires put-requires (λ c. search needs)
-    (λ c. search needs) loop-again (λ c. search needs) returns)
+    Inv-loop μ-loop loop-holds (λ c. search needs) (λ c. search needs) unsigned-requires put-requires (λ c. search needs) (λ c. search needs) loop-again
+    (λ c. search needs) returns)

@@ -37,5 +37,4 @@ returns-2 c =
 pub write-grid-spec : {M : Type 1} → statement M
 write-grid-spec =
     tie.close (tie.spec
-    (λ c κs. search needs) (λ c. search needs) (λ c. search needs) fill-requires (λ c. search needs) returns (λ c. search needs)
-    returns-2)
+    (λ c κs. search needs) (λ c. search needs) (λ c. search needs) fill-requires (λ c. search needs) returns (λ c. search needs) returns-2)

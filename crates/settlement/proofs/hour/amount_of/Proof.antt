@@ -31,5 +31,4 @@ returns c =
 pub amount-of-spec : {M : Type 1} → statement M
 amount-of-spec =
     tie.close (tie.spec
-    (λ c. search needs) (λ c. search needs) (λ c. search needs) (λ c. search needs) minus-requires times-requires counted-requires
-    returns)
+    (λ c. search needs) (λ c. search needs) (λ c. search needs) (λ c. search needs) minus-requires times-requires counted-requires returns)

@@ -45,5 +45,5 @@ returns-4 c place e =
 pub check-settle-spec : {M : Type 1} → statement M
 check-settle-spec =
     tie.close (tie.spec
-    (λ c κs. search needs) (λ c. search needs) returns (λ c. search needs) (λ c κs. search needs) (λ c. search needs) returns-2
-    (λ c. search needs) contract-count-requires returns-3 returns-4)
+    (λ c κs. search needs) (λ c. search needs) returns (λ c. search needs) (λ c κs. search needs) (λ c. search needs) returns-2 (λ c. search needs)
+    contract-count-requires returns-3 returns-4)

@@ -37,5 +37,4 @@ returns c =
 pub settle-spec : {M : Type 1} → statement M
 settle-spec =
     tie.close (tie.spec
-    (λ c. search needs) fill-mcc-requires contract-count-requires (λ c. search needs) settle-contracts-requires
-    (λ c. search needs) returns)
+    (λ c. search needs) fill-mcc-requires contract-count-requires (λ c. search needs) settle-contracts-requires (λ c. search needs) returns)

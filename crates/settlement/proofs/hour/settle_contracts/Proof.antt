@@ -95,5 +95,5 @@ returns c =
 pub settle-contracts-spec : {M : Type 1} → statement M
 settle-contracts-spec =
     tie.close (tie.spec
-    Inv-loop μ-loop loop-holds hour-amount-requires cents-requires (λ c. search needs) (λ c. omega arith) plus-requires
-    (λ c. search needs) (λ c. omega arith) loop-again (λ c. search needs) returns)
+    Inv-loop μ-loop loop-holds hour-amount-requires cents-requires (λ c. search needs) (λ c. omega arith) plus-requires (λ c. search needs) (λ c. omega arith)
+    loop-again (λ c. search needs) returns)

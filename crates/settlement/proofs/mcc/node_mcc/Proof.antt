@@ -100,5 +100,5 @@ returns c =
 pub node-mcc-spec : {M : Type 1} → statement M
 node-mcc-spec =
     tie.close (tie.spec
-    Inv-loop μ-loop mul-base loop-holds (λ c. search needs) shared-slice-read-t13 add-times mul-times shared-slice-copy-out-times
-    times-requires plus-requires (λ c. search needs) (λ c. search needs) loop-again negated-requires returns)
+    Inv-loop μ-loop mul-base loop-holds (λ c. search needs) shared-slice-read-t13 add-times mul-times shared-slice-copy-out-times times-requires plus-requires
+    (λ c. search needs) (λ c. search needs) loop-again negated-requires returns)
