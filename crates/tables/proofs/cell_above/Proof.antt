@@ -25,15 +25,16 @@ returns : tie.Need-returns Inv-loop μ-loop
 returns c =
     let a = c .before .before .before .before .args in
     let i = c .before .before .before .loop .i in
-    above-found (take (a .count) (a .cells .now)) (a .most) i _ (cell-in (a .cells .now) (a .count) i (omega arith) (omega arith)) (sym (getD-take (a .count) (a .cells .now) i 0 (omega arith))) (c .if1 .taken)
+    let read = sym (getD-take (a .count) (a .cells .now) i 0 (omega arith)) in
+    above-found (take (a .count) (a .cells .now)) (a .most) i _ (cell-in (a .cells .now) (a .count) i (omega arith) (omega arith)) read (c .if1 .taken)
 
 loop-again : tie.Need-loop-again Inv-loop μ-loop
 loop-again c =
     let a = c .before .before .before .before .args in
-    let l = c .before .before .before .loop in (
-      omega arith,
-      above-turn (take (a .count) (a .cells .now)) (a .most) (l .i) _ (cell-in (a .cells .now) (a .count) (l .i) (omega arith) (omega arith)) (sym (getD-take (a .count) (a .cells .now) (l .i) 0 (omega arith))) (c .if1 .left) (l .inv .1),
-    )
+    let l = c .before .before .before .loop in
+    let inside = cell-in (a .cells .now) (a .count) (l .i) (omega arith) (omega arith) in
+    let read = sym (getD-take (a .count) (a .cells .now) (l .i) 0 (omega arith)) in
+    (omega arith, above-turn (take (a .count) (a .cells .now)) (a .most) (l .i) _ inside read (c .if1 .left) (l .inv .1))
 
 returns-2 : tie.Need-returns-2 Inv-loop μ-loop
 returns-2 c =

@@ -1,18 +1,12 @@
 -- `check_hour_cells`: each return by the tests that led there.
 use mathlib.Core.Path.{sym, _∙_}
-use native.Mathlib.Nat.{mul-le-mul, lt-of-le-of-lt}
-use lib.Dec.{lit<}
+use native.Mathlib.Omega.{arith}
 use borrow.Author.Tests.{lt-ltb, le-ltb}
 use Rattle.tariff.proofs.Checks.{first-passes, first-refuses, last-passes}
+use Rattle.tables.proofs.Factors.{count-fits}
 use borrow.Author.Needs.{needs}
 use Rattle.tables.proofs.check_hour_cells.Statement.{statement}
 use Rattle.tables.proofs.check_hour_cells.Tie as tie
-
-mul-cells : tie.Need-mul-cells
-mul-cells c = record { fits = lt-of-le-of-lt (mul-le-mul (c .before .pre .0) (c .before .pre .1)) (lit< tt) }
-
-returns : tie.Need-returns
-returns c = sym (first-refuses _ _ (lt-ltb _ _ (c .if1 .taken)))
 
 returns-2 : tie.Need-returns-2
 returns-2 c = sym (first-passes _ _ (le-ltb _ _ (c .before .if1 .left)) ∙ first-refuses _ _ (lt-ltb _ _ (c .if2 .taken)))
@@ -42,4 +36,8 @@ returns-6 c =
     ∙ first-passes _ _ (sym (f .before .factor-out-of-range .ensures) ∙ f .if4 .left) ∙ last-passes _ (sym (c .before .cell-above .ensures) ∙ c .if5 .left))
 
 pub check-hour-cells-spec : {M : Type 1} → statement M
-check-hour-cells-spec = tie.close (tie.spec mul-cells returns returns-2 returns-3 (λ c κs. search needs) returns-4 (λ c κs. search needs) returns-5 returns-6)
+check-hour-cells-spec =
+    tie.close (tie.spec
+    (λ c. record { fits = omega (arith, count-fits _ _ (c .before .pre .0) (c .before .pre .1)) })
+    (λ c. sym (first-refuses _ _ (lt-ltb _ _ (c .if1 .taken))))
+    returns-2 returns-3 (λ c κs. search needs) returns-4 (λ c κs. search needs) returns-5 returns-6)

@@ -25,11 +25,13 @@ abbrev μ-loop : tie.MeasureT-loop
 
 -- the answer is of the cell itself
 same : (c : tie.After-factor-bad Inv-loop μ-loop)
-    → c .factor-bad .result ≡ factorBad (getD (take (c .before .before .before .before .args .count) (c .before .before .before .before .args .factors .now)) (c .before .before .before .loop .i) (pos 0))
+    → let a = c .before .before .before .before .args in
+    c .factor-bad .result ≡ factorBad (getD (take (a .count) (a .factors .now)) (c .before .before .before .loop .i) (pos 0))
 same c =
     let a = c .before .before .before .before .args in
     let i = c .before .before .before .loop .i in
-    c .factor-bad .ensures ∙ ap factorBad (toZ-ofZ w64 (getD (a .factors .now) i (pos 0)) (record { sfits = c .before .factor-bad-arg .given }) ∙ sym (getD-take (a .count) (a .factors .now) i (pos 0) (omega arith)))
+    c .factor-bad .ensures
+    ∙ ap factorBad (toZ-ofZ w64 (getD (a .factors .now) i (pos 0)) (record { sfits = c .before .factor-bad-arg .given }) ∙ sym (getD-take (a .count) (a .factors .now) i (pos 0) (omega arith)))
 
 loop-holds : tie.Need-loop-holds Inv-loop μ-loop
 loop-holds c = (c .pre .0, c .pre .2)
