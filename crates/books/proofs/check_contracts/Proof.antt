@@ -7,7 +7,7 @@ use Rattle.tariff.specs.Refusals.{first}
 use Rattle.tariff.specs.declared.refusals.Checked.the-variants.{Passed}
 use Rattle.layouts.specs.BookFile.{contractAt}
 use Rattle.books.specs.BookChecks.{checksTo, contractChecks}
-use Rattle.books.proofs.Checking.{checks-start, checks-more, checks-stop}
+use Rattle.books.proofs.Checking.{checks-start, checks-more, checks-stop, checks-end}
 use Rattle.books.proofs.check_contracts.Statement.{statement}
 use Rattle.books.proofs.check_contracts.Tie as tie
 
@@ -34,14 +34,8 @@ loop-again c =
     let a = c .before .before .before .before .before .before .args in
     (omega arith, checks-more (λ i. contractChecks (a .nodes) (contractAt (a .file .now) i)) (l .i) (l .inv .1) (sym (c .before .before .check-at .ensures) ∙ c .enum-told .given .1))
 
-returns-2 : tie.Need-returns-2 Inv-loop μ-loop
-returns-2 c =
-    let a = c .before .before .before .args in
-    let last : c .before .loop .i ≡ a .count = omega arith in
-    sym (rw last at (c .before .loop .inv .1))
-
 pub check-contracts-spec : {M : Type 1} → statement M
 check-contracts-spec =
     tie.close (tie.spec
     Inv-loop μ-loop loop-holds (λ c κs. search needs) (λ c. search needs) returns (λ c. search needs) (λ c. search needs) (λ c. search needs) loop-again
-    returns-2)
+    (λ c. checks-end _ _ _ (omega arith) (c .before .loop .inv .1)))

@@ -48,8 +48,7 @@ add-t10 c =
 
 returns : tie.Need-returns
 returns c =
-    let s = c .before .before .before .before .before .before .before .before .before in
-    let a = s .args in
+    let a = c .before .before .before .before .before .before .before .before .before .args in
     let x = c .before .before .before .before .before .before .before .before .cents in
     let w = c .before .before .before .before .before .whole in
     let p = c .before .before .parts in

@@ -28,19 +28,15 @@ contract-count-requires c κs =
 
 returns-3 : tie.Need-returns-3
 returns-3 c place e =
-    let a = c .before .before .before .before .before .before .before .before .before .before .args in
-    let q = hourCall (a .nodes) (a .constraints) (a .period) (a .factors .now) (a .prices .now) (a .book .now) place in
     let tables = sym (c .before .before .before .before .before .before .before .check-hour-tables .ensures) ∙ c .before .before .before .before .before .enum-told .given .1 in
     let own = sym (c .before .before .before .before .check-book .ensures) ∙ c .before .before .enum-told2 .given .1 in
-    no-room q tables own _ (c .before .contract-count .ensures .0) (rw e (c .if1 .taken))
+    no-room _ tables own _ (c .before .contract-count .ensures .0) (rw e (c .if1 .taken))
 
 returns-4 : tie.Need-returns-4
 returns-4 c place e =
-    let a = c .before .before .before .before .before .before .before .before .before .before .args in
-    let q = hourCall (a .nodes) (a .constraints) (a .period) (a .factors .now) (a .prices .now) (a .book .now) place in
     let tables = sym (c .before .before .before .before .before .before .before .check-hour-tables .ensures) ∙ c .before .before .before .before .before .enum-told .given .1 in
     let own = sym (c .before .before .before .before .check-book .ensures) ∙ c .before .before .enum-told2 .given .1 in
-    all-fits q tables own _ (c .before .contract-count .ensures .0) (rw e (c .if1 .left))
+    all-fits _ tables own _ (c .before .contract-count .ensures .0) (rw e (c .if1 .left))
 
 pub check-settle-spec : {M : Type 1} → statement M
 check-settle-spec =
