@@ -1,10 +1,9 @@
 -- A book's bytes: two of the header, then six of each contract.
 use mathlib.Core.Path.{_≡_, refl, sym, ap, ap₂, _∙_}
 use mathlib.Core.List.{List, [], _∷_, _++_, flatMap}
-use Prim.Native.Nat.{ℕ, zero, suc, _+_, _*_, _/_, _%_, _^_, _≤_, _<_}
-use native.Mathlib.Nat.{zero-add, suc-add, mul-add}
+use Prim.Native.Nat.{ℕ, _+_, _*_, _/_, _%_, _^_, _≤_, _<_}
 use native.Mathlib.Omega.{arith}
-use lib.Pow.{shr-shr, high}
+use lib.Pow.{high}
 use lib.ListN.{length, set, length-append}
 use Rattle.lists.specs.Lists.{Each}
 use Rattle.lists.specs.Lent.{overwrite}

@@ -10,8 +10,8 @@ use Rattle.price_file.proofs.write_prices.Tie as tie
 
 fill-requires : tie.Need-fill-requires
 fill-requires c κs =
-    let s = c .before .before .before .before .before .before in
-    let ok = writable (s .args .period) (s .args .constraints) (s .args .prices .now) (s .args .file .now) (sym (c .before .before .before .check-write .ensures (s .args .file .now) refl) ∙ c .before .enum-told .given .1) in
+    let found = c .before .before .before .check-write .ensures (c .before .before .before .before .before .before .args .file .now) refl in
+    let ok = writable _ _ _ _ (sym found ∙ c .before .enum-told .given .1) in
     (ok .period, ok .few, ok .good, ok .room)
 
 returns : tie.Need-returns
