@@ -18,7 +18,7 @@ use Rattle.tables.specs.Inner.{hourTableChecks}
 use Rattle.tables.proofs.Passing.{HourTables, hour-tables}
 use Rattle.books.specs.BookChecks.{bookChecks}
 use Rattle.settlement.specs.FindMcc.{FindMccCall, findMccChecks, findMccChecked}
-use Rattle.settlement.specs.SettleHour.{SettleCall, settleChecks, settleChecked}
+use Rattle.settlement.specs.SettleHour.{HourCall, settleChecks, settleChecked}
 use Rattle.settlement.specs.Inner.{Hour}
 
 -- the tables of an hour that no check refuses
@@ -33,7 +33,7 @@ mcc-checks q = refl
 
 -- ---- settling: as many cells as nodes are never too few
 
-module _ (q : SettleCall) where
+module _ (q : HourCall) where
   abbrev pub tableChecked : Checked
   tableChecked = first (hourTableChecks (q .nodes) (q .constraints) (q .period) (q .factors) (q .prices) (q .nodes))
 
