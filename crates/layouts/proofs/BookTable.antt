@@ -53,7 +53,8 @@ pub cells-row : (cells : List ℕ) (i : ℕ) → 6 * i + 6 ≤ length cells → 
 unfolding rowFrom cellsOf listTo
 cells-row cells i le hk hp =
     (λ t. (kind-bit (getD cells (6 * i) 0) (omega arith) ∙ cell 0 (6 * i) (omega arith)) t
-    ∷ (period-bit (getD cells (6 * i + 1) 0) (omega arith) ∙ cell 1 (6 * i + 1) refl) t ∷ cell 2 (6 * i + 2) refl t ∷ cell 3 (6 * i + 3) refl t ∷ cell 4 (6 * i + 4) refl t ∷ cell 5 (6 * i + 5) refl t ∷ [])
+    ∷ (period-bit (getD cells (6 * i + 1) 0) (omega arith) ∙ cell 1 (6 * i + 1) refl) t
+    ∷ cell 2 (6 * i + 2) refl t ∷ cell 3 (6 * i + 3) refl t ∷ cell 4 (6 * i + 4) refl t ∷ cell 5 (6 * i + 5) refl t ∷ [])
     ∙ sym (take-is-listTo 6 (drop (6 * i) cells) 0 (rw length-drop (omega arith)))
   where
     cell : (j k : ℕ) → k ≡ 6 * i + j → getD cells k 0 ≡ getD (drop (6 * i) cells) j 0

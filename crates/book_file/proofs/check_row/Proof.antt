@@ -23,5 +23,6 @@ check-row-spec =
     tie.close (tie.spec
     (λ c. search needs) (λ c. search needs) (λ c. search needs) (λ c. rw (lt-ltb _ _ (c .if1 .taken)))
     (λ c. search needs) (λ c. search needs) (λ c. search needs) (λ c. rw (le-ltb _ _ (c .before .before .if1 .left), lt-ltb _ _ (c .if2 .taken)))
-    (λ c. search needs) (λ c. search needs) (λ c. search needs) (λ c. rw (le-ltb _ _ (c .before .before .before .before .if1 .left), le-ltb _ _ (c .before .before .if2 .left), lt-ltb _ _ (c .if3 .taken)))
+    (λ c. search needs) (λ c. search needs) (λ c. search needs)
+    (λ c. rw (le-ltb _ _ (c .before .before .before .before .if1 .left), le-ltb _ _ (c .before .before .if2 .left), lt-ltb _ _ (c .if3 .taken)))
     (λ c κs. search needs) (λ c κs. search needs) returns-4)

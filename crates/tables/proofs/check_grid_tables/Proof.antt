@@ -31,5 +31,6 @@ unfolding gridTableChecks
 check-grid-tables-spec =
     tie.close (tie.spec (λ c κs. search needs) (λ c. sym (first-refuses _ _ (sym (c .before .nodes-bad .ensures) ∙ c .if1 .taken)))
     (λ c. sym (first-passes _ _ (sym (c .before .before .nodes-bad .ensures) ∙ c .before .if1 .left) ∙ first-refuses _ _ (lt-ltb _ _ (c .if2 .taken))))
-    (λ c. let n = c .before .before in sym (first-passes _ _ (sym (n .before .nodes-bad .ensures) ∙ n .if1 .left) ∙ first-passes _ _ (le-ltb _ _ (c .before .if2 .left)) ∙ first-refuses _ _ (lt-ltb _ _ (c .if3 .taken))))
+    (λ c. let n = c .before .before in sym (first-passes _ _ (sym (n .before .nodes-bad .ensures) ∙ n .if1 .left) ∙ first-passes _ _ (le-ltb _ _ (c .before .if2 .left))
+    ∙ first-refuses _ _ (lt-ltb _ _ (c .if3 .taken))))
     returns-4 check-grid-cells-requires returns-5)
