@@ -21,7 +21,7 @@ use Rattle.tariff.proofs.Checks.{passed-cons, first-append, passed-append, node
 use Rattle.tables.specs.TableChecks.{gridTableChecks}
 use Rattle.tables.proofs.Factors.{count-fits}
 use Rattle.tables.proofs.Cells.{cut-sized}
-use Rattle.tables.proofs.Passing.{grid-tables}
+use Rattle.tables.proofs.Passing.{passed-all, grid-tables}
 use Rattle.layouts.specs.GridFile.{limitWidth, factorWidth, gridHeaderBits, gridBits, gridBytes, gridFields, gridFile}
 use Rattle.layouts.specs.GridFile.{nodesIn, constraintsIn, gridSpareIn, limitsFrom, factorsFrom, limitsIn, factorsIn, gridPadIn}
 use Rattle.layouts.proofs.GridFile.{GridFits, total-grid}
@@ -61,24 +61,20 @@ pub record Readable (q : ReadGridCall) : Type 0 where
 pub readable : (q : ReadGridCall) → readGridChecked q ≡ Passed → Readable q
 unfolding gridFileChecks readGridChecks
 readable q e =
-    let two = passed-cons _ _ (passed-cons _ _ e .1) in
-    let three = passed-cons _ _ (two .1) in
-    let four = passed-cons _ _ (three .1) in
-    let five = passed-cons _ _ (four .1) in
-    let eight = passed-cons _ _ (passed-cons _ _ (passed-cons _ _ (five .1) .1) .1) in
-    let nine = passed-cons _ _ (eight .1) in
-    let last = passed-cons _ _ (nine .1) in
+    let two = passed-all _ e .1 in
+    let four = two .1 .1 in
+    let eight = four .1 .1 .1 .1 in
     record {
       counted = record {
         nodes = refl;
         constraints = refl;
-        good = record { nodes-few = nodes-few-of (nodesIn (q .file)) (two .0); few = ltb-false _ _ (three .0) };
-        size = same-of _ _ (five .0);
+        good = record { nodes-few = nodes-few-of (nodesIn (q .file)) (two .0); few = ltb-false _ _ (two .1 .0) };
+        size = same-of _ _ (four .1 .0);
       };
       spare = same-of _ _ (four .0);
       pad = same-of _ _ (eight .0);
-      limit-room = ltb-false _ _ (nine .0);
-      factor-room = ltb-false _ _ (last .0);
+      limit-room = ltb-false _ _ (eight .1 .0);
+      factor-room = ltb-false _ _ (eight .1 .1 .0);
     }
 
 -- ---- a grid that is written
