@@ -1,7 +1,8 @@
 -- Laws of `number` and `digits`, each over the width.
 use mathlib.Core.Path.{_≡_, refl, sym, ap, _∙_}
 use Prim.Native.Nat.{ℕ, zero, suc, _+_, _-_, _*_, _/_, _%_, _^_, _≤_, _<_}
-use native.Mathlib.Nat.{zero-add, suc-add, one-mul, mul-one, lt-of-lt-of-le, add-comm, mul-le-mul-left, mul-add, mul-suc, mul-zero, mod-one, mod-lt, mul-add-div-right, mul-add-mod-self-right, mod-eq-of-lt}
+use native.Mathlib.Nat.{zero-add, suc-add, add-comm, mul-zero, one-mul, mul-one, mul-suc, mul-add, mul-le-mul-left, lt-of-lt-of-le}
+use native.Mathlib.Nat.{mod-one, mod-lt, mul-add-div-right, mul-add-mod-self-right, mod-eq-of-lt}
 use native.Mathlib.Numerals.{add-one}
 use native.Mathlib.Omega.{arith}
 use mathlib.Core.List.{List, [], _∷_, _++_}

@@ -10,7 +10,7 @@ use Rattle.lists.proofs.Lists.{length-listTo}
 use Rattle.tariff.specs.declared.contracts.Contract.{Contract}
 use Rattle.layouts.specs.BookTable.{contractCells, cellsOf}
 use Rattle.layouts.proofs.BookTable.{length-cells, cells-more}
-use Rattle.books.proofs.Blocks.{block-stored}
+use Rattle.lists.proofs.Blocks.{block-stored}
 
 length-row : (c : Contract) → length (cellsOf c) ≡ contractCells
 unfolding cellsOf

@@ -1,16 +1,15 @@
 -- A book's bytes: two of the header, then six of each contract.
 use mathlib.Core.Path.{_≡_, refl, sym, ap, ap₂, _∙_}
 use mathlib.Core.List.{List, [], _∷_, _++_, flatMap}
-use Prim.Native.Nat.{ℕ, zero, suc, _+_, _*_, _/_, _%_, _^_, _≤_, _<_}
-use native.Mathlib.Nat.{zero-add, suc-add, mul-add}
+use Prim.Native.Nat.{ℕ, _+_, _*_, _/_, _%_, _^_, _≤_, _<_}
 use native.Mathlib.Omega.{arith}
-use lib.Pow.{shr-shr, high}
+use lib.Pow.{high}
 use lib.ListN.{length, set, length-append}
 use Rattle.lists.specs.Lists.{Each}
 use Rattle.lists.specs.Lent.{overwrite}
 use Rattle.bits.specs.Bits.{digits}
 use Rattle.bits.specs.Fields.{Field, bits, total, packed, fileOf, Fit}
-use Rattle.bits.proofs.Numbers.{digits-high}
+use Rattle.bits.proofs.Numbers.{digits-append, digits-high}
 use Rattle.bits.proofs.Files.{total-append, packed-append, packed-lt}
 use Rattle.tariff.specs.declared.contracts.Contract.{Contract}
 use Rattle.layouts.specs.BookFile.{kindBit, periodBit, contractBits, contractFields, packedBook, endBits, bookBytes, bookFile}
@@ -18,12 +17,6 @@ use Rattle.layouts.specs.Inner.{ContractFits}
 use Rattle.layouts.proofs.Records.{total-records, fit-records}
 use Rattle.layouts.proofs.BookFile.{total-contract, fit-contract}
 use Rattle.books.specs.Inner.{headerBytes, contractBytes, bookFront}
-
-digits-append : (w a b v : ℕ) → digits w (a + b) v ≡ digits w a (v / 2 ^ (w * b)) ++ digits w b v
-digits-append w zero b v = rw zero-add
-digits-append w (suc a) b v =
-    let same : w * (a + b) ≡ w * b + w * a = omega (arith, mul-add w a b) in
-    rw suc-add (λ t. (ap (λ (x : ℕ). v / 2 ^ x % 2 ^ w) same ∙ ap (λ (x : ℕ). x % 2 ^ w) (sym (shr-shr v (w * b) (w * a)))) t ∷ digits-append w a b v t)
 
 -- fields that fill whole bytes, behind others that do
 file-append : (xs ys : List Field) (a b : ℕ) → total xs ≡ 8 * a → total ys ≡ 8 * b → Fit ys → fileOf (xs ++ ys) ≡ fileOf xs ++ fileOf ys

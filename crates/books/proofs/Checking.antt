@@ -1,5 +1,5 @@
 -- Laws of checks that go contract by contract.
-use mathlib.Core.Path.{_≡_, refl, _∙_}
+use mathlib.Core.Path.{_≡_, refl, sym, _∙_}
 use mathlib.Core.Logic.{⊎-elim}
 use mathlib.Core.List.{List}
 use Prim.Native.Nat.{ℕ, zero, suc, _+_, _<_, _≤_}
@@ -37,6 +37,10 @@ module _ (f : ℕ → List Check) where
       (λ q. let same : i ≡ m = omega arith in rw (rw same at e) (rw same at g))
       (λ q. rw (checks-stop m i r (omega arith) e g))
       (eq-or-lt-of-le h)
+
+  -- none before the last
+  pub checks-end : (m i : ℕ) → i ≡ m → first (checksTo i f) ≡ Passed → Passed ≡ first (checksTo m f)
+  checks-end m i h e = sym (rw h at e)
 
   -- where each passes, all do
   pub checks-all : (m : ℕ) → ((i : ℕ) → i < m → first (f i) ≡ Passed) → first (checksTo m f) ≡ Passed

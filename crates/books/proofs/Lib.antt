@@ -1,5 +1,4 @@
 pub mod Checking
 pub mod Accepted
-pub mod Blocks
 pub mod Bytes
 pub mod Making

@@ -21,7 +21,7 @@ use Rattle.layouts.proofs.BookFile.{Packed, book-written}
 use Rattle.books.specs.BookChecks.{contractChecks, bookChecks}
 use Rattle.books.specs.Inner.{headerBytes, contractBytes, bookFront}
 use Rattle.books.proofs.Checking.{checks-all}
-use Rattle.books.proofs.Blocks.{block-stored}
+use Rattle.lists.proofs.Blocks.{block-stored}
 use Rattle.books.proofs.Bytes.{length-contract, length-front, book-bytes}
 
 -- ---- stored one after the other, in a place that held f

@@ -12,5 +12,7 @@ use Rattle.layouts.specs.PriceFile.{priceFields, priceFile}
 use Rattle.checked_values.specs.Table.{Row, table}
 
 pub checked-values : map (λ (r : Row). r .given) table ≡ map (λ (r : Row). r .expected) table
-unfolding table sumTo sumOver flatMap fileOf ofPeriod congestion mcc amount setOf countOf lowestOf flow totalFlow released excess overloaded overloadSet overloadCount lowestOverload contractFields packedBook bookFile priceFields priceFile
+unfolding table sumTo sumOver flatMap fileOf ofPeriod congestion mcc amount setOf countOf lowestOf
+    flow totalFlow released excess overloaded overloadSet overloadCount lowestOverload
+    contractFields packedBook bookFile priceFields priceFile
 checked-values = refl

@@ -9,6 +9,7 @@ use lib.IntN.{ℤ, pos}
 use lib.Signed.{mag}
 use lib.Pow.{pow-pos}
 use lib.Seq.{getD-take, length-take-le}
+use Rattle.lists.proofs.Lists.{every-cell}
 use Rattle.bits.specs.Bits.{field, fields}
 use Rattle.bits.proofs.Files.{length-file}
 use Rattle.tariff.specs.declared.refusals.Checked.{Checked}
@@ -20,7 +21,7 @@ use Rattle.tariff.proofs.Checks.{passed-cons, first-append, passed-append, node
 use Rattle.tables.specs.TableChecks.{gridTableChecks}
 use Rattle.tables.proofs.Factors.{count-fits}
 use Rattle.tables.proofs.Cells.{cut-sized}
-use Rattle.tables.proofs.Passing.{grid-tables}
+use Rattle.tables.proofs.Passing.{passed-all, grid-tables}
 use Rattle.layouts.specs.GridFile.{limitWidth, factorWidth, gridHeaderBits, gridBits, gridBytes, gridFields, gridFile}
 use Rattle.layouts.specs.GridFile.{nodesIn, constraintsIn, gridSpareIn, limitsFrom, factorsFrom, limitsIn, factorsIn, gridPadIn}
 use Rattle.layouts.proofs.GridFile.{GridFits, total-grid}
@@ -60,24 +61,20 @@ pub record Readable (q : ReadGridCall) : Type 0 where
 pub readable : (q : ReadGridCall) → readGridChecked q ≡ Passed → Readable q
 unfolding gridFileChecks readGridChecks
 readable q e =
-    let two = passed-cons _ _ (passed-cons _ _ e .1) in
-    let three = passed-cons _ _ (two .1) in
-    let four = passed-cons _ _ (three .1) in
-    let five = passed-cons _ _ (four .1) in
-    let eight = passed-cons _ _ (passed-cons _ _ (passed-cons _ _ (five .1) .1) .1) in
-    let nine = passed-cons _ _ (eight .1) in
-    let last = passed-cons _ _ (nine .1) in
+    let two = passed-all _ e .1 in
+    let four = two .1 .1 in
+    let eight = four .1 .1 .1 .1 in
     record {
       counted = record {
         nodes = refl;
         constraints = refl;
-        good = record { nodes-few = nodes-few-of (nodesIn (q .file)) (two .0); few = ltb-false _ _ (three .0) };
-        size = same-of _ _ (five .0);
+        good = record { nodes-few = nodes-few-of (nodesIn (q .file)) (two .0); few = ltb-false _ _ (two .1 .0) };
+        size = same-of _ _ (four .1 .0);
       };
       spare = same-of _ _ (four .0);
       pad = same-of _ _ (eight .0);
-      limit-room = ltb-false _ _ (nine .0);
-      factor-room = ltb-false _ _ (last .0);
+      limit-room = ltb-false _ _ (eight .1 .0);
+      factor-room = ltb-false _ _ (eight .1 .1 .0);
     }
 
 -- ---- a grid that is written
@@ -100,12 +97,6 @@ module _ (q : WriteGridCall) where
       let both = passed-append tableChecks (roomCheck ∷ []) e in
       let t = grid-tables (q .nodes) (q .constraints) 0 0 (q .limits) (q .factors) (both .0) in
       record { good-limits = t .good-limits; good-factors = t .good-factors; room = ltb-false _ _ (passed-cons roomCheck [] (both .1) .0) }
-
--- a cell of a list, or the default past its end
-every-cell : {A : Type 0} (P : A → Type 0) (xs : List A) (d : A) → P d → ((i : ℕ) → i < length xs → P (getD xs i d)) → (i : ℕ) → P (getD xs i d)
-every-cell P [] d h f i = h
-every-cell P (x ∷ xs) d h f zero = f 0 (omega arith)
-every-cell P (x ∷ xs) d h f (suc i) = every-cell P xs d h (λ j l. f (suc j) (omega arith)) i
 
 module _ (n k : ℕ) (limits : List ℕ) (factors : List ℤ) (place : List ℕ) (w : Writable n k limits factors place) where
   abbrev ls : List ℕ

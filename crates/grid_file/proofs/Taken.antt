@@ -1,5 +1,5 @@
 -- A grid as its reader left it in lent tables: they hold the file's grid and are good; and a reader with the longest tables refuses by the file's own checks alone.
-use mathlib.Core.Path.{_≡_, refl, sym, ap, _∙_}
+use mathlib.Core.Path.{_≡_, _∙_}
 use mathlib.Core.List.{List, [], _∷_}
 use Prim.Native.Nat.{ℕ, _*_, _≤_}
 use native.Mathlib.Omega.{arith}

@@ -53,7 +53,12 @@ module _ (w : ℕ) where
   pub contract-fits : (s : List ℕ) (a : ℕ) → ContractFits w (contractFrom w s a)
   unfolding contractFrom
   contract-fits s a =
-      record { holder-fits = field-lt s (a + 1 + 1) 10; source-fits = field-lt s (a + 1 + 1 + 10) w; sink-fits = field-lt s (a + 1 + 1 + 10 + w) w; quantity-fits = field-lt s (a + 1 + 1 + 10 + w + w) 20 }
+      record {
+        holder-fits = field-lt s (a + 1 + 1) 10;
+        source-fits = field-lt s (a + 1 + 1 + 10) w;
+        sink-fits = field-lt s (a + 1 + 1 + 10 + w) w;
+        quantity-fits = field-lt s (a + 1 + 1 + 10 + w + w) 20;
+      }
 
   pub length-contractsIn : (s : List ℕ) → length (contractsIn w s) ≡ contractCountIn s
   length-contractsIn s = length-listTo (contractCountIn s) (λ i. contractFrom w s (16 + contractBits w * i))
@@ -84,12 +89,15 @@ module _ (w B p : ℕ) (whole : 8 * B ≡ contractBits w) where
 
     found : (s : List ℕ) → length s ≡ 2 + B * length cs → Below 8 s → Holds s 0 (packedBook w p cs) → Packed w B p cs s
     unfolding packedBook
-    found s size b h = record { size = size; bytes = b; count = parts .0 .0; spare = parts .0 .1 .0; contracts = rw (parts .0 .0) (listTo-is cs (λ i. contractFrom w s (16 + contractBits w * i)) none at) }
+    found s size b h = record { size = size; bytes = b; count = parts .0 .0; spare = parts .0 .1 .0; contracts = rw (parts .0 .0) (listTo-is cs read none at) }
       where
+        read : ℕ → Contract
+        read i = contractFrom w s (16 + contractBits w * i)
+
         parts : Holds s 0 (header (length cs) p) × Holds s 16 (flatMap (contractFields w) cs)
         parts = holds-append s 0 (header (length cs) p) (flatMap (contractFields w) cs) .0 h
 
-        at : (i : ℕ) → i < length cs → contractFrom w s (16 + contractBits w * i) ≡ getD cs i none
+        at : (i : ℕ) → i < length cs → read i ≡ getD cs i none
         at i l =
             contract-read w s (16 + contractBits w * i) (getD cs i none)
             (record-stands (contractFields w) (contractBits w) (total-contract w) cs i none s 16 (16 + contractBits w * i) l refl (parts .1))
@@ -105,8 +113,11 @@ module _ (w B p : ℕ) (whole : 8 * B ≡ contractBits w) where
   unfolding packedBook
   packed-read s b size spare =
       holds-written s (packedBook w p (contractsIn w s)) b (total-book (contractsIn w s) ∙ rw (length-contractsIn w s, size))
-      (holds-append s 0 (header (length (contractsIn w s)) p) (flatMap (contractFields w) (contractsIn w s)) .1
-      ((sym (length-contractsIn w s), (spare, tt)), records-stand (contractFields w) (contractBits w) (total-contract w) (contractCountIn s) (λ i. contractFrom w s (16 + contractBits w * i)) s 16 (λ i l. contract-holds w s (16 + contractBits w * i))))
+      (holds-append s 0 (header (length (contractsIn w s)) p) (flatMap (contractFields w) (contractsIn w s)) .1 (
+        (sym (length-contractsIn w s), (spare, tt)),
+        records-stand (contractFields w) (contractBits w) (total-contract w) (contractCountIn s) (λ i. contractFrom w s (16 + contractBits w * i)) s 16
+            (λ i l. contract-holds w s (16 + contractBits w * i)),
+      ))
 
 -- ---- with ends of 8 bits
 

@@ -25,7 +25,8 @@ length-cells (c ∷ cs) = rw length-append (omega (arith, length-cells cs))
 row-behind : (c : Contract) (cells : List ℕ) (i : ℕ) → rowAt (cellsOf c ++ cells) (suc i) ≡ rowAt cells i
 unfolding rowFrom cellsOf
 row-behind c cells i =
-    λ t. contract (cell (6 * i) (6 * suc i) (omega arith) t) (cell (6 * i + 1) (6 * suc i + 1) (omega arith) t) (cell (6 * i + 2) (6 * suc i + 2) (omega arith) t) (cell (6 * i + 3) (6 * suc i + 3) (omega arith) t) (cell (6 * i + 4) (6 * suc i + 4) (omega arith) t) (cell (6 * i + 5) (6 * suc i + 5) (omega arith) t)
+    λ t. contract (cell (6 * i) (6 * suc i) (omega arith) t) (cell (6 * i + 1) (6 * suc i + 1) (omega arith) t) (cell (6 * i + 2) (6 * suc i + 2) (omega arith) t)
+    (cell (6 * i + 3) (6 * suc i + 3) (omega arith) t) (cell (6 * i + 4) (6 * suc i + 4) (omega arith) t) (cell (6 * i + 5) (6 * suc i + 5) (omega arith) t)
   where
     cell : (j k : ℕ) → k ≡ 6 + j → getD (cellsOf c ++ cells) k 0 ≡ getD cells j 0
     cell j k e = ap (λ (x : ℕ). getD (cellsOf c ++ cells) x 0) e ∙ getD-append-add (cellsOf c) cells j 0
@@ -51,13 +52,16 @@ cells-more i f = flatMap-more cellsOf i f
 pub cells-row : (cells : List ℕ) (i : ℕ) → 6 * i + 6 ≤ length cells → getD cells (6 * i) 0 ≤ 1 → getD cells (6 * i + 1) 0 ≤ 1 → cellsOf (rowAt cells i) ≡ take 6 (drop (6 * i) cells)
 unfolding rowFrom cellsOf listTo
 cells-row cells i le hk hp =
-    (λ t. (kind-bit (getD cells (6 * i) 0) (omega arith) ∙ cell 0 (6 * i) (omega arith)) t ∷ (period-bit (getD cells (6 * i + 1) 0) (omega arith) ∙ cell 1 (6 * i + 1) refl) t ∷ cell 2 (6 * i + 2) refl t ∷ cell 3 (6 * i + 3) refl t ∷ cell 4 (6 * i + 4) refl t ∷ cell 5 (6 * i + 5) refl t ∷ [])
+    (λ t. (kind-bit (getD cells (6 * i) 0) (omega arith) ∙ cell 0 (6 * i) (omega arith)) t
+    ∷ (period-bit (getD cells (6 * i + 1) 0) (omega arith) ∙ cell 1 (6 * i + 1) refl) t
+    ∷ cell 2 (6 * i + 2) refl t ∷ cell 3 (6 * i + 3) refl t ∷ cell 4 (6 * i + 4) refl t ∷ cell 5 (6 * i + 5) refl t ∷ [])
     ∙ sym (take-is-listTo 6 (drop (6 * i) cells) 0 (rw length-drop (omega arith)))
   where
     cell : (j k : ℕ) → k ≡ 6 * i + j → getD cells k 0 ≡ getD (drop (6 * i) cells) j 0
     cell j k e = rw e (sym (getD-drop (6 * i) cells j 0))
 
-pub cells-rows : (m : ℕ) (cells : List ℕ) → 6 * m ≤ length cells → ((i : ℕ) → i < m → (getD cells (6 * i) 0 ≤ 1) × (getD cells (6 * i + 1) 0 ≤ 1)) → flatMap cellsOf (rowsIn m cells) ≡ take (6 * m) cells
+pub cells-rows : (m : ℕ) (cells : List ℕ) → 6 * m ≤ length cells → ((i : ℕ) → i < m → (getD cells (6 * i) 0 ≤ 1) × (getD cells (6 * i + 1) 0 ≤ 1))
+    → flatMap cellsOf (rowsIn m cells) ≡ take (6 * m) cells
 unfolding flatMap listTo
 cells-rows zero cells le h = refl
 cells-rows (suc m) cells le h =

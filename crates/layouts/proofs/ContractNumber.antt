@@ -27,7 +27,9 @@ module _ (w B : ℕ) (whole : 8 * B ≡ contractBits w) (s : List ℕ) (i v : �
   unfolding contractFrom
   contract-number =
       let o = 16 + contractBits w * i in
-      λ t. contract (contract-part 0 1 o (31 + (w + w)) (omega arith) (omega arith) t) (contract-part 1 1 (o + 1) (30 + (w + w)) (omega arith) (omega arith) t) (contract-part 2 10 (o + 1 + 1) (20 + (w + w)) (omega arith) (omega arith) t) (contract-part 12 w (o + 1 + 1 + 10) (20 + w) (omega arith) (omega arith) t) (contract-part (12 + w) w (o + 1 + 1 + 10 + w) 20 (omega arith) (omega arith) t) (contract-part (12 + w + w) 20 (o + 1 + 1 + 10 + w + w) 0 (omega arith) (omega arith) t)
+      λ t. contract (contract-part 0 1 o (31 + (w + w)) (omega arith) (omega arith) t) (contract-part 1 1 (o + 1) (30 + (w + w)) (omega arith) (omega arith) t)
+      (contract-part 2 10 (o + 1 + 1) (20 + (w + w)) (omega arith) (omega arith) t) (contract-part 12 w (o + 1 + 1 + 10) (20 + w) (omega arith) (omega arith) t)
+      (contract-part (12 + w) w (o + 1 + 1 + 10 + w) 20 (omega arith) (omega arith) t) (contract-part (12 + w + w) 20 (o + 1 + 1 + 10 + w + w) 0 (omega arith) (omega arith) t)
 
 -- with ends of 8 bits
 pub contract-at-number : (s : List ℕ) (i v : ℕ) → Below 8 s → 2 + 6 * i + 6 ≤ length s → v ≡ number 8 (take 6 (drop (2 + 6 * i) s))

@@ -54,7 +54,8 @@ module _ {A : Type 0} where
   -- a list is what each index says
   pub listTo-is : (xs : List A) (f : ℕ → A) (d : A) → ((i : ℕ) → i < length xs → f i ≡ getD xs i d) → listTo (length xs) f ≡ xs
   listTo-is xs f d h =
-      ext-getD d (listTo (length xs) f) xs (length-listTo (length xs) f) (λ i b. let a : i < length xs = rw (length-listTo (length xs) f) at b in getD-listTo (length xs) f i d a ∙ h i a)
+      ext-getD d (listTo (length xs) f) xs (length-listTo (length xs) f)
+      (λ i b. let a : i < length xs = rw (length-listTo (length xs) f) at b in getD-listTo (length xs) f i d a ∙ h i a)
 
 -- ---- what holds of each element
 
@@ -76,6 +77,12 @@ module _ {A : Type 0} (P : A → Type 0) where
   pub each-all : (xs : List A) (d : A) → ((i : ℕ) → i < length xs → P (getD xs i d)) → Each P xs
   each-all [] d h = tt
   each-all (x ∷ xs) d h = (h 0 (omega arith), each-all xs d (λ i b. h (suc i) (omega arith)))
+
+  -- a cell of a list, or the default past its end
+  pub every-cell : (xs : List A) (d : A) → P d → ((i : ℕ) → i < length xs → P (getD xs i d)) → (i : ℕ) → P (getD xs i d)
+  every-cell [] d h f i = h
+  every-cell (x ∷ xs) d h f zero = f 0 (omega arith)
+  every-cell (x ∷ xs) d h f (suc i) = every-cell xs d h (λ j l. f (suc j) (omega arith)) i
 
 -- ---- a function on each element
 

@@ -50,7 +50,8 @@ module _ {A : Type 0} (bad : A → Bool) where
   none-bad [] d e i h = absurd (omega arith)
   none-bad (x ∷ xs) d e i h = by (bad x) refl e i h (none-bad xs d)
     where
-      by : (b : Bool) → bad x ≡ b → (b || some bad xs) ≡ false → (i : ℕ) → i < suc (length xs) → (some bad xs ≡ false → (j : ℕ) → j < length xs → bad (getD xs j d) ≡ false) → bad (getD (x ∷ xs) i d) ≡ false
+      by : (b : Bool) → bad x ≡ b → (b || some bad xs) ≡ false → (i : ℕ) → i < suc (length xs)
+          → (some bad xs ≡ false → (j : ℕ) → j < length xs → bad (getD xs j d) ≡ false) → bad (getD (x ∷ xs) i d) ≡ false
       by true q e i h rest = cc
       by false q e zero h rest = q
       by false q e (suc i) h rest = rest e i (omega arith)

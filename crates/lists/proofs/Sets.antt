@@ -78,7 +78,9 @@ set-trailing zero w f h s = absurd (none s)
 set-trailing (suc n) zero f h s = absurd (omega arith)
 set-trailing (suc n) (suc w) f h s = rw (set-shift n f) (by (f 0) (rw (set-shift n f) at s) (set-trailing n w (λ k. f (suc k)) (omega arith)))
   where
-    by : (b : Bool) → 0 < setOf n (λ k. f (suc k)) * 2 + bit b → (0 < setOf n (λ k. f (suc k)) → trailingZeros w (setOf n (λ k. f (suc k))) ≡ lowestOf n (λ k. f (suc k))) → trailingZeros (suc w) (setOf n (λ k. f (suc k)) * 2 + bit b) ≡ cond b 0 (suc (lowestOf n (λ k. f (suc k))))
+    by : (b : Bool) → 0 < setOf n (λ k. f (suc k)) * 2 + bit b
+        → (0 < setOf n (λ k. f (suc k)) → trailingZeros w (setOf n (λ k. f (suc k))) ≡ lowestOf n (λ k. f (suc k)))
+        → trailingZeros (suc w) (setOf n (λ k. f (suc k)) * 2 + bit b) ≡ cond b 0 (suc (lowestOf n (λ k. f (suc k))))
     by true p rest = rw (digits-mod (setOf n (λ k. f (suc k))) {m = 2} {r = 1} (omega arith))
     by false p rest =
         rw (digits-mod (setOf n (λ k. f (suc k))) {m = 2} {r = 0} (omega arith), digits-div (setOf n (λ k. f (suc k))) {m = 2} {r = 0} (omega arith))

@@ -1,10 +1,11 @@
 -- What holds where no check of the price file's reader or writer refuses, and what the pen has written at the end.
-use mathlib.Core.Path.{_≡_}
+use mathlib.Core.Path.{_≡_, _∙_}
+use mathlib.Core.Bool.{false}
 use mathlib.Core.List.{List, [], _∷_, _++_, map}
 use Prim.Native.Nat.{ℕ, _≤_}
 use native.Mathlib.Omega.{arith}
-use borrow.Author.Tests.{ltb-false}
-use lib.ListN.{length}
+use borrow.Author.Tests.{ltb-false, le-ltb}
+use lib.ListN.{length, take}
 use Rattle.bits.specs.Fields.{bits}
 use Rattle.bits.specs.declared.Pen.{Pen}
 use Rattle.bits.proofs.Numbers.{Below}
@@ -13,12 +14,14 @@ use Rattle.tariff.specs.declared.refusals.Checked.the-variants.{Passed}
 use Rattle.tariff.specs.Units.{maxConstraints, maxPrice}
 use Rattle.tariff.specs.Refusals.{first}
 use Rattle.lists.specs.Lent.{overwrite}
-use Rattle.tariff.proofs.Checks.{passed-cons, same-of}
+use Rattle.tariff.specs.Checks.{shortTable, priceRange}
+use Rattle.tariff.proofs.Checks.{first-passes, same-of}
 use Rattle.layouts.specs.Files.{padFor}
 use Rattle.layouts.specs.PriceFile.{priceWidth, priceBits, priceBytes, priceFields, priceFile, priceCountIn, pricePadIn}
 use Rattle.runs.proofs.Penned.{Penned, penned-end}
 use Rattle.tables.specs.Inner.{GoodCells}
 use Rattle.tables.proofs.Cells.{good-cells}
+use Rattle.tables.proofs.Passing.{passed-all}
 use Rattle.price_file.specs.ReadPrices.{readPricesCall, priceFileChecks, readPricesChecks, readPricesChecked}
 use Rattle.price_file.specs.WritePrices.{writePricesCall, writePricesChecks, writePricesChecked}
 
@@ -33,12 +36,10 @@ pub record Readable (k : ℕ) (s table : List ℕ) : Type 0 where
 pub readable : (k : ℕ) (s table : List ℕ) → readPricesChecked (readPricesCall k s table) ≡ Passed → Readable k s table
 unfolding priceFileChecks readPricesChecks
 readable k s table e =
-    let three = passed-cons _ _ e in
-    let fourteen = passed-cons _ _ (passed-cons _ _ (three .1) .1) in
-    let five = passed-cons _ _ (fourteen .1) in
-    let eight = passed-cons _ _ (passed-cons _ _ (five .1) .1) in
-    let nine = passed-cons _ _ (eight .1) in
-    record { few = ltb-false _ _ (three .0); count = same-of _ _ (fourteen .0); size = same-of _ _ (five .0); pad = same-of _ _ (eight .0); room = ltb-false _ _ (nine .0) }
+    let three = passed-all _ e in
+    let fourteen = three .1 .1 in
+    let eight = fourteen .1 .1 .1 in
+    record { few = ltb-false _ _ (three .0); count = same-of _ _ (fourteen .0); size = same-of _ _ (fourteen .1 .0); pad = same-of _ _ (eight .0); room = ltb-false _ _ (eight .1 .0) }
 
 -- prices that are written
 pub record Writable (t k : ℕ) (table place : List ℕ) : Type 0 where
@@ -50,17 +51,21 @@ pub record Writable (t k : ℕ) (table place : List ℕ) : Type 0 where
 pub writable : (t k : ℕ) (table place : List ℕ) → writePricesChecked (writePricesCall t k table place) ≡ Passed → Writable t k table place
 unfolding writePricesChecks
 writable t k table place e =
-    let seventeen = passed-cons _ _ e in
-    let three = passed-cons _ _ (seventeen .1) in
-    let short = passed-cons _ _ (three .1) in
-    let fifteen = passed-cons _ _ (short .1) in
-    let nine = passed-cons _ _ (fifteen .1) in
+    let all = passed-all _ e in
+    let short = all .1 .1 in
     record {
-      period = ltb-false _ _ (seventeen .0);
-      few = ltb-false _ _ (three .0);
-      good = good-cells maxPrice k table (ltb-false _ _ (short .0)) (fifteen .0);
-      room = ltb-false _ _ (nine .0);
+      period = ltb-false _ _ (all .0);
+      few = ltb-false _ _ (all .1 .0);
+      good = good-cells maxPrice k table (ltb-false _ _ (short .0)) (short .1 .0);
+      room = ltb-false _ _ (short .1 .1 .0);
     }
+
+-- past 17, 3, 9 and 15: the place
+pub then-place : (t k : ℕ) (table place : List ℕ) → t ≤ 1 → k ≤ maxConstraints → k ≤ length table → priceRange (take k table) .fails ≡ false
+    → writePricesChecked (writePricesCall t k table place) ≡ first (shortTable (length place) (priceBytes k) ∷ [])
+unfolding writePricesChecks
+then-place t k table place period few long range =
+    first-passes _ _ (le-ltb _ _ period) ∙ first-passes _ _ (le-ltb _ _ few) ∙ first-passes _ _ (le-ltb _ _ long) ∙ first-passes _ _ range
 
 pub file-length : (t k : ℕ) (ps : List ℕ) → length ps ≡ k → length (priceFile t k ps) ≡ priceBytes k
 unfolding priceFile priceFields

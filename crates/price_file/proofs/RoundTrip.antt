@@ -1,18 +1,19 @@
 -- A price file there and back, over what the entries ensure: bytes that no check of the reader refuses are the file of the prices that are read from them,
 -- and a file that is written is not refused and gives the period and the prices.
-use mathlib.Core.Path.{_≡_, refl, _∙_}
-use mathlib.Core.Bool.{Bool, true, false}
+use mathlib.Core.Path.{_≡_, _∙_}
 use mathlib.Core.List.{List}
 use Prim.Native.Nat.{ℕ, _^_, _≤_, _<_}
 use native.Mathlib.Omega.{arith}
-use borrow.Author.Tests.{ltb-true, ltb-false, le-ltb}
-use lib.Dec.{ltb}
+use borrow.Author.Tests.{le-ltb}
 use lib.Pow.{pow-pos}
-use lib.ListN.{length, getD, take, List·getD-eq-default}
-use lib.Seq.{getD-take, length-take-le}
+use lib.ListN.{length, take}
+use lib.Seq.{length-take-le}
+use Rattle.lists.proofs.Lists.{every-cell}
 use Rattle.bits.proofs.Numbers.{Below}
 use Rattle.tariff.specs.declared.refusals.Checked.the-variants.{Passed}
 use Rattle.tariff.proofs.Checks.{first-passes, passed-cons, same, last-passes}
+use Rattle.tariff.specs.Units.{maxPrice}
+use Rattle.tables.proofs.Cells.{cut-sized}
 use Rattle.layouts.specs.PriceFile.{priceWidth, priceFile, periodIn, pricesIn}
 use Rattle.layouts.proofs.PriceFile.{PriceWritten, prices-written, prices-read}
 use Rattle.price_file.specs.ReadPrices.{readPricesCall, priceFileChecks, readPricesChecks, readPricesChecked}
@@ -37,11 +38,9 @@ module _ (t k : ℕ) (prices place : List ℕ) (e : writePricesChecked (writePri
   ok = writable t k prices place e
 
   prices-fit : Below priceWidth (take k prices)
-  prices-fit i = by (ltb i k) refl
-    where
-      by : (b : Bool) → ltb i k ≡ b → getD (take k prices) i 0 < 2 ^ priceWidth
-      by true q = let h = ltb-true i k q in rw (getD-take k prices i 0 h) (omega (arith, ok .good .sized i h))
-      by false q = rw (List·getD-eq-default (take k prices) 0 {n = i} (omega (arith, length-take-le k prices (ok .good .long), ltb-false i k q))) (pow-pos priceWidth)
+  prices-fit =
+      let long = length-take-le k prices (ok .good .long) in
+      every-cell (λ v. v < 2 ^ priceWidth) (take k prices) 0 (pow-pos priceWidth) (λ i h. omega (arith, cut-sized maxPrice k prices (ok .good) i (rw long at h)))
 
   found : PriceWritten t k (take k prices) (priceFile t k (take k prices))
   found =

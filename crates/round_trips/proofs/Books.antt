@@ -18,7 +18,7 @@ use Rattle.book_file.specs.ReadBook.{readBookCall, readBookChecked, bookOutcome
 use Rattle.book_file.specs.WriteBook.{writeBookCall, writeBookChecked, bookWritten, WritesBook}
 use Rattle.book_file.proofs.RoundTrip.{ReadBack, read-then-written, written-then-read}
 use Rattle.book_file.proofs.Taken.{rows-left, rows-accepted}
-use Rattle.round_trips.proofs.Exits.{IsWritten, writes-passed, writes-told}
+use Rattle.round_trips.proofs.Exits.{one-given, IsWritten, writes-passed, writes-told}
 
 -- ---- read, then written
 
@@ -65,10 +65,7 @@ module _ (n m : ℕ) (rows place : List ℕ) (size : ℕ) (exit : List ℕ) (w :
   read-back = rw (written .1) (back .passes entry room)
 
   count-told : (a : BookAnswer) (x : ℕ) → bookOutcome a ≡ record { number = 0; values = pos x ∷ [] } → a ≡ Read x
-  count-told (Read y) x e =
-      let q : pos y ∷ [] ≡ pos x ∷ [] = given-told Passed (pos x ∷ []) (pos y ∷ []) e .1 in
-      let same : y ≡ x = cc in
-      ap Read same
+  count-told (Read y) x e = ap Read (one-given y x e)
   count-told (Refused r) x e = absurd (never-given r (pos x ∷ []) e)
 
   pub book-reread : (a : BookAnswer) (table : List ℕ) → ReadsBook (readBookCall n (take size exit) entry) a table → BookIs m rows entry a table

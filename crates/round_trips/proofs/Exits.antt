@@ -19,11 +19,12 @@ pub record IsWritten (s place : List ℕ) (answer : WriteAnswer) (exit : List �
   pub length-is : answer ≡ Written (length s)
   pub bytes-are : exit ≡ overwrite s place
 
+-- the one figure given
+pub one-given : (m n : ℕ) → given (pos m ∷ []) ≡ given (pos n ∷ []) → m ≡ n
+one-given m n e = let q : pos m ∷ [] ≡ pos n ∷ [] = given-told Passed (pos n ∷ []) (pos m ∷ []) e .1 in cc
+
 length-told : (a : WriteAnswer) (n : ℕ) → writeOutcome a ≡ given (pos n ∷ []) → a ≡ Written n
-length-told (Written m) n e =
-    let q : pos m ∷ [] ≡ pos n ∷ [] = given-told Passed (pos n ∷ []) (pos m ∷ []) e .1 in
-    let same : m ≡ n = cc in
-    ap Written same
+length-told (Written m) n e = ap Written (one-given m n e)
 length-told (Refused r) n e = absurd (never-given r (pos n ∷ []) e)
 
 -- where none refuses

@@ -22,7 +22,7 @@ use Rattle.price_file.specs.WritePrices.{writePricesCall, writePricesChecks, wr
 use Rattle.price_file.proofs.PriceLaws.{readable}
 use Rattle.price_file.proofs.Taken.{prices-taken}
 use Rattle.price_file.proofs.RoundTrip.{ReadBack, read-then-written, written-then-read}
-use Rattle.round_trips.proofs.Exits.{IsWritten, writes-passed, writes-told}
+use Rattle.round_trips.proofs.Exits.{one-given, IsWritten, writes-passed, writes-told}
 
 -- ---- read, then written
 
@@ -72,10 +72,7 @@ module _ (t k : ℕ) (prices place : List ℕ) (n : ℕ) (exit : List ℕ) (w : 
   read-back = rw (told .1) (back .passes entry room)
 
   period-told : (a : PriceAnswer) (p : ℕ) → priceOutcome a ≡ record { number = 0; values = pos p ∷ [] } → a ≡ Read p
-  period-told (Read m) p e =
-      let q : pos m ∷ [] ≡ pos p ∷ [] = given-told Passed (pos p ∷ []) (pos m ∷ []) e .1 in
-      let same : m ≡ p = cc in
-      ap Read same
+  period-told (Read m) p e = ap Read (one-given m p e)
   period-told (Refused r) p e = absurd (never-given r (pos p ∷ []) e)
 
   pub prices-reread : (a : PriceAnswer) (table : List ℕ) → ReadsPrices (readPricesCall k (take n exit) entry) a table → PricesAre t k prices entry a table

@@ -85,7 +85,9 @@ module _ (fs : List ℤ) (i : ℕ) (r : Bool) (h : i + 4 ≤ length fs) (e : r �
 
 -- the first n cells have the same four
 pub four-same : (fs : List ℤ) (n i : ℕ) → i + 4 ≤ n → fourBad fs i ≡ fourBad (take n fs) i
-four-same fs n i h = rw (getD-take n fs i (pos 0) (omega arith), getD-take n fs (i + 1) (pos 0) (omega arith), getD-take n fs (i + 2) (pos 0) (omega arith), getD-take n fs (i + 3) (pos 0) (omega arith))
+four-same fs n i h =
+    let one : (j : ℕ) → j < n → getD (take n fs) j (pos 0) ≡ getD fs j (pos 0) = λ j l. getD-take n fs j (pos 0) l in
+    rw (one i (omega arith), one (i + 1) (omega arith), one (i + 2) (omega arith), one (i + 3) (omega arith))
 
 -- ---- a table that no check refuses
 

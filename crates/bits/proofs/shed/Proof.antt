@@ -40,4 +40,7 @@ returns c =
     (l .inv .5, ((l .inv .2, omega arith, omega arith), record { onward = l .inv .3; rest = l .inv .0 }))
 
 pub shed-spec : {M : Type 1} → statement M
-shed-spec = tie.close (tie.spec Inv-loop μ-loop (λ c. search needs) (λ c κs. search needs) (λ c κs. search needs) (λ c. search needs) (λ c. search needs) loop-again (λ c. search needs) returns)
+shed-spec =
+    tie.close (tie.spec
+    Inv-loop μ-loop (λ c. search needs) (λ c κs. search needs) (λ c κs. search needs) (λ c. search needs) (λ c. search needs) loop-again (λ c. search needs)
+    returns)

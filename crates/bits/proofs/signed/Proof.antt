@@ -37,4 +37,6 @@ returns : tie.Need-returns
 returns c = rw (is c) (toZ-ofZ {w = w64} (fits c))
 
 pub signed-spec : {M : Type 1} → statement M
-signed-spec = tie.close (tie.spec (λ c κs. search needs) (λ c. search needs) (λ c κs. search needs) (λ c. search needs) (λ c. search needs) cast-result (λ c. search needs) sub-result returns)
+signed-spec =
+    tie.close (tie.spec
+    (λ c κs. search needs) (λ c. search needs) (λ c κs. search needs) (λ c. search needs) (λ c. search needs) cast-result (λ c. search needs) sub-result returns)

@@ -9,18 +9,6 @@ use borrow.Author.Needs.{needs}
 use Rattle.book_file.proofs.check_row.Statement.{statement}
 use Rattle.book_file.proofs.check_row.Tie as tie
 
-returns : tie.Need-returns
-unfolding first rowChecks
-returns c = rw (lt-ltb _ _ (c .if1 .taken))
-
-returns-2 : tie.Need-returns-2
-unfolding first rowChecks
-returns-2 c = rw (le-ltb _ _ (c .before .before .if1 .left), lt-ltb _ _ (c .if2 .taken))
-
-returns-3 : tie.Need-returns-3
-unfolding first rowChecks
-returns-3 c = rw (le-ltb _ _ (c .before .before .before .before .if1 .left), le-ltb _ _ (c .before .before .if2 .left), lt-ltb _ _ (c .if3 .taken))
-
 returns-4 : tie.Need-returns-4
 unfolding first rowChecks
 returns-4 c =
@@ -30,21 +18,11 @@ returns-4 c =
     ∙ rw (le-ltb _ _ (e .before .before .before .before .if1 .left), le-ltb _ _ (e .before .before .if2 .left), le-ltb _ _ (e .if3 .left))
 
 pub check-row-spec : {M : Type 1} → statement M
+unfolding first rowChecks
 check-row-spec =
-    tie.close
-    (tie.spec
-    (λ c. search needs)
-    (λ c. search needs)
-    (λ c. search needs)
-    returns
-    (λ c. search needs)
-    (λ c. search needs)
-    (λ c. search needs)
-    returns-2
-    (λ c. search needs)
-    (λ c. search needs)
-    (λ c. search needs)
-    returns-3
-    (λ c κs. search needs)
-    (λ c κs. search needs)
-    returns-4)
+    tie.close (tie.spec
+    (λ c. search needs) (λ c. search needs) (λ c. search needs) (λ c. rw (lt-ltb _ _ (c .if1 .taken)))
+    (λ c. search needs) (λ c. search needs) (λ c. search needs) (λ c. rw (le-ltb _ _ (c .before .before .if1 .left), lt-ltb _ _ (c .if2 .taken)))
+    (λ c. search needs) (λ c. search needs) (λ c. search needs)
+    (λ c. rw (le-ltb _ _ (c .before .before .before .before .if1 .left), le-ltb _ _ (c .before .before .if2 .left), lt-ltb _ _ (c .if3 .taken)))
+    (λ c κs. search needs) (λ c κs. search needs) returns-4)

@@ -7,7 +7,7 @@ use Rattle.tariff.specs.Refusals.{first}
 use Rattle.tariff.specs.declared.refusals.Checked.the-variants.{Passed}
 use Rattle.books.specs.BookChecks.{checksTo}
 use Rattle.book_file.specs.WriteBook.{rowChecks}
-use Rattle.books.proofs.Checking.{checks-start, checks-more, checks-stop}
+use Rattle.books.proofs.Checking.{checks-start, checks-more, checks-stop, checks-end}
 use Rattle.book_file.proofs.check_rows.Statement.{statement}
 use Rattle.book_file.proofs.check_rows.Tie as tie
 
@@ -21,26 +21,11 @@ abbrev μ-loop : tie.MeasureT-loop
 loop-holds : tie.Need-loop-holds Inv-loop μ-loop
 loop-holds c = (omega arith, checks-start (rowChecks (c .before .args .nodes) (c .before .args .cells .now)))
 
-check-row-requires : tie.Need-check-row-requires Inv-loop μ-loop
-check-row-requires c κs = search needs
-
-enum-known-checked : tie.Need-enum-known-checked Inv-loop μ-loop
-enum-known-checked c = search needs
-
 returns : tie.Need-returns Inv-loop μ-loop
 returns c =
     let l = c .before .before .before .before .before .loop in
     let a = c .before .before .before .before .before .before .before .args in
     sym (checks-stop (rowChecks (a .nodes) (a .cells .now)) (a .contracts) (l .i) _ (omega arith) (l .inv .1) (sym (c .before .before .before .check-row .ensures) ∙ c .before .checked .given .1))
-
-enum-told : tie.Need-enum-told Inv-loop μ-loop
-enum-told c = search needs
-
-add-i : tie.Need-add-i Inv-loop μ-loop
-add-i c = search needs
-
-loop-less : tie.Need-loop-less Inv-loop μ-loop
-loop-less c = search needs
 
 loop-again : tie.Need-loop-again Inv-loop μ-loop
 loop-again c =
@@ -48,24 +33,8 @@ loop-again c =
     let a = c .before .before .before .before .before .before .args in
     (omega arith, checks-more (rowChecks (a .nodes) (a .cells .now)) (l .i) (l .inv .1) (sym (c .before .before .check-row .ensures) ∙ c .enum-told .given .1))
 
-returns-2 : tie.Need-returns-2 Inv-loop μ-loop
-returns-2 c =
-    let a = c .before .before .before .args in
-    let last : c .before .loop .i ≡ a .contracts = omega arith in
-    sym (rw last at (c .before .loop .inv .1))
-
 pub check-rows-spec : {M : Type 1} → statement M
 check-rows-spec =
-    tie.close
-    (tie.spec
-    Inv-loop
-    μ-loop
-    loop-holds
-    check-row-requires
-    enum-known-checked
-    returns
-    enum-told
-    add-i
-    loop-less
-    loop-again
-    returns-2)
+    tie.close (tie.spec
+    Inv-loop μ-loop loop-holds (λ c κs. search needs) (λ c. search needs) returns (λ c. search needs) (λ c. search needs) (λ c. search needs) loop-again
+    (λ c. checks-end _ _ _ (omega arith) (c .before .loop .inv .1)))

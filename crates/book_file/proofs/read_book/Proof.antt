@@ -14,15 +14,6 @@ use borrow.Author.Needs.{needs}
 use Rattle.book_file.proofs.read_book.Statement.{statement}
 use Rattle.book_file.proofs.read_book.Tie as tie
 
-check-read-requires : tie.Need-check-read-requires
-check-read-requires c κs = search needs
-
-enum-known-refusal : tie.Need-enum-known-refusal
-enum-known-refusal c = search needs
-
-enum-told : tie.Need-enum-told
-enum-told c = search needs
-
 ok : (c : tie.After-enum-told) → let a = c .before .before .before .before .before .args in Readable (readBookCall (a .nodes) (a .file .now) (a .book .now))
 ok c =
     let a = c .before .before .before .before .before .args in
@@ -44,9 +35,6 @@ returns c =
     let told = c .before .refusal .given .1 in
     record { count-given = answer-refused _ _ found _ told _; contracts-read = cells-refused _ _ found _ told (flatMap cellsOf (bookIn (a .file .now))) _ }
 
-same-length : tie.Need-same-length
-same-length c = search needs
-
 returns-2 : tie.Need-returns-2
 returns-2 c =
     let m = c .before .before .before .before in
@@ -63,13 +51,5 @@ returns-2 c =
 
 pub read-book-spec : {M : Type 1} → statement M
 read-book-spec =
-    tie.close
-    (tie.spec
-    check-read-requires
-    enum-known-refusal
-    enum-told
-    contract-count-requires
-    read-contracts-requires
-    returns
-    same-length
-    returns-2)
+    tie.close (tie.spec
+    (λ c κs. search needs) (λ c. search needs) (λ c. search needs) contract-count-requires read-contracts-requires returns (λ c. search needs) returns-2)

@@ -8,15 +8,6 @@ use borrow.Author.Needs.{needs}
 use Rattle.book_file.proofs.write_book.Statement.{statement}
 use Rattle.book_file.proofs.write_book.Tie as tie
 
-check-write-requires : tie.Need-check-write-requires
-check-write-requires c κs = search needs
-
-enum-known-refusal : tie.Need-enum-known-refusal
-enum-known-refusal c = search needs
-
-enum-told : tie.Need-enum-told
-enum-told c = search needs
-
 ok : (c : tie.After-enum-told) → let a = c .before .before .before .before .before .args in Writable (writeBookCall (a .nodes) (a .contracts) (a .book .now) (a .file .now))
 ok c =
     let a = c .before .before .before .before .before .args in
@@ -40,9 +31,6 @@ returns c =
     let told = c .before .refusal .given .1 in
     record { length-given = answer-refused _ _ found _ told _; bytes-written = cells-refused _ _ found _ told (bookWritten (writeBookCall (a .nodes) (a .contracts) (a .book .now) (a .file .now))) _ }
 
-same-length : tie.Need-same-length
-same-length c = search needs
-
 returns-2 : tie.Need-returns-2
 returns-2 c =
     let w = c .before .before in
@@ -58,14 +46,5 @@ returns-2 c =
 
 pub write-book-spec : {M : Type 1} → statement M
 write-book-spec =
-    tie.close
-    (tie.spec
-    check-write-requires
-    enum-known-refusal
-    enum-told
-    write-contracts-requires
-    mul-t12
-    add-t13
-    returns
-    same-length
-    returns-2)
+    tie.close (tie.spec
+    (λ c κs. search needs) (λ c. search needs) (λ c. search needs) write-contracts-requires mul-t12 add-t13 returns (λ c. search needs) returns-2)

@@ -23,31 +23,16 @@ Inv-loop cells contracts file₀ i₀ file i =
 abbrev μ-loop : tie.MeasureT-loop
 μ-loop cells contracts file₀ i₀ file i = contracts - i
 
-store-header-requires : tie.Need-store-header-requires Inv-loop μ-loop
-store-header-requires c κs = search needs
-
 loop-holds : tie.Need-loop-holds Inv-loop μ-loop
 unfolding listTo
 loop-holds c =
     (omega arith, refl, λ f e. front-begins (c .before .before .before .before .before .before .args .contracts) f _ e)
-
-mul-row-from : tie.Need-mul-row-from Inv-loop μ-loop
-mul-row-from c = search needs
-
-row-from-requires : tie.Need-row-from-requires Inv-loop μ-loop
-row-from-requires c κs = search needs
 
 store-contract-requires : tie.Need-store-contract-requires Inv-loop μ-loop
 store-contract-requires c κs =
     let l = c .before .before .before .loop in
     let s = c .before .before .before .before .before .before .before .before .before .before in
     ((omega arith, omega (arith, l .inv .1, c .before .before .before .before .before .before .store-header .kept .0)), rw (c .row-from .ensures) (s .pre .1 (l .i) (omega arith)))
-
-add-i : tie.Need-add-i Inv-loop μ-loop
-add-i c = search needs
-
-loop-less : tie.Need-loop-less Inv-loop μ-loop
-loop-less c = search needs
 
 loop-again : tie.Need-loop-again Inv-loop μ-loop
 loop-again c =
@@ -78,17 +63,6 @@ returns c =
 
 pub write-contracts-spec : {M : Type 1} → statement M
 write-contracts-spec =
-    tie.close
-    (tie.spec
-    Inv-loop
-    μ-loop
-    store-header-requires
-    loop-holds
-    mul-row-from
-    row-from-requires
-    store-contract-requires
-    add-i
-    loop-less
-    loop-again
-    same-length
-    returns)
+    tie.close (tie.spec
+    Inv-loop μ-loop (λ c κs. search needs) loop-holds (λ c. search needs) (λ c κs. search needs) store-contract-requires (λ c. search needs) (λ c. search needs)
+    loop-again same-length returns)

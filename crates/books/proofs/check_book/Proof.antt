@@ -8,17 +8,11 @@ use Rattle.books.proofs.check_book.Tie as tie
 returns : tie.Need-returns
 returns c = let a = c .before .before .args in short-book (a .nodes) (a .file .now) (c .if1 .taken)
 
-contract-count-requires : tie.Need-contract-count-requires
-contract-count-requires c κs = search needs
-
 returns-2 : tie.Need-returns-2
 returns-2 c =
     let e = c .before .before in
     let a = e .before .before .args in
     many-contracts (a .nodes) (a .file .now) (e .if1 .left) _ (c .before .contract-count .ensures .0) (c .if2 .taken)
-
-field-requires : tie.Need-field-requires
-field-requires c κs = search needs
 
 returns-3 : tie.Need-returns-3
 returns-3 c =
@@ -27,12 +21,6 @@ returns-3 c =
     let a = e .before .before .args in
     spare-set (a .nodes) (a .file .now) (e .if1 .left) _ (f .before .contract-count .ensures .0) (f .if2 .left) _ (c .before .field .ensures .0) (c .if3 .taken)
 
-mul-if4 : tie.Need-mul-if4
-mul-if4 c = search needs
-
-add-if4 : tie.Need-add-if4
-add-if4 c = search needs
-
 returns-4 : tie.Need-returns-4
 returns-4 c =
     let g = c .before in
@@ -40,9 +28,6 @@ returns-4 c =
     let e = f .before .before in
     let a = e .before .before .args in
     wrong-length (a .nodes) (a .file .now) (e .if1 .left) _ (f .before .contract-count .ensures .0) (f .if2 .left) _ (g .before .field .ensures .0) (g .if3 .left) (c .if4 .taken)
-
-check-contracts-requires : tie.Need-check-contracts-requires
-check-contracts-requires c κs = search needs
 
 returns-5 : tie.Need-returns-5
 returns-5 c =
@@ -55,15 +40,5 @@ returns-5 c =
 
 pub check-book-spec : {M : Type 1} → statement M
 check-book-spec =
-    tie.close
-    (tie.spec
-    returns
-    contract-count-requires
-    returns-2
-    field-requires
-    returns-3
-    mul-if4
-    add-if4
-    returns-4
-    check-contracts-requires
-    returns-5)
+    tie.close (tie.spec
+    returns (λ c κs. search needs) returns-2 (λ c κs. search needs) returns-3 (λ c. search needs) (λ c. search needs) returns-4 (λ c κs. search needs) returns-5)

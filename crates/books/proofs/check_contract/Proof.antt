@@ -7,21 +7,6 @@ use borrow.Author.Needs.{needs}
 use Rattle.books.proofs.check_contract.Statement.{statement}
 use Rattle.books.proofs.check_contract.Tie as tie
 
-returns : tie.Need-returns
-unfolding first contractChecks
-returns c = rw (le-leb _ _ (c .if1 .taken))
-
-returns-2 : tie.Need-returns-2
-unfolding first contractChecks
-returns-2 c = rw (lt-leb _ _ (c .before .before .if1 .left), le-leb _ _ (c .if2 .taken))
-
-returns-3 : tie.Need-returns-3
-unfolding first contractChecks
-returns-3 c = rw (lt-leb _ _ (c .before .before .before .before .if1 .left), lt-leb _ _ (c .before .before .if2 .left), eq-eqb _ _ (c .if3 .taken))
-
-out-of-range-requires : tie.Need-out-of-range-requires
-out-of-range-requires c κs = search needs
-
 returns-4 : tie.Need-returns-4
 unfolding first contractChecks
 returns-4 c =
@@ -35,5 +20,8 @@ returns-5 c =
     rw (lt-leb _ _ (d .before .before .before .before .if1 .left), lt-leb _ _ (d .before .before .if2 .left), ne-eqb _ _ (d .if3 .left), sym (c .before .out-of-range .ensures) ∙ c .if4 .left)
 
 pub check-contract-spec : {M : Type 1} → statement M
+unfolding first contractChecks
 check-contract-spec =
-    tie.close (tie.spec returns returns-2 returns-3 out-of-range-requires returns-4 returns-5)
+    tie.close (tie.spec (λ c. rw (le-leb _ _ (c .if1 .taken))) (λ c. rw (lt-leb _ _ (c .before .before .if1 .left), le-leb _ _ (c .if2 .taken)))
+    (λ c. rw (lt-leb _ _ (c .before .before .before .before .if1 .left), lt-leb _ _ (c .before .before .if2 .left), eq-eqb _ _ (c .if3 .taken)))
+    (λ c κs. search needs) returns-4 returns-5)

@@ -7,7 +7,7 @@ use Rattle.tariff.specs.Refusals.{first}
 use Rattle.tariff.specs.declared.refusals.Checked.the-variants.{Passed}
 use Rattle.layouts.specs.BookFile.{contractAt}
 use Rattle.books.specs.BookChecks.{checksTo, contractChecks}
-use Rattle.books.proofs.Checking.{checks-start, checks-more, checks-stop}
+use Rattle.books.proofs.Checking.{checks-start, checks-more, checks-stop, checks-end}
 use Rattle.books.proofs.check_contracts.Statement.{statement}
 use Rattle.books.proofs.check_contracts.Tie as tie
 
@@ -21,12 +21,6 @@ abbrev μ-loop : tie.MeasureT-loop
 loop-holds : tie.Need-loop-holds Inv-loop μ-loop
 loop-holds c = (omega arith, checks-start (λ i. contractChecks (c .before .args .nodes) (contractAt (c .before .args .file .now) i)))
 
-check-at-requires : tie.Need-check-at-requires Inv-loop μ-loop
-check-at-requires c κs = search needs
-
-enum-known-checked : tie.Need-enum-known-checked Inv-loop μ-loop
-enum-known-checked c = search needs
-
 returns : tie.Need-returns Inv-loop μ-loop
 returns c =
     let l = c .before .before .before .before .before .loop in
@@ -34,39 +28,14 @@ returns c =
     sym (checks-stop (λ i. contractChecks (a .nodes) (contractAt (a .file .now) i)) (a .count) (l .i) _ (omega arith) (l .inv .1)
     (sym (c .before .before .before .check-at .ensures) ∙ c .before .checked .given .1))
 
-enum-told : tie.Need-enum-told Inv-loop μ-loop
-enum-told c = search needs
-
-add-i : tie.Need-add-i Inv-loop μ-loop
-add-i c = search needs
-
-loop-less : tie.Need-loop-less Inv-loop μ-loop
-loop-less c = search needs
-
 loop-again : tie.Need-loop-again Inv-loop μ-loop
 loop-again c =
     let l = c .before .before .before .before .loop in
     let a = c .before .before .before .before .before .before .args in
     (omega arith, checks-more (λ i. contractChecks (a .nodes) (contractAt (a .file .now) i)) (l .i) (l .inv .1) (sym (c .before .before .check-at .ensures) ∙ c .enum-told .given .1))
 
-returns-2 : tie.Need-returns-2 Inv-loop μ-loop
-returns-2 c =
-    let a = c .before .before .before .args in
-    let last : c .before .loop .i ≡ a .count = omega arith in
-    sym (rw last at (c .before .loop .inv .1))
-
 pub check-contracts-spec : {M : Type 1} → statement M
 check-contracts-spec =
-    tie.close
-    (tie.spec
-    Inv-loop
-    μ-loop
-    loop-holds
-    check-at-requires
-    enum-known-checked
-    returns
-    enum-told
-    add-i
-    loop-less
-    loop-again
-    returns-2)
+    tie.close (tie.spec
+    Inv-loop μ-loop loop-holds (λ c κs. search needs) (λ c. search needs) returns (λ c. search needs) (λ c. search needs) (λ c. search needs) loop-again
+    (λ c. checks-end _ _ _ (omega arith) (c .before .loop .inv .1)))

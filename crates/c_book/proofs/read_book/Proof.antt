@@ -7,21 +7,6 @@ use borrow.Author.Needs.{needs}
 use Rattle.c_book.proofs.read_book.Statement.{statement}
 use Rattle.c_book.proofs.read_book.Tie as tie
 
-read-book-requires : tie.Need-read-book-requires
-read-book-requires c κs = search needs
-
-enum-known-refusal : tie.Need-enum-known-refusal
-enum-known-refusal c = search needs
-
-number-requires : tie.Need-number-requires
-number-requires c κs = search needs
-
-enum-known-m : tie.Need-enum-known-m
-enum-known-m c = search needs
-
-same-length : tie.Need-same-length
-same-length c = search needs
-
 returns : tie.Need-returns
 returns c =
     let a = c .before .before .before .before .before .before .before .before .before .before .args in
@@ -35,9 +20,6 @@ returns c =
       count-given = refused-keeps checked _ (refusal .0 .0) told (contractCountIn (a .file .now)) (a .contracts .now);
     }
 
-same-length-2 : tie.Need-same-length-2
-same-length-2 c = search needs
-
 returns-2 : tie.Need-returns-2
 returns-2 c =
     let a = c .before .before .before .before .before .before .before .before .before .args in
@@ -48,13 +30,5 @@ returns-2 c =
 
 pub read-book-spec : {M : Type 1} → statement M
 read-book-spec =
-    tie.close
-    (tie.spec
-    read-book-requires
-    enum-known-refusal
-    number-requires
-    enum-known-m
-    same-length
-    returns
-    same-length-2
-    returns-2)
+    tie.close (tie.spec
+    (λ c κs. search needs) (λ c. search needs) (λ c κs. search needs) (λ c. search needs) (λ c. search needs) returns (λ c. search needs) returns-2)

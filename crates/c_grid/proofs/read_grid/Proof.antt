@@ -7,24 +7,6 @@ use borrow.Author.Needs.{needs}
 use Rattle.c_grid.proofs.read_grid.Statement.{statement}
 use Rattle.c_grid.proofs.read_grid.Tie as tie
 
-read-grid-requires : tie.Need-read-grid-requires
-read-grid-requires c κs = search needs
-
-enum-known-refusal : tie.Need-enum-known-refusal
-enum-known-refusal c = search needs
-
-number-requires : tie.Need-number-requires
-number-requires c κs = search needs
-
-enum-known-n : tie.Need-enum-known-n
-enum-known-n c = search needs
-
-same-length : tie.Need-same-length
-same-length c = search needs
-
-same-length-2 : tie.Need-same-length-2
-same-length-2 c = search needs
-
 returns : tie.Need-returns
 returns c =
     let f = c .before .before .before .before .before .before .before .read-grid .ensures in
@@ -39,12 +21,6 @@ returns c =
       nodes-given = refused-keeps checked _ (refusal .0 .0) told (nodesIn (a .file .now)) (a .nodes .now);
       constraints-given = refused-keeps checked _ (refusal .0 .0) told (constraintsIn (a .file .now)) (a .constraints .now);
     }
-
-same-length-3 : tie.Need-same-length-3
-same-length-3 c = search needs
-
-same-length-4 : tie.Need-same-length-4
-same-length-4 c = search needs
 
 returns-2 : tie.Need-returns-2
 returns-2 c =
@@ -62,15 +38,6 @@ returns-2 c =
 
 pub read-grid-spec : {M : Type 1} → statement M
 read-grid-spec =
-    tie.close
-    (tie.spec
-    read-grid-requires
-    enum-known-refusal
-    number-requires
-    enum-known-n
-    same-length
-    same-length-2
-    returns
-    same-length-3
-    same-length-4
-    returns-2)
+    tie.close (tie.spec
+    (λ c κs. search needs) (λ c. search needs) (λ c κs. search needs) (λ c. search needs) (λ c. search needs) (λ c. search needs) returns (λ c. search needs)
+    (λ c. search needs) returns-2)

@@ -9,21 +9,6 @@ use Rattle.c_hour.proofs.find_mcc.Tie as tie
 abbrev call : tie.Start → FindMccCall
 call c = findMccCall (c .args .nodes) (c .args .constraints) (c .args .factors .now) (c .args .prices .now) (c .args .mcc .now)
 
-find-mcc-requires : tie.Need-find-mcc-requires
-find-mcc-requires c κs = search needs
-
-enum-known-refusal : tie.Need-enum-known-refusal
-enum-known-refusal c = search needs
-
-number-requires : tie.Need-number-requires
-number-requires c κs = search needs
-
-enum-told : tie.Need-enum-told
-enum-told c = search needs
-
-same-length : tie.Need-same-length
-same-length c = search needs
-
 returns : tie.Need-returns
 returns c =
     let f = c .before .before .before .before .before .find-mcc .ensures in
@@ -31,9 +16,6 @@ returns c =
     let refusal = c .before .before .refusal .given in
     let told = sym (ap mccOutcome (refusal .1)) ∙ f .nothing-else in
     record { refusal-number = refused-answers (findMccChecked q) _ (refusal .0 .0) told (c .number .ensures); mccs-found = f .mccs-found }
-
-same-length-2 : tie.Need-same-length-2
-same-length-2 c = search needs
 
 returns-2 : tie.Need-returns-2
 returns-2 c =
@@ -44,13 +26,5 @@ returns-2 c =
 
 pub find-mcc-spec : {M : Type 1} → statement M
 find-mcc-spec =
-    tie.close
-    (tie.spec
-    find-mcc-requires
-    enum-known-refusal
-    number-requires
-    enum-told
-    same-length
-    returns
-    same-length-2
-    returns-2)
+    tie.close (tie.spec
+    (λ c κs. search needs) (λ c. search needs) (λ c κs. search needs) (λ c. search needs) (λ c. search needs) returns (λ c. search needs) returns-2)

@@ -14,21 +14,6 @@ use Rattle.c_hour.proofs.settle_hour.Tie as tie
 abbrev call : tie.Start → HourCall
 call c = hourCall (c .args .nodes) (c .args .constraints) (c .args .period) (c .args .factors .now) (c .args .prices .now) (c .args .book .now) (c .args .cents .now)
 
-settle-hour-requires : tie.Need-settle-hour-requires
-settle-hour-requires c κs = search needs
-
-enum-known-refusal : tie.Need-enum-known-refusal
-enum-known-refusal c = search needs
-
-number-requires : tie.Need-number-requires
-number-requires c κs = search needs
-
-enum-known-added : tie.Need-enum-known-added
-enum-known-added c = search needs
-
-same-length : tie.Need-same-length
-same-length c = search needs
-
 returns : tie.Need-returns
 returns c =
     let f = c .before .before .before .before .before .settle-hour .ensures in
@@ -45,9 +30,6 @@ returns c =
       parts-given = refused-keeps (settleChecked q) _ r told (parts (exactGiven q)) (s .args .part .now);
       exact = λ h. absurd (some-refuses (settleChecked q) _ r told h);
     }
-
-same-length-2 : tie.Need-same-length-2
-same-length-2 c = search needs
 
 returns-2 : tie.Need-returns-2
 returns-2 c =
@@ -70,13 +52,5 @@ returns-2 c =
 
 pub settle-hour-spec : {M : Type 1} → statement M
 settle-hour-spec =
-    tie.close
-    (tie.spec
-    settle-hour-requires
-    enum-known-refusal
-    number-requires
-    enum-known-added
-    same-length
-    returns
-    same-length-2
-    returns-2)
+    tie.close (tie.spec
+    (λ c κs. search needs) (λ c. search needs) (λ c κs. search needs) (λ c. search needs) (λ c. search needs) returns (λ c. search needs) returns-2)

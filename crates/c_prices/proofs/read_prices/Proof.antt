@@ -7,21 +7,6 @@ use borrow.Author.Needs.{needs}
 use Rattle.c_prices.proofs.read_prices.Statement.{statement}
 use Rattle.c_prices.proofs.read_prices.Tie as tie
 
-read-prices-requires : tie.Need-read-prices-requires
-read-prices-requires c κs = search needs
-
-enum-known-refusal : tie.Need-enum-known-refusal
-enum-known-refusal c = search needs
-
-number-requires : tie.Need-number-requires
-number-requires c κs = search needs
-
-enum-known-t : tie.Need-enum-known-t
-enum-known-t c = search needs
-
-same-length : tie.Need-same-length
-same-length c = search needs
-
 returns : tie.Need-returns
 returns c =
     let a = c .before .before .before .before .before .before .before .before .before .before .args in
@@ -35,9 +20,6 @@ returns c =
       period-given = refused-keeps checked _ (refusal .0 .0) told (periodIn (a .file .now)) (a .period .now);
     }
 
-same-length-2 : tie.Need-same-length-2
-same-length-2 c = search needs
-
 returns-2 : tie.Need-returns-2
 returns-2 c =
     let a = c .before .before .before .before .before .before .before .before .before .args in
@@ -48,13 +30,5 @@ returns-2 c =
 
 pub read-prices-spec : {M : Type 1} → statement M
 read-prices-spec =
-    tie.close
-    (tie.spec
-    read-prices-requires
-    enum-known-refusal
-    number-requires
-    enum-known-t
-    same-length
-    returns
-    same-length-2
-    returns-2)
+    tie.close (tie.spec
+    (λ c κs. search needs) (λ c. search needs) (λ c κs. search needs) (λ c. search needs) (λ c. search needs) returns (λ c. search needs) returns-2)

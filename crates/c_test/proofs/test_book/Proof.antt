@@ -14,21 +14,6 @@ use Rattle.c_test.proofs.test_book.Tie as tie
 abbrev call : tie.Start → TestCall
 call c = testCall (c .args .nodes) (c .args .constraints) (c .args .process) (c .args .period) (c .args .limits .now) (c .args .factors .now) (c .args .book .now)
 
-test-book-requires : tie.Need-test-book-requires
-test-book-requires c κs = search needs
-
-enum-known-refusal : tie.Need-enum-known-refusal
-enum-known-refusal c = search needs
-
-number-requires : tie.Need-number-requires
-number-requires c κs = search needs
-
-enum-told : tie.Need-enum-told
-enum-told c = search needs
-
-enum-known-overloads : tie.Need-enum-known-overloads
-enum-known-overloads c = search needs
-
 returns : tie.Need-returns
 returns c =
     let f = c .before .before .before .before .test-book in
@@ -94,13 +79,5 @@ returns-3 c =
 
 pub test-book-spec : {M : Type 1} → statement M
 test-book-spec =
-    tie.close
-    (tie.spec
-    test-book-requires
-    enum-known-refusal
-    number-requires
-    enum-told
-    enum-known-overloads
-    returns
-    returns-2
-    returns-3)
+    tie.close (tie.spec
+    (λ c κs. search needs) (λ c. search needs) (λ c κs. search needs) (λ c. search needs) (λ c. search needs) returns returns-2 returns-3)

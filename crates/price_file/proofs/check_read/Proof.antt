@@ -15,17 +15,11 @@ returns-2 : tie.Need-returns-2
 unfolding priceFileChecks readPricesChecks
 returns-2 c = λ table e. sym (first-passes _ _ (le-ltb _ _ (c .before .if1 .left)) ∙ first-refuses _ _ (lt-ltb _ _ (c .if2 .taken)))
 
-field-requires : tie.Need-field-requires
-field-requires c κs = search needs
-
 returns-3 : tie.Need-returns-3
 unfolding priceFileChecks readPricesChecks
 returns-3 c = λ table e.
     sym (first-passes _ _ (le-ltb _ _ (c .before .before .before .if1 .left)) ∙ first-passes _ _ (le-ltb _ _ (c .before .before .if2 .left))
     ∙ first-refuses _ _ (differs _ _ (rw (c .before .field .ensures .0) at (c .if3 .taken))))
-
-file-bytes-requires : tie.Need-file-bytes-requires
-file-bytes-requires c κs = search needs
 
 returns-4 : tie.Need-returns-4
 unfolding priceFileChecks readPricesChecks
@@ -34,9 +28,6 @@ returns-4 c = λ table e.
     sym (first-passes _ _ (le-ltb _ _ (b .before .before .before .if1 .left)) ∙ first-passes _ _ (le-ltb _ _ (b .before .before .if2 .left))
     ∙ first-passes _ _ (same _ _ (sym (b .before .field .ensures .0) ∙ b .if3 .left))
     ∙ first-refuses _ _ (differs _ _ (rw (c .before .file-bytes .ensures) at (c .if4 .taken))))
-
-check-figures-requires : tie.Need-check-figures-requires
-check-figures-requires c κs = search needs
 
 returns-5 : tie.Need-returns-5
 unfolding priceFileChecks readPricesChecks
@@ -50,14 +41,4 @@ returns-5 c = λ table e.
     ∙ first-passes _ _ (same _ _ (f .if4 .left ∙ f .before .file-bytes .ensures))))
 
 pub check-read-spec : {M : Type 1} → statement M
-check-read-spec =
-    tie.close
-    (tie.spec
-    returns
-    returns-2
-    field-requires
-    returns-3
-    file-bytes-requires
-    returns-4
-    check-figures-requires
-    returns-5)
+check-read-spec = tie.close (tie.spec returns returns-2 (λ c κs. search needs) returns-3 (λ c κs. search needs) returns-4 (λ c κs. search needs) returns-5)

@@ -3,6 +3,7 @@ use mathlib.Core.Path.{sym, _∙_}
 use borrow.Author.Tests.{lt-ltb, le-ltb}
 use Rattle.tariff.proofs.Checks.{first-passes, first-refuses, last-passes}
 use Rattle.price_file.specs.WritePrices.{writePricesChecks}
+use Rattle.price_file.proofs.PriceLaws.{then-place}
 use borrow.Author.Needs.{needs}
 use Rattle.price_file.proofs.check_write.Statement.{statement}
 use Rattle.price_file.proofs.check_write.Tie as tie
@@ -21,47 +22,24 @@ returns-3 c = λ place e.
     sym (first-passes _ _ (le-ltb _ _ (c .before .before .if1 .left)) ∙ first-passes _ _ (le-ltb _ _ (c .before .if2 .left))
     ∙ first-refuses _ _ (lt-ltb _ _ (c .if3 .taken)))
 
-cell-above-requires : tie.Need-cell-above-requires
-cell-above-requires c κs = search needs
-
 returns-4 : tie.Need-returns-4
 unfolding writePricesChecks
 returns-4 c = λ place e.
-    sym (first-passes _ _ (le-ltb _ _ (c .before .before .before .before .if1 .left)) ∙ first-passes _ _ (le-ltb _ _ (c .before .before .before .if2 .left)) ∙ first-passes _ _ (le-ltb _ _ (c .before .before .if3 .left))
+    let t = c .before .before in
+    sym (first-passes _ _ (le-ltb _ _ (t .before .before .if1 .left)) ∙ first-passes _ _ (le-ltb _ _ (t .before .if2 .left)) ∙ first-passes _ _ (le-ltb _ _ (t .if3 .left))
     ∙ first-refuses _ _ (sym (c .before .cell-above .ensures) ∙ c .if4 .taken))
 
-file-bytes-requires : tie.Need-file-bytes-requires
-file-bytes-requires c κs = search needs
-
 returns-5 : tie.Need-returns-5
-unfolding writePricesChecks
 returns-5 c = λ place e.
-    let b = c .before .before in
-    let t = b .before .before in
-    rw e
-    (sym (first-passes _ _ (le-ltb _ _ (t .before .before .if1 .left)) ∙ first-passes _ _ (le-ltb _ _ (t .before .if2 .left)) ∙ first-passes _ _ (le-ltb _ _ (t .if3 .left))
-    ∙ first-passes _ _ (sym (b .before .cell-above .ensures) ∙ b .if4 .left)
-    ∙ first-refuses _ _ (rw (c .before .file-bytes .ensures) at (lt-ltb _ _ (c .if5 .taken)))))
+    let t = c .before .before .before .before in
+    sym (then-place _ _ _ place (t .before .before .if1 .left) (t .before .if2 .left) (t .if3 .left) (sym (c .before .before .before .cell-above .ensures) ∙ c .before .before .if4 .left)
+    ∙ first-refuses _ _ (rw e (rw (c .before .file-bytes .ensures) at (lt-ltb _ _ (c .if5 .taken)))))
 
 returns-6 : tie.Need-returns-6
-unfolding writePricesChecks
 returns-6 c = λ place e.
-    let b = c .before .before in
-    let t = b .before .before in
-    rw e
-    (sym (first-passes _ _ (le-ltb _ _ (t .before .before .if1 .left)) ∙ first-passes _ _ (le-ltb _ _ (t .before .if2 .left)) ∙ first-passes _ _ (le-ltb _ _ (t .if3 .left))
-    ∙ first-passes _ _ (sym (b .before .cell-above .ensures) ∙ b .if4 .left)
-    ∙ last-passes _ (rw (c .before .file-bytes .ensures) at (le-ltb _ _ (c .if5 .left)))))
+    let t = c .before .before .before .before in
+    sym (then-place _ _ _ place (t .before .before .if1 .left) (t .before .if2 .left) (t .if3 .left) (sym (c .before .before .before .cell-above .ensures) ∙ c .before .before .if4 .left)
+    ∙ last-passes _ (rw e (rw (c .before .file-bytes .ensures) at (le-ltb _ _ (c .if5 .left)))))
 
 pub check-write-spec : {M : Type 1} → statement M
-check-write-spec =
-    tie.close
-    (tie.spec
-    returns
-    returns-2
-    returns-3
-    cell-above-requires
-    returns-4
-    file-bytes-requires
-    returns-5
-    returns-6)
+check-write-spec = tie.close (tie.spec returns returns-2 returns-3 (λ c κs. search needs) returns-4 (λ c κs. search needs) returns-5 returns-6)

@@ -11,21 +11,6 @@ use borrow.Author.Needs.{needs}
 use Rattle.price_file.proofs.fill.Statement.{statement}
 use Rattle.price_file.proofs.fill.Tie as tie
 
-mul-used : tie.Need-mul-used
-mul-used c = search needs
-
-add-used : tie.Need-add-used
-add-used c = search needs
-
-add-size : tie.Need-add-size
-add-size c = search needs
-
-put-requires : tie.Need-put-requires
-put-requires c κs = search needs
-
-put-requires-2 : tie.Need-put-requires-2
-put-requires-2 c κs = search needs
-
 write-run-requires : tie.Need-write-run-requires
 write-run-requires c κs =
     let s = c .before .before .before .before .before .before .before .before .before .before .before in
@@ -37,12 +22,6 @@ write-run-requires c κs =
         omega (arith, s .pre .3, s .pre .1, e .kept .0, g .kept .0, e .ensures .1 .0 .0, g .ensures .1 .0 .0),
       ),
     )
-
-mul-put-last : tie.Need-mul-put-last
-mul-put-last c = search needs
-
-sub-put-last : tie.Need-sub-put-last
-sub-put-last c = search needs
 
 put-last-requires : tie.Need-put-last-requires
 put-last-requires c κs =
@@ -56,9 +35,6 @@ put-last-requires c κs =
         omega (arith, s .pre .3, s .pre .1, e .kept .0, g .kept .0, w .kept .0, e .ensures .1 .0 .0, g .ensures .1 .0 .0, w .ensures .1 .0 .0),
       ),
     )
-
-same-length : tie.Need-same-length
-same-length c = search needs
 
 returns : tie.Need-returns
 returns c =
@@ -81,16 +57,6 @@ returns c =
 
 pub fill-spec : {M : Type 1} → statement M
 fill-spec =
-    tie.close
-    (tie.spec
-    mul-used
-    add-used
-    add-size
-    put-requires
-    put-requires-2
-    write-run-requires
-    mul-put-last
-    sub-put-last
-    put-last-requires
-    same-length
-    returns)
+    tie.close (tie.spec
+    (λ c. search needs) (λ c. search needs) (λ c. search needs) (λ c κs. search needs) (λ c κs. search needs) write-run-requires (λ c. search needs)
+    (λ c. search needs) put-last-requires (λ c. search needs) returns)

@@ -8,19 +8,10 @@ use borrow.Author.Needs.{needs}
 use Rattle.price_file.proofs.write_prices.Statement.{statement}
 use Rattle.price_file.proofs.write_prices.Tie as tie
 
-check-write-requires : tie.Need-check-write-requires
-check-write-requires c κs = search needs
-
-enum-known-refusal : tie.Need-enum-known-refusal
-enum-known-refusal c = search needs
-
-enum-told : tie.Need-enum-told
-enum-told c = search needs
-
 fill-requires : tie.Need-fill-requires
 fill-requires c κs =
-    let s = c .before .before .before .before .before .before in
-    let ok = writable (s .args .period) (s .args .constraints) (s .args .prices .now) (s .args .file .now) (sym (c .before .before .before .check-write .ensures (s .args .file .now) refl) ∙ c .before .enum-told .given .1) in
+    let found = c .before .before .before .check-write .ensures (c .before .before .before .before .before .before .args .file .now) refl in
+    let ok = writable _ _ _ _ (sym found ∙ c .before .enum-told .given .1) in
     (ok .period, ok .few, ok .good, ok .room)
 
 returns : tie.Need-returns
@@ -30,9 +21,6 @@ returns c =
     let told = c .before .refusal .given .1 in
     let file = priceFile (a .period) (a .constraints) (take (a .constraints) (a .prices .now)) in
     record { length-given = answer-refused _ _ found _ told _; bytes-written = cells-refused _ _ found _ told file _ }
-
-same-length : tie.Need-same-length
-same-length c = search needs
 
 returns-2 : tie.Need-returns-2
 returns-2 c =
@@ -46,13 +34,4 @@ returns-2 c =
     }
 
 pub write-prices-spec : {M : Type 1} → statement M
-write-prices-spec =
-    tie.close
-    (tie.spec
-    check-write-requires
-    enum-known-refusal
-    enum-told
-    fill-requires
-    returns
-    same-length
-    returns-2)
+write-prices-spec = tie.close (tie.spec (λ c κs. search needs) (λ c. search needs) (λ c. search needs) fill-requires returns (λ c. search needs) returns-2)

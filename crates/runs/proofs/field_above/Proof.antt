@@ -44,12 +44,6 @@ add-at c =
     let l = c .before .before .before .loop in
     omega (arith, within (s .args .offset) (s .args .width) (s .args .count) (l .i) (8 * length (s .args .s .now)) (l .at) (omega arith) (l .inv .1) (s .pre .0))
 
-add-i : tie.Need-add-i Inv-loop μ-loop
-add-i c = search needs
-
-loop-less : tie.Need-loop-less Inv-loop μ-loop
-loop-less c = search needs
-
 loop-again : tie.Need-loop-again Inv-loop μ-loop
 loop-again c =
     let s = c .before .before .before .before .before in
@@ -70,16 +64,4 @@ returns-2 c =
     some-end (above (a .most)) (fields (a .s .now) (a .offset) (a .width) (a .count)) (l .i) (rw length-fields (omega arith)) (l .inv .2)
 
 pub field-above-spec : {M : Type 1} → statement M
-field-above-spec =
-    tie.close
-    (tie.spec
-    Inv-loop
-    μ-loop
-    loop-holds
-    field-requires
-    returns
-    add-at
-    add-i
-    loop-less
-    loop-again
-    returns-2)
+field-above-spec = tie.close (tie.spec Inv-loop μ-loop loop-holds field-requires returns add-at (λ c. search needs) (λ c. search needs) loop-again returns-2)

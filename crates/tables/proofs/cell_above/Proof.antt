@@ -21,31 +21,20 @@ abbrev μ-loop : tie.MeasureT-loop
 loop-holds : tie.Need-loop-holds Inv-loop μ-loop
 loop-holds c = (search needs, some-start (above _))
 
-mul-if1 : tie.Need-mul-if1 Inv-loop μ-loop
-mul-if1 c = search needs
-
-shared-slice-read-if1 : tie.Need-shared-slice-read-if1 Inv-loop μ-loop
-shared-slice-read-if1 c = search needs
-
 returns : tie.Need-returns Inv-loop μ-loop
 returns c =
     let a = c .before .before .before .before .args in
     let i = c .before .before .before .loop .i in
-    above-found (take (a .count) (a .cells .now)) (a .most) i _ (cell-in (a .cells .now) (a .count) i (omega arith) (omega arith)) (sym (getD-take (a .count) (a .cells .now) i 0 (omega arith))) (c .if1 .taken)
-
-add-i : tie.Need-add-i Inv-loop μ-loop
-add-i c = search needs
-
-loop-less : tie.Need-loop-less Inv-loop μ-loop
-loop-less c = search needs
+    let read = sym (getD-take (a .count) (a .cells .now) i 0 (omega arith)) in
+    above-found (take (a .count) (a .cells .now)) (a .most) i _ (cell-in (a .cells .now) (a .count) i (omega arith) (omega arith)) read (c .if1 .taken)
 
 loop-again : tie.Need-loop-again Inv-loop μ-loop
 loop-again c =
     let a = c .before .before .before .before .args in
-    let l = c .before .before .before .loop in (
-      omega arith,
-      above-turn (take (a .count) (a .cells .now)) (a .most) (l .i) _ (cell-in (a .cells .now) (a .count) (l .i) (omega arith) (omega arith)) (sym (getD-take (a .count) (a .cells .now) (l .i) 0 (omega arith))) (c .if1 .left) (l .inv .1),
-    )
+    let l = c .before .before .before .loop in
+    let inside = cell-in (a .cells .now) (a .count) (l .i) (omega arith) (omega arith) in
+    let read = sym (getD-take (a .count) (a .cells .now) (l .i) 0 (omega arith)) in
+    (omega arith, above-turn (take (a .count) (a .cells .now)) (a .most) (l .i) _ inside read (c .if1 .left) (l .inv .1))
 
 returns-2 : tie.Need-returns-2 Inv-loop μ-loop
 returns-2 c =
@@ -54,15 +43,5 @@ returns-2 c =
 
 pub cell-above-spec : {M : Type 1} → statement M
 cell-above-spec =
-    tie.close
-    (tie.spec
-    Inv-loop
-    μ-loop
-    loop-holds
-    mul-if1
-    shared-slice-read-if1
-    returns
-    add-i
-    loop-less
-    loop-again
-    returns-2)
+    tie.close (tie.spec
+    Inv-loop μ-loop loop-holds (λ c. search needs) (λ c. search needs) returns (λ c. search needs) (λ c. search needs) loop-again returns-2)

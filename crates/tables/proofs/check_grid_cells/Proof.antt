@@ -1,33 +1,21 @@
 -- `check_grid_cells`: each return by the tests that led there.
 use mathlib.Core.Path.{sym, _∙_}
-use native.Mathlib.Nat.{mul-le-mul, lt-of-le-of-lt}
-use lib.Dec.{lit<}
+use native.Mathlib.Omega.{arith}
 use borrow.Author.Tests.{lt-ltb, le-ltb}
 use Rattle.tariff.proofs.Checks.{first-passes, first-refuses, last-passes}
+use Rattle.tables.proofs.Factors.{count-fits}
 use borrow.Author.Needs.{needs}
 use Rattle.tables.proofs.check_grid_cells.Statement.{statement}
 use Rattle.tables.proofs.check_grid_cells.Tie as tie
 
-mul-cells : tie.Need-mul-cells
-mul-cells c = record { fits = lt-of-le-of-lt (mul-le-mul (c .before .pre .0) (c .before .pre .1)) (lit< tt) }
-
-returns : tie.Need-returns
-returns c = sym (first-refuses _ _ (lt-ltb _ _ (c .if1 .taken)))
-
 returns-2 : tie.Need-returns-2
 returns-2 c = sym (first-passes _ _ (le-ltb _ _ (c .before .if1 .left)) ∙ first-refuses _ _ (lt-ltb _ _ (c .if2 .taken)))
-
-cell-above-requires : tie.Need-cell-above-requires
-cell-above-requires c κs = search needs
 
 returns-3 : tie.Need-returns-3
 returns-3 c =
     let t = c .before .before in
     sym (first-passes _ _ (le-ltb _ _ (t .before .if1 .left)) ∙ first-passes _ _ (le-ltb _ _ (t .if2 .left))
     ∙ first-refuses _ _ (sym (c .before .cell-above .ensures) ∙ c .if3 .taken))
-
-factor-out-of-range-requires : tie.Need-factor-out-of-range-requires
-factor-out-of-range-requires c κs = search needs
 
 returns-4 : tie.Need-returns-4
 returns-4 c =
@@ -46,13 +34,7 @@ returns-5 c =
 
 pub check-grid-cells-spec : {M : Type 1} → statement M
 check-grid-cells-spec =
-    tie.close
-    (tie.spec
-    mul-cells
-    returns
-    returns-2
-    cell-above-requires
-    returns-3
-    factor-out-of-range-requires
-    returns-4
-    returns-5)
+    tie.close (tie.spec
+    (λ c. record { fits = omega (arith, count-fits _ _ (c .before .pre .0) (c .before .pre .1)) })
+    (λ c. sym (first-refuses _ _ (lt-ltb _ _ (c .if1 .taken))))
+    returns-2 (λ c κs. search needs) returns-3 (λ c κs. search needs) returns-4 returns-5)

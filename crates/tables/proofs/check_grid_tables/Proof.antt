@@ -7,23 +7,6 @@ use borrow.Author.Needs.{needs}
 use Rattle.tables.proofs.check_grid_tables.Statement.{statement}
 use Rattle.tables.proofs.check_grid_tables.Tie as tie
 
-nodes-bad-requires : tie.Need-nodes-bad-requires
-nodes-bad-requires c κs = search needs
-
-returns : tie.Need-returns
-unfolding gridTableChecks
-returns c = sym (first-refuses _ _ (sym (c .before .nodes-bad .ensures) ∙ c .if1 .taken))
-
-returns-2 : tie.Need-returns-2
-unfolding gridTableChecks
-returns-2 c = let n = c .before in sym (first-passes _ _ (sym (n .before .nodes-bad .ensures) ∙ n .if1 .left) ∙ first-refuses _ _ (lt-ltb _ _ (c .if2 .taken)))
-
-returns-3 : tie.Need-returns-3
-unfolding gridTableChecks
-returns-3 c =
-    let n = c .before .before in
-    sym (first-passes _ _ (sym (n .before .nodes-bad .ensures) ∙ n .if1 .left) ∙ first-passes _ _ (le-ltb _ _ (c .before .if2 .left)) ∙ first-refuses _ _ (lt-ltb _ _ (c .if3 .taken)))
-
 returns-4 : tie.Need-returns-4
 unfolding gridTableChecks
 returns-4 c =
@@ -44,6 +27,10 @@ returns-5 c =
     ∙ first-passes _ _ (le-ltb _ _ (p .before .if3 .left)) ∙ first-passes _ _ (le-ltb _ _ (p .if4 .left)))
 
 pub check-grid-tables-spec : {M : Type 1} → statement M
+unfolding gridTableChecks
 check-grid-tables-spec =
-    tie.close
-    (tie.spec nodes-bad-requires returns returns-2 returns-3 returns-4 check-grid-cells-requires returns-5)
+    tie.close (tie.spec (λ c κs. search needs) (λ c. sym (first-refuses _ _ (sym (c .before .nodes-bad .ensures) ∙ c .if1 .taken)))
+    (λ c. sym (first-passes _ _ (sym (c .before .before .nodes-bad .ensures) ∙ c .before .if1 .left) ∙ first-refuses _ _ (lt-ltb _ _ (c .if2 .taken))))
+    (λ c. let n = c .before .before in sym (first-passes _ _ (sym (n .before .nodes-bad .ensures) ∙ n .if1 .left) ∙ first-passes _ _ (le-ltb _ _ (c .before .if2 .left))
+    ∙ first-refuses _ _ (lt-ltb _ _ (c .if3 .taken))))
+    returns-4 check-grid-cells-requires returns-5)

@@ -1,18 +1,12 @@
 -- `check_hour_cells`: each return by the tests that led there.
 use mathlib.Core.Path.{sym, _∙_}
-use native.Mathlib.Nat.{mul-le-mul, lt-of-le-of-lt}
-use lib.Dec.{lit<}
+use native.Mathlib.Omega.{arith}
 use borrow.Author.Tests.{lt-ltb, le-ltb}
 use Rattle.tariff.proofs.Checks.{first-passes, first-refuses, last-passes}
+use Rattle.tables.proofs.Factors.{count-fits}
 use borrow.Author.Needs.{needs}
 use Rattle.tables.proofs.check_hour_cells.Statement.{statement}
 use Rattle.tables.proofs.check_hour_cells.Tie as tie
-
-mul-cells : tie.Need-mul-cells
-mul-cells c = record { fits = lt-of-le-of-lt (mul-le-mul (c .before .pre .0) (c .before .pre .1)) (lit< tt) }
-
-returns : tie.Need-returns
-returns c = sym (first-refuses _ _ (lt-ltb _ _ (c .if1 .taken)))
 
 returns-2 : tie.Need-returns-2
 returns-2 c = sym (first-passes _ _ (le-ltb _ _ (c .before .if1 .left)) ∙ first-refuses _ _ (lt-ltb _ _ (c .if2 .taken)))
@@ -21,17 +15,11 @@ returns-3 : tie.Need-returns-3
 returns-3 c =
     sym (first-passes _ _ (le-ltb _ _ (c .before .before .if1 .left)) ∙ first-passes _ _ (le-ltb _ _ (c .before .if2 .left)) ∙ first-refuses _ _ (lt-ltb _ _ (c .if3 .taken)))
 
-factor-out-of-range-requires : tie.Need-factor-out-of-range-requires
-factor-out-of-range-requires c κs = search needs
-
 returns-4 : tie.Need-returns-4
 returns-4 c =
     let t = c .before .before in
     sym (first-passes _ _ (le-ltb _ _ (t .before .before .if1 .left)) ∙ first-passes _ _ (le-ltb _ _ (t .before .if2 .left)) ∙ first-passes _ _ (le-ltb _ _ (t .if3 .left))
     ∙ first-refuses _ _ (sym (c .before .factor-out-of-range .ensures) ∙ c .if4 .taken))
-
-cell-above-requires : tie.Need-cell-above-requires
-cell-above-requires c κs = search needs
 
 returns-5 : tie.Need-returns-5
 returns-5 c =
@@ -49,14 +37,7 @@ returns-6 c =
 
 pub check-hour-cells-spec : {M : Type 1} → statement M
 check-hour-cells-spec =
-    tie.close
-    (tie.spec
-    mul-cells
-    returns
-    returns-2
-    returns-3
-    factor-out-of-range-requires
-    returns-4
-    cell-above-requires
-    returns-5
-    returns-6)
+    tie.close (tie.spec
+    (λ c. record { fits = omega (arith, count-fits _ _ (c .before .pre .0) (c .before .pre .1)) })
+    (λ c. sym (first-refuses _ _ (lt-ltb _ _ (c .if1 .taken))))
+    returns-2 returns-3 (λ c κs. search needs) returns-4 (λ c κs. search needs) returns-5 returns-6)

@@ -7,17 +7,6 @@ use borrow.Author.Needs.{needs}
 use Rattle.tables.proofs.check_hour_tables.Statement.{statement}
 use Rattle.tables.proofs.check_hour_tables.Tie as tie
 
-nodes-bad-requires : tie.Need-nodes-bad-requires
-nodes-bad-requires c κs = search needs
-
-returns : tie.Need-returns
-unfolding hourTableChecks
-returns c = sym (first-refuses _ _ (sym (c .before .nodes-bad .ensures) ∙ c .if1 .taken))
-
-returns-2 : tie.Need-returns-2
-unfolding hourTableChecks
-returns-2 c = let n = c .before in sym (first-passes _ _ (sym (n .before .nodes-bad .ensures) ∙ n .if1 .left) ∙ first-refuses _ _ (lt-ltb _ _ (c .if2 .taken)))
-
 returns-3 : tie.Need-returns-3
 unfolding hourTableChecks
 returns-3 c =
@@ -36,4 +25,8 @@ returns-4 c =
     ∙ sym (first-passes _ _ (sym (n .before .nodes-bad .ensures) ∙ n .if1 .left) ∙ first-passes _ _ (le-ltb _ _ (p .before .if2 .left)) ∙ first-passes _ _ (le-ltb _ _ (p .if3 .left)))
 
 pub check-hour-tables-spec : {M : Type 1} → statement M
-check-hour-tables-spec = tie.close (tie.spec nodes-bad-requires returns returns-2 returns-3 check-hour-cells-requires returns-4)
+unfolding hourTableChecks
+check-hour-tables-spec =
+    tie.close (tie.spec (λ c κs. search needs) (λ c. sym (first-refuses _ _ (sym (c .before .nodes-bad .ensures) ∙ c .if1 .taken)))
+    (λ c. sym (first-passes _ _ (sym (c .before .before .nodes-bad .ensures) ∙ c .before .if1 .left) ∙ first-refuses _ _ (lt-ltb _ _ (c .if2 .taken))))
+    returns-3 check-hour-cells-requires returns-4)

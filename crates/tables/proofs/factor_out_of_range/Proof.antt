@@ -24,12 +24,6 @@ abbrev μ-loop : tie.MeasureT-loop
 loop-holds : tie.Need-loop-holds Inv-loop μ-loop
 loop-holds c = (search needs, some-start factorBad)
 
-sub-loop : tie.Need-sub-loop Inv-loop μ-loop
-sub-loop c = search needs
-
-four-bad-requires : tie.Need-four-bad-requires Inv-loop μ-loop
-four-bad-requires c κs = search needs
-
 -- the four are those of the first `count`
 same : (c : tie.After-four-bad Inv-loop μ-loop)
     → c .four-bad .result ≡ fourBad (take (c .before .before .before .args .count) (c .before .before .before .args .factors .now)) (c .before .before .loop .i)
@@ -46,12 +40,6 @@ returns c =
     let a = b .before .before .before .args in
     four-found (take (a .count) (a .factors .now)) (b .before .before .loop .i) _ (long b) (same b) (c .if1 .taken)
 
-add-i : tie.Need-add-i Inv-loop μ-loop
-add-i c = search needs
-
-loop-less : tie.Need-loop-less Inv-loop μ-loop
-loop-less c = search needs
-
 loop-again : tie.Need-loop-again Inv-loop μ-loop
 loop-again c =
     let b = c .before in
@@ -59,24 +47,8 @@ loop-again c =
     let l = b .before .before .loop in
     (omega arith, four-turn (take (a .count) (a .factors .now)) (l .i) _ (long b) (same b) (c .if1 .left) (l .inv .1))
 
-rest-bad-requires : tie.Need-rest-bad-requires Inv-loop μ-loop
-rest-bad-requires c κs = search needs
-
-returns-2 : tie.Need-returns-2 Inv-loop μ-loop
-returns-2 c = search needs
-
 pub factor-out-of-range-spec : {M : Type 1} → statement M
 factor-out-of-range-spec =
-    tie.close
-    (tie.spec
-    Inv-loop
-    μ-loop
-    loop-holds
-    sub-loop
-    four-bad-requires
-    returns
-    add-i
-    loop-less
-    loop-again
-    rest-bad-requires
-    returns-2)
+    tie.close (tie.spec
+    Inv-loop μ-loop loop-holds (λ c. search needs) (λ c κs. search needs) returns (λ c. search needs) (λ c. search needs) loop-again (λ c κs. search needs)
+    (λ c. search needs))

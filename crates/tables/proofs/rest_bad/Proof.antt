@@ -25,35 +25,22 @@ abbrev μ-loop : tie.MeasureT-loop
 
 -- the answer is of the cell itself
 same : (c : tie.After-factor-bad Inv-loop μ-loop)
-    → c .factor-bad .result ≡ factorBad (getD (take (c .before .before .before .before .args .count) (c .before .before .before .before .args .factors .now)) (c .before .before .before .loop .i) (pos 0))
+    → let a = c .before .before .before .before .args in
+    c .factor-bad .result ≡ factorBad (getD (take (a .count) (a .factors .now)) (c .before .before .before .loop .i) (pos 0))
 same c =
     let a = c .before .before .before .before .args in
     let i = c .before .before .before .loop .i in
-    c .factor-bad .ensures ∙ ap factorBad (toZ-ofZ w64 (getD (a .factors .now) i (pos 0)) (record { sfits = c .before .factor-bad-arg .given }) ∙ sym (getD-take (a .count) (a .factors .now) i (pos 0) (omega arith)))
+    c .factor-bad .ensures
+    ∙ ap factorBad (toZ-ofZ w64 (getD (a .factors .now) i (pos 0)) (record { sfits = c .before .factor-bad-arg .given }) ∙ sym (getD-take (a .count) (a .factors .now) i (pos 0) (omega arith)))
 
 loop-holds : tie.Need-loop-holds Inv-loop μ-loop
 loop-holds c = (c .pre .0, c .pre .2)
-
-mul-factor-bad : tie.Need-mul-factor-bad Inv-loop μ-loop
-mul-factor-bad c = search needs
-
-shared-slice-copy-out-factor-bad : tie.Need-shared-slice-copy-out-factor-bad Inv-loop μ-loop
-shared-slice-copy-out-factor-bad c = search needs
-
-factor-bad-requires : tie.Need-factor-bad-requires Inv-loop μ-loop
-factor-bad-requires c κs = search needs
 
 returns : tie.Need-returns Inv-loop μ-loop
 returns c =
     let a = c .before .before .before .before .before .args in
     let i = c .before .before .before .before .loop .i in
     bad-found (take (a .count) (a .factors .now)) i (pos 0) _ (cell-in (a .factors .now) (a .count) i (omega arith) (omega arith)) (same (c .before)) (c .if1 .taken)
-
-add-i : tie.Need-add-i Inv-loop μ-loop
-add-i c = search needs
-
-loop-less : tie.Need-loop-less Inv-loop μ-loop
-loop-less c = search needs
 
 loop-again : tie.Need-loop-again Inv-loop μ-loop
 loop-again c =
@@ -70,16 +57,6 @@ returns-2 c =
 
 pub rest-bad-spec : {M : Type 1} → statement M
 rest-bad-spec =
-    tie.close
-    (tie.spec
-    Inv-loop
-    μ-loop
-    loop-holds
-    mul-factor-bad
-    shared-slice-copy-out-factor-bad
-    factor-bad-requires
-    returns
-    add-i
-    loop-less
-    loop-again
+    tie.close (tie.spec
+    Inv-loop μ-loop loop-holds (λ c. search needs) (λ c. search needs) (λ c κs. search needs) returns (λ c. search needs) (λ c. search needs) loop-again
     returns-2)

@@ -52,31 +52,13 @@ past-4 c =
     let s = c .before .before .before .before .before .before .before .before .before .before in
     past-3 (c .before) ∙ first-passes _ _ (le-ltb _ _ (rw (s .pre .constraints) at (c .if4 .left)))
 
-used-bits-requires : tie.Need-used-bits-requires
-used-bits-requires c κs = search needs
-
-field-above-requires : tie.Need-field-above-requires
-field-above-requires c κs = search needs
-
 returns : tie.Need-returns
 unfolding figureChecks
 returns c = sym (first-refuses _ _ (sym (limit (c .before)) ∙ c .if1 .taken))
 
-factor-bad-in-requires : tie.Need-factor-bad-in-requires
-factor-bad-in-requires c κs = search needs
-
 returns-2 : tie.Need-returns-2
 unfolding figureChecks
 returns-2 c = sym (past (c .before .before) ∙ first-refuses _ _ (sym (c .before .factor-bad-in .ensures) ∙ c .if2 .taken))
-
-mul-field : tie.Need-mul-field
-mul-field c = search needs
-
-sub-field : tie.Need-sub-field
-sub-field c = search needs
-
-field-requires : tie.Need-field-requires
-field-requires c κs = search needs
 
 returns-3 : tie.Need-returns-3
 unfolding figureChecks
@@ -87,9 +69,6 @@ unfolding figureChecks
 returns-4 c =
     let s = c .before .before .before .before .before .before .before .before .before .before in
     sym (past-3 (c .before) ∙ first-refuses _ _ (lt-ltb _ _ (rw (s .pre .constraints) at (c .if4 .taken))))
-
-factor-count-requires : tie.Need-factor-count-requires
-factor-count-requires c κs = search needs
 
 returns-5 : tie.Need-returns-5
 unfolding figureChecks
@@ -105,18 +84,6 @@ returns-6 c =
 
 pub check-figures-spec : {M : Type 1} → statement M
 check-figures-spec =
-    tie.close
-    (tie.spec
-    used-bits-requires
-    field-above-requires
-    returns
-    factor-bad-in-requires
-    returns-2
-    mul-field
-    sub-field
-    field-requires
-    returns-3
-    returns-4
-    factor-count-requires
-    returns-5
-    returns-6)
+    tie.close (tie.spec
+    (λ c κs. search needs) (λ c κs. search needs) returns (λ c κs. search needs) returns-2 (λ c. search needs) (λ c. search needs) (λ c κs. search needs)
+    returns-3 returns-4 (λ c κs. search needs) returns-5 returns-6)

@@ -52,15 +52,6 @@ returns : tie.Need-returns
 unfolding gridFileChecks readGridChecks
 returns c = sym (first-refuses _ _ (lt-ltb _ _ (c .if1 .taken)))
 
-nodes-in-requires : tie.Need-nodes-in-requires
-nodes-in-requires c κs = search needs
-
-constraints-in-requires : tie.Need-constraints-in-requires
-constraints-in-requires c κs = search needs
-
-nodes-bad-requires : tie.Need-nodes-bad-requires
-nodes-bad-requires c κs = search needs
-
 returns-2 : tie.Need-returns-2
 unfolding gridFileChecks readGridChecks
 returns-2 c = sym (past (c .before .before .before .before) ∙ first-refuses _ _ (sym (bad (c .before)) ∙ c .if2 .taken))
@@ -68,9 +59,6 @@ returns-2 c = sym (past (c .before .before .before .before) ∙ first-refuses _ 
 returns-3 : tie.Need-returns-3
 unfolding gridFileChecks readGridChecks
 returns-3 c = sym (past-2 (c .before) ∙ first-refuses _ _ (lt-ltb _ _ (rw (c .before .before .before .constraints-in .ensures) at (c .if3 .taken))))
-
-field-requires : tie.Need-field-requires
-field-requires c κs = search needs
 
 returns-4 : tie.Need-returns-4
 unfolding gridFileChecks readGridChecks
@@ -106,17 +94,6 @@ returns-6 c =
 
 pub check-read-spec : {M : Type 1} → statement M
 check-read-spec =
-    tie.close
-    (tie.spec
-    returns
-    nodes-in-requires
-    constraints-in-requires
-    nodes-bad-requires
-    returns-2
-    returns-3
-    field-requires
-    returns-4
-    file-bytes-requires
-    returns-5
-    check-figures-requires
-    returns-6)
+    tie.close (tie.spec
+    returns (λ c κs. search needs) (λ c κs. search needs) (λ c κs. search needs) returns-2 returns-3 (λ c κs. search needs) returns-4 file-bytes-requires
+    returns-5 check-figures-requires returns-6)

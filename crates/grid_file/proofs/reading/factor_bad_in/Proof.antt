@@ -75,12 +75,6 @@ same c =
     c .bits-bad .ensures
     ∙ ap factorBad (factor-from (a .file .now) gridHeaderBits (a .nodes) (a .constraints) (next l) (l .before .loop .at) _ (inside l) (fits l) (l .before .loop .inv .2) (c .before .field .ensures .0))
 
-mul-at : tie.Need-mul-at Inv-loop μ-loop Inv-nodes μ-nodes
-mul-at c = search needs
-
-add-at : tie.Need-add-at Inv-loop μ-loop Inv-nodes μ-nodes
-add-at c = search needs
-
 nodes-holds : tie.Need-nodes-holds Inv-loop μ-loop Inv-nodes μ-nodes
 nodes-holds c = let k = c .before .args .constraints in
     let fs = all (c .before .args .file .now) (c .before .args .nodes) (c .before .args .constraints) in
@@ -96,19 +90,10 @@ loop-holds c =
 field-requires : tie.Need-field-requires Inv-loop μ-loop Inv-nodes μ-nodes
 field-requires c κs = (room c, search needs)
 
-bits-bad-requires : tie.Need-bits-bad-requires Inv-loop μ-loop Inv-nodes μ-nodes
-bits-bad-requires c κs = search needs
-
 add-at-2 : tie.Need-add-at-2 Inv-loop μ-loop Inv-nodes μ-nodes
 add-at-2 c =
     let s = c .before .before .before .before .before .before .before .before in
     omega (arith, room (c .before .before .before), short-file (s .args .file .now) _ _ (s .pre .good) (s .pre .size))
-
-add-constraint : tie.Need-add-constraint Inv-loop μ-loop Inv-nodes μ-nodes
-add-constraint c = search needs
-
-loop-less : tie.Need-loop-less Inv-loop μ-loop Inv-nodes μ-nodes
-loop-less c = search needs
 
 loop-again : tie.Need-loop-again Inv-loop μ-loop Inv-nodes μ-nodes
 loop-again c =
@@ -123,12 +108,6 @@ loop-again c =
       omega arith,
       bad-so-far fs (i + 1) (j * a .constraints + (l .constraint + 1)) (omega arith) (bad-turn fs i (toInt factorWidth 0) _ one (same (c .before)) (c .if1 .left) (l .inv .3)),
     )
-
-add-node : tie.Need-add-node Inv-loop μ-loop Inv-nodes μ-nodes
-add-node c = search needs
-
-nodes-less : tie.Need-nodes-less Inv-loop μ-loop Inv-nodes μ-nodes
-nodes-less c = search needs
 
 nodes-again : tie.Need-nodes-again Inv-loop μ-loop Inv-nodes μ-nodes
 nodes-again c =
@@ -158,24 +137,6 @@ returns-2 c =
 
 pub factor-bad-in-spec : {M : Type 1} → statement M
 factor-bad-in-spec =
-    tie.close
-    (tie.spec
-    Inv-loop
-    μ-loop
-    Inv-nodes
-    μ-nodes
-    mul-at
-    add-at
-    nodes-holds
-    loop-holds
-    field-requires
-    bits-bad-requires
-    add-at-2
-    add-constraint
-    loop-less
-    loop-again
-    add-node
-    nodes-less
-    nodes-again
-    returns
-    returns-2)
+    tie.close (tie.spec
+    Inv-loop μ-loop Inv-nodes μ-nodes (λ c. search needs) (λ c. search needs) nodes-holds loop-holds field-requires (λ c κs. search needs) add-at-2
+    (λ c. search needs) (λ c. search needs) loop-again (λ c. search needs) (λ c. search needs) nodes-again returns returns-2)

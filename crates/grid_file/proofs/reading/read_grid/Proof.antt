@@ -16,15 +16,6 @@ call s = readGridCall (s .args .file .now) (s .args .limits .now) (s .args .fact
 ok : (c : tie.After-enum-told) → Readable (call (c .before .before .before .before .before .before .before))
 ok c = readable _ (sym (c .before .before .check-read .ensures) ∙ c .enum-told .given .1)
 
-check-read-requires : tie.Need-check-read-requires
-check-read-requires c κs = search needs
-
-enum-known-refusal : tie.Need-enum-known-refusal
-enum-known-refusal c = search needs
-
-enum-told : tie.Need-enum-told
-enum-told c = search needs
-
 nodes-in-requires : tie.Need-nodes-in-requires
 nodes-in-requires c κs = omega (arith, ok c .counted .size)
 
@@ -39,12 +30,6 @@ read-tables-requires c κs =
     let m = k .constraints-in .ensures in
     (subst₂ (Counted _) (sym n) (sym m) (r .counted), (rw m (r .limit-room), rw (n, m) (r .factor-room)))
 
-same-length : tie.Need-same-length
-same-length c = search needs
-
-same-length-2 : tie.Need-same-length-2
-same-length-2 c = search needs
-
 returns : tie.Need-returns
 returns c =
     let x = c .before .before .before in
@@ -56,12 +41,6 @@ returns c =
       limits-read = cells-refused _ _ found _ told (limitsIn s) _;
       factors-read = cells-refused _ _ found _ told (factorsIn s) _;
     }
-
-same-length-3 : tie.Need-same-length-3
-same-length-3 c = search needs
-
-same-length-4 : tie.Need-same-length-4
-same-length-4 c = search needs
 
 returns-2 : tie.Need-returns-2
 returns-2 c =
@@ -79,17 +58,6 @@ returns-2 c =
 
 pub read-grid-spec : {M : Type 1} → statement M
 read-grid-spec =
-    tie.close
-    (tie.spec
-    check-read-requires
-    enum-known-refusal
-    enum-told
-    nodes-in-requires
-    constraints-in-requires
-    read-tables-requires
-    same-length
-    same-length-2
-    returns
-    same-length-3
-    same-length-4
-    returns-2)
+    tie.close (tie.spec
+    (λ c κs. search needs) (λ c. search needs) (λ c. search needs) nodes-in-requires constraints-in-requires read-tables-requires (λ c. search needs)
+    (λ c. search needs) returns (λ c. search needs) (λ c. search needs) returns-2)

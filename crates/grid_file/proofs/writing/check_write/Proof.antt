@@ -18,15 +18,6 @@ call s = writeGridCall (s .args .nodes) (s .args .constraints) (s .args .limits 
 passed : (c : tie.After-enum-told) → first (tableChecks (call (c .before .before .before .before .before))) ≡ Passed
 passed c = sym (c .before .before .check-grid-tables .ensures) ∙ c .enum-told .given .1
 
-check-grid-tables-requires : tie.Need-check-grid-tables-requires
-check-grid-tables-requires c κs = search needs
-
-enum-known-refusal : tie.Need-enum-known-refusal
-enum-known-refusal c = search needs
-
-enum-told : tie.Need-enum-told
-enum-told c = search needs
-
 file-bytes-requires : tie.Need-file-bytes-requires
 file-bytes-requires c κs =
     let t = grid-tables _ _ _ _ _ _ (passed c) in
@@ -48,13 +39,4 @@ returns-3 c =
     sym (write-checks q Passed (passed (c .before .before)) ∙ last-passes (roomCheck q) (le-ltb _ _ (rw (c .before .file-bytes .ensures .0) at (c .if1 .left))))
 
 pub check-write-spec : {M : Type 1} → statement M
-check-write-spec =
-    tie.close
-    (tie.spec
-    check-grid-tables-requires
-    enum-known-refusal
-    enum-told
-    file-bytes-requires
-    returns
-    returns-2
-    returns-3)
+check-write-spec = tie.close (tie.spec (λ c κs. search needs) (λ c. search needs) (λ c. search needs) file-bytes-requires returns returns-2 returns-3)

@@ -50,24 +50,6 @@ long c = c .put3 .kept .0 ∙ c .before .before .before .before .put2 .kept .0 �
 long-2 : (c : tie.After-write-factors) → length (c .write-factors .last .0) ≡ length (entry (c .before .before .before .before .before .before .before .before) .args .file .now)
 long-2 c = c .write-factors .kept .0 ∙ c .before .before .before .before .write-run .kept .0 ∙ long (c .before .before .before .before .before .before .before .before)
 
-used-bits-requires : tie.Need-used-bits-requires
-used-bits-requires c κs = search needs
-
-file-bytes-requires : tie.Need-file-bytes-requires
-file-bytes-requires c κs = search needs
-
-factor-count-requires : tie.Need-factor-count-requires
-factor-count-requires c κs = search needs
-
-put-requires : tie.Need-put-requires
-put-requires c κs = search needs
-
-put-requires-2 : tie.Need-put-requires-2
-put-requires-2 c κs = search needs
-
-put-requires-3 : tie.Need-put-requires-3
-put-requires-3 c κs = search needs
-
 write-run-requires : tie.Need-write-run-requires
 write-run-requires c κs =
     let h = c .before .before .before in
@@ -125,18 +107,6 @@ returns c =
 
 pub fill-spec : {M : Type 1} → statement M
 fill-spec =
-    tie.close
-    (tie.spec
-    used-bits-requires
-    file-bytes-requires
-    factor-count-requires
-    put-requires
-    put-requires-2
-    put-requires-3
-    write-run-requires
-    write-factors-requires
-    mul-put-last
-    sub-put-last
-    put-last-requires
-    same-length
-    returns)
+    tie.close (tie.spec
+    (λ c κs. search needs) (λ c κs. search needs) (λ c κs. search needs) (λ c κs. search needs) (λ c κs. search needs) (λ c κs. search needs) write-run-requires
+    write-factors-requires mul-put-last sub-put-last put-last-requires same-length returns)

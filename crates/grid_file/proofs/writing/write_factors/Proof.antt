@@ -32,12 +32,6 @@ loop-holds c =
     let s = c .before in
     (omega arith, refl, s .pre .0, omega arith, run-start factorWidth (coded (s .args .count) (s .args .factors .now)) _, stays _ _)
 
-mul-unsigned : tie.Need-mul-unsigned Inv-loop μ-loop
-mul-unsigned c = search needs
-
-shared-slice-copy-out-unsigned : tie.Need-shared-slice-copy-out-unsigned Inv-loop μ-loop
-shared-slice-copy-out-unsigned c = search needs
-
 unsigned-requires : tie.Need-unsigned-requires Inv-loop μ-loop
 unsigned-requires c κs =
     let s = c .before .before .before .before .before in
@@ -49,12 +43,6 @@ put-requires : tie.Need-put-requires Inv-loop μ-loop
 put-requires c κs =
     let l = c .before .before .before .before .loop in
     (l .inv .2, (search needs, omega arith))
-
-add-i : tie.Need-add-i Inv-loop μ-loop
-add-i c = search needs
-
-loop-less : tie.Need-loop-less Inv-loop μ-loop
-loop-less c = search needs
 
 loop-again : tie.Need-loop-again Inv-loop μ-loop
 loop-again c =
@@ -75,9 +63,6 @@ loop-again c =
       goes-on (l .inv .5) (e .1 .1),
     )
 
-same-length : tie.Need-same-length Inv-loop μ-loop
-same-length c = search needs
-
 returns : tie.Need-returns Inv-loop μ-loop
 returns c =
     let a = c .before .before .before .args in
@@ -91,17 +76,6 @@ returns c =
 
 pub write-factors-spec : {M : Type 1} → statement M
 write-factors-spec =
-    tie.close
-    (tie.spec
-    Inv-loop
-    μ-loop
-    loop-holds
-    mul-unsigned
-    shared-slice-copy-out-unsigned
-    unsigned-requires
-    put-requires
-    add-i
-    loop-less
-    loop-again
-    same-length
-    returns)
+    tie.close (tie.spec
+    Inv-loop μ-loop loop-holds (λ c. search needs) (λ c. search needs) unsigned-requires put-requires (λ c. search needs) (λ c. search needs) loop-again
+    (λ c. search needs) returns)

@@ -10,22 +10,10 @@ use Rattle.grid_file.proofs.writing.write_grid.Tie as tie
 abbrev call : tie.Start → WriteGridCall
 call s = writeGridCall (s .args .nodes) (s .args .constraints) (s .args .limits .now) (s .args .factors .now) (s .args .file .now)
 
-check-write-requires : tie.Need-check-write-requires
-check-write-requires c κs = search needs
-
-enum-known-refusal : tie.Need-enum-known-refusal
-enum-known-refusal c = search needs
-
-enum-told : tie.Need-enum-told
-enum-told c = search needs
-
 fill-requires : tie.Need-fill-requires
 fill-requires c κs =
     let x = c .before .before .before in
     writable (call (x .before .before .before .before)) (sym (x .check-write .ensures) ∙ c .before .enum-told .given .1)
-
-same-length : tie.Need-same-length
-same-length c = search needs
 
 returns : tie.Need-returns
 returns c =
@@ -33,9 +21,6 @@ returns c =
     let found = x .check-write .ensures in
     let told = c .before .refusal .given .1 in
     record { length-given = answer-refused _ _ found _ told _; bytes-written = cells-refused _ _ found _ told (gridWritten (call (x .before .before .before .before))) _ }
-
-same-length-2 : tie.Need-same-length-2
-same-length-2 c = search needs
 
 returns-2 : tie.Need-returns-2
 returns-2 c =
@@ -51,13 +36,5 @@ returns-2 c =
 
 pub write-grid-spec : {M : Type 1} → statement M
 write-grid-spec =
-    tie.close
-    (tie.spec
-    check-write-requires
-    enum-known-refusal
-    enum-told
-    fill-requires
-    same-length
-    returns
-    same-length-2
-    returns-2)
+    tie.close (tie.spec
+    (λ c κs. search needs) (λ c. search needs) (λ c. search needs) fill-requires (λ c. search needs) returns (λ c. search needs) returns-2)

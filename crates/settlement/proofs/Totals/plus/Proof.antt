@@ -13,9 +13,6 @@ use Rattle.settlement.proofs.HourSums.{add-fits, add-is, carry-fits, ex
 use Rattle.settlement.proofs.Totals.plus.Statement.{statement}
 use Rattle.settlement.proofs.Totals.plus.Tie as tie
 
-cents-requires : tie.Need-cents-requires
-cents-requires c κs = search needs
-
 -- the machine's sums are those of the numbers
 sum-is : (c : tie.After-cents)
     → let a = c .before .args in toZ w64 (ofZ w64 (toZ w64 (ofZ w64 (a .self .sum)) +ℤ toZ w64 (ofZ w64 (c .cents .result)))) ≡ a .self .sum +ℤ c .cents .result
@@ -31,20 +28,11 @@ add-sum c =
     let x = c .before .before .cents in
     add-fits (s .args .self .sum) (x .result) (omega (arith, s .pre .1 .sum-sized, x .ensures .1))
 
-whole-requires : tie.Need-whole-requires
-whole-requires c κs = search needs
-
 add-whole : tie.Need-add-whole
 add-whole c =
     let s = c .before .before .before .before .before .before in
     let w = c .before .before .whole in
     add-fits (s .args .self .whole) (w .result) (omega (arith, s .pre .1 .whole-sized, w .ensures .1))
-
-parts-requires : tie.Need-parts-requires
-parts-requires c κs = search needs
-
-add-parts : tie.Need-add-parts
-add-parts c = search needs
 
 small : (c : tie.After-whole) → let W = c .before .before .before .before .args .self .whole in natAbs (W +ℤ c .whole .result +ℤ pos 1) ≤ natAbs W + (maxCents + 1)
 small c =
@@ -60,8 +48,7 @@ add-t10 c =
 
 returns : tie.Need-returns
 returns c =
-    let s = c .before .before .before .before .before .before .before .before .before in
-    let a = s .args in
+    let a = c .before .before .before .before .before .before .before .before .before .args in
     let x = c .before .before .before .before .before .before .before .before .cents in
     let w = c .before .before .before .before .before .whole in
     let p = c .before .before .parts in
@@ -100,15 +87,4 @@ returns-2 c =
     }
 
 pub plus-spec : {M : Type 1} → statement M
-plus-spec =
-    tie.close
-    (tie.spec
-    cents-requires
-    add-sum
-    whole-requires
-    add-whole
-    parts-requires
-    add-parts
-    add-t10
-    returns
-    returns-2)
+plus-spec = tie.close (tie.spec (λ c κs. search needs) add-sum (λ c κs. search needs) add-whole (λ c κs. search needs) (λ c. search needs) add-t10 returns returns-2)

@@ -5,18 +5,6 @@ use Rattle.settlement.proofs.Congestion.{ends-small, spread-small, prod
 use Rattle.settlement.proofs.hour.amount_of.Statement.{statement}
 use Rattle.settlement.proofs.hour.amount_of.Tie as tie
 
-mul-t9 : tie.Need-mul-t9
-mul-t9 c = search needs
-
-shared-slice-copy-out-t11 : tie.Need-shared-slice-copy-out-t11
-shared-slice-copy-out-t11 c = search needs
-
-mul-t13 : tie.Need-mul-t13
-mul-t13 c = search needs
-
-shared-slice-copy-out-t15 : tie.Need-shared-slice-copy-out-t15
-shared-slice-copy-out-t15 c = search needs
-
 minus-requires : tie.Need-minus-requires
 minus-requires c κs =
     let s = c .before .before .before in
@@ -42,13 +30,5 @@ returns c =
 
 pub amount-of-spec : {M : Type 1} → statement M
 amount-of-spec =
-    tie.close
-    (tie.spec
-    mul-t9
-    shared-slice-copy-out-t11
-    mul-t13
-    shared-slice-copy-out-t15
-    minus-requires
-    times-requires
-    counted-requires
-    returns)
+    tie.close (tie.spec
+    (λ c. search needs) (λ c. search needs) (λ c. search needs) (λ c. search needs) minus-requires times-requires counted-requires returns)

@@ -8,26 +8,11 @@ use Rattle.settlement.proofs.Passing.{tables-refuse, book-refuses, no-r
 use Rattle.settlement.proofs.hour.check_settle.Statement.{statement}
 use Rattle.settlement.proofs.hour.check_settle.Tie as tie
 
-check-hour-tables-requires : tie.Need-check-hour-tables-requires
-check-hour-tables-requires c κs = search needs
-
-enum-known-hour : tie.Need-enum-known-hour
-enum-known-hour c = search needs
-
 returns : tie.Need-returns
 returns c place e =
     let a = c .before .before .before .before .before .before .args in
     let q = hourCall (a .nodes) (a .constraints) (a .period) (a .factors .now) (a .prices .now) (a .book .now) place in
     tables-refuse q _ (sym (c .before .before .before .check-hour-tables .ensures) ∙ c .before .hour .given .1)
-
-enum-told : tie.Need-enum-told
-enum-told c = search needs
-
-check-book-requires : tie.Need-check-book-requires
-check-book-requires c κs = search needs
-
-enum-known-own : tie.Need-enum-known-own
-enum-known-own c = search needs
 
 returns-2 : tie.Need-returns-2
 returns-2 c place e =
@@ -36,9 +21,6 @@ returns-2 c place e =
     let tables = sym (c .before .before .before .before .before .before .check-hour-tables .ensures) ∙ c .before .before .before .before .enum-told .given .1 in
     book-refuses q tables _ (sym (c .before .before .before .check-book .ensures) ∙ c .before .own .given .1)
 
-enum-told-2 : tie.Need-enum-told-2
-enum-told-2 c = search needs
-
 contract-count-requires : tie.Need-contract-count-requires
 contract-count-requires c κs =
     let a = c .before .before .before .before .before .before .before .before .args in
@@ -46,32 +28,18 @@ contract-count-requires c κs =
 
 returns-3 : tie.Need-returns-3
 returns-3 c place e =
-    let a = c .before .before .before .before .before .before .before .before .before .before .args in
-    let q = hourCall (a .nodes) (a .constraints) (a .period) (a .factors .now) (a .prices .now) (a .book .now) place in
     let tables = sym (c .before .before .before .before .before .before .before .check-hour-tables .ensures) ∙ c .before .before .before .before .before .enum-told .given .1 in
     let own = sym (c .before .before .before .before .check-book .ensures) ∙ c .before .before .enum-told2 .given .1 in
-    no-room q tables own _ (c .before .contract-count .ensures .0) (rw e (c .if1 .taken))
+    no-room _ tables own _ (c .before .contract-count .ensures .0) (rw e (c .if1 .taken))
 
 returns-4 : tie.Need-returns-4
 returns-4 c place e =
-    let a = c .before .before .before .before .before .before .before .before .before .before .args in
-    let q = hourCall (a .nodes) (a .constraints) (a .period) (a .factors .now) (a .prices .now) (a .book .now) place in
     let tables = sym (c .before .before .before .before .before .before .before .check-hour-tables .ensures) ∙ c .before .before .before .before .before .enum-told .given .1 in
     let own = sym (c .before .before .before .before .check-book .ensures) ∙ c .before .before .enum-told2 .given .1 in
-    all-fits q tables own _ (c .before .contract-count .ensures .0) (rw e (c .if1 .left))
+    all-fits _ tables own _ (c .before .contract-count .ensures .0) (rw e (c .if1 .left))
 
 pub check-settle-spec : {M : Type 1} → statement M
 check-settle-spec =
-    tie.close
-    (tie.spec
-    check-hour-tables-requires
-    enum-known-hour
-    returns
-    enum-told
-    check-book-requires
-    enum-known-own
-    returns-2
-    enum-told-2
-    contract-count-requires
-    returns-3
-    returns-4)
+    tie.close (tie.spec
+    (λ c κs. search needs) (λ c. search needs) returns (λ c. search needs) (λ c κs. search needs) (λ c. search needs) returns-2 (λ c. search needs)
+    contract-count-requires returns-3 returns-4)

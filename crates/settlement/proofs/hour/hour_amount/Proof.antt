@@ -7,12 +7,6 @@ use borrow.Author.Needs.{needs}
 use Rattle.settlement.proofs.hour.hour_amount.Statement.{statement}
 use Rattle.settlement.proofs.hour.hour_amount.Tie as tie
 
-contract-at-requires : tie.Need-contract-at-requires
-contract-at-requires c κs = search needs
-
-same-requires : tie.Need-same-requires
-same-requires c κs = search needs
-
 amount-of-requires : tie.Need-amount-of-requires
 amount-of-requires c κs =
     let s = c .before .before .before .before in
@@ -32,5 +26,4 @@ returns-2 c =
     (sym (amount-other (a .mccs .now) (a .period) (x .result) _ (c .before .same .ensures) (c .if1 .left)) ∙ ap (hourAmount (a .mccs .now) (a .period)) (x .ensures), omega arith)
 
 pub hour-amount-spec : {M : Type 1} → statement M
-hour-amount-spec =
-    tie.close (tie.spec contract-at-requires same-requires amount-of-requires returns returns-2)
+hour-amount-spec = tie.close (tie.spec (λ c κs. search needs) (λ c κs. search needs) amount-of-requires returns returns-2)

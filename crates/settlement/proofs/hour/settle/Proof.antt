@@ -7,9 +7,6 @@ use borrow.Author.Needs.{needs}
 use Rattle.settlement.proofs.hour.settle.Statement.{statement}
 use Rattle.settlement.proofs.hour.settle.Tie as tie
 
-slice-aggregate-fill-mcc : tie.Need-slice-aggregate-fill-mcc
-slice-aggregate-fill-mcc c = search needs
-
 fill-mcc-requires : tie.Need-fill-mcc-requires
 fill-mcc-requires c κs = let h = c .before .before .before .pre .0 in (h, h .good-factors .nodes-few)
 
@@ -17,9 +14,6 @@ contract-count-requires : tie.Need-contract-count-requires
 contract-count-requires c κs =
     let s = c .before .before .before .before .before in
     omega (arith, book-accepted (s .args .nodes) (s .args .book .now) (s .pre .1 .0) .size)
-
-slice-aggregate-settle-contracts : tie.Need-slice-aggregate-settle-contracts
-slice-aggregate-settle-contracts c = search needs
 
 settle-contracts-requires : tie.Need-settle-contracts-requires
 settle-contracts-requires c κs =
@@ -30,9 +24,6 @@ settle-contracts-requires c κs =
       (mcc-table (a .nodes) (a .constraints) (a .factors .now) (a .prices .now) (s .pre .0) _ _ (c .before .before .before .before .fill-mcc .ensures), rw n (o .each)),
       (omega (arith, o .few, n), omega (arith, o .size, n), omega (arith, s .pre .1 .1, n)),
     )
-
-same-length : tie.Need-same-length
-same-length c = search needs
 
 returns : tie.Need-returns
 returns c =
@@ -45,12 +36,5 @@ returns c =
 
 pub settle-spec : {M : Type 1} → statement M
 settle-spec =
-    tie.close
-    (tie.spec
-    slice-aggregate-fill-mcc
-    fill-mcc-requires
-    contract-count-requires
-    slice-aggregate-settle-contracts
-    settle-contracts-requires
-    same-length
-    returns)
+    tie.close (tie.spec
+    (λ c. search needs) fill-mcc-requires contract-count-requires (λ c. search needs) settle-contracts-requires (λ c. search needs) returns)

@@ -56,22 +56,10 @@ hour-amount-requires c κs =
 cents-requires : tie.Need-cents-requires Inv-loop μ-loop
 cents-requires c κs = c .hour-amount .ensures .1
 
-mul-t12 : tie.Need-mul-t12 Inv-loop μ-loop
-mul-t12 c = search needs
-
-slice-set-from-cents : tie.Need-slice-set-from-cents Inv-loop μ-loop
-slice-set-from-cents c = omega arith
-
 plus-requires : tie.Need-plus-requires Inv-loop μ-loop
 plus-requires c κs =
     let l = c .before .before .before .loop in
     (c .before .hour-amount .ensures .1, bounded-most (l .i) maxContracts (l .totals) (omega arith) (l .inv .6))
-
-add-i : tie.Need-add-i Inv-loop μ-loop
-add-i c = search needs
-
-loop-less : tie.Need-loop-less Inv-loop μ-loop
-loop-less c = omega arith
 
 loop-again : tie.Need-loop-again Inv-loop μ-loop
 loop-again c =
@@ -91,9 +79,6 @@ loop-again c =
       p .bounded (l .i) (l .inv .6),
     )
 
-same-length : tie.Need-same-length Inv-loop μ-loop
-same-length c = search needs
-
 returns : tie.Need-returns Inv-loop μ-loop
 returns c =
     let a = c .before .before .before .args in
@@ -109,18 +94,6 @@ returns c =
 
 pub settle-contracts-spec : {M : Type 1} → statement M
 settle-contracts-spec =
-    tie.close
-    (tie.spec
-    Inv-loop
-    μ-loop
-    loop-holds
-    hour-amount-requires
-    cents-requires
-    mul-t12
-    slice-set-from-cents
-    plus-requires
-    add-i
-    loop-less
-    loop-again
-    same-length
-    returns)
+    tie.close (tie.spec
+    Inv-loop μ-loop loop-holds hour-amount-requires cents-requires (λ c. search needs) (λ c. omega arith) plus-requires (λ c. search needs) (λ c. omega arith)
+    loop-again (λ c. search needs) returns)

@@ -16,18 +16,6 @@ use borrow.Author.Needs.{needs}
 use Rattle.settlement.proofs.hour.settle_hour.Statement.{statement}
 use Rattle.settlement.proofs.hour.settle_hour.Tie as tie
 
-check-settle-requires : tie.Need-check-settle-requires
-check-settle-requires c κs = search needs
-
-enum-known-refusal : tie.Need-enum-known-refusal
-enum-known-refusal c = search needs
-
-enum-told : tie.Need-enum-told
-enum-told c = search needs
-
-from-number-requires : tie.Need-from-number-requires
-from-number-requires c κs = search needs
-
 settle-requires : tie.Need-settle-requires
 settle-requires c κs =
     let a = c .before .before .before .before .before .before .before .args in
@@ -46,9 +34,6 @@ returns c =
       cents-settled = cells-refused _ _ found _ told (centsCells q) _;
       exact = λ e s w p z. cc;
     }
-
-same-length : tie.Need-same-length
-same-length c = search needs
 
 returns-2 : tie.Need-returns-2
 returns-2 c =
@@ -72,13 +57,5 @@ returns-2 c =
 
 pub settle-hour-spec : {M : Type 1} → statement M
 settle-hour-spec =
-    tie.close
-    (tie.spec
-    check-settle-requires
-    enum-known-refusal
-    enum-told
-    from-number-requires
-    settle-requires
-    returns
-    same-length
-    returns-2)
+    tie.close (tie.spec
+    (λ c κs. search needs) (λ c. search needs) (λ c. search needs) (λ c κs. search needs) settle-requires returns (λ c. search needs) returns-2)

@@ -21,27 +21,6 @@ Inv-loop nodes constraints factors prices out₀ node₀ out node =
 abbrev μ-loop : tie.MeasureT-loop
 μ-loop nodes constraints factors prices out₀ node₀ out node = nodes - node
 
-loop-holds : tie.Need-loop-holds Inv-loop μ-loop
-loop-holds c = search needs
-
-node-mcc-requires : tie.Need-node-mcc-requires Inv-loop μ-loop
-node-mcc-requires c κs = search needs
-
-cell-requires : tie.Need-cell-requires Inv-loop μ-loop
-cell-requires c κs = search needs
-
-mul-t10 : tie.Need-mul-t10 Inv-loop μ-loop
-mul-t10 c = search needs
-
-slice-set-from-out : tie.Need-slice-set-from-out Inv-loop μ-loop
-slice-set-from-out c = search needs
-
-add-node : tie.Need-add-node Inv-loop μ-loop
-add-node c = search needs
-
-loop-less : tie.Need-loop-less Inv-loop μ-loop
-loop-less c = search needs
-
 loop-again : tie.Need-loop-again Inv-loop μ-loop
 loop-again c =
     let a = c .before .before .before .before .before .args in
@@ -55,9 +34,6 @@ loop-again c =
       rest-turn (l .out) (a .out .now) (l .node) _ (l .inv .3),
     )
 
-same-length : tie.Need-same-length Inv-loop μ-loop
-same-length c = search needs
-
 returns : tie.Need-returns Inv-loop μ-loop
 returns c =
     let a = c .before .before .before .args in
@@ -67,17 +43,6 @@ returns c =
 
 pub fill-mcc-spec : {M : Type 1} → statement M
 fill-mcc-spec =
-    tie.close
-    (tie.spec
-    Inv-loop
-    μ-loop
-    loop-holds
-    node-mcc-requires
-    cell-requires
-    mul-t10
-    slice-set-from-out
-    add-node
-    loop-less
-    loop-again
-    same-length
-    returns)
+    tie.close (tie.spec
+    Inv-loop μ-loop (λ c. search needs) (λ c κs. search needs) (λ c κs. search needs) (λ c. search needs) (λ c. search needs) (λ c. search needs)
+    (λ c. search needs) loop-again (λ c. search needs) returns)

@@ -9,15 +9,6 @@ use borrow.Author.Needs.{needs}
 use Rattle.settlement.proofs.mcc.find_mcc.Statement.{statement}
 use Rattle.settlement.proofs.mcc.find_mcc.Tie as tie
 
-check-hour-tables-requires : tie.Need-check-hour-tables-requires
-check-hour-tables-requires c κs = search needs
-
-enum-known-refusal : tie.Need-enum-known-refusal
-enum-known-refusal c = search needs
-
-enum-told : tie.Need-enum-told
-enum-told c = search needs
-
 fill-mcc-requires : tie.Need-fill-mcc-requires
 fill-mcc-requires c κs =
     let a = c .before .before .before .before .before .args in
@@ -33,9 +24,6 @@ returns c =
     let told = c .before .refusal .given .1 in
     record { nothing-else = answer-refused _ _ found _ told _; mccs-found = cells-refused _ _ found _ told (mccCells q) _ }
 
-same-length : tie.Need-same-length
-same-length c = search needs
-
 returns-2 : tie.Need-returns-2
 returns-2 c =
     let a = c .before .before .before .before .before .before .before .args in
@@ -45,13 +33,4 @@ returns-2 c =
     record { nothing-else = answer-passed _ _ found told _; mccs-found = cells-passed _ _ found told (mccCells q) (a .mcc .now) _ (c .before .fill-mcc .ensures) }
 
 pub find-mcc-spec : {M : Type 1} → statement M
-find-mcc-spec =
-    tie.close
-    (tie.spec
-    check-hour-tables-requires
-    enum-known-refusal
-    enum-told
-    fill-mcc-requires
-    returns
-    same-length
-    returns-2)
+find-mcc-spec = tie.close (tie.spec (λ c κs. search needs) (λ c. search needs) (λ c. search needs) fill-mcc-requires returns (λ c. search needs) returns-2)

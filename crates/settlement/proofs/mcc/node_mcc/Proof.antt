@@ -29,9 +29,6 @@ loop-holds c =
     let a = c .before .args in
     (omega arith, congestion-start (factorsOf (a .nodes) (a .constraints) (a .factors .now)) (take (a .constraints) (a .prices .now)) (a .node))
 
-mul-t11 : tie.Need-mul-t11 Inv-loop μ-loop
-mul-t11 c = search needs
-
 shared-slice-read-t13 : tie.Need-shared-slice-read-t13 Inv-loop μ-loop
 shared-slice-read-t13 c = omega (arith, c .before .before .before .before .pre .0 .good-prices .long)
 
@@ -75,12 +72,6 @@ plus-requires c κs =
       product-small (a .nodes) (a .constraints) (a .factors .now) (a .prices .now) (s .pre .0) (a .node) (s .pre .1) (l .k) (omega arith) (c .times .result .0) (c .times .ensures),
     )
 
-add-k : tie.Need-add-k Inv-loop μ-loop
-add-k c = search needs
-
-loop-less : tie.Need-loop-less Inv-loop μ-loop
-loop-less c = search needs
-
 loop-again : tie.Need-loop-again Inv-loop μ-loop
 loop-again c =
     let s = c .before .before .before .before .before .before .before in
@@ -108,21 +99,6 @@ returns c =
 
 pub node-mcc-spec : {M : Type 1} → statement M
 node-mcc-spec =
-    tie.close
-    (tie.spec
-    Inv-loop
-    μ-loop
-    mul-base
-    loop-holds
-    mul-t11
-    shared-slice-read-t13
-    add-times
-    mul-times
-    shared-slice-copy-out-times
-    times-requires
-    plus-requires
-    add-k
-    loop-less
-    loop-again
-    negated-requires
-    returns)
+    tie.close (tie.spec
+    Inv-loop μ-loop mul-base loop-holds (λ c. search needs) shared-slice-read-t13 add-times mul-times shared-slice-copy-out-times times-requires plus-requires
+    (λ c. search needs) (λ c. search needs) loop-again negated-requires returns)
