@@ -1,5 +1,5 @@
 -- THE THEOREMS over document 01's definitions, each for every grid, book, period and process. Statements only: the proofs are in Worst.antt,
--- WorstNumber.antt, Overloads.antt and Periods.antt.
+-- WorstNumber.antt, Overloads.antt, Rules.antt and Periods.antt.
 use mathlib.Core.Path.{_≡_}
 use mathlib.Core.Logic.{_↔_}
 use mathlib.Core.List.{List, [], _∷_, _++_}
@@ -19,6 +19,7 @@ use Rattle.tariff.specs.Feasibility.{flow, Passes, excess, overloaded, o
 use Rattle.tariff.specs.Shortfall.{PriceList, shortfall, oneCent, IsWorst}
 use Rattle.tariff.proofs.Worst as W
 use Rattle.tariff.proofs.Overloads as O
+use Rattle.tariff.proofs.Rules as R
 use Rattle.tariff.proofs.Periods as P
 use Rattle.tariff.proofs.WorstNumber as N
 
@@ -75,4 +76,4 @@ empty-book-passes g process period = W.empty-passes g process
 
 -- an option never relieves a constraint
 pub option-never-relieves : (f : Factors) (c : Contract) → c .kind ≡ Option → (k : ℕ) → pos 0 ≤ℤ flow f c k
-option-never-relieves f c e k = W.option-flow f c e k
+option-never-relieves f c e k = R.option-flow f c e k
