@@ -111,6 +111,7 @@ unfolding ofPeriod
 ofPeriod-in-range n t [] h = (tt, omega arith)
 ofPeriod-in-range n t (c ∷ cs) h = by (samePeriod (c .period) t) (ofPeriod-in-range n t cs (h .1))
   where
-    by : (b : Bool) → Each (InRange n) (ofPeriod t cs) × (length (ofPeriod t cs) ≤ length cs) → Each (InRange n) (cond b (c ∷ ofPeriod t cs) (ofPeriod t cs)) × (length (cond b (c ∷ ofPeriod t cs) (ofPeriod t cs)) ≤ suc (length cs))
+    by : (b : Bool) → Each (InRange n) (ofPeriod t cs) × (length (ofPeriod t cs) ≤ length cs)
+        → Each (InRange n) (cond b (c ∷ ofPeriod t cs) (ofPeriod t cs)) × (length (cond b (c ∷ ofPeriod t cs) (ofPeriod t cs)) ≤ suc (length cs))
     by true r = ((h .0, r .0), omega arith)
     by false r = (r .0, omega arith)

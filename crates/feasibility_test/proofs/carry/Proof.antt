@@ -5,6 +5,7 @@ use Prim.Native.Nat.{ℕ, _+_, _-_, _≤_, _<_}
 use native.Mathlib.Omega.{arith}
 use borrow.Author.Needs.{needs}
 use Rattle.lists.specs.Lists.{listTo}
+use Rattle.tariff.specs.declared.contracts.Contract.{Contract}
 use Rattle.tariff.specs.Units.{factorsOf}
 use Rattle.tariff.specs.Contracts.{ofPeriod}
 use Rattle.tariff.specs.Inner.{InRange}
@@ -48,12 +49,13 @@ same-requires : tie.Need-same-requires Inv-loop μ-loop
 same-requires c κs = search needs
 
 -- the contract read is in range
+at-in-range : (s : tie.Start Inv-loop μ-loop) (x : Contract) (i : ℕ) → x ≡ contractAt (s .args .book .now) i → i < contractCountIn (s .args .book .now) → InRange (s .args .nodes) x
+at-in-range s x i e h = subst (InRange (s .args .nodes)) (sym e) (ok s .each i h)
+
 own : (c : tie.After-contract-at Inv-loop μ-loop) → InRange (c .before .before .before .before .before .before .args .nodes) (c .contract-at .result)
 own c =
-    let s = c .before .before .before .before .before .before in
-    let l = c .before .before .loop in
     let m = c .before .before .before .before .contract-count .ensures .0 in
-    subst (InRange (s .args .nodes)) (sym (c .contract-at .ensures)) (ok s .each (l .i) (omega arith))
+    at-in-range (c .before .before .before .before .before .before) _ _ (c .contract-at .ensures) (omega (arith, m))
 
 step-requires : tie.Need-step-requires Inv-loop μ-loop
 step-requires c κs =

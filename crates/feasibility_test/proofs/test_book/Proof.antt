@@ -1,5 +1,6 @@
 -- `test_book`.
 use mathlib.Core.Path.{sym, _∙_, subst}
+use native.Mathlib.Omega.{arith}
 use Rattle.tariff.specs.declared.contracts.Period.{Period}
 use Rattle.tariff.specs.declared.processes.Process.{Process}
 use Rattle.tariff.specs.Contracts.{periodOf, ofPeriod}
@@ -49,7 +50,7 @@ carry-requires : tie.Need-carry-requires
 carry-requires c κs = let o = ok (c .before) in (o .tables .good-factors, o .book)
 
 from-number-requires-2 : tie.Need-from-number-requires-2
-from-number-requires-2 c κs = ok (c .before .before) .tables .process-number
+from-number-requires-2 c κs = let t = ok (c .before .before) .tables in omega (arith, t .process-number, t .period-number)
 
 verdict-requires : tie.Need-verdict-requires
 verdict-requires c κs =
