@@ -17,15 +17,6 @@ use Rattle.feasibility_test.proofs.test_book.Tie as tie
 abbrev call : tie.Start → TestCall
 call c = testCall (c .args .nodes) (c .args .constraints) (c .args .process) (c .args .period) (c .args .limits .now) (c .args .factors .now) (c .args .book .now)
 
--- none of the checks refuses
-ok : (c : tie.After-enum-told) → Tested (call (c .before .before .before .before .before))
-ok c = tested (call (c .before .before .before .before .before)) (sym (c .before .before .check-test .ensures) ∙ c .enum-told .given .1)
-
-carried : (c : tie.After-carry) → let q = call (c .before .before .before .before .before .before .before) in Carries (testedGrid q .factors) (testedContracts q) (c .carry .result)
-carried c =
-    let q = call (c .before .before .before .before .before .before .before) in
-    subst (λ (t : Period). Carries (testedGrid q .factors) (ofPeriod t (bookIn (q .book))) (c .carry .result)) (c .before .from-number .ensures) (c .carry .ensures)
-
 check-test-requires : tie.Need-check-test-requires
 check-test-requires c κs = search needs
 
@@ -39,6 +30,15 @@ returns c =
       figures = answer-refused (k .result) _ (k .ensures) _ (c .before .checked .given .1) _;
       demand3 = λ p. absurd (refused-passed (k .result) _ _ (k .ensures) (c .before .checked .given .1) p);
     }
+
+-- none of the checks refuses
+ok : (c : tie.After-enum-told) → Tested (call (c .before .before .before .before .before))
+ok c = tested (call (c .before .before .before .before .before)) (sym (c .before .before .check-test .ensures) ∙ c .enum-told .given .1)
+
+carried : (c : tie.After-carry) → let q = call (c .before .before .before .before .before .before .before) in Carries (testedGrid q .factors) (testedContracts q) (c .carry .result)
+carried c =
+    let q = call (c .before .before .before .before .before .before .before) in
+    subst (λ (t : Period). Carries (testedGrid q .factors) (ofPeriod t (bookIn (q .book))) (c .carry .result)) (c .before .from-number .ensures) (c .carry .ensures)
 
 enum-told : tie.Need-enum-told
 enum-told c = search needs
