@@ -22,15 +22,16 @@ use Rattle.feasibility_test.specs.Inner.{Ends}
 abbrev tableChecks : TestCall → List Check
 tableChecks q = gridTableChecks (q .nodes) (q .constraints) (q .process) (q .period) (q .limits) (q .factors)
 
--- the tables', then the book's own
+-- the tables', then the book's own: x is what the tables' checks found
 module _ (q : TestCall) where
-  pub table-refuses : (r : Refusal) → first (tableChecks q) ≡ Refused r → Refused r ≡ testChecked q
-  unfolding testChecks
-  table-refuses r e = sym (first-append (tableChecks q) (bookChecks (q .nodes) (q .book)) ∙ rw e)
+  module _ (x : Checked) (found : x ≡ first (tableChecks q)) where
+    pub table-refuses : (r : Refusal) → x ≡ Refused r → Refused r ≡ testChecked q
+    unfolding testChecks
+    table-refuses r told = sym (first-append (tableChecks q) (bookChecks (q .nodes) (q .book)) ∙ rw (← found, told))
 
-  pub then-book : first (tableChecks q) ≡ Passed → first (bookChecks (q .nodes) (q .book)) ≡ testChecked q
-  unfolding testChecks
-  then-book e = sym (first-append (tableChecks q) (bookChecks (q .nodes) (q .book)) ∙ rw e)
+    pub then-book : x ≡ Passed → first (bookChecks (q .nodes) (q .book)) ≡ testChecked q
+    unfolding testChecks
+    then-book told = sym (first-append (tableChecks q) (bookChecks (q .nodes) (q .book)) ∙ rw (← found, told))
 
   -- what none of the test's checks refuses
   pub record Tested : Type 0 where

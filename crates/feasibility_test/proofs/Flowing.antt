@@ -6,15 +6,17 @@ use mathlib.Core.List.{List, [], _∷_, _++_}
 use Prim.Native.Nat.{ℕ, suc, _+_, _*_, _^_, _≤_, _<_}
 use native.Mathlib.Nat.{eq-or-lt-of-le}
 use native.Mathlib.Omega.{arith}
+use lib.Dec.{lit<}
 use lib.ListN.{length, getD, set, replicate, length-append, getD-replicate}
 use lib.Seq.{getD-set-same, getD-set-other, getD-take}
 use lib.IntN.{ℤ, pos, natAbs, _+ℤ_, _-ℤ_, _*ℤ_}
 use mir.Syntax.{w64}
 use mir.Val.{toZ, ofZ}
-use Rattle.integers.proofs.Sizes.{natAbs-add, natAbs-sub, natAbs-times}
+use Rattle.integers.proofs.Sizes.{natAbs-add}
 use Rattle.lists.specs.Lists.{Each, listTo}
 use Rattle.integers.proofs.Machine.{back}
-use Rattle.tariff.proofs.Sizes.{counted-sized, totalFlow-sized, ofPeriod-in-range}
+use Rattle.tariff.proofs.Sizes.{counted-times, totalFlow-sized, ofPeriod-in-range}
+use Rattle.tariff.proofs.Kept.{spread-small}
 use Rattle.tariff.specs.declared.contracts.Kind.{Kind}
 use Rattle.tariff.specs.declared.units.Quantity.{Quantity}
 use Rattle.tariff.specs.declared.contracts.Contract.{Contract}
@@ -34,7 +36,7 @@ use Rattle.tables.proofs.Factors.{place-in}
 use Rattle.books.specs.BookChecks.{bookChecks}
 use Rattle.books.proofs.Accepted.{book-accepted}
 use Rattle.feasibility_test.specs.declared.Flows.{Flows}
-use Rattle.feasibility_test.specs.Inner.{Carries, Judgeable}
+use Rattle.feasibility_test.specs.Inner.{Carries, Ends, Judgeable}
 
 -- the flow on constraint j of a contract whose rows of factors begin at source and sink, as it counts
 unfoldable pub part : List ℤ → ℕ → ℕ → Quantity → Kind → ℕ → ℤ
@@ -62,21 +64,24 @@ module _ (before cells : List ℤ) (f : ℕ → ℤ) (k : ℕ) (done : (j : ℕ)
 pub kept-sized : (x : ℤ) (B : ℕ) → B < 2 ^ 63 → natAbs x ≤ B → natAbs (toZ w64 (ofZ w64 x)) ≤ B
 kept-sized x B b h = rw (back x (omega arith)) h
 
-module _ (fs : List ℤ) (source sink : ℕ) (q : Quantity) (d : Kind) (k : ℕ) (a : natAbs (getD fs (source + k) (pos 0)) ≤ maxFactor) (b : natAbs (getD fs (sink + k) (pos 0)) ≤ maxFactor) where
-  -- y is what the machine gives
-  abbrev spread : ℤ
-  spread = toZ w64 (ofZ w64 (getD fs (source + k) (pos 0))) -ℤ toZ w64 (ofZ w64 (getD fs (sink + k) (pos 0)))
+-- the cells of a contract's two rows, each within its range
+pub rows-kept : (k : ℕ) (fs : List ℤ) (c : Contract) → Ends k fs c → (j : ℕ) → j < k
+    → (natAbs (toZ w64 (ofZ w64 (getD fs (c .source * k + j) (pos 0)))) ≤ maxFactor) × (natAbs (toZ w64 (ofZ w64 (getD fs (c .sink * k + j) (pos 0)))) ≤ maxFactor)
+rows-kept k fs c h j b = (
+  kept-sized (getD fs (c .source * k + j) (pos 0)) maxFactor (lit< tt) (h .source-sized j b),
+  kept-sized (getD fs (c .sink * k + j) (pos 0)) maxFactor (lit< tt) (h .sink-sized j b),
+)
 
-  pub part-is : (y : ℤ) → y ≡ counted d (spread *ℤ pos (q .0)) → y ≡ part fs source sink q d k
-  unfolding part
-  part-is y e = e ∙ rw (back (getD fs (source + k) (pos 0)) (omega arith), back (getD fs (sink + k) (pos 0)) (omega arith))
+-- y is what the machine gives
+pub part-small : (y a b : ℤ) (d : Kind) (q : ℕ) → y ≡ counted d ((a -ℤ b) *ℤ pos q) → natAbs a ≤ maxFactor → natAbs b ≤ maxFactor → q ≤ maxQuantity → natAbs y ≤ maxFlow
+part-small y a b d q e ha hb hq = rw e (counted-times d (a -ℤ b) q (spread-small a b ha hb) hq)
 
-  pub part-small : (y : ℤ) → y ≡ counted d (spread *ℤ pos (q .0)) → q .0 ≤ maxQuantity → natAbs y ≤ maxFlow
-  unfolding part
-  part-small y e h =
-      let w : natAbs (getD fs (source + k) (pos 0) -ℤ getD fs (sink + k) (pos 0)) ≤ 200000 = omega (arith, natAbs-sub (getD fs (source + k) (pos 0)) (getD fs (sink + k) (pos 0))) in
-      let product = (getD fs (source + k) (pos 0) -ℤ getD fs (sink + k) (pos 0)) *ℤ pos (q .0) in
-      rw (part-is y e) (omega (arith, counted-sized d product, natAbs-times (getD fs (source + k) (pos 0) -ℤ getD fs (sink + k) (pos 0)) (pos (q .0)) w h))
+pub part-is : (k : ℕ) (fs : List ℤ) (c : Contract) → Ends k fs c → (j : ℕ) → j < k → (y : ℤ)
+    → y ≡ counted (c .kind) ((toZ w64 (ofZ w64 (getD fs (c .source * k + j) (pos 0))) -ℤ toZ w64 (ofZ w64 (getD fs (c .sink * k + j) (pos 0)))) *ℤ pos (c .quantity .0))
+    → y ≡ part fs (c .source * k) (c .sink * k) (c .quantity) (c .kind) j
+unfolding part
+part-is k fs c h j b y e =
+    e ∙ rw (back (getD fs (c .source * k + j) (pos 0)) (omega (arith, h .source-sized j b)), back (getD fs (c .sink * k + j) (pos 0)) (omega (arith, h .sink-sized j b)))
 
 -- v is the sum that the machine gives
 pub sum-is : (x y v p : ℤ) → natAbs x ≤ maxFlow * maxContracts → natAbs y ≤ maxFlow → v ≡ toZ w64 (ofZ w64 x) +ℤ y → y ≡ p → toZ w64 (ofZ w64 v) ≡ x +ℤ p

@@ -17,7 +17,7 @@ use mir.Syntax.{w64}
 use mir.Val.{toZ, ofZ}
 use Rattle.integers.proofs.Machine.{back}
 use Rattle.tariff.proofs.Sizes.{percent-sized}
-use Rattle.lists.proofs.Sets.{set-lt, set-trailing, set-lowest}
+use Rattle.lists.proofs.Sets.{set-cong, set-lt, set-trailing, set-lowest}
 use Rattle.tariff.proofs.Theorems.{pass-is-worst-zero, excess-is-a-shortfall, pass-is-empty-set, fail-names-lowest, count-is-ones, lowest-is-trailing}
 use Rattle.tariff.specs.declared.contracts.Contract.{Contract}
 use Rattle.tariff.specs.declared.units.Flow.{Flow}
@@ -83,11 +83,6 @@ module _ (k s : ℕ) (f : ℕ → Bool) (e : s ≡ setOf k f) (some-bit : s ≡ 
 
 -- ---- the answer, where flows f are carried from the contracts tested
 
-set-cong : (k : ℕ) (f g : ℕ → Bool) → ((j : ℕ) → j < k → f j ≡ g j) → setOf k f ≡ setOf k g
-unfolding setOf
-set-cong zero f g h = refl
-set-cong (suc k) f g h = ap₂ (λ (x : ℕ) (b : Bool). x + cond b (2 ^ k) 0) (set-cong k f g (λ j b. h j (omega arith))) (h k (omega arith))
-
 module _ (n k : ℕ) (ls : List ℕ) (fs : List ℤ) (process : Process) (t : Period) (cs : List Contract) (f : Flows)
     (carried : Carries (factorsOf n k fs) (ofPeriod t cs) f) (s : ℕ) (is : s ≡ setOf k (over ls process (f .flows))) where
   abbrev g : Grid
@@ -117,7 +112,8 @@ module _ (n k : ℕ) (ls : List ℕ) (fs : List ℤ) (process : Process) (t : Pe
       never : {s' c' l' : ℕ} {o' : Flow} → Pass ≡ Fail s' c' l' o' → ⊥
       never q = let z : _≡_ {A = ℕ} 0 1 = cc in omega arith
 
-  module _ (few : k ≤ maxConstraints) (some-bit : s ≡ 0 → ⊥) (o : Flow) (excess-is : o .0 ≡ getD (f .flows) (trailingZeros 64 s) (pos 0) -ℤ pos (getD ls (trailingZeros 64 s) 0 * percent process * 1000)) where
+  module _ (few : k ≤ maxConstraints) (some-bit : s ≡ 0 → ⊥) (o : Flow)
+      (excess-is : o .0 ≡ getD (f .flows) (trailingZeros 64 s) (pos 0) -ℤ pos (getD ls (trailingZeros 64 s) 0 * percent process * 1000)) where
     above : 0 < overloadSet g process tested
     above = rw set-is at (pos-of-ne-zero {n = s} some-bit)
 
@@ -151,7 +147,8 @@ module _ (n k : ℕ) (ls : List ℕ) (fs : List ℤ) (process : Process) (t : Pe
       };
     }
       where
-        list : PriceList k (oneCent k (lowestOverload g process tested)) × (shortfall g process tested (oneCent k (lowestOverload g process tested)) ≡ excess g process tested (lowestOverload g process tested))
+        list : PriceList k (oneCent k (lowestOverload g process tested))
+            × (shortfall g process tested (oneCent k (lowestOverload g process tested)) ≡ excess g process tested (lowestOverload g process tested))
         list = excess-is-a-shortfall g process t cs (lowestOverload g process tested) (fail-names-lowest g process t cs above .0 .inside)
 
         never : Fail s (ones s) (trailingZeros 64 s) o ≡ Pass → ⊥

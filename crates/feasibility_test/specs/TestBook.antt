@@ -68,7 +68,11 @@ module _ (g : Grid) (process : Process) (cs : List Contract) where
   unfoldable pub testValues : List ℤ
   testValues =
       cond (eqb (overloadSet g process cs) 0) []
-      (pos (overloadSet g process cs) ∷ pos (overloadCount g process cs) ∷ pos (lowestOverload g process cs) ∷ excess g process cs (lowestOverload g process cs) ∷ [])
+      (pos (overloadSet g process cs)
+      ∷ pos (overloadCount g process cs)
+      ∷ pos (lowestOverload g process cs)
+      ∷ excess g process cs (lowestOverload g process cs)
+      ∷ [])
 
   -- Demand 3: pass exactly when the worst shortfall is 0; on fail the list with one cent on the constraint named has as its shortfall the excess given, above 0
   pub record Demand3 (answer : TestAnswer) : Type 0 where

@@ -164,8 +164,8 @@ fn check_test(
 ) -> Checked
     ensures { λ r. ⌜ r ≡ testChecked (testCall nodes constraints process period (before limits) (before factors) (before book)) ⌝ }
 {
-    let checked = tables::check_grid_tables(nodes, constraints, process, period, limits, factors);
-    if let Checked::Refused(refusal) = checked {
+    let in_tables = tables::check_grid_tables(nodes, constraints, process, period, limits, factors);
+    if let Checked::Refused(refusal) = in_tables {
         return Checked::Refused(refusal);
     }
     books::check_book(nodes, book)

@@ -1,5 +1,5 @@
 -- Laws of sets as numbers: their bits, their count of ones, their trailing zeros.
-use mathlib.Core.Path.{_≡_, refl, sym, ap, _∙_}
+use mathlib.Core.Path.{_≡_, refl, sym, ap, ap₂, _∙_}
 use mathlib.Core.Logic.{_↔_}
 use mathlib.Core.Bool.{Bool, true, false, cond}
 use Prim.Native.Nat.{ℕ, zero, suc, _+_, _*_, _/_, _%_, _^_, _≤_, _<_}
@@ -22,6 +22,11 @@ bit-small : (b : Bool) → bit b < 2
 unfolding bit
 bit-small true = omega arith
 bit-small false = omega arith
+
+pub set-cong : (n : ℕ) (f g : ℕ → Bool) → ((k : ℕ) → k < n → f k ≡ g k) → setOf n f ≡ setOf n g
+unfolding setOf
+set-cong zero f g h = refl
+set-cong (suc n) f g h = ap₂ (λ (x : ℕ) (b : Bool). x + cond b (2 ^ n) 0) (set-cong n f g (λ k b. h k (omega arith))) (h n (omega arith))
 
 pub set-lt : (n : ℕ) (f : ℕ → Bool) → setOf n f < 2 ^ n
 unfolding setOf bit

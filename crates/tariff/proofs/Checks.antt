@@ -27,7 +27,8 @@ unfolding first
 first-append [] ys = refl
 first-append (c ∷ cs) ys = by (c .fails) (first-append cs ys)
   where
-    by : (b : Bool) → first (cs ++ ys) ≡ decided (first cs) Refused (first ys) → cond b (Refused (c .refusal)) (first (cs ++ ys)) ≡ decided (cond b (Refused (c .refusal)) (first cs)) Refused (first ys)
+    by : (b : Bool) → first (cs ++ ys) ≡ decided (first cs) Refused (first ys)
+        → cond b (Refused (c .refusal)) (first (cs ++ ys)) ≡ decided (cond b (Refused (c .refusal)) (first cs)) Refused (first ys)
     by true e = refl
     by false e = e
 
@@ -53,7 +54,8 @@ unfolding first
 passed-append [] ys e = (refl, e)
 passed-append (c ∷ cs) ys e = by (c .fails) refl (passed-append cs ys) e
   where
-    by : (b : Bool) → c .fails ≡ b → (first (cs ++ ys) ≡ Passed → (first cs ≡ Passed) × (first ys ≡ Passed)) → cond b (Refused (c .refusal)) (first (cs ++ ys)) ≡ Passed → (cond b (Refused (c .refusal)) (first cs) ≡ Passed) × (first ys ≡ Passed)
+    by : (b : Bool) → c .fails ≡ b → (first (cs ++ ys) ≡ Passed → (first cs ≡ Passed) × (first ys ≡ Passed))
+        → cond b (Refused (c .refusal)) (first (cs ++ ys)) ≡ Passed → (cond b (Refused (c .refusal)) (first cs) ≡ Passed) × (first ys ≡ Passed)
     by true q rest e = (cc, cc)
     by false q rest e = rest e
 

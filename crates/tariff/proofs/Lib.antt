@@ -1,6 +1,7 @@
 pub mod Worst
 pub mod Overloads
 pub mod Theorems
+pub mod Kept
 pub mod Sizes
 pub mod Rules
 pub mod Checks

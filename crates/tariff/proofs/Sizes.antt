@@ -6,7 +6,7 @@ use native.Mathlib.Nat.{mul-le-mul, le-trans}
 use native.Mathlib.Omega.{arith}
 use lib.ListN.{length}
 use lib.IntN.{ℤ, pos, negsuc, natAbs, _-ℤ_, _*ℤ_}
-use Rattle.integers.proofs.Sizes.{natAbs-sub, natAbs-neg, natAbs-times, natAbs-max0, natAbs-sumTo, natAbs-sumOver}
+use Rattle.integers.proofs.Sizes.{natAbs-sub, natAbs-neg, natAbs-times, natAbs-sumTo, natAbs-sumOver}
 use Rattle.lists.specs.Lists.{Each}
 use Rattle.integers.proofs.Division.{natAbs-roundAway}
 use Rattle.tariff.specs.declared.contracts.Kind.{Kind}
@@ -15,26 +15,32 @@ use Rattle.tariff.specs.declared.contracts.Contract.{Contract}
 use Rattle.tariff.specs.declared.contracts.Period.{Period}
 use Rattle.tariff.specs.declared.processes.Process.{Process}
 use Rattle.tariff.specs.declared.processes.Process.the-variants.{Annual, TierLt, Monthly}
-use Rattle.tariff.specs.Units.{Factors, Grid, factor, price, maxConstraints}
+use Rattle.tariff.specs.Units.{Factors, Grid, factor, price, maxFactor, maxPrice, maxConstraints}
 use Rattle.tariff.specs.Contracts.{counted, samePeriod, ofPeriod}
 use Rattle.tariff.specs.Inner.{FactorsInRange, LimitsInRange, PricesInRange, InRange, maxFlow, maxMcc, maxSpread, maxAmount}
 use Rattle.tariff.specs.Processes.{percent}
 use Rattle.tariff.specs.Settlement.{congestion, mcc, amount, exactTotal, cents, wholeCents}
+use Rattle.tariff.proofs.Kept.{spread-small}
 use Rattle.tariff.specs.Feasibility.{flow, totalFlow, released, excess}
 
 pub counted-sized : (d : Kind) (x : ℤ) → natAbs (counted d x) ≤ natAbs x
 counted-sized Obligation x = omega arith
-counted-sized Option x = natAbs-max0 x
+counted-sized Option (pos n) = omega arith
+counted-sized Option (negsuc n) = omega arith
+
+-- a product by a quantity, as it counts
+pub counted-times : (d : Kind) (x : ℤ) (q : ℕ) {A B : ℕ} → natAbs x ≤ A → q ≤ B → natAbs (counted d (x *ℤ pos q)) ≤ A * B
+counted-times d x q hx hq = le-trans (counted-sized d (x *ℤ pos q)) (natAbs-times x (pos q) hx hq)
 
 -- ---- settlement
 
 module _ (f : Factors) (p : List ℕ) (few : f .constraints ≤ maxConstraints) (fs : FactorsInRange f) (ps : PricesInRange (f .constraints) p) where
-  pub product-sized : (n k : ℕ) → n < f .nodes → k < f .constraints → natAbs (factor f n k *ℤ pos (price p k)) ≤ 50000000000
+  pub product-sized : (n k : ℕ) → n < f .nodes → k < f .constraints → natAbs (factor f n k *ℤ pos (price p k)) ≤ maxFactor * maxPrice
   product-sized n k hn hk = natAbs-times (factor f n k) (pos (price p k)) (fs .factor-sized n k hn hk) (ps .price-sized k hk)
 
-  pub congestion-sized : (n k : ℕ) → n < f .nodes → k ≤ f .constraints → natAbs (congestion f p n k) ≤ 50000000000 * k
+  pub congestion-sized : (n k : ℕ) → n < f .nodes → k ≤ f .constraints → natAbs (congestion f p n k) ≤ maxFactor * maxPrice * k
   unfolding congestion
-  congestion-sized n k hn hk = natAbs-sumTo k 50000000000 (λ j. factor f n j *ℤ pos (price p j)) (λ j b. product-sized n j hn (omega arith))
+  congestion-sized n k hn hk = natAbs-sumTo k (maxFactor * maxPrice) (λ j. factor f n j *ℤ pos (price p j)) (λ j b. product-sized n j hn (omega arith))
 
   pub mcc-sized : (n : ℕ) → n < f .nodes → natAbs (mcc f p n) ≤ maxMcc
   unfolding mcc
@@ -45,7 +51,7 @@ module _ (f : Factors) (p : List ℕ) (few : f .constraints ≤ maxConstraints) 
 
   pub amount-sized : (c : Contract) → InRange (f .nodes) c → natAbs (amount f p c) ≤ maxAmount
   unfolding amount
-  amount-sized c h = le-trans (counted-sized (c .kind) _) (natAbs-times (mcc f p (c .sink) -ℤ mcc f p (c .source)) (pos (c .quantity .0)) (spread-sized (c .sink) (c .source) (h .sink-below) (h .source-below)) (h .quantity-sized))
+  amount-sized c h = search (counted-times, spread-sized, h .sink-below, h .source-below, h .quantity-sized)
 
   amounts-sized : (cs : List Contract) → Each (InRange (f .nodes)) cs → Each (λ c. natAbs (amount f p c) ≤ maxAmount) cs
   amounts-sized [] h = tt
@@ -68,9 +74,7 @@ whole-sized (negsuc n) B h = omega arith
 module _ (f : Factors) (fs : FactorsInRange f) where
   pub flow-sized : (c : Contract) (k : ℕ) → InRange (f .nodes) c → k < f .constraints → natAbs (flow f c k) ≤ maxFlow
   unfolding flow
-  flow-sized c k h hk =
-      let d : natAbs (factor f (c .source) k -ℤ factor f (c .sink) k) ≤ 200000 = omega (arith, natAbs-sub (factor f (c .source) k) (factor f (c .sink) k), fs .factor-sized (c .source) k (h .source-below) hk, fs .factor-sized (c .sink) k (h .sink-below) hk) in
-      le-trans (counted-sized (c .kind) _) (natAbs-times (factor f (c .source) k -ℤ factor f (c .sink) k) (pos (c .quantity .0)) d (h .quantity-sized))
+  flow-sized c k h hk = search (counted-times, spread-small, fs .factor-sized, h .source-below, h .sink-below, h .quantity-sized, hk)
 
   flows-sized : (k : ℕ) → k < f .constraints → (cs : List Contract) → Each (InRange (f .nodes)) cs → Each (λ c. natAbs (flow f c k) ≤ maxFlow) cs
   flows-sized k hk [] h = tt
@@ -107,6 +111,7 @@ unfolding ofPeriod
 ofPeriod-in-range n t [] h = (tt, omega arith)
 ofPeriod-in-range n t (c ∷ cs) h = by (samePeriod (c .period) t) (ofPeriod-in-range n t cs (h .1))
   where
-    by : (b : Bool) → Each (InRange n) (ofPeriod t cs) × (length (ofPeriod t cs) ≤ length cs) → Each (InRange n) (cond b (c ∷ ofPeriod t cs) (ofPeriod t cs)) × (length (cond b (c ∷ ofPeriod t cs) (ofPeriod t cs)) ≤ suc (length cs))
+    by : (b : Bool) → Each (InRange n) (ofPeriod t cs) × (length (ofPeriod t cs) ≤ length cs)
+        → Each (InRange n) (cond b (c ∷ ofPeriod t cs) (ofPeriod t cs)) × (length (cond b (c ∷ ofPeriod t cs) (ofPeriod t cs)) ≤ suc (length cs))
     by true r = ((h .0, r .0), omega arith)
     by false r = (r .0, omega arith)

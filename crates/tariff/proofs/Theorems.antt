@@ -1,5 +1,5 @@
 -- THE THEOREMS over document 01's definitions, each for every grid, book, period and process. Statements only: the proofs are in Worst.antt,
--- WorstNumber.antt, Overloads.antt and Periods.antt.
+-- WorstNumber.antt, Overloads.antt, Rules.antt and Periods.antt.
 use mathlib.Core.Path.{_≡_}
 use mathlib.Core.Logic.{_↔_}
 use mathlib.Core.List.{List, [], _∷_, _++_}
@@ -19,6 +19,7 @@ use Rattle.tariff.specs.Feasibility.{flow, Passes, excess, overloaded, o
 use Rattle.tariff.specs.Shortfall.{PriceList, shortfall, oneCent, IsWorst}
 use Rattle.tariff.proofs.Worst as W
 use Rattle.tariff.proofs.Overloads as O
+use Rattle.tariff.proofs.Rules as R
 use Rattle.tariff.proofs.Periods as P
 use Rattle.tariff.proofs.WorstNumber as N
 
@@ -31,7 +32,9 @@ module _ (g : Grid) (process : Process) (period : Period) (book : List Contract)
   pass-is-worst-zero = (W.pass→worst g process tested, W.worst→pass g process tested)
 
   -- Demand 3: the one-cent list is a price list, and its shortfall is the excess at its constraint
-  pub excess-is-a-shortfall : (k : ℕ) → k < g .factors .constraints → PriceList (g .factors .constraints) (oneCent (g .factors .constraints) k) × (shortfall g process tested (oneCent (g .factors .constraints) k) ≡ excess g process tested k)
+  pub excess-is-a-shortfall : (k : ℕ) → k < g .factors .constraints
+      → PriceList (g .factors .constraints) (oneCent (g .factors .constraints) k)
+      × (shortfall g process tested (oneCent (g .factors .constraints) k) ≡ excess g process tested k)
   excess-is-a-shortfall k h = (W.only-list g k h, W.only-shortfall g process tested k h)
 
   -- the test passes exactly when no constraint is in the overload set
@@ -39,7 +42,8 @@ module _ (g : Grid) (process : Process) (period : Period) (book : List Contract)
   pass-is-empty-set = O.passes-empty g process tested
 
   -- when it fails, the constraint named is the lowest overloaded one, and its excess is above 0
-  pub fail-names-lowest : 0 < overloadSet g process tested → Lowest (g .factors .constraints) (overloaded g process tested) (lowestOverload g process tested) × (pos 0 <ℤ excess g process tested (lowestOverload g process tested))
+  pub fail-names-lowest : 0 < overloadSet g process tested
+      → Lowest (g .factors .constraints) (overloaded g process tested) (lowestOverload g process tested) × (pos 0 <ℤ excess g process tested (lowestOverload g process tested))
   fail-names-lowest s = (O.fails-lowest g process tested s, O.fails-excess g process tested s)
 
   -- the count is the set's count of ones, and the lowest its trailing zeros
@@ -75,4 +79,4 @@ empty-book-passes g process period = W.empty-passes g process
 
 -- an option never relieves a constraint
 pub option-never-relieves : (f : Factors) (c : Contract) → c .kind ≡ Option → (k : ℕ) → pos 0 ≤ℤ flow f c k
-option-never-relieves f c e k = W.option-flow f c e k
+option-never-relieves f c e k = R.option-flow f c e k

@@ -17,7 +17,7 @@ use Rattle.tariff.specs.declared.contracts.Kind.{Kind}
 use Rattle.tariff.specs.declared.contracts.Kind.the-variants.{Obligation, Option}
 use Rattle.tariff.specs.declared.contracts.Contract.{Contract}
 use Rattle.tariff.specs.declared.processes.Process.{Process}
-use Rattle.tariff.specs.Units.{Factors, Grid, factor, price}
+use Rattle.tariff.specs.Units.{Factors, Grid, factor, price, maxPrice}
 use Rattle.tariff.specs.Contracts.{counted}
 use Rattle.tariff.specs.Settlement.{congestion, mcc, amount, exactTotal}
 use Rattle.tariff.specs.Feasibility.{flow, totalFlow, released, Passes, excess}
@@ -58,9 +58,6 @@ weigh-one n k x w h e z = sumTo-one n k (λ j. x j *ℤ pos (w j)) h (λ j b ne.
 zero≤ : (n : ℕ) → pos 0 ≤ℤ pos n
 zero≤ n = simp ⊖s (omega arith)
 
-max0≥0 : (x : ℤ) → pos 0 ≤ℤ max0 x
-max0≥0 x = rw (⊖of x) (simp ⊖s (omega (arith, le-max-right (above x) (below x))))
-
 module _ (g : Grid) where
   abbrev K : ℕ
   K = g .factors .constraints
@@ -73,7 +70,10 @@ module _ (g : Grid) where
 
   amount≤ : (p : List ℕ) (c : Contract) → amount F p c ≤ℤ sumTo K (λ k. flow F c k *ℤ pos (price p k))
   unfolding amount mcc congestion flow
-  amount≤ p c = rw (linear K (factor F (c .source)) (factor F (c .sink)) (price p) (c .quantity .0)) (convex (c .kind) K _ (price p))
+  amount≤ p c =
+      ≤ℤ-trans
+      (≤ℤ-of-≡ (ap (counted (c .kind)) (linear K (factor F (c .source)) (factor F (c .sink)) (price p) (c .quantity .0))))
+      (convex (c .kind) K (λ k. (factor F (c .source) k -ℤ factor F (c .sink) k) *ℤ pos (c .quantity .0)) (price p))
 
   -- the flows at their prices, contract by contract, are the total flows at their prices
   by-constraint : (cs : List Contract) (p : List ℕ) → sumOver cs (λ c. sumTo K (λ k. flow F c k *ℤ pos (price p k))) ≡ sumTo K (λ k. totalFlow F cs k *ℤ pos (price p k))
@@ -110,7 +110,7 @@ module _ (g : Grid) where
     unfolding oneCent
     only-else j b ne = getD-set-other {A = ℕ} (replicate K 0) k j 1 0 ne ∙ getD-replicate {A = ℕ} K j 0 0 b
 
-    only-small : (j : ℕ) → j < K → price (oneCent K k) j ≤ 500000
+    only-small : (j : ℕ) → j < K → price (oneCent K k) j ≤ maxPrice
     only-small j b = elim (ℕ-discrete j k) [ yes e ↦ rw e (omega (arith, only-at)) | no ne ↦ omega (arith, only-else j b ne) ]
 
     pub only-list : PriceList K (oneCent K k)
@@ -148,8 +148,3 @@ module _ (g : Grid) where
   pub empty-passes : (process : Process) → Passes g process []
   unfolding totalFlow sumOver
   empty-passes process = record { within = λ k h. zero≤ (room process k) }
-
--- ---- options
-pub option-flow : (f : Factors) (c : Contract) → c .kind ≡ Option → (k : ℕ) → pos 0 ≤ℤ flow f c k
-unfolding flow
-option-flow f c e k = rw e (max0≥0 ((factor f (c .source) k -ℤ factor f (c .sink) k) *ℤ pos (c .quantity .0)))

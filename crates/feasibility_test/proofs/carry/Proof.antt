@@ -2,9 +2,11 @@
 use mathlib.Core.Path.{_≡_, sym, _∙_, subst}
 use mathlib.Core.Logic.{⊎-elim}
 use Prim.Native.Nat.{ℕ, _+_, _-_, _≤_, _<_}
+use native.Mathlib.Nat.{le-refl}
 use native.Mathlib.Omega.{arith}
-use borrow.Author.Needs.{needs}
+use borrow.Author.Needs.{needs, zero≤}
 use Rattle.lists.specs.Lists.{listTo}
+use Rattle.tariff.specs.declared.contracts.Contract.{Contract}
 use Rattle.tariff.specs.Units.{factorsOf}
 use Rattle.tariff.specs.Contracts.{ofPeriod}
 use Rattle.tariff.specs.Inner.{InRange}
@@ -47,13 +49,13 @@ contract-at-requires c κs =
 same-requires : tie.Need-same-requires Inv-loop μ-loop
 same-requires c κs = search needs
 
--- the contract read is in range
+-- the contracts up to the one that is read are in range
+up-to : (c : tie.After-contract-at Inv-loop μ-loop) (j : ℕ) → j ≤ c .before .before .loop .i
+    → InRange (c .before .before .before .before .before .before .args .nodes) (contractAt (c .before .before .before .before .before .before .args .book .now) j)
+up-to c j h = ok (c .before .before .before .before .before .before) .each j (omega (arith, c .before .before .before .before .contract-count .ensures .0))
+
 own : (c : tie.After-contract-at Inv-loop μ-loop) → InRange (c .before .before .before .before .before .before .args .nodes) (c .contract-at .result)
-own c =
-    let s = c .before .before .before .before .before .before in
-    let l = c .before .before .loop in
-    let m = c .before .before .before .before .contract-count .ensures .0 in
-    subst (InRange (s .args .nodes)) (sym (c .contract-at .ensures)) (ok s .each (l .i) (omega arith))
+own c = rw (c .contract-at .ensures) (search (up-to c, le-refl, zero≤))
 
 step-requires : tie.Need-step-requires Inv-loop μ-loop
 step-requires c κs =
@@ -63,7 +65,7 @@ step-requires c κs =
     let m = c .before .before .before .before .before .before .contract-count .ensures .0 in
     let f = factorsOf (s .args .nodes) (s .args .constraints) (s .args .factors .now) in
     let at = contractAt (s .args .book .now) in
-    let each : (j : ℕ) → j < l .i → InRange (s .args .nodes) (at j) = λ j h. o .each j (omega arith) in
+    let each : (j : ℕ) → j < l .i → InRange (s .args .nodes) (at j) = λ j h. up-to (c .before .before) j (omega arith) in
     let most = count-most f (l .i) (s .args .period) at (l .flows) each (l .inv .1) in (
       ends-of (s .args .nodes) (s .args .constraints) (s .args .factors .now) _ (s .pre .0) (own (c .before .before)),
       record { count-below = omega (arith, o .few); flows-sized = flow-most f (l .i) (s .args .period) at (l .flows) each (l .inv .1) (s .pre .0 .in-range) },

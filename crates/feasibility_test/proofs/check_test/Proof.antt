@@ -1,5 +1,5 @@
 -- `check_test`: the tables' checks, then the book's own.
-use mathlib.Core.Path.{sym, _∙_}
+use mathlib.Core.Path.{_∙_}
 use Rattle.feasibility_test.specs.TestBook.{TestCall, testCall}
 use Rattle.feasibility_test.proofs.Checking.{table-refuses, then-book}
 use borrow.Author.Needs.{needs}
@@ -12,11 +12,13 @@ call c = testCall (c .args .nodes) (c .args .constraints) (c .args .process) (c 
 check-grid-tables-requires : tie.Need-check-grid-tables-requires
 check-grid-tables-requires c κs = search needs
 
-enum-known-checked : tie.Need-enum-known-checked
-enum-known-checked c = search needs
+enum-known-in-tables : tie.Need-enum-known-in-tables
+enum-known-in-tables c = search needs
 
 returns : tie.Need-returns
-returns c = table-refuses (call (c .before .before .before .before .before .before)) _ (sym (c .before .before .before .check-grid-tables .ensures) ∙ c .before .checked .given .1)
+returns c =
+    let k = c .before .before .before in
+    table-refuses (call (k .before .before .before)) (k .check-grid-tables .result) (k .check-grid-tables .ensures) _ (c .before .in-tables .given .1)
 
 enum-told : tie.Need-enum-told
 enum-told c = search needs
@@ -26,8 +28,9 @@ check-book-requires c κs = search needs
 
 returns-2 : tie.Need-returns-2
 returns-2 c =
-    let t = c .before in
-    c .check-book .ensures ∙ then-book (call (t .before .before .before .before .before)) (sym (t .before .before .check-grid-tables .ensures) ∙ t .enum-told .given .1)
+    let k = c .before .before .before in
+    c .check-book .ensures
+    ∙ then-book (call (k .before .before .before)) (k .check-grid-tables .result) (k .check-grid-tables .ensures) (c .before .enum-told .given .1)
 
 pub check-test-spec : {M : Type 1} → statement M
-check-test-spec = tie.close (tie.spec check-grid-tables-requires enum-known-checked returns enum-told check-book-requires returns-2)
+check-test-spec = tie.close (tie.spec check-grid-tables-requires enum-known-in-tables returns enum-told check-book-requires returns-2)

@@ -1,5 +1,6 @@
 -- `overload_set`: the bits below k are set.
 use mathlib.Core.Path.{_≡_, refl, sym, ap, _∙_}
+use mathlib.Core.Bool.{Bool}
 use Prim.Native.Nat.{ℕ, _-_, _≤_}
 use native.Mathlib.Omega.{arith}
 use lib.ListN.{getD, set}
@@ -48,11 +49,18 @@ exceeds-requires c κs =
     let limit = released-small (c .released .result .0) (getD (s .args .limits .now) k 0) (s .args .process) (s .pre .good-limits .sized k t) (c .released .ensures) in
     (omega (arith, flow, limit), omega (arith, flow, limit))
 
-is : (c : tie.After-exceeds Inv-loop μ-loop) → let s = c .before .before .before .before .before .before .before .before in over (s .args .limits .now) (s .args .process) (s .args .flows .flows) (c .before .before .before .before .before .loop .k) ≡ c .exceeds .result
+-- whether it is overloaded is what the test found
+abbrev overloaded : tie.Start Inv-loop μ-loop → ℕ → Bool
+overloaded s = over (s .args .limits .now) (s .args .process) (s .args .flows .flows)
+
+is : (c : tie.After-exceeds Inv-loop μ-loop)
+    → overloaded (c .before .before .before .before .before .before .before .before) (c .before .before .before .before .before .loop .k) ≡ c .exceeds .result
 is c =
     let s = c .before .before .before .before .before .before .before .before in
     let k = c .before .before .before .before .before .loop .k in
-    over-is (s .args .limits .now) (s .args .process) (s .args .flows .flows) k (c .before .released .result .0) (c .exceeds .result) (s .pre .flows-sized k (c .before .before .before .before .loop-test .taken)) (c .before .released .ensures) (c .exceeds .ensures)
+    let flow = s .pre .flows-sized k (c .before .before .before .before .loop-test .taken) in
+    let r = c .before .released in
+    over-is (s .args .limits .now) (s .args .process) (s .args .flows .flows) k (r .result .0) (c .exceeds .result) flow (r .ensures) (c .exceeds .ensures)
 
 shl-set : tie.Need-shl-set Inv-loop μ-loop
 shl-set c = search needs
@@ -70,14 +78,19 @@ loop-again : tie.Need-loop-again Inv-loop μ-loop
 loop-again c =
     let s = c .before .before .before .before .before .before .before .before .before in
     let l = c .before .before .before .before .before .before .loop in
-    let f = over (s .args .limits .now) (s .args .process) (s .args .flows .flows) in
-    (omega arith, ⊎-elim (λ w. bit-set (l .set) (c .if1 .set) (l .k) f (omega arith) (l .inv .1) (w .1) (is (c .before) ∙ w .0 .taken)) (λ w. w .1 ∙ l .inv .1 ∙ sym (set-skip (l .k) f (is (c .before) ∙ w .0 .left))) (c .if1 .came))
+    let f = overloaded s in (
+      omega arith,
+      ⊎-elim
+          (λ w. bit-set (l .set) (c .if1 .set) (l .k) f (omega arith) (l .inv .1) (w .1) (is (c .before) ∙ w .0 .taken))
+          (λ w. w .1 ∙ l .inv .1 ∙ sym (set-skip (l .k) f (is (c .before) ∙ w .0 .left)))
+          (c .if1 .came),
+    )
 
 returns : tie.Need-returns Inv-loop μ-loop
 returns c =
     let s = c .before .before .before .before in
     let last : c .before .loop .k ≡ s .args .constraints = omega arith in
-    c .before .loop .inv .1 ∙ ap (λ (x : ℕ). setOf x (over (s .args .limits .now) (s .args .process) (s .args .flows .flows))) last
+    c .before .loop .inv .1 ∙ ap (λ (x : ℕ). setOf x (overloaded s)) last
 
 pub overload-set-spec : {M : Type 1} → statement M
 overload-set-spec =

@@ -1,5 +1,6 @@
 -- `test_book`.
 use mathlib.Core.Path.{sym, _∙_, subst}
+use native.Mathlib.Omega.{arith}
 use Rattle.tariff.specs.declared.contracts.Period.{Period}
 use Rattle.tariff.specs.declared.processes.Process.{Process}
 use Rattle.tariff.specs.Contracts.{periodOf, ofPeriod}
@@ -16,15 +17,6 @@ use Rattle.feasibility_test.proofs.test_book.Tie as tie
 abbrev call : tie.Start → TestCall
 call c = testCall (c .args .nodes) (c .args .constraints) (c .args .process) (c .args .period) (c .args .limits .now) (c .args .factors .now) (c .args .book .now)
 
--- none of the checks refuses
-ok : (c : tie.After-enum-told) → Tested (call (c .before .before .before .before .before))
-ok c = tested (call (c .before .before .before .before .before)) (sym (c .before .before .check-test .ensures) ∙ c .enum-told .given .1)
-
-carried : (c : tie.After-carry) → let q = call (c .before .before .before .before .before .before .before) in Carries (testedGrid q .factors) (testedContracts q) (c .carry .result)
-carried c =
-    let q = call (c .before .before .before .before .before .before .before) in
-    subst (λ (t : Period). Carries (testedGrid q .factors) (ofPeriod t (bookIn (q .book))) (c .carry .result)) (c .before .from-number .ensures) (c .carry .ensures)
-
 check-test-requires : tie.Need-check-test-requires
 check-test-requires c κs = search needs
 
@@ -39,6 +31,15 @@ returns c =
       demand3 = λ p. absurd (refused-passed (k .result) _ _ (k .ensures) (c .before .checked .given .1) p);
     }
 
+-- none of the checks refuses
+ok : (c : tie.After-enum-told) → Tested (call (c .before .before .before .before .before))
+ok c = tested (call (c .before .before .before .before .before)) (sym (c .before .before .check-test .ensures) ∙ c .enum-told .given .1)
+
+carried : (c : tie.After-carry) → let q = call (c .before .before .before .before .before .before .before) in Carries (testedGrid q .factors) (testedContracts q) (c .carry .result)
+carried c =
+    let q = call (c .before .before .before .before .before .before .before) in
+    subst (λ (t : Period). Carries (testedGrid q .factors) (ofPeriod t (bookIn (q .book))) (c .carry .result)) (c .before .from-number .ensures) (c .carry .ensures)
+
 enum-told : tie.Need-enum-told
 enum-told c = search needs
 
@@ -49,7 +50,7 @@ carry-requires : tie.Need-carry-requires
 carry-requires c κs = let o = ok (c .before) in (o .tables .good-factors, o .book)
 
 from-number-requires-2 : tie.Need-from-number-requires-2
-from-number-requires-2 c κs = ok (c .before .before) .tables .process-number
+from-number-requires-2 c κs = let t = ok (c .before .before) .tables in omega (arith, t .process-number, t .period-number)
 
 verdict-requires : tie.Need-verdict-requires
 verdict-requires c κs =

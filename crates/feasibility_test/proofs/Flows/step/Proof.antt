@@ -6,15 +6,17 @@ use lib.ListN.{length, getD, length-set, length-map}
 use lib.Dec.{lit<}
 use borrow.Author.Needs.{needs}
 use lib.IntN.{ℤ, pos, natAbs, _+ℤ_}
-use Rattle.tariff.specs.Units.{maxConstraints, maxContracts, maxFactor}
+use Rattle.tariff.specs.Units.{maxConstraints, maxContracts}
 use Rattle.tariff.specs.Inner.{maxFlow}
-use Rattle.feasibility_test.proofs.Flowing.{part, cell-done, cell-rest, kept-sized, part-is, part-small, sum-is, step-carries}
+use Rattle.feasibility_test.proofs.Flowing.{part, cell-done, cell-rest, kept-sized, rows-kept, part-is, part-small, sum-is, step-carries}
 use Rattle.feasibility_test.proofs.Flows.step.Statement.{statement}
 use Rattle.feasibility_test.proofs.Flows.step.Tie as tie
 
 abbrev Inv-loop : tie.InvT-loop
 Inv-loop self constraints factors flows₀ source sink quantity kind k₀ flows k =
-    (k ≤ constraints) × (length flows ≡ maxConstraints) × ((j : ℕ) → j < k → getD flows j (pos 0) ≡ getD flows₀ j (pos 0) +ℤ part factors source sink quantity kind j) × ((j : ℕ) → k ≤ j → getD flows j (pos 0) ≡ getD flows₀ j (pos 0))
+    (k ≤ constraints) × (length flows ≡ maxConstraints)
+    × ((j : ℕ) → j < k → getD flows j (pos 0) ≡ getD flows₀ j (pos 0) +ℤ part factors source sink quantity kind j)
+    × ((j : ℕ) → k ≤ j → getD flows j (pos 0) ≡ getD flows₀ j (pos 0))
 
 abbrev μ-loop : tie.MeasureT-loop
 μ-loop self constraints factors flows₀ source sink quantity kind k₀ flows k = constraints - k
@@ -54,16 +56,16 @@ counted-flow-requires c κs =
     let s = c .before .before .before .before .before .before .before .before in
     let k = c .before .before .before .loop .k in
     let a : k < s .args .constraints = c .before .before .loop-test .taken in
-    let source = kept-sized (getD (s .args .factors .now) (s .args .c .source * s .args .constraints + k) (pos 0)) maxFactor (lit< tt) (s .pre .0 .source-sized k a) in
-    let sink = kept-sized (getD (s .args .factors .now) (s .args .c .sink * s .args .constraints + k) (pos 0)) maxFactor (lit< tt) (s .pre .0 .sink-sized k a) in
-    (omega (arith, source, sink), omega (arith, source, sink), s .pre .0 .quantity-sized)
+    let r = rows-kept (s .args .constraints) (s .args .factors .now) (s .args .c) (s .pre .0) k a in
+    (omega (arith, r), omega (arith, r), s .pre .0 .quantity-sized)
 
 small : (c : tie.After-counted-flow Inv-loop μ-loop) → natAbs (c .counted-flow .result .0) ≤ maxFlow
 small c =
     let s = c .before .before .before .before .before .before .before .before .before in
     let k = c .before .before .before .before .loop .k in
     let a : k < s .args .constraints = c .before .before .before .loop-test .taken in
-    part-small (s .args .factors .now) (s .args .c .source * s .args .constraints) (s .args .c .sink * s .args .constraints) (s .args .c .quantity) (s .args .c .kind) k (s .pre .0 .source-sized k a) (s .pre .0 .sink-sized k a) _ (c .counted-flow .ensures) (s .pre .0 .quantity-sized)
+    let r = rows-kept (s .args .constraints) (s .args .factors .now) (s .args .c) (s .pre .0) k a in
+    search (part-small, c .counted-flow .ensures, r .0, r .1, s .pre .0 .quantity-sized)
 
 -- the cell has its old flow still
 old : (c : tie.After-counted-flow Inv-loop μ-loop) → natAbs (getD (c .before .before .before .before .loop .flows) (c .before .before .before .before .loop .k) (pos 0)) ≤ maxFlow * maxContracts
@@ -79,7 +81,9 @@ array-copy-out-t23 : tie.Need-array-copy-out-t23 Inv-loop μ-loop
 array-copy-out-t23 c = search needs
 
 plus-requires : tie.Need-plus-requires Inv-loop μ-loop
-plus-requires c κs = let l = c .before .before .before .before .before .loop in omega (arith, small (c .before), kept-sized (getD (l .flows) (l .k) (pos 0)) (maxFlow * maxContracts) (lit< tt) (old (c .before)))
+plus-requires c κs =
+    let l = c .before .before .before .before .before .loop in
+    omega (arith, small (c .before), kept-sized (getD (l .flows) (l .k) (pos 0)) (maxFlow * maxContracts) (lit< tt) (old (c .before)))
 
 mul-flows : tie.Need-mul-flows Inv-loop μ-loop
 mul-flows c = search needs
@@ -100,10 +104,11 @@ loop-again c =
     let p = c .before .before .before in
     let a : l .k < s .args .constraints = c .before .before .before .before .before .before .loop-test .taken in
     let f = part (s .args .factors .now) (s .args .c .source * s .args .constraints) (s .args .c .sink * s .args .constraints) (s .args .c .quantity) (s .args .c .kind) in
-    let e = part-is (s .args .factors .now) (s .args .c .source * s .args .constraints) (s .args .c .sink * s .args .constraints) (s .args .c .quantity) (s .args .c .kind) (l .k) (s .pre .0 .source-sized (l .k) a) (s .pre .0 .sink-sized (l .k) a) _ (p .counted-flow .ensures) in (
+    let e = part-is (s .args .constraints) (s .args .factors .now) (s .args .c) (s .pre .0) (l .k) a _ (p .counted-flow .ensures) in
+    let more = sum-is (getD (l .flows) (l .k) (pos 0)) (p .counted-flow .result .0) (c .before .plus .result .0) (f (l .k)) (old p) (small p) (c .before .plus .ensures) e in (
       omega arith,
       length-set (l .flows) (l .k) _ ∙ l .inv .1,
-      cell-done (s .args .self .flows) (l .flows) f (l .k) (l .inv .2) (l .inv .3) _ (omega arith) (sum-is (getD (l .flows) (l .k) (pos 0)) (p .counted-flow .result .0) (c .before .plus .result .0) (f (l .k)) (old p) (small p) (c .before .plus .ensures) e),
+      cell-done (s .args .self .flows) (l .flows) f (l .k) (l .inv .2) (l .inv .3) _ (omega arith) more,
       cell-rest (s .args .self .flows) (l .flows) f (l .k) (l .inv .2) (l .inv .3) _,
     )
 

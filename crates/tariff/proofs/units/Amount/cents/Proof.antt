@@ -8,6 +8,7 @@ use lib.Signed.{ltZ}
 use borrow.Author.Needs.{needs}
 use Rattle.integers.proofs.Machine.{back, cast-back}
 use Rattle.tariff.specs.Settlement.{cents}
+use Rattle.tariff.specs.Inner.{maxCents}
 use Rattle.tariff.proofs.Sizes.{cents-sized}
 use Rattle.tariff.proofs.Rounding.{cast-minus-fits, cast-minus-is, negative-cents, positive-cents}
 use Rattle.tariff.proofs.units.Amount.cents.Statement.{statement}
@@ -25,8 +26,8 @@ sub-result c = cast-minus-fits (c .before .before .before .rounded .result) (ome
 cast-result-2 : tie.Need-cast-result-2
 cast-result-2 c = search needs
 
-sized : (c : tie.Start) → natAbs (cents (c .args .self .0)) ≤ 64000000000
-sized c = cents-sized (c .args .self .0) 64000000000 (c .pre)
+sized : (c : tie.Start) → natAbs (cents (c .args .self .0)) ≤ maxCents
+sized c = cents-sized (c .args .self .0) maxCents (c .pre)
 
 returns : tie.Need-returns
 returns c =

@@ -8,6 +8,7 @@ use lib.Signed.{ltZ}
 use borrow.Author.Needs.{needs}
 use Rattle.integers.proofs.Machine.{back, cast-back}
 use Rattle.tariff.specs.Settlement.{wholeCents}
+use Rattle.tariff.specs.Inner.{maxCents}
 use Rattle.tariff.proofs.Sizes.{whole-sized}
 use Rattle.tariff.proofs.Rounding.{cast-minus-fits, cast-minus-is, negative-whole, positive-whole}
 use Rattle.tariff.proofs.units.Amount.whole.Statement.{statement}
@@ -28,8 +29,8 @@ sub-result c = cast-minus-fits ((c .before .before .before .size .result + 99999
 cast-result-2 : tie.Need-cast-result-2
 cast-result-2 c = search needs
 
-sized : (c : tie.Start) → natAbs (wholeCents (c .args .self .0)) ≤ 64000000000
-sized c = whole-sized (c .args .self .0) 64000000000 (c .pre)
+sized : (c : tie.Start) → natAbs (wholeCents (c .args .self .0)) ≤ maxCents
+sized c = whole-sized (c .args .self .0) maxCents (c .pre)
 
 returns : tie.Need-returns
 returns c =

@@ -1,38 +1,42 @@
 -- `Quantity::flow`: a difference of two factors, then a product; both fit.
 use mathlib.Core.Path.{_≡_}
-use Prim.Native.Nat.{_≤_, _<_, _^_}
+use Prim.Native.Nat.{ℕ, _≤_, _<_, _^_}
 use native.Mathlib.Nat.{lt-of-le-of-lt}
 use native.Mathlib.Omega.{arith}
 use lib.Dec.{lit<}
-use lib.IntN.{pos, natAbs, _-ℤ_, _*ℤ_}
+use lib.IntN.{ℤ, pos, natAbs, _-ℤ_, _*ℤ_}
 use mir.Syntax.{w64}
-use mir.Val.{toZ, ofZ}
+use mir.Val.{SFits, toZ, ofZ}
 use borrow.Author.Needs.{needs}
-use Rattle.integers.proofs.Sizes.{natAbs-sub, natAbs-times}
-use Rattle.integers.proofs.Machine.{back, cast-back, op-fits, op-is}
+use Rattle.integers.proofs.Sizes.{natAbs-times}
+use Rattle.integers.proofs.Machine.{cast-back, op-fits, op-is}
+use Rattle.tariff.specs.Units.{maxFactor, maxQuantity}
+use Rattle.tariff.proofs.Kept.{spread-small, spread-fits, spread-is}
 use Rattle.tariff.proofs.units.Quantity.flow.Statement.{statement}
 use Rattle.tariff.proofs.units.Quantity.flow.Tie as tie
 
-spread : (c : tie.Start) → natAbs (c .args .source -ℤ c .args .sink) ≤ 200000
-spread c = omega (arith, c .pre, natAbs-sub (c .args .source) (c .args .sink))
+-- a spread of two factors times a quantity
+module _ (x y : ℤ) (q : ℕ) (hx : natAbs x ≤ maxFactor) (hy : natAbs y ≤ maxFactor) (hq : q ≤ maxQuantity) where
+  small : natAbs ((x -ℤ y) *ℤ pos q) < 2 ^ 63
+  small = lt-of-le-of-lt (natAbs-times (x -ℤ y) (pos q) (spread-small x y hx hy) hq) (lit< tt)
 
-spread-is : (c : tie.Start) → toZ w64 (ofZ w64 (toZ w64 (ofZ w64 (c .args .source)) -ℤ toZ w64 (ofZ w64 (c .args .sink)))) ≡ c .args .source -ℤ c .args .sink
-spread-is c = op-is _-ℤ_ (back (c .args .source) (omega (arith, c .pre))) (back (c .args .sink) (omega (arith, c .pre))) (omega (arith, spread c))
+  product-fits : SFits w64 (toZ w64 (ofZ w64 (toZ w64 (ofZ w64 x) -ℤ toZ w64 (ofZ w64 y))) *ℤ toZ w64 q)
+  product-fits = op-fits _*ℤ_ (spread-is x y hx hy) (cast-back q (omega arith)) small
 
-small : (c : tie.Start) → natAbs ((c .args .source -ℤ c .args .sink) *ℤ pos (c .args .self .0)) < 2 ^ 63
-small c = lt-of-le-of-lt (natAbs-times (c .args .source -ℤ c .args .sink) (pos (c .args .self .0)) (spread c) (c .pre .2)) (lit< tt)
+  product-is : toZ w64 (ofZ w64 (toZ w64 (ofZ w64 (toZ w64 (ofZ w64 x) -ℤ toZ w64 (ofZ w64 y))) *ℤ toZ w64 q)) ≡ (x -ℤ y) *ℤ pos q
+  product-is = op-is _*ℤ_ (spread-is x y hx hy) (cast-back q (omega arith)) small
 
 cast-q : tie.Need-cast-q
 cast-q c = search needs
 
 sub-t5 : tie.Need-sub-t5
-sub-t5 c = let s = c .before in op-fits _-ℤ_ (back (s .args .source) (omega (arith, s .pre))) (back (s .args .sink) (omega (arith, s .pre))) (omega (arith, spread s))
+sub-t5 c = let p = c .before .pre in search (spread-fits, p .0, p .1)
 
 mul-t6 : tie.Need-mul-t6
-mul-t6 c = let s = c .before in op-fits _*ℤ_ (spread-is s) (cast-back (s .args .self .0) (omega (arith, s .pre))) (small s)
+mul-t6 c = let p = c .before .pre in search (product-fits, p .0, p .1, p .2)
 
 returns : tie.Need-returns
-returns c = let s = c .before in op-is _*ℤ_ (spread-is s) (cast-back (s .args .self .0) (omega (arith, s .pre))) (small s)
+returns c = let s = c .before in product-is (s .args .source) (s .args .sink) (s .args .self .0) (s .pre .0) (s .pre .1) (s .pre .2)
 
 pub flow-spec : {M : Type 1} → statement M
 flow-spec = tie.close (tie.spec cast-q sub-t5 mul-t6 returns)
