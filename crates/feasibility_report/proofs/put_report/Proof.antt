@@ -29,33 +29,6 @@ places-long : length places ≡ maxNodes * maxConstraints
 unfolding places
 places-long = length-replicate {A = ℤ} (maxNodes * maxConstraints) (pos 0)
 
-slice-aggregate-read-grid : tie.Need-slice-aggregate-read-grid
-slice-aggregate-read-grid c = search needs
-
-slice-aggregate-read-grid-2 : tie.Need-slice-aggregate-read-grid-2
-slice-aggregate-read-grid-2 c = search needs
-
-read-grid-requires : tie.Need-read-grid-requires
-read-grid-requires c κs = search needs
-
-enum-known-refusal : tie.Need-enum-known-refusal
-enum-known-refusal c = search needs
-
-slice-aggregate-put-refused : tie.Need-slice-aggregate-put-refused
-slice-aggregate-put-refused c = search needs
-
-put-refused-requires : tie.Need-put-refused-requires
-put-refused-requires c κs = search needs
-
-enum-known-nodes : tie.Need-enum-known-nodes
-enum-known-nodes c = search needs
-
-slice-aggregate-put-tested : tie.Need-slice-aggregate-put-tested
-slice-aggregate-put-tested c = search needs
-
-slice-aggregate-put-tested-2 : tie.Need-slice-aggregate-put-tested-2
-slice-aggregate-put-tested-2 c = search needs
-
 -- the tables as the reader left them
 taken : (c : tie.After-nodes) → let r = c .before .before .before .before in let s = r .before .before .before .before .before .before in
     GridTaken (s .args .grid-file .now) (c .nodes .given .0 .0) (c .nodes .given .0 .1 .0) (r .read-grid .last .1 .0) (r .read-grid .last .1 .1 .0)
@@ -67,18 +40,12 @@ put-tested-requires c κs =
     let t = taken (c .before .before .before .before) in
     (omega arith, (t .good-limits, t .good-factors))
 
-same-length : tie.Need-same-length
-same-length c = search needs
-
 returns : tie.Need-returns
 unfolding report cells places
 returns c =
     let f = c .before .before .before .before .before .before in
     let r = f .before .before .before .before .read-grid in
     put-same (grid-refused _ _ cells places cells-long places-long _ _ _ (rw (f .refusal .given .1) at (r .ensures))) (c .before .before .put-refused .ensures)
-
-same-length-2 : tie.Need-same-length-2
-same-length-2 c = search needs
 
 returns-2 : tie.Need-returns-2
 unfolding report
@@ -88,17 +55,17 @@ pub put-report-spec : {M : Type 1} → statement M
 put-report-spec =
     tie.close
     (tie.spec
-    slice-aggregate-read-grid
-    slice-aggregate-read-grid-2
-    read-grid-requires
-    enum-known-refusal
-    slice-aggregate-put-refused
-    put-refused-requires
-    enum-known-nodes
-    slice-aggregate-put-tested
-    slice-aggregate-put-tested-2
+    (λ c. search needs)
+    (λ c. search needs)
+    (λ c κs. search needs)
+    (λ c. search needs)
+    (λ c. search needs)
+    (λ c κs. search needs)
+    (λ c. search needs)
+    (λ c. search needs)
+    (λ c. search needs)
     put-tested-requires
-    same-length
+    (λ c. search needs)
     returns
-    same-length-2
+    (λ c. search needs)
     returns-2)

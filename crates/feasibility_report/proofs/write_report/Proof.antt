@@ -17,12 +17,6 @@ returns c =
     let told = first-refuses (shortTable (length (a .text .now)) reportRoom) [] (lt-ltb (length (a .text .now)) reportRoom (c .if1 .taken)) in
     record { length-given = rw told; bytes-written = rw told }
 
-put-report-requires : tie.Need-put-report-requires
-put-report-requires c κs = search needs
-
-same-length : tie.Need-same-length
-same-length c = search needs
-
 returns-2 : tie.Need-returns-2
 unfolding reportChecks
 returns-2 c =
@@ -33,4 +27,4 @@ returns-2 c =
     record { length-given = rw (told, p .1); bytes-written = rw told (p .0) }
 
 pub write-report-spec : {M : Type 1} → statement M
-write-report-spec = tie.close (tie.spec returns put-report-requires same-length returns-2)
+write-report-spec = tie.close (tie.spec returns (λ c κs. search needs) (λ c. search needs) returns-2)

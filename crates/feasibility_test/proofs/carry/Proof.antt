@@ -31,9 +31,6 @@ ok c = book-accepted (c .args .nodes) (c .args .book .now) (c .pre .1)
 contract-count-requires : tie.Need-contract-count-requires Inv-loop μ-loop
 contract-count-requires c κs = omega (arith, ok (c .before) .size)
 
-none-requires : tie.Need-none-requires Inv-loop μ-loop
-none-requires c κs = search needs
-
 loop-holds : tie.Need-loop-holds Inv-loop μ-loop
 unfolding listTo ofPeriod
 loop-holds c =
@@ -45,9 +42,6 @@ contract-at-requires c κs =
     let a = ok (c .before .before .before .before .before) in
     let n = c .before .before .before .contract-count .ensures .0 in
     (omega (arith, a .few, n), omega (arith, a .size, n))
-
-same-requires : tie.Need-same-requires Inv-loop μ-loop
-same-requires c κs = search needs
 
 -- the contracts up to the one that is read are in range
 up-to : (c : tie.After-contract-at Inv-loop μ-loop) (j : ℕ) → j ≤ c .before .before .loop .i
@@ -70,12 +64,6 @@ step-requires c κs =
       ends-of (s .args .nodes) (s .args .constraints) (s .args .factors .now) _ (s .pre .0) (own (c .before .before)),
       record { count-below = omega (arith, o .few); flows-sized = flow-most f (l .i) (s .args .period) at (l .flows) each (l .inv .1) (s .pre .0 .in-range) },
     )
-
-add-i : tie.Need-add-i Inv-loop μ-loop
-add-i c = search needs
-
-loop-less : tie.Need-loop-less Inv-loop μ-loop
-loop-less c = search needs
 
 loop-again : tie.Need-loop-again Inv-loop μ-loop
 loop-again c =
@@ -109,12 +97,12 @@ carry-spec =
     Inv-loop
     μ-loop
     contract-count-requires
-    none-requires
+    (λ c κs. search needs)
     loop-holds
     contract-at-requires
-    same-requires
+    (λ c κs. search needs)
     step-requires
-    add-i
-    loop-less
+    (λ c. search needs)
+    (λ c. search needs)
     loop-again
     returns)

@@ -9,22 +9,10 @@ use Rattle.feasibility_test.proofs.check_test.Tie as tie
 abbrev call : tie.Start → TestCall
 call c = testCall (c .args .nodes) (c .args .constraints) (c .args .process) (c .args .period) (c .args .limits .now) (c .args .factors .now) (c .args .book .now)
 
-check-grid-tables-requires : tie.Need-check-grid-tables-requires
-check-grid-tables-requires c κs = search needs
-
-enum-known-in-tables : tie.Need-enum-known-in-tables
-enum-known-in-tables c = search needs
-
 returns : tie.Need-returns
 returns c =
     let k = c .before .before .before in
     table-refuses (call (k .before .before .before)) (k .check-grid-tables .result) (k .check-grid-tables .ensures) _ (c .before .in-tables .given .1)
-
-enum-told : tie.Need-enum-told
-enum-told c = search needs
-
-check-book-requires : tie.Need-check-book-requires
-check-book-requires c κs = search needs
 
 returns-2 : tie.Need-returns-2
 returns-2 c =
@@ -33,4 +21,4 @@ returns-2 c =
     ∙ then-book (call (k .before .before .before)) (k .check-grid-tables .result) (k .check-grid-tables .ensures) (c .before .enum-told .given .1)
 
 pub check-test-spec : {M : Type 1} → statement M
-check-test-spec = tie.close (tie.spec check-grid-tables-requires enum-known-in-tables returns enum-told check-book-requires returns-2)
+check-test-spec = tie.close (tie.spec (λ c κs. search needs) (λ c. search needs) returns (λ c. search needs) (λ c κs. search needs) returns-2)

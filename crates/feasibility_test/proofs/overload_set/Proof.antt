@@ -25,18 +25,6 @@ loop-holds : tie.Need-loop-holds Inv-loop μ-loop
 unfolding setOf
 loop-holds c = (omega arith, refl)
 
-mul-t11 : tie.Need-mul-t11 Inv-loop μ-loop
-mul-t11 c = search needs
-
-array-copy-out-t14 : tie.Need-array-copy-out-t14 Inv-loop μ-loop
-array-copy-out-t14 c = search needs
-
-mul-released : tie.Need-mul-released Inv-loop μ-loop
-mul-released c = search needs
-
-shared-slice-read-released : tie.Need-shared-slice-read-released Inv-loop μ-loop
-shared-slice-read-released c = search needs
-
 released-requires : tie.Need-released-requires Inv-loop μ-loop
 released-requires c κs = c .before .before .before .before .before .before .pre .good-limits .sized (c .before .before .before .loop .k) (c .before .before .loop-test .taken)
 
@@ -62,17 +50,8 @@ is c =
     let r = c .before .released in
     over-is (s .args .limits .now) (s .args .process) (s .args .flows .flows) k (r .result .0) (c .exceeds .result) flow (r .ensures) (c .exceeds .ensures)
 
-shl-set : tie.Need-shl-set Inv-loop μ-loop
-shl-set c = search needs
-
 add-set : tie.Need-add-set Inv-loop μ-loop
 add-set c = let l = c .before .before .before .before .before .before .loop in record { fits = bit-fits (l .set) (l .k) _ (omega arith) (l .inv .1) }
-
-add-k : tie.Need-add-k Inv-loop μ-loop
-add-k c = search needs
-
-loop-less : tie.Need-loop-less Inv-loop μ-loop
-loop-less c = search needs
 
 loop-again : tie.Need-loop-again Inv-loop μ-loop
 loop-again c =
@@ -99,15 +78,15 @@ overload-set-spec =
     Inv-loop
     μ-loop
     loop-holds
-    mul-t11
-    array-copy-out-t14
-    mul-released
-    shared-slice-read-released
+    (λ c. search needs)
+    (λ c. search needs)
+    (λ c. search needs)
+    (λ c. search needs)
     released-requires
     exceeds-requires
-    shl-set
+    (λ c. search needs)
     add-set
-    add-k
-    loop-less
+    (λ c. search needs)
+    (λ c. search needs)
     loop-again
     returns)

@@ -17,12 +17,6 @@ use Rattle.feasibility_test.proofs.test_book.Tie as tie
 abbrev call : tie.Start → TestCall
 call c = testCall (c .args .nodes) (c .args .constraints) (c .args .process) (c .args .period) (c .args .limits .now) (c .args .factors .now) (c .args .book .now)
 
-check-test-requires : tie.Need-check-test-requires
-check-test-requires c κs = search needs
-
-enum-known-checked : tie.Need-enum-known-checked
-enum-known-checked c = search needs
-
 returns : tie.Need-returns
 returns c =
     let k = c .before .before .before .check-test in
@@ -39,12 +33,6 @@ carried : (c : tie.After-carry) → let q = call (c .before .before .before .bef
 carried c =
     let q = call (c .before .before .before .before .before .before .before) in
     subst (λ (t : Period). Carries (testedGrid q .factors) (ofPeriod t (bookIn (q .book))) (c .carry .result)) (c .before .from-number .ensures) (c .carry .ensures)
-
-enum-told : tie.Need-enum-told
-enum-told c = search needs
-
-from-number-requires : tie.Need-from-number-requires
-from-number-requires c κs = search needs
 
 carry-requires : tie.Need-carry-requires
 carry-requires c κs = let o = ok (c .before) in (o .tables .good-factors, o .book)
@@ -71,11 +59,11 @@ pub test-book-spec : {M : Type 1} → statement M
 test-book-spec =
     tie.close
     (tie.spec
-    check-test-requires
-    enum-known-checked
+    (λ c κs. search needs)
+    (λ c. search needs)
     returns
-    enum-told
-    from-number-requires
+    (λ c. search needs)
+    (λ c κs. search needs)
     carry-requires
     from-number-requires-2
     verdict-requires

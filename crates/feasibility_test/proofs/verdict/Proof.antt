@@ -16,9 +16,6 @@ use Rattle.feasibility_test.proofs.verdict.Tie as tie
 abbrev overloaded : tie.Start → ℕ → Bool
 overloaded s = over (s .args .limits .now) (s .args .process) (s .args .flows .flows)
 
-overload-set-requires : tie.Need-overload-set-requires
-overload-set-requires c κs = search needs
-
 returns : tie.Need-returns
 returns c n fs t cs carried =
     let s = c .before .before .before in
@@ -79,7 +76,7 @@ pub verdict-spec : {M : Type 1} → statement M
 verdict-spec =
     tie.close
     (tie.spec
-    overload-set-requires
+    (λ c κs. search needs)
     returns
     cast-count
     cast-lowest

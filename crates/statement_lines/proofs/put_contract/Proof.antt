@@ -28,9 +28,6 @@ put-char-requires c κs =
     let s = c .before .before .before .before .before .before .before .before .before .before .before .before .before .before in
     omega (arith, long s, cents-long (s .args .cents) (s .pre .2))
 
-same-length : tie.Need-same-length
-same-length c = search needs
-
 returns : tie.Need-returns
 returns c =
     let p4 = c .before .before .put-char in
@@ -51,5 +48,5 @@ put-contract-spec =
     put-kind-requires
     put-signed-requires
     put-char-requires
-    same-length
+    (λ c. search needs)
     returns)

@@ -28,15 +28,6 @@ loop-holds c =
     let a = c .before .before .args in
     (omega arith, omega arith, put-none (omega (arith, c .before .before .pre .1 .1)), omega arith)
 
-contract-at-requires : tie.Need-contract-at-requires Inv-loop μ-loop
-contract-at-requires c κs = search needs
-
-mul-put-own : tie.Need-mul-put-own Inv-loop μ-loop
-mul-put-own c = search needs
-
-shared-slice-copy-out-put-own : tie.Need-shared-slice-copy-out-put-own Inv-loop μ-loop
-shared-slice-copy-out-put-own c = search needs
-
 put-own-requires : tie.Need-put-own-requires Inv-loop μ-loop
 put-own-requires c κs =
     let k = c .before .before .contract-at in
@@ -48,12 +39,6 @@ put-own-requires c κs =
       kept-cents (getD (a .cents .now) (l .i) (pos 0)) (s .pre .1 .0 (l .i) (omega arith)),
       omega (arith, l .inv .3, s .pre .1 .1),
     )
-
-add-i : tie.Need-add-i Inv-loop μ-loop
-add-i c = search needs
-
-loop-less : tie.Need-loop-less Inv-loop μ-loop
-loop-less c = search needs
 
 loop-again : tie.Need-loop-again Inv-loop μ-loop
 loop-again c =
@@ -70,9 +55,6 @@ loop-again c =
       omega (arith, m .ensures .1, l .inv .3),
     )
 
-same-length : tie.Need-same-length Inv-loop μ-loop
-same-length c = search needs
-
 returns : tie.Need-returns Inv-loop μ-loop
 returns c =
     let l = c .before .loop in
@@ -87,12 +69,12 @@ put-contracts-spec =
     Inv-loop
     μ-loop
     loop-holds
-    contract-at-requires
-    mul-put-own
-    shared-slice-copy-out-put-own
+    (λ c κs. search needs)
+    (λ c. search needs)
+    (λ c. search needs)
     put-own-requires
-    add-i
-    loop-less
+    (λ c. search needs)
+    (λ c. search needs)
     loop-again
-    same-length
+    (λ c. search needs)
     returns)

@@ -7,12 +7,6 @@ use borrow.Author.Needs.{needs}
 use Rattle.statement_lines.proofs.put_exact.Statement.{statement}
 use Rattle.statement_lines.proofs.put_exact.Tie as tie
 
-slice-aggregate-put-text : tie.Need-slice-aggregate-put-text
-slice-aggregate-put-text c = search needs
-
-put-text-requires : tie.Need-put-text-requires
-put-text-requires c κs = search needs
-
 put-signed-requires : tie.Need-put-signed-requires
 put-signed-requires c κs =
     let s = c .before .before .before .before .before .before .before in
@@ -33,9 +27,6 @@ put-char-requires-2 c κs =
     let s = c .before .before .before .before .before .before .before .before .before .before .before .before .before .before .before .before .before .before .before in
     omega (arith, total-long (s .args .whole) (s .pre .0), parts-long (s .args .parts) (s .pre .1))
 
-same-length : tie.Need-same-length
-same-length c = search needs
-
 returns : tie.Need-returns
 unfolding exactLine
 returns c =
@@ -54,11 +45,11 @@ pub put-exact-spec : {M : Type 1} → statement M
 put-exact-spec =
     tie.close
     (tie.spec
-    slice-aggregate-put-text
-    put-text-requires
+    (λ c. search needs)
+    (λ c κs. search needs)
     put-signed-requires
     put-char-requires
     put-decimal-requires
     put-char-requires-2
-    same-length
+    (λ c. search needs)
     returns)

@@ -19,12 +19,6 @@ most s = let b = s .pre .0 .3 .bounded in (omega (arith, s .pre .0 .0, b .sum-si
 kept-most : (s : tie.Start) → (natAbs (toZ w64 (ofZ w64 (s .args .totals .sum))) ≤ maxTotal) × (natAbs (toZ w64 (ofZ w64 (s .args .totals .whole))) ≤ maxTotal)
 kept-most s = (kept-total (s .args .totals .sum) (most s .0), kept-total (s .args .totals .whole) (most s .1))
 
-slice-aggregate-put-text : tie.Need-slice-aggregate-put-text
-slice-aggregate-put-text c = search needs
-
-put-text-requires : tie.Need-put-text-requires
-put-text-requires c κs = search needs
-
 put-contracts-requires : tie.Need-put-contracts-requires
 put-contracts-requires c κs =
     let s = c .before .before .before .before .before .before .before .before in
@@ -41,9 +35,6 @@ put-exact-requires c κs =
     let s = c .before .before .before .before .before .before .before .before .before .before .before .before .before .before .before .before .before .before in
     (omega (arith, kept-most s), s .pre .0 .3 .bounded .parts-small, omega (arith, s .pre .1))
 
-same-length : tie.Need-same-length
-same-length c = search needs
-
 returns : tie.Need-returns
 unfolding settledLines
 returns c =
@@ -59,10 +50,10 @@ pub put-lines-spec : {M : Type 1} → statement M
 put-lines-spec =
     tie.close
     (tie.spec
-    slice-aggregate-put-text
-    put-text-requires
+    (λ c. search needs)
+    (λ c κs. search needs)
     put-contracts-requires
     put-sum-requires
     put-exact-requires
-    same-length
+    (λ c. search needs)
     returns)

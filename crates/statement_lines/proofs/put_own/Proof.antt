@@ -8,15 +8,6 @@ use borrow.Author.Needs.{needs}
 use Rattle.statement_lines.proofs.put_own.Statement.{statement}
 use Rattle.statement_lines.proofs.put_own.Tie as tie
 
-same-requires : tie.Need-same-requires
-same-requires c κs = search needs
-
-put-contract-requires : tie.Need-put-contract-requires
-put-contract-requires c κs = search needs
-
-same-length : tie.Need-same-length
-same-length c = search needs
-
 returns : tie.Need-returns
 returns c =
     let p = c .before .before .put-contract in
@@ -34,4 +25,4 @@ returns-2 c =
 
 pub put-own-spec : {M : Type 1} → statement M
 put-own-spec =
-    tie.close (tie.spec same-requires put-contract-requires same-length returns returns-2)
+    tie.close (tie.spec (λ c κs. search needs) (λ c κs. search needs) (λ c. search needs) returns returns-2)

@@ -7,12 +7,6 @@ use borrow.Author.Needs.{needs}
 use Rattle.statement_lines.proofs.put_sum.Statement.{statement}
 use Rattle.statement_lines.proofs.put_sum.Tie as tie
 
-slice-aggregate-put-text : tie.Need-slice-aggregate-put-text
-slice-aggregate-put-text c = search needs
-
-put-text-requires : tie.Need-put-text-requires
-put-text-requires c κs = search needs
-
 put-signed-requires : tie.Need-put-signed-requires
 put-signed-requires c κs =
     let s = c .before .before .before .before .before .before .before in
@@ -22,9 +16,6 @@ put-char-requires : tie.Need-put-char-requires
 put-char-requires c κs =
     let s = c .before .before .before .before .before .before .before .before .before .before .before in
     omega (arith, total-long (s .args .sum) (s .pre .0))
-
-same-length : tie.Need-same-length
-same-length c = search needs
 
 returns : tie.Need-returns
 unfolding sumLine
@@ -39,9 +30,9 @@ pub put-sum-spec : {M : Type 1} → statement M
 put-sum-spec =
     tie.close
     (tie.spec
-    slice-aggregate-put-text
-    put-text-requires
+    (λ c. search needs)
+    (λ c κs. search needs)
     put-signed-requires
     put-char-requires
-    same-length
+    (λ c. search needs)
     returns)

@@ -10,17 +10,11 @@ use Rattle.statement_text.proofs.put_settled.Tie as tie
 accepted : (s : tie.Start) → Accepted (s .args .nodes) (s .args .book .now)
 accepted s = book-accepted (s .args .nodes) (s .args .book .now) (s .pre .1 .1)
 
-slice-aggregate-settle : tie.Need-slice-aggregate-settle
-slice-aggregate-settle c = search needs
-
 settle-requires : tie.Need-settle-requires
 settle-requires c κs = let s = c .before .before .before .before in (s .pre .1 .0, (s .pre .1 .1, accepted s .few))
 
 contract-count-requires : tie.Need-contract-count-requires
 contract-count-requires c κs = omega (arith, accepted (c .before .before .before .before .before .before) .size)
-
-slice-aggregate-put-lines : tie.Need-slice-aggregate-put-lines
-slice-aggregate-put-lines c = search needs
 
 put-lines-requires : tie.Need-put-lines-requires
 put-lines-requires c κs =
@@ -32,9 +26,6 @@ put-lines-requires c κs =
       omega (arith, s .pre .0, o .few, n),
     )
 
-same-length : tie.Need-same-length
-same-length c = search needs
-
 returns : tie.Need-returns
 returns c =
     let n = c .before .before .before .before .before .contract-count .ensures .0 in
@@ -45,10 +36,10 @@ pub put-settled-spec : {M : Type 1} → statement M
 put-settled-spec =
     tie.close
     (tie.spec
-    slice-aggregate-settle
+    (λ c. search needs)
     settle-requires
     contract-count-requires
-    slice-aggregate-put-lines
+    (λ c. search needs)
     put-lines-requires
-    same-length
+    (λ c. search needs)
     returns)

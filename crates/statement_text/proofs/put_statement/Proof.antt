@@ -12,30 +12,6 @@ use borrow.Author.Needs.{needs}
 use Rattle.statement_text.proofs.put_statement.Statement.{statement}
 use Rattle.statement_text.proofs.put_statement.Tie as tie
 
-slice-aggregate-read-grid : tie.Need-slice-aggregate-read-grid
-slice-aggregate-read-grid c = search needs
-
-slice-aggregate-read-grid-2 : tie.Need-slice-aggregate-read-grid-2
-slice-aggregate-read-grid-2 c = search needs
-
-read-grid-requires : tie.Need-read-grid-requires
-read-grid-requires c κs = search needs
-
-enum-known-refusal : tie.Need-enum-known-refusal
-enum-known-refusal c = search needs
-
-slice-aggregate-put-refused : tie.Need-slice-aggregate-put-refused
-slice-aggregate-put-refused c = search needs
-
-put-refused-requires : tie.Need-put-refused-requires
-put-refused-requires c κs = search needs
-
-enum-known-nodes : tie.Need-enum-known-nodes
-enum-known-nodes c = search needs
-
-slice-aggregate-put-booked : tie.Need-slice-aggregate-put-booked
-slice-aggregate-put-booked c = search needs
-
 put-booked-requires : tie.Need-put-booked-requires
 put-booked-requires c κs =
     let g = c .before .before .before .nodes .given in
@@ -43,9 +19,6 @@ put-booked-requires c κs =
     let s = c .before .before .before .before .before .before .before .before .before .before .before .before .before .before in
     let a = s .args in
     (omega (arith, s .pre), grid-taken (a .grid-file .now) _ _ _ _ _ _ (rw (g .1) at (r .ensures)) .good-factors)
-
-same-length : tie.Need-same-length
-same-length c = search needs
 
 returns : tie.Need-returns
 unfolding statementOf
@@ -56,9 +29,6 @@ returns c =
     let limits = length-replicate {A = ℕ} maxConstraints 0 in
     let factors = length-replicate {A = ℤ} (maxNodes * maxConstraints) (pos 0) in
     put-same (grid-refused (a .grid-file .now) _ _ _ limits factors _ _ _ (rw (g .1) at (r .ensures))) (c .before .before .put-refused .ensures)
-
-same-length-2 : tie.Need-same-length-2
-same-length-2 c = search needs
 
 returns-2 : tie.Need-returns-2
 unfolding statementOf
@@ -72,16 +42,16 @@ pub put-statement-spec : {M : Type 1} → statement M
 put-statement-spec =
     tie.close
     (tie.spec
-    slice-aggregate-read-grid
-    slice-aggregate-read-grid-2
-    read-grid-requires
-    enum-known-refusal
-    slice-aggregate-put-refused
-    put-refused-requires
-    enum-known-nodes
-    slice-aggregate-put-booked
+    (λ c. search needs)
+    (λ c. search needs)
+    (λ c κs. search needs)
+    (λ c. search needs)
+    (λ c. search needs)
+    (λ c κs. search needs)
+    (λ c. search needs)
+    (λ c. search needs)
     put-booked-requires
-    same-length
+    (λ c. search needs)
     returns
-    same-length-2
+    (λ c. search needs)
     returns-2)

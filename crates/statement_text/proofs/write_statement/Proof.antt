@@ -24,12 +24,6 @@ returns c =
     let told = first-refuses (shortTable (length place) longestStatement) [] (lt-ltb (length place) longestStatement (c .if1 .taken)) in
     record { length-given = answer-refused _ _ refl _ told _; bytes-written = cells-refused _ _ refl _ told (statementOf (a .grid-file .now) (a .book-file .now) (a .price-file .now)) place }
 
-put-statement-requires : tie.Need-put-statement-requires
-put-statement-requires c κs = search needs
-
-same-length : tie.Need-same-length
-same-length c = search needs
-
 returns-2 : tie.Need-returns-2
 unfolding statementChecks
 returns-2 c =
@@ -44,4 +38,4 @@ returns-2 c =
     }
 
 pub write-statement-spec : {M : Type 1} → statement M
-write-statement-spec = tie.close (tie.spec returns put-statement-requires same-length returns-2)
+write-statement-spec = tie.close (tie.spec returns (λ c κs. search needs) (λ c. search needs) returns-2)

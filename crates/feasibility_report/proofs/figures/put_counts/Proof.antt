@@ -6,26 +6,11 @@ use borrow.Author.Needs.{needs}
 use Rattle.feasibility_report.proofs.figures.put_counts.Statement.{statement}
 use Rattle.feasibility_report.proofs.figures.put_counts.Tie as tie
 
-slice-aggregate-put-text : tie.Need-slice-aggregate-put-text
-slice-aggregate-put-text c = search needs
-
-put-text-requires : tie.Need-put-text-requires
-put-text-requires c κs = search needs
-
 put-decimal-requires : tie.Need-put-decimal-requires
 put-decimal-requires c κs = omega (arith, length-decimal (c .before .before .before .before .before .before .before .args .count))
 
-put-char-requires : tie.Need-put-char-requires
-put-char-requires c κs = search needs
-
 put-decimal-requires-2 : tie.Need-put-decimal-requires-2
 put-decimal-requires-2 c κs = omega (arith, length-decimal (c .before .before .before .before .before .before .before .before .before .before .before .before .before .before .before .args .lowest))
-
-put-char-requires-2 : tie.Need-put-char-requires-2
-put-char-requires-2 c κs = search needs
-
-same-length : tie.Need-same-length
-same-length c = search needs
 
 returns : tie.Need-returns
 returns c =
@@ -44,11 +29,11 @@ pub put-counts-spec : {M : Type 1} → statement M
 put-counts-spec =
     tie.close
     (tie.spec
-    slice-aggregate-put-text
-    put-text-requires
+    (λ c. search needs)
+    (λ c κs. search needs)
     put-decimal-requires
-    put-char-requires
+    (λ c κs. search needs)
     put-decimal-requires-2
-    put-char-requires-2
-    same-length
+    (λ c κs. search needs)
+    (λ c. search needs)
     returns)

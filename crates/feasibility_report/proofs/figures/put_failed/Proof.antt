@@ -10,22 +10,10 @@ use borrow.Author.Needs.{needs}
 use Rattle.feasibility_report.proofs.figures.put_failed.Statement.{statement}
 use Rattle.feasibility_report.proofs.figures.put_failed.Tie as tie
 
-put-counts-requires : tie.Need-put-counts-requires
-put-counts-requires c κs = search needs
-
 put-signed-requires : tie.Need-put-signed-requires
 put-signed-requires c κs =
     let s = c .before .before .before .before .before .before .before in
     rw (back (s .args .excess .0) (s .pre .2)) (omega (arith, length-decimalZ (s .args .excess .0)), s .pre .2)
-
-put-char-requires : tie.Need-put-char-requires
-put-char-requires c κs = search needs
-
-put-numbers-requires : tie.Need-put-numbers-requires
-put-numbers-requires c κs = search needs
-
-same-length : tie.Need-same-length
-same-length c = search needs
 
 returns : tie.Need-returns
 unfolding failed
@@ -45,9 +33,9 @@ pub put-failed-spec : {M : Type 1} → statement M
 put-failed-spec =
     tie.close
     (tie.spec
-    put-counts-requires
+    (λ c κs. search needs)
     put-signed-requires
-    put-char-requires
-    put-numbers-requires
-    same-length
+    (λ c κs. search needs)
+    (λ c κs. search needs)
+    (λ c. search needs)
     returns)

@@ -5,36 +5,15 @@ use borrow.Author.Needs.{needs}
 use Rattle.feasibility_report.proofs.figures.put_figures.Statement.{statement}
 use Rattle.feasibility_report.proofs.figures.put_figures.Tie as tie
 
-enum-told : tie.Need-enum-told
-enum-told c = search needs
-
-slice-aggregate-put-text : tie.Need-slice-aggregate-put-text
-slice-aggregate-put-text c = search needs
-
-put-text-requires : tie.Need-put-text-requires
-put-text-requires c κs = search needs
-
-enum-known-answer : tie.Need-enum-known-answer
-enum-known-answer c = search needs
-
 put-failed-requires : tie.Need-put-failed-requires
 put-failed-requires c κs =
     let s = c .before .before .before .before .before in
     (s .pre .0, omega (arith, s .pre .1), rw (c .before .before .answer .given .1) at (s .pre .2))
 
-enum-told-2 : tie.Need-enum-told-2
-enum-told-2 c = search needs
-
-same-length : tie.Need-same-length
-same-length c = search needs
-
 returns : tie.Need-returns
 returns c =
     let d = c .before .before .put-text .ensures in
     (rw (c .before .before .before .before .before .enum-told .given .1) d, omega (arith, d .place))
-
-same-length-2 : tie.Need-same-length-2
-same-length-2 c = search needs
 
 returns-2 : tie.Need-returns-2
 returns-2 c =
@@ -48,14 +27,14 @@ pub put-figures-spec : {M : Type 1} → statement M
 put-figures-spec =
     tie.close
     (tie.spec
-    enum-told
-    slice-aggregate-put-text
-    put-text-requires
-    enum-known-answer
+    (λ c. search needs)
+    (λ c. search needs)
+    (λ c κs. search needs)
+    (λ c. search needs)
     put-failed-requires
-    enum-told-2
-    same-length
+    (λ c. search needs)
+    (λ c. search needs)
     returns
-    same-length-2
+    (λ c. search needs)
     returns-2
     returns-3)

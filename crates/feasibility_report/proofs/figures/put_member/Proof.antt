@@ -14,9 +14,6 @@ use Rattle.feasibility_report.proofs.figures.put_member.Tie as tie
 two-digits : (k : ℕ) → k < maxConstraints → length (decimal k) ≤ 2
 two-digits k h = decimal-below 2 k (omega arith) (omega arith)
 
-shr-if1 : tie.Need-shr-if1
-shr-if1 c = search needs
-
 returns : tie.Need-returns
 returns c =
     let a = c .before .before .args in
@@ -24,9 +21,6 @@ returns c =
 
 put-decimal-requires : tie.Need-put-decimal-requires
 put-decimal-requires c κs = let s = c .before .before .before .before in omega (arith, two-digits (s .args .k) (s .pre .0))
-
-same-length : tie.Need-same-length
-same-length c = search needs
 
 returns-2 : tie.Need-returns-2
 returns-2 c =
@@ -36,14 +30,8 @@ returns-2 c =
     let a = s .args in
     (put-same (first-member (a .at) (a .next) (a .set) (a .k) (i .before .if1 .left) (i .if2 .taken)) d, omega (arith, d .place, two-digits (a .k) (s .pre .0)))
 
-put-char-requires : tie.Need-put-char-requires
-put-char-requires c κs = search needs
-
 put-decimal-requires-2 : tie.Need-put-decimal-requires-2
 put-decimal-requires-2 c κs = let s = c .before .before .before .before .before .before .before .before in omega (arith, two-digits (s .args .k) (s .pre .0))
-
-same-length-2 : tie.Need-same-length-2
-same-length-2 c = search needs
 
 returns-3 : tie.Need-returns-3
 returns-3 c =
@@ -60,12 +48,12 @@ pub put-member-spec : {M : Type 1} → statement M
 put-member-spec =
     tie.close
     (tie.spec
-    shr-if1
+    (λ c. search needs)
     returns
     put-decimal-requires
-    same-length
+    (λ c. search needs)
     returns-2
-    put-char-requires
+    (λ c κs. search needs)
     put-decimal-requires-2
-    same-length-2
+    (λ c. search needs)
     returns-3)

@@ -23,15 +23,6 @@ loop-holds : tie.Need-loop-holds Inv-loop μ-loop
 unfolding numbersTo
 loop-holds c = (omega arith, omega arith, put-none (omega arith), omega arith)
 
-put-member-requires : tie.Need-put-member-requires Inv-loop μ-loop
-put-member-requires c κs = search needs
-
-add-k : tie.Need-add-k Inv-loop μ-loop
-add-k c = search needs
-
-loop-less : tie.Need-loop-less Inv-loop μ-loop
-loop-less c = search needs
-
 loop-again : tie.Need-loop-again Inv-loop μ-loop
 loop-again c =
     let m = c .before .before .put-member in
@@ -42,9 +33,6 @@ loop-again c =
       put-same (numbers-more (s .args .at) (l .next) (s .args .set) (l .k) (l .inv .2 .place)) (l .inv .2 then m .ensures .0),
       omega (arith, m .ensures .1, l .inv .3),
     )
-
-same-length : tie.Need-same-length Inv-loop μ-loop
-same-length c = search needs
 
 returns : tie.Need-returns Inv-loop μ-loop
 returns c =
@@ -60,9 +48,9 @@ put-numbers-spec =
     Inv-loop
     μ-loop
     loop-holds
-    put-member-requires
-    add-k
-    loop-less
+    (λ c κs. search needs)
+    (λ c. search needs)
+    (λ c. search needs)
     loop-again
-    same-length
+    (λ c. search needs)
     returns)

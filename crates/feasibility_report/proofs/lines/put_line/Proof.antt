@@ -26,12 +26,6 @@ verdict-requires c κs =
     let ok = s .pre .1 .0 in
     carried-judgeable (a .nodes) (a .constraints) (a .limits .now) (a .factors .now) (a .period) (a .book .now) (ok .good-limits) (ok .good-factors) (ok .good-book) (a .flows) (s .pre .1 .1)
 
-put-period-requires : tie.Need-put-period-requires
-put-period-requires c κs = search needs
-
-put-process-requires : tie.Need-put-process-requires
-put-process-requires c κs = search needs
-
 put-figures-requires : tie.Need-put-figures-requires
 put-figures-requires c κs =
     let p2 = c .before .before .before .put-process .ensures .1 in
@@ -43,12 +37,6 @@ put-figures-requires c κs =
     let ok = s .pre .1 .0 in
     let small = over-bound (a .nodes) (a .constraints) (a .limits .now) (a .factors .now) (a .book .now) (a .process) (a .period) (v .verdict .result) (judged v) ok in
     (ok .good-factors .few, omega (arith, s .pre .0), small)
-
-put-char-requires : tie.Need-put-char-requires
-put-char-requires c κs = search needs
-
-same-length : tie.Need-same-length
-same-length c = search needs
 
 returns : tie.Need-returns
 returns c =
@@ -70,9 +58,9 @@ put-line-spec =
     tie.close
     (tie.spec
     verdict-requires
-    put-period-requires
-    put-process-requires
+    (λ c κs. search needs)
+    (λ c κs. search needs)
     put-figures-requires
-    put-char-requires
-    same-length
+    (λ c κs. search needs)
+    (λ c. search needs)
     returns)

@@ -5,21 +5,6 @@ use borrow.Author.Needs.{needs}
 use Rattle.feasibility_report.proofs.lines.put_lines.Statement.{statement}
 use Rattle.feasibility_report.proofs.lines.put_lines.Tie as tie
 
-slice-aggregate-put-text : tie.Need-slice-aggregate-put-text
-slice-aggregate-put-text c = search needs
-
-put-text-requires : tie.Need-put-text-requires
-put-text-requires c κs = search needs
-
-put-period-lines-requires : tie.Need-put-period-lines-requires
-put-period-lines-requires c κs = search needs
-
-put-period-lines-requires-2 : tie.Need-put-period-lines-requires-2
-put-period-lines-requires-2 c κs = search needs
-
-same-length : tie.Need-same-length
-same-length c = search needs
-
 returns : tie.Need-returns
 unfolding lines
 returns c =
@@ -34,9 +19,9 @@ pub put-lines-spec : {M : Type 1} → statement M
 put-lines-spec =
     tie.close
     (tie.spec
-    slice-aggregate-put-text
-    put-text-requires
-    put-period-lines-requires
-    put-period-lines-requires-2
-    same-length
+    (λ c. search needs)
+    (λ c κs. search needs)
+    (λ c κs. search needs)
+    (λ c κs. search needs)
+    (λ c. search needs)
     returns)

@@ -6,21 +6,6 @@ use borrow.Author.Needs.{needs}
 use Rattle.feasibility_report.proofs.lines.put_period_lines.Statement.{statement}
 use Rattle.feasibility_report.proofs.lines.put_period_lines.Tie as tie
 
-carry-requires : tie.Need-carry-requires
-carry-requires c κs = search needs
-
-put-line-requires : tie.Need-put-line-requires
-put-line-requires c κs = search needs
-
-put-line-requires-2 : tie.Need-put-line-requires-2
-put-line-requires-2 c κs = search needs
-
-put-line-requires-3 : tie.Need-put-line-requires-3
-put-line-requires-3 c κs = search needs
-
-same-length : tie.Need-same-length
-same-length c = search needs
-
 returns : tie.Need-returns
 unfolding periodLines
 returns c =
@@ -35,9 +20,9 @@ pub put-period-lines-spec : {M : Type 1} → statement M
 put-period-lines-spec =
     tie.close
     (tie.spec
-    carry-requires
-    put-line-requires
-    put-line-requires-2
-    put-line-requires-3
-    same-length
+    (λ c κs. search needs)
+    (λ c κs. search needs)
+    (λ c κs. search needs)
+    (λ c κs. search needs)
+    (λ c. search needs)
     returns)

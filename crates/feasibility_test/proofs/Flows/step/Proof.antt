@@ -21,35 +21,11 @@ Inv-loop self constraints factors flows₀ source sink quantity kind k₀ flows 
 abbrev μ-loop : tie.MeasureT-loop
 μ-loop self constraints factors flows₀ source sink quantity kind k₀ flows k = constraints - k
 
-mul-source : tie.Need-mul-source Inv-loop μ-loop
-mul-source c = search needs
-
-mul-sink : tie.Need-mul-sink Inv-loop μ-loop
-mul-sink c = search needs
-
 full : (c : tie.Start Inv-loop μ-loop) → length (c .args .self .flows) ≡ maxConstraints
 full c = sym (length-map (c .args .self .flows) (λ (z : ℤ). z)) ∙ c .good .0 .1 .1 .0 .1 .0 .1
 
 loop-holds : tie.Need-loop-holds Inv-loop μ-loop
 loop-holds c = (omega arith, full (c .before .before .before .before), (λ j h. absurd (omega arith)), (λ j h. refl))
-
-add-counted-flow : tie.Need-add-counted-flow Inv-loop μ-loop
-add-counted-flow c = search needs
-
-mul-counted-flow : tie.Need-mul-counted-flow Inv-loop μ-loop
-mul-counted-flow c = search needs
-
-shared-slice-copy-out-counted-flow : tie.Need-shared-slice-copy-out-counted-flow Inv-loop μ-loop
-shared-slice-copy-out-counted-flow c = search needs
-
-add-counted-flow-2 : tie.Need-add-counted-flow-2 Inv-loop μ-loop
-add-counted-flow-2 c = search needs
-
-mul-counted-flow-2 : tie.Need-mul-counted-flow-2 Inv-loop μ-loop
-mul-counted-flow-2 c = search needs
-
-shared-slice-copy-out-counted-flow-2 : tie.Need-shared-slice-copy-out-counted-flow-2 Inv-loop μ-loop
-shared-slice-copy-out-counted-flow-2 c = search needs
 
 counted-flow-requires : tie.Need-counted-flow-requires Inv-loop μ-loop
 counted-flow-requires c κs =
@@ -74,28 +50,10 @@ old c =
     let l = c .before .before .before .before .loop in
     rw (l .inv .3 (l .k) (omega arith)) (omega (arith, s .pre .1 .count-below, s .pre .1 .flows-sized (l .k) (c .before .before .before .loop-test .taken)))
 
-mul-t16 : tie.Need-mul-t16 Inv-loop μ-loop
-mul-t16 c = search needs
-
-array-copy-out-t23 : tie.Need-array-copy-out-t23 Inv-loop μ-loop
-array-copy-out-t23 c = search needs
-
 plus-requires : tie.Need-plus-requires Inv-loop μ-loop
 plus-requires c κs =
     let l = c .before .before .before .before .before .loop in
     omega (arith, small (c .before), kept-sized (getD (l .flows) (l .k) (pos 0)) (maxFlow * maxContracts) (lit< tt) (old (c .before)))
-
-mul-flows : tie.Need-mul-flows Inv-loop μ-loop
-mul-flows c = search needs
-
-array-set-from-flows : tie.Need-array-set-from-flows Inv-loop μ-loop
-array-set-from-flows c = search needs
-
-add-k : tie.Need-add-k Inv-loop μ-loop
-add-k c = search needs
-
-loop-less : tie.Need-loop-less Inv-loop μ-loop
-loop-less c = search needs
 
 loop-again : tie.Need-loop-again Inv-loop μ-loop
 loop-again c =
@@ -112,9 +70,6 @@ loop-again c =
       cell-rest (s .args .self .flows) (l .flows) f (l .k) (l .inv .2) (l .inv .3) _,
     )
 
-add-t29 : tie.Need-add-t29 Inv-loop μ-loop
-add-t29 c = search needs
-
 returns : tie.Need-returns Inv-loop μ-loop
 returns c n cs own carried =
     let s = c .before .before .before .before .before .before .before in
@@ -128,23 +83,23 @@ step-spec =
     (tie.spec
     Inv-loop
     μ-loop
-    mul-source
-    mul-sink
+    (λ c. search needs)
+    (λ c. search needs)
     loop-holds
-    add-counted-flow
-    mul-counted-flow
-    shared-slice-copy-out-counted-flow
-    add-counted-flow-2
-    mul-counted-flow-2
-    shared-slice-copy-out-counted-flow-2
+    (λ c. search needs)
+    (λ c. search needs)
+    (λ c. search needs)
+    (λ c. search needs)
+    (λ c. search needs)
+    (λ c. search needs)
     counted-flow-requires
-    mul-t16
-    array-copy-out-t23
+    (λ c. search needs)
+    (λ c. search needs)
     plus-requires
-    mul-flows
-    array-set-from-flows
-    add-k
-    loop-less
+    (λ c. search needs)
+    (λ c. search needs)
+    (λ c. search needs)
+    (λ c. search needs)
     loop-again
-    add-t29
+    (λ c. search needs)
     returns)

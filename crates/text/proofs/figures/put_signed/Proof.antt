@@ -61,9 +61,6 @@ put-decimal-requires-2 c κs =
     let n = positive (s .args .z) (s .pre .1) (i .if1 .left) in
     rw (n .0) (omega (arith, ap length (n .1)))
 
-same-length : tie.Need-same-length
-same-length c = search needs
-
 returns : tie.Need-returns
 returns c =
     let i = c .before .before .before .before .before .before .before .before in
@@ -72,9 +69,6 @@ returns c =
     let d = c .before .before .put-decimal in
     let p = c .before .before .before .before .before .before .put-char in
     (put-same (n .1) (p .ensures then rw (n .0) at (d .ensures .0)), omega (arith, p .ensures .place, d .ensures .1))
-
-same-length-2 : tie.Need-same-length-2
-same-length-2 c = search needs
 
 returns-2 : tie.Need-returns-2
 returns-2 c =
@@ -94,7 +88,7 @@ put-signed-spec =
     put-decimal-requires
     cast-put-decimal-2
     put-decimal-requires-2
-    same-length
+    (λ c. search needs)
     returns
-    same-length-2
+    (λ c. search needs)
     returns-2)

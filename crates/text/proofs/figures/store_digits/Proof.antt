@@ -25,26 +25,8 @@ Inv-loop buf₀ at count n rest₀ place₀ buf rest place =
 abbrev μ-loop : tie.MeasureT-loop
 μ-loop buf₀ at count n rest₀ place₀ buf rest place = rest
 
-add-place : tie.Need-add-place Inv-loop μ-loop
-add-place c = search needs
-
 loop-holds : tie.Need-loop-holds Inv-loop μ-loop
 loop-holds c = let some = some-decimal (c .args .n) in search needs
-
-sub-place : tie.Need-sub-place Inv-loop μ-loop
-sub-place c = search needs
-
-add-buf : tie.Need-add-buf Inv-loop μ-loop
-add-buf c = search needs
-
-cast-buf : tie.Need-cast-buf Inv-loop μ-loop
-cast-buf c = search needs
-
-slice-write-buf : tie.Need-slice-write-buf Inv-loop μ-loop
-slice-write-buf c = search needs
-
-loop-less : tie.Need-loop-less Inv-loop μ-loop
-loop-less c = search needs
 
 loop-again : tie.Need-loop-again Inv-loop μ-loop
 loop-again c =
@@ -59,21 +41,6 @@ loop-again c =
       omega (arith, m),
       digit-stored (l .buf) (s .args .at) (l .place - 1) (l .rest) fits (omega arith) (omega (arith, m)) ∙ l .inv .5,
     )
-
-add-buf-2 : tie.Need-add-buf-2 Inv-loop μ-loop
-add-buf-2 c = search needs
-
-cast-buf-2 : tie.Need-cast-buf-2 Inv-loop μ-loop
-cast-buf-2 c = search needs
-
-sub-buf : tie.Need-sub-buf Inv-loop μ-loop
-sub-buf c = search needs
-
-slice-write-buf-2 : tie.Need-slice-write-buf-2 Inv-loop μ-loop
-slice-write-buf-2 c = search needs
-
-same-length : tie.Need-same-length Inv-loop μ-loop
-same-length c = search needs
 
 returns : tie.Need-returns Inv-loop μ-loop
 returns c =
@@ -92,17 +59,17 @@ store-digits-spec =
     (tie.spec
     Inv-loop
     μ-loop
-    add-place
+    (λ c. search needs)
     loop-holds
-    sub-place
-    add-buf
-    cast-buf
-    slice-write-buf
-    loop-less
+    (λ c. search needs)
+    (λ c. search needs)
+    (λ c. search needs)
+    (λ c. search needs)
+    (λ c. search needs)
     loop-again
-    add-buf-2
-    cast-buf-2
-    sub-buf
-    slice-write-buf-2
-    same-length
+    (λ c. search needs)
+    (λ c. search needs)
+    (λ c. search needs)
+    (λ c. search needs)
+    (λ c. search needs)
     returns)

@@ -4,11 +4,8 @@ use Rattle.tariff.proofs.Rules.{kind-nonzero}
 use Rattle.tariff.proofs.contracts.Kind.from_number.Statement.{statement}
 use Rattle.tariff.proofs.contracts.Kind.from_number.Tie as tie
 
-returns : tie.Need-returns
-returns c = search needs
-
 returns-2 : tie.Need-returns-2
 returns-2 c = kind-nonzero (c .before .args .number) (c .if1 .left)
 
 pub from-number-spec : {M : Type 1} → statement M
-from-number-spec = tie.close (tie.spec returns returns-2)
+from-number-spec = tie.close (tie.spec (λ c. search needs) returns-2)

@@ -5,14 +5,8 @@ use borrow.Author.Needs.{needs}
 use Rattle.tariff.proofs.processes.Process.from_number.Statement.{statement}
 use Rattle.tariff.proofs.processes.Process.from_number.Tie as tie
 
-returns : tie.Need-returns
-returns c = search needs
-
-returns-2 : tie.Need-returns-2
-returns-2 c = search needs
-
 returns-3 : tie.Need-returns-3
 returns-3 c = let two : c .before .before .args .number ≡ 2 = omega arith in rw two
 
 pub from-number-spec : {M : Type 1} → statement M
-from-number-spec = tie.close (tie.spec returns returns-2 returns-3)
+from-number-spec = tie.close (tie.spec (λ c. search needs) (λ c. search needs) returns-3)

@@ -14,17 +14,8 @@ use Rattle.tariff.proofs.Rounding.{cast-minus-fits, cast-minus-is, nega
 use Rattle.tariff.proofs.units.Amount.cents.Statement.{statement}
 use Rattle.tariff.proofs.units.Amount.cents.Tie as tie
 
-rounded-requires : tie.Need-rounded-requires
-rounded-requires c κs = search needs
-
-cast-result : tie.Need-cast-result
-cast-result c = search needs
-
 sub-result : tie.Need-sub-result
 sub-result c = cast-minus-fits (c .before .before .before .rounded .result) (omega arith)
-
-cast-result-2 : tie.Need-cast-result-2
-cast-result-2 c = search needs
 
 sized : (c : tie.Start) → natAbs (cents (c .args .self .0)) ≤ maxCents
 sized c = cents-sized (c .args .self .0) maxCents (c .pre)
@@ -46,4 +37,4 @@ returns-2 c =
 pub cents-spec : {M : Type 1} → statement M
 cents-spec =
     tie.close
-    (tie.spec rounded-requires cast-result sub-result cast-result-2 returns returns-2)
+    (tie.spec (λ c κs. search needs) (λ c. search needs) sub-result (λ c. search needs) returns returns-2)

@@ -5,15 +5,6 @@ use Rattle.tariff.proofs.Rules.{option-negative, option-positive}
 use Rattle.tariff.proofs.units.Amount.counted.Statement.{statement}
 use Rattle.tariff.proofs.units.Amount.counted.Tie as tie
 
-enum-told : tie.Need-enum-told
-enum-told c = search needs
-
-enum-told-2 : tie.Need-enum-told-2
-enum-told-2 c = search needs
-
-returns : tie.Need-returns
-returns c = search needs
-
 returns-2 : tie.Need-returns-2
 returns-2 c =
     let s = c .before .before .before .before .before in
@@ -25,4 +16,4 @@ returns-3 c =
     rw (c .before .before .before .enum-told2 .given .1) (option-positive (s .args .self .0) (rw (back (s .args .self .0) (s .pre)) at (c .if1 .left)))
 
 pub counted-spec : {M : Type 1} → statement M
-counted-spec = tie.close (tie.spec enum-told enum-told-2 returns returns-2 returns-3)
+counted-spec = tie.close (tie.spec (λ c. search needs) (λ c. search needs) (λ c. search needs) returns-2 returns-3)

@@ -10,17 +10,11 @@ use Rattle.tariff.proofs.Rounding.{negative-parts, positive-parts}
 use Rattle.tariff.proofs.units.Amount.parts.Statement.{statement}
 use Rattle.tariff.proofs.units.Amount.parts.Tie as tie
 
-size-requires : tie.Need-size-requires
-size-requires c κs = search needs
-
 below : (c : tie.Then1) → ltZ (c .before .before .before .before .args .self .0) (pos 0) ≡ true
 below c = let s = c .before .before .before .before in rw (back (s .args .self .0) (omega (arith, s .pre))) at (c .if1 .taken)
 
 sub-result : tie.Need-sub-result
 sub-result c = let f = c .before .before .before in negative-parts (f .before .args .self .0) (f .size .result) (f .size .ensures) (below c) .0
-
-sub-result-2 : tie.Need-sub-result-2
-sub-result-2 c = search needs
 
 returns : tie.Need-returns
 returns c = let f = c .before .before .before in (negative-parts (f .before .args .self .0) (f .size .result) (f .size .ensures) (below c) .1, omega arith)
@@ -32,4 +26,4 @@ returns-2 c =
     (positive-parts z (f .size .result) (f .size .ensures) (rw (back z (omega (arith, f .before .pre))) at (c .if1 .left)), omega arith)
 
 pub parts-spec : {M : Type 1} → statement M
-parts-spec = tie.close (tie.spec size-requires sub-result sub-result-2 returns returns-2)
+parts-spec = tie.close (tie.spec (λ c κs. search needs) sub-result (λ c. search needs) returns returns-2)

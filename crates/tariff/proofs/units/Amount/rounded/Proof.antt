@@ -8,14 +8,8 @@ use Rattle.integers.proofs.Division.{roundUp-even}
 use Rattle.tariff.proofs.units.Amount.rounded.Statement.{statement}
 use Rattle.tariff.proofs.units.Amount.rounded.Tie as tie
 
-size-requires : tie.Need-size-requires
-size-requires c κs = search needs
-
-add-result : tie.Need-add-result
-add-result c = search needs
-
 returns : tie.Need-returns
 returns c = (ap (λ (x : ℕ). (x + 50000000) / 100000000) (c .size .ensures) ∙ sym (roundUp-even (natAbs (c .before .args .self .0)) 50000000), omega arith)
 
 pub rounded-spec : {M : Type 1} → statement M
-rounded-spec = tie.close (tie.spec size-requires add-result returns)
+rounded-spec = tie.close (tie.spec (λ c κs. search needs) (λ c. search needs) returns)

@@ -14,20 +14,8 @@ use Rattle.tariff.proofs.Rounding.{cast-minus-fits, cast-minus-is, nega
 use Rattle.tariff.proofs.units.Amount.whole.Statement.{statement}
 use Rattle.tariff.proofs.units.Amount.whole.Tie as tie
 
-size-requires : tie.Need-size-requires
-size-requires c κs = search needs
-
-add-result : tie.Need-add-result
-add-result c = search needs
-
-cast-result : tie.Need-cast-result
-cast-result c = search needs
-
 sub-result : tie.Need-sub-result
 sub-result c = cast-minus-fits ((c .before .before .before .size .result + 99999999) / 100000000) (omega arith)
-
-cast-result-2 : tie.Need-cast-result-2
-cast-result-2 c = search needs
 
 sized : (c : tie.Start) → natAbs (wholeCents (c .args .self .0)) ≤ maxCents
 sized c = whole-sized (c .args .self .0) maxCents (c .pre)
@@ -49,4 +37,4 @@ returns-2 c =
 pub whole-spec : {M : Type 1} → statement M
 whole-spec =
     tie.close
-    (tie.spec size-requires add-result cast-result sub-result cast-result-2 returns returns-2)
+    (tie.spec (λ c κs. search needs) (λ c. search needs) (λ c. search needs) sub-result (λ c. search needs) returns returns-2)

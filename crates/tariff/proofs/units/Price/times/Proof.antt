@@ -13,12 +13,6 @@ use Rattle.tariff.proofs.units.Price.times.Tie as tie
 small : (c : tie.Start) → natAbs (c .args .factor *ℤ pos (c .args .self .0)) < 2 ^ 63
 small c = lt-of-le-of-lt (natAbs-times (c .args .factor) (pos (c .args .self .0)) (c .pre .0) (c .pre .1)) (lit< tt)
 
-cast-p : tie.Need-cast-p
-cast-p c = search needs
-
-cast-p-2 : tie.Need-cast-p-2
-cast-p-2 c = search needs
-
 mul-t5 : tie.Need-mul-t5
 mul-t5 c = let s = c .before in op-fits _*ℤ_ (back (s .args .factor) (omega (arith, s .pre))) (cast-back (s .args .self .0) (omega (arith, s .pre))) (small s)
 
@@ -26,4 +20,4 @@ returns : tie.Need-returns
 returns c = let s = c .before in op-is _*ℤ_ (back (s .args .factor) (omega (arith, s .pre))) (cast-back (s .args .self .0) (omega (arith, s .pre))) (small s)
 
 pub times-spec : {M : Type 1} → statement M
-times-spec = tie.close (tie.spec cast-p cast-p-2 mul-t5 returns)
+times-spec = tie.close (tie.spec (λ c. search needs) (λ c. search needs) mul-t5 returns)

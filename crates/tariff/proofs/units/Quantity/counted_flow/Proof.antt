@@ -11,18 +11,6 @@ use Rattle.tariff.specs.Contracts.{counted}
 use Rattle.tariff.proofs.units.Quantity.counted_flow.Statement.{statement}
 use Rattle.tariff.proofs.units.Quantity.counted_flow.Tie as tie
 
-enum-told : tie.Need-enum-told
-enum-told c = search needs
-
-flow-requires : tie.Need-flow-requires
-flow-requires c κs = search needs
-
-enum-told-2 : tie.Need-enum-told-2
-enum-told-2 c = search needs
-
-option-flow-requires : tie.Need-option-flow-requires
-option-flow-requires c κs = search needs
-
 -- what is passed on is what came
 same : (c : tie.Start) → (toZ w64 (ofZ w64 (c .args .source)) -ℤ toZ w64 (ofZ w64 (c .args .sink))) *ℤ pos (c .args .self .0) ≡ (c .args .source -ℤ c .args .sink) *ℤ pos (c .args .self .0)
 same c t = (back (c .args .source) (omega (arith, c .pre)) t -ℤ back (c .args .sink) (omega (arith, c .pre)) t) *ℤ pos (c .args .self .0)
@@ -35,4 +23,4 @@ returns-2 c = rw (c .before .enum-told2 .given .1) (c .option-flow .ensures ∙ 
 
 pub counted-flow-spec : {M : Type 1} → statement M
 counted-flow-spec =
-    tie.close (tie.spec enum-told flow-requires enum-told-2 option-flow-requires returns returns-2)
+    tie.close (tie.spec (λ c. search needs) (λ c κs. search needs) (λ c. search needs) (λ c κs. search needs) returns returns-2)

@@ -26,9 +26,6 @@ module _ (x y : ℤ) (q : ℕ) (hx : natAbs x ≤ maxFactor) (hy : natAbs y ≤ 
   product-is : toZ w64 (ofZ w64 (toZ w64 (ofZ w64 (toZ w64 (ofZ w64 x) -ℤ toZ w64 (ofZ w64 y))) *ℤ toZ w64 q)) ≡ (x -ℤ y) *ℤ pos q
   product-is = op-is _*ℤ_ (spread-is x y hx hy) (cast-back q (omega arith)) small
 
-cast-q : tie.Need-cast-q
-cast-q c = search needs
-
 sub-t5 : tie.Need-sub-t5
 sub-t5 c = let p = c .before .pre in search (spread-fits, p .0, p .1)
 
@@ -39,4 +36,4 @@ returns : tie.Need-returns
 returns c = let s = c .before in product-is (s .args .source) (s .args .sink) (s .args .self .0) (s .pre .0) (s .pre .1) (s .pre .2)
 
 pub flow-spec : {M : Type 1} → statement M
-flow-spec = tie.close (tie.spec cast-q sub-t5 mul-t6 returns)
+flow-spec = tie.close (tie.spec (λ c. search needs) sub-t5 mul-t6 returns)
