@@ -9,7 +9,8 @@ use lib.ListN.{length}
 use lib.Pow.{split, pow-add, shr-shr, high, low}
 use lib.Arith.{digits-lt}
 use Rattle.bits.specs.Bits.{number, digits, field, fields}
-use Rattle.bits.specs.Fields.{Field, bits, total, packed, fileOf, Fit, Holds}
+use Rattle.bits.specs.Fields.{Field, bits, total, packed, fileOf}
+use Rattle.bits.specs.Inner.{Fit, Holds}
 use Rattle.bits.proofs.Numbers.{Below, part-low, number-lt, length-digits, digits-number, number-digits, below-digits}
 use Rattle.bits.proofs.Fields.{fields-cons}
 

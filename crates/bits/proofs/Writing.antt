@@ -10,7 +10,7 @@ use lib.Pow.{shl-shr, high, low, mod-pow-add, mod-mod-pow, pow-add, pow-pos}
 use lib.Arith.{digits-lt}
 use Rattle.bits.specs.Bits.{number, digits}
 use Rattle.bits.specs.Fields.{Field, bits, total, packed, fileOf}
-use Rattle.bits.specs.Pen.{written, place, Ready, GoesOn}
+use Rattle.bits.specs.Inner.{written, place, Ready, GoesOn}
 use Rattle.bits.specs.declared.Pen.{Pen}
 use Rattle.bits.proofs.Numbers.{Below, number-append, number-more, length-digits, digits-number, number-digits, below-take}
 use Rattle.lists.proofs.Fill.{drop-later}

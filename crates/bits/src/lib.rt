@@ -5,7 +5,7 @@ ghost use Prim.Native.Nat.{ℕ, _+_, _-_, _*_, _/_, _%_, _^_, _≤_, _<_};
 ghost use lib.Signed.{mag};
 ghost use lib.ListN.{length, take, drop};
 ghost use Rattle.bits.specs.Bits.{number, digits, field as fieldOf};
-ghost use Rattle.bits.specs.Pen.{written, place, Ready, GoesOn};
+ghost use Rattle.bits.specs.Inner.{written, place, Ready, GoesOn};
 ghost use Rattle.bits.specs.Signed.{ofInt, toInt};
 ghost use Rattle.lists.specs.Lent.{before, after};
 

@@ -8,7 +8,8 @@ use lib.ListN.{length, set, length-append}
 use Rattle.lists.specs.Lists.{Each}
 use Rattle.lists.specs.Lent.{overwrite}
 use Rattle.bits.specs.Bits.{digits}
-use Rattle.bits.specs.Fields.{Field, bits, total, packed, fileOf, Fit}
+use Rattle.bits.specs.Fields.{Field, bits, total, packed, fileOf}
+use Rattle.bits.specs.Inner.{Fit}
 use Rattle.bits.proofs.Numbers.{digits-append, digits-high}
 use Rattle.bits.proofs.Files.{total-append, packed-append, packed-lt}
 use Rattle.tariff.specs.declared.contracts.Contract.{Contract}

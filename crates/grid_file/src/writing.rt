@@ -4,7 +4,7 @@ ghost use Prim.Native.Nat.{ℕ, _+_, _*_, _^_, _≤_, _<_};
 ghost use lib.ListN.{length, getD};
 ghost use lib.IntN.{pos, natAbs};
 ghost use Rattle.bits.specs.Bits.{number};
-ghost use Rattle.bits.specs.Pen.{written, place, Ready, GoesOn};
+ghost use Rattle.bits.specs.Inner.{written, place, Ready, GoesOn};
 ghost use Rattle.lists.specs.Lent.{before, after, overwrite};
 ghost use Rattle.tariff.specs.Units.{gridOf, maxFactor};
 ghost use Rattle.layouts.specs.GridFile.{factorWidth, gridFile};

@@ -7,7 +7,8 @@ use native.Mathlib.Omega.{arith}
 use lib.ListN.{length, getD}
 use Rattle.lists.specs.Lists.{Each, listTo}
 use Rattle.lists.proofs.Lists.{length-listTo, listTo-is, each-listTo}
-use Rattle.bits.specs.Fields.{Field, bits, total, fileOf, Fit, Holds}
+use Rattle.bits.specs.Fields.{Field, bits, total, fileOf}
+use Rattle.bits.specs.Inner.{Fit, Holds}
 use Rattle.bits.proofs.Numbers.{Below}
 use Rattle.bits.proofs.Fields.{field-lt}
 use Rattle.bits.proofs.Files.{total-append, fit-append, length-file, below-file, written-holds, holds-written, holds-append}

@@ -15,13 +15,13 @@ use lib.Seq.{take-all}
 use lib.IntN.{ℤ, pos, negsuc}
 use Rattle.bits.specs.Bits.{fields}
 use Rattle.bits.specs.Signed.{ofInt, toInt}
-use Rattle.bits.specs.Fields.{Field, bits, total, fileOf, Fit, Holds}
+use Rattle.bits.specs.Fields.{Field, bits, total, fileOf}
+use Rattle.bits.specs.Inner.{Fit, Holds}
 use Rattle.bits.proofs.Numbers.{Below}
 use Rattle.bits.proofs.Fields.{field-lt, length-fields, below-fields}
 use Rattle.bits.proofs.SignedLaws.{Small, to-of-all, of-to-all, of-below}
 use Rattle.bits.proofs.Files.{total-append, total-run, fit-append, fit-run}
-use Rattle.layouts.specs.GridFile.{limitWidth, factorWidth, gridHeaderBits, gridBits, gridBytes, gridHeader, gridBody, gridFields, gridFile}
-use Rattle.layouts.specs.GridFile.{nodesIn, constraintsIn, gridSpareIn, limitsFrom, factorsFrom, limitsIn, factorsIn, gridPadIn, gridIn}
+use Rattle.layouts.specs.GridFile.{limitWidth, factorWidth, gridHeaderBits, gridBits, gridBytes, gridHeader, gridBody, gridFields, gridFile, nodesIn, constraintsIn, gridSpareIn, limitsFrom, factorsFrom, limitsIn, factorsIn, gridPadIn, gridIn}
 use Rattle.layouts.proofs.Padded.{Padded, padded-total, padded-written, padded-read, holds-then-run}
 
 -- what the fields of a grid's body can hold

@@ -6,7 +6,8 @@ use Prim.Native.Nat.{ℕ, _*_, _^_, _<_}
 use native.Mathlib.Omega.{arith}
 use lib.ListN.{length}
 use Rattle.bits.specs.Bits.{fields}
-use Rattle.bits.specs.Fields.{Field, bits, total, Fit, Holds}
+use Rattle.bits.specs.Fields.{Field, bits, total}
+use Rattle.bits.specs.Inner.{Fit, Holds}
 use Rattle.bits.proofs.Numbers.{Below}
 use Rattle.bits.proofs.Fields.{field-lt, length-fields, below-fields}
 use Rattle.bits.proofs.Files.{total-append, total-run, fit-append, fit-run}

@@ -7,7 +7,8 @@ use native.Mathlib.Omega.{arith}
 use lib.ListN.{length, getD}
 use Rattle.lists.specs.Lists.{Each, listTo}
 use Rattle.lists.proofs.Lists.{length-listTo, flatMap-last}
-use Rattle.bits.specs.Fields.{Field, total, Fit, Holds}
+use Rattle.bits.specs.Fields.{Field, total}
+use Rattle.bits.specs.Inner.{Fit, Holds}
 use Rattle.bits.proofs.Files.{total-append, fit-append, holds-append}
 
 pub fit-records : {A : Type 0} (f : A → List Field) (P : A → Type 0) → ((x : A) → P x → Fit (f x)) → (xs : List A) → Each P xs → Fit (flatMap f xs)

@@ -6,7 +6,7 @@ use native.Mathlib.Omega.{arith}
 use lib.ListN.{length, drop, take-append-drop}
 use Rattle.bits.specs.Bits.{number}
 use Rattle.bits.specs.Fields.{Field, bits, total, packed, fileOf}
-use Rattle.bits.specs.Pen.{written, place, Ready, GoesOn}
+use Rattle.bits.specs.Inner.{written, place, Ready, GoesOn}
 use Rattle.bits.specs.declared.Pen.{Pen}
 use Rattle.bits.proofs.Numbers.{Below}
 use Rattle.lists.proofs.Fill.{drop-later}

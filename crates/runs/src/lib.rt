@@ -3,7 +3,7 @@ ghost use mathlib.Core.Path.{_≡_};
 ghost use Prim.Native.Nat.{ℕ, _+_, _*_, _^_, _≤_, _<_};
 ghost use lib.ListN.{length, getD, take};
 ghost use Rattle.bits.specs.Bits.{number, fields};
-ghost use Rattle.bits.specs.Pen.{written, place, Ready, GoesOn};
+ghost use Rattle.bits.specs.Inner.{written, place, Ready, GoesOn};
 ghost use Rattle.lists.specs.Lists.{some, above};
 ghost use Rattle.lists.specs.Lent.{overwrite};
 use bits::Pen;

@@ -5,7 +5,7 @@ use native.Mathlib.Omega.{arith}
 use lib.ListN.{length, take, drop}
 use borrow.Author.Needs.{needs}
 use Rattle.bits.specs.Bits.{number}
-use Rattle.bits.specs.Pen.{written}
+use Rattle.bits.specs.Inner.{written}
 use Rattle.bits.proofs.Writing.{bytes-turn, bytes-rest}
 use Rattle.lists.proofs.Fill.{drop-later}
 use Rattle.bits.proofs.shed.Statement.{statement}

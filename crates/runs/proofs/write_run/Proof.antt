@@ -6,7 +6,7 @@ use lib.ListN.{length, take, getD}
 use borrow.Author.Needs.{needs}
 use lib.Seq.{getD-take, length-take-le}
 use Rattle.bits.specs.Bits.{number}
-use Rattle.bits.specs.Pen.{written, place, Ready, GoesOn}
+use Rattle.bits.specs.Inner.{written, place, Ready, GoesOn}
 use Rattle.bits.proofs.Fields.{within}
 use Rattle.bits.proofs.Writing.{stays, goes-on, run-start, run-turn, run-end}
 use Rattle.lists.proofs.Search.{cell-in}

@@ -8,7 +8,7 @@ use lib.ListN.{length, take}
 use lib.Pow.{pow-pos}
 use lib.Seq.{length-take-le}
 use Rattle.bits.specs.Fields.{bits}
-use Rattle.bits.specs.Pen.{place}
+use Rattle.bits.specs.Inner.{place}
 use Rattle.layouts.specs.GridFile.{limitWidth, factorWidth, gridHeaderBits, gridBits}
 use Rattle.runs.proofs.Penned.{Penned, penned-start, penned-put, penned-last, penned-run}
 use Rattle.grid_file.specs.Inner.{coded}

@@ -10,7 +10,7 @@ use mir.Val.{toZ, ofZ}
 use mir.ValLaws.{toZ-ofZ}
 use Rattle.bits.specs.Bits.{number}
 use Rattle.bits.specs.Signed.{ofInt}
-use Rattle.bits.specs.Pen.{written, place, Ready, GoesOn}
+use Rattle.bits.specs.Inner.{written, place, Ready, GoesOn}
 use Rattle.bits.proofs.Writing.{stays, goes-on, run-start, run-turn, run-end}
 use Rattle.layouts.specs.GridFile.{factorWidth}
 use Rattle.grid_file.specs.Inner.{coded}

@@ -1,10 +1,25 @@
--- A pen writes fields one after the other into bytes: what it has written, where it stands, and what holds of it between two fields.
+-- What inner functions and proofs say: fields that fit and fields that bytes hold; a pen that writes fields one after the other into bytes.
 use mathlib.Core.Path.{_≡_}
-use Prim.Native.Nat.{ℕ, _+_, _*_, _%_, _^_, _≤_}
-use mathlib.Core.List.{List}
+use Prim.Native.Nat.{ℕ, _+_, _*_, _%_, _^_, _≤_, _<_}
+use mathlib.Core.List.{List, [], _∷_}
 use lib.ListN.{take, drop}
-use Rattle.bits.specs.Bits.{number}
+use Rattle.bits.specs.Bits.{number, field}
+use Rattle.bits.specs.Fields.{Field}
 use Rattle.bits.specs.declared.Pen.{Pen}
+
+-- ---- fields
+
+-- each value fits its width
+abbrev pub Fit : List Field → Type 0
+Fit [] = Unit
+Fit (f ∷ fs) = (f .value < 2 ^ f .width) × Fit fs
+
+-- the bytes s hold the fields from bit o on
+abbrev pub Holds : List ℕ → ℕ → List Field → Type 0
+Holds s o [] = Unit
+Holds s o (f ∷ fs) = (field s o (f .width) ≡ f .value) × Holds s (o + f .width) fs
+
+-- ---- a pen
 
 -- the bytes before its place, and the bits that it holds, its lowest, which are not stored yet
 unfoldable pub written : List ℕ → Pen → ℕ
