@@ -1,1 +1,2 @@
 pub mod WithFiles
+pub mod Written
