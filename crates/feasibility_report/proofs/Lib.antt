@@ -1,2 +1,3 @@
 pub mod Members
 pub mod Answering
+pub mod Cut

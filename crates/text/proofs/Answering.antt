@@ -1,21 +1,20 @@
 -- A refusal's number as text, and what an operation's answer says of a text that is its refusal's line or another.
 use mathlib.Core.Path.{_≡_, refl, sym, ap}
 use mathlib.Core.Bool.{true}
-use mathlib.Core.List.{List, [], _∷_, _++_}
+use mathlib.Core.List.{List, _++_}
 use Prim.Native.Nat.{ℕ, _≤_}
 use native.Mathlib.Omega.{arith}
 use borrow.Author.Tests.{ltb-true}
 use lib.Dec.{ltb}
 use lib.ListN.{length}
-use lib.IntN.{ℤ, pos}
-use Rattle.lists.proofs.Fronts.{front-room}
+use lib.IntN.{ℤ}
 use Rattle.tariff.specs.declared.refusals.Refusal.{Refusal}
 use Rattle.tariff.specs.declared.refusals.Refusal.the-variants.{ShortFile, NodeCount, ConstraintCount, SpareBits, FileLength, LimitRange, FactorRange, Padding, ShortTable}
 use Rattle.tariff.specs.declared.refusals.Refusal.the-variants.{ContractCount, NodeNumber, SameEnds, QuantityRange, PriceCount, PriceRange, ProcessNumber, PeriodOrKind, HolderRange}
 use Rattle.tariff.specs.declared.refusals.Checked.{Checked}
 use Rattle.tariff.specs.declared.refusals.Checked.the-variants.{Passed, Refused}
-use Rattle.tariff.specs.Refusals.{Outcome, numberOf, given, refusedBy, decided, answered, cellsAfter}
-use Rattle.tariff.proofs.Answers.{never-given, given-told}
+use Rattle.tariff.specs.Refusals.{Outcome, numberOf, refusedBy, decided, answered}
+use Rattle.tariff.proofs.Answers.{never-given}
 use Rattle.text.specs.Ascii.{ascii}
 use Rattle.text.specs.Decimal.{decimal}
 use Rattle.text.specs.RefusedLine.{refusedLine}
@@ -50,12 +49,3 @@ pub refused-line : (checked : Checked) (vs : List ℤ) (r : Refusal) → refused
 unfolding refusedLine
 refused-line Passed vs r e file rest = absurd (never-given r vs e)
 refused-line (Refused q) vs r e file rest = ap (λ (n : ℕ). ascii "refused," ++ file ++ ascii "," ++ decimal n ++ ascii "\n") (sym (ap (λ (o : Outcome). o .number) e))
-
--- a length was given: so much was written, and it fits into the buffer
-pub written-fits : (checked : Checked) (text entry exit : List ℕ) (n : ℕ) → given (pos n ∷ []) ≡ answered checked (pos (length text) ∷ []) → exit ≡ cellsAfter checked text entry → n ≤ length exit
-written-fits checked text entry exit n e cells =
-    let told = given-told checked (pos (length text) ∷ []) (pos n ∷ []) e in
-    let q : pos n ∷ [] ≡ pos (length text) ∷ [] = told .1 in
-    let m : n ≡ length text = cc in
-    let after : exit ≡ cellsAfter Passed text entry = rw (told .0) at cells in
-    rw after (front-room text entry n (omega arith))
