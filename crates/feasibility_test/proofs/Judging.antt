@@ -1,8 +1,8 @@
 -- Laws of the test's answer: the overload set bit by bit, and what its figures are.
 use mathlib.Core.Path.{_≡_, refl, sym, ap, ap₂, _∙_}
-use mathlib.Core.Bool.{Bool, true, false, cond}
+use mathlib.Core.Bool.{Bool, true, false}
 use mathlib.Core.List.{List, [], _∷_}
-use Prim.Native.Nat.{ℕ, zero, suc, _+_, _*_, _%_, _^_, _≤_, _<_}
+use Prim.Native.Nat.{ℕ, _+_, _*_, _%_, _^_, _≤_, _<_}
 use native.Mathlib.Numerals.{add-one}
 use native.Mathlib.Omega.{arith}
 use native.Mathlib.Nat.{mul-le-mul, mod-eq-of-lt, pos-of-ne-zero}
@@ -25,6 +25,7 @@ use Rattle.tariff.specs.declared.contracts.Period.{Period}
 use Rattle.tariff.specs.declared.processes.Process.{Process}
 use Rattle.tariff.specs.Processes.{percent}
 use Rattle.tariff.specs.Units.{Grid, factorsOf, gridOf, maxConstraints, maxLimit}
+use Rattle.tariff.specs.Inner.{maxReleased}
 use Rattle.tariff.specs.Contracts.{ofPeriod}
 use Rattle.tariff.specs.Refusals.{given}
 use Rattle.lists.specs.Sets.{setOf}
@@ -58,7 +59,7 @@ bit-fits s k f h e = let p : 2 ^ k ≤ 2 ^ 63 = pow-mono {i = k} {j = 63} (omega
 pub bit-set : (s t k : ℕ) (f : ℕ → Bool) → k < maxConstraints → s ≡ setOf k f → t ≡ s + 1 * 2 ^ k % 18446744073709551616 → f k ≡ true → t ≡ setOf (k + 1) f
 bit-set s t k f h e u b = u ∙ omega (arith, bit-is k h, set-more k f b)
 
-pub released-small : (z : ℤ) (l : ℕ) (process : Process) → l ≤ maxLimit → z ≡ pos (l * percent process * 1000) → natAbs z ≤ 10000000000000
+pub released-small : (z : ℤ) (l : ℕ) (process : Process) → l ≤ maxLimit → z ≡ pos (l * percent process * 1000) → natAbs z ≤ maxReleased
 released-small z l process h e = rw e (omega (arith, mul-le-mul h (percent-sized process)))
 
 -- x is the flow that the machine keeps and z the released limit

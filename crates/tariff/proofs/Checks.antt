@@ -1,6 +1,6 @@
 -- Laws of the first check that holds, of the node count, and of a search for a bad element.
 use mathlib.Core.Path.{_≡_, refl, ap, _∙_}
-use mathlib.Core.Bool.{Bool, true, false, cond, not}
+use mathlib.Core.Bool.{Bool, true, false, cond, not, _||_}
 use mathlib.Core.List.{List, [], _∷_, _++_}
 use Prim.Native.Nat.{ℕ, _+_, _≤_}
 use borrow.Author.Tests.{ltb-false, eqb-true, eq-eqb, ne-eqb, not-false}
@@ -66,6 +66,13 @@ pub nodes-few-of : (n : ℕ) → nodeCount n .fails ≡ false → n ≤ maxNodes
 nodes-few-of n e = ltb-false maxNodes n (neither (eqb n 0) (ltb maxNodes n) e .1)
 
 -- ---- what a test in code says of a condition
+
+-- a count that is 0 or above m
+pub zero-bad : (n m : ℕ) → n ≡ 0 → true ≡ (eqb n 0 || ltb m n)
+zero-bad n m e = rw (eq-eqb n 0 e)
+
+pub above-bad : (n m : ℕ) → (n ≡ 0 → ⊥) → ltb m n ≡ (eqb n 0 || ltb m n)
+above-bad n m h = rw (ne-eqb n 0 h)
 
 pub differs : (a b : ℕ) → (a ≡ b → ⊥) → not (eqb a b) ≡ true
 differs a b h = ap not (ne-eqb a b h)

@@ -15,9 +15,9 @@ use Rattle.tariff.specs.declared.contracts.Contract.{Contract}
 use Rattle.tariff.specs.declared.contracts.Period.{Period}
 use Rattle.tariff.specs.declared.processes.Process.{Process}
 use Rattle.tariff.specs.declared.processes.Process.the-variants.{Annual, TierLt, Monthly}
-use Rattle.tariff.specs.Units.{Factors, Grid, factor, price, maxFactor, maxPrice, maxConstraints}
+use Rattle.tariff.specs.Units.{Factors, Grid, factor, price, maxFactor, maxPrice, maxConstraints, perCent}
 use Rattle.tariff.specs.Contracts.{counted, samePeriod, ofPeriod}
-use Rattle.tariff.specs.Inner.{FactorsInRange, LimitsInRange, PricesInRange, InRange, maxFlow, maxMcc, maxSpread, maxAmount}
+use Rattle.tariff.specs.Inner.{FactorsInRange, LimitsInRange, PricesInRange, InRange, maxFlow, maxReleased, maxMcc, maxSpread, maxAmount}
 use Rattle.tariff.specs.Processes.{percent}
 use Rattle.tariff.specs.Settlement.{congestion, mcc, amount, exactTotal, cents, wholeCents}
 use Rattle.tariff.proofs.Kept.{spread-small}
@@ -62,10 +62,10 @@ module _ (f : Factors) (p : List ℕ) (few : f .constraints ≤ maxConstraints) 
   total-sized cs h = natAbs-sumOver maxAmount (amount f p) cs (amounts-sized cs h)
 
 -- a quotient by 10^8 of a number of size at most B × 10^8, rounded to the nearest or down, has size at most B
-pub cents-sized : (a : ℤ) (B : ℕ) → natAbs a ≤ B * 100000000 → natAbs (cents a) ≤ B
-cents-sized a B h = rw (natAbs-roundAway a 100000000) (omega arith)
+pub cents-sized : (a : ℤ) (B : ℕ) → natAbs a ≤ B * perCent → natAbs (cents a) ≤ B
+cents-sized a B h = rw (natAbs-roundAway a perCent) (omega arith)
 
-pub whole-sized : (a : ℤ) (B : ℕ) → natAbs a ≤ B * 100000000 → natAbs (wholeCents a) ≤ B
+pub whole-sized : (a : ℤ) (B : ℕ) → natAbs a ≤ B * perCent → natAbs (wholeCents a) ≤ B
 whole-sized (pos n) B h = omega arith
 whole-sized (negsuc n) B h = omega arith
 
@@ -89,13 +89,13 @@ percent-sized Annual = omega arith
 percent-sized TierLt = omega arith
 percent-sized Monthly = omega arith
 
-pub released-sized : (n : ℕ) (limits : List ℕ) → LimitsInRange n limits → (process : Process) (k : ℕ) → k < n → released limits process k ≤ 10000000000000
+pub released-sized : (n : ℕ) (limits : List ℕ) → LimitsInRange n limits → (process : Process) (k : ℕ) → k < n → released limits process k ≤ maxReleased
 unfolding released
 released-sized n limits ls process k hk = omega (arith, mul-le-mul (ls .limit-sized k hk) (percent-sized process))
 
 pub excess-sized : (g : Grid) → FactorsInRange (g .factors) → LimitsInRange (g .factors .constraints) (g .limits)
     → (process : Process) (cs : List Contract) (k : ℕ) → Each (InRange (g .factors .nodes)) cs → k < g .factors .constraints
-    → natAbs (excess g process cs k) ≤ maxFlow * length cs + 10000000000000
+    → natAbs (excess g process cs k) ≤ maxFlow * length cs + maxReleased
 unfolding excess
 excess-sized g fs ls process cs k h hk =
     omega (

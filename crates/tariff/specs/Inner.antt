@@ -25,6 +25,10 @@ pub record InRange (nodes : ℕ) (c : Contract) : Type 0 where
 abbrev pub maxFlow : ℕ
 maxFlow = 2 * maxFactor * maxQuantity
 
+-- a released limit, of 100 percent
+abbrev pub maxReleased : ℕ
+maxReleased = maxLimit * 100 * 1000
+
 -- an MCC, the difference of two, and an amount: "one product is at most 6.4 × 10^18 in size"
 abbrev pub maxMcc : ℕ
 maxMcc = maxFactor * maxPrice * maxConstraints

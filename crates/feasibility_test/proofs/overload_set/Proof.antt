@@ -1,7 +1,7 @@
 -- `overload_set`: the bits below k are set.
 use mathlib.Core.Path.{_≡_, refl, sym, ap, _∙_}
 use mathlib.Core.Bool.{Bool}
-use Prim.Native.Nat.{ℕ, _-_, _≤_}
+use Prim.Native.Nat.{ℕ, _-_, _^_, _≤_}
 use native.Mathlib.Omega.{arith}
 use lib.ListN.{getD, set}
 use borrow.Author.Needs.{needs}
@@ -33,7 +33,7 @@ exceeds-requires c κs =
     let s = c .before .before .before .before .before .before .before in
     let k = c .before .before .before .before .loop .k in
     let t = c .before .before .before .loop-test .taken in
-    let flow = kept-sized (getD (s .args .flows .flows) k (pos 0)) 4611686018427387904 (lit< tt) (omega (arith, s .pre .flows-sized k t)) in
+    let flow = kept-sized (getD (s .args .flows .flows) k (pos 0)) (2 ^ 62) (lit< tt) (omega (arith, s .pre .flows-sized k t)) in
     let limit = released-small (c .released .result .0) (getD (s .args .limits .now) k 0) (s .args .process) (s .pre .good-limits .sized k t) (c .released .ensures) in
     (omega (arith, flow, limit), omega (arith, flow, limit))
 

@@ -5,6 +5,7 @@ use native.Mathlib.Nat.{mul-le-mul}
 use native.Mathlib.Omega.{arith}
 use lib.IntN.{pos}
 use Rattle.integers.proofs.Machine.{cast-back}
+use Rattle.tariff.specs.Units.{maxLimit}
 use Rattle.tariff.proofs.Sizes.{percent-sized}
 use Rattle.tariff.proofs.processes.Process.released.Statement.{statement}
 use Rattle.tariff.proofs.processes.Process.released.Tie as tie
@@ -12,7 +13,7 @@ use Rattle.tariff.proofs.processes.Process.released.Tie as tie
 percent-requires : tie.Need-percent-requires
 percent-requires c κs = tt
 
-small : (c : tie.After-percent) → c .before .args .limit * c .percent .result ≤ 10000000000
+small : (c : tie.After-percent) → c .before .args .limit * c .percent .result ≤ maxLimit * 100
 small c =
     let h : c .percent .result ≤ 100 = rw (c .percent .ensures) (percent-sized (c .before .args .self)) in
     mul-le-mul (c .before .pre) h
