@@ -21,7 +21,8 @@ use Rattle.bits.proofs.Numbers.{Below}
 use Rattle.bits.proofs.Fields.{field-lt, length-fields, below-fields}
 use Rattle.bits.proofs.SignedLaws.{Small, to-of-all, of-to-all, of-below}
 use Rattle.bits.proofs.Files.{total-append, total-run, fit-append, fit-run}
-use Rattle.layouts.specs.GridFile.{limitWidth, factorWidth, gridHeaderBits, gridBits, gridBytes, gridHeader, gridBody, gridFields, gridFile, nodesIn, constraintsIn, gridSpareIn, limitsFrom, factorsFrom, limitsIn, factorsIn, gridPadIn, gridIn}
+use Rattle.layouts.specs.GridFile.{limitWidth, factorWidth, gridHeaderBits, gridBits, gridBytes, gridHeader, gridBody, gridFields, gridFile}
+use Rattle.layouts.specs.GridFile.{nodesIn, constraintsIn, gridSpareIn, limitsFrom, factorsFrom, limitsIn, factorsIn, gridPadIn, gridIn}
 use Rattle.layouts.proofs.Padded.{Padded, padded-total, padded-written, padded-read, holds-then-run}
 
 -- what the fields of a grid's body can hold
