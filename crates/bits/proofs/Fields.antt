@@ -1,23 +1,18 @@
 -- Laws of `field` and `fields`: where a field lies, a run of fields, and a field gathered from bytes.
-use mathlib.Core.Path.{_≡_, refl, sym, ap, ap₂, _∙_}
+use mathlib.Core.Path.{_≡_, refl, sym, ap, _∙_}
 use Prim.Native.Nat.{ℕ, suc, _+_, _-_, _*_, _/_, _%_, _^_, _≤_, _<_}
-use native.Mathlib.Nat.{mul-le-mul-left, mul-suc, mod-lt, mod-one}
+use native.Mathlib.Nat.{mul-le-mul-left, mul-suc, mod-lt}
 use native.Mathlib.Omega.{arith}
 use mathlib.Core.List.{List, _∷_}
 use lib.ListN.{length, getD, take, drop, length-drop, take-append-drop}
 use lib.Seq.{take-add, getD-drop, length-take-le}
-use lib.Pow.{split, pow-pos, shr-shr, high}
+use lib.Pow.{pow-pos, shr-shr}
 use Rattle.bits.specs.Bits.{number, digits, field, fields}
-use Rattle.bits.proofs.Numbers.{Below, part-high, part-low, number-append, number-lt, number-more, number-fits, length-digits, digits-high, digits-number, number-digits, getD-digits, below-digits, below-drop}
+use Rattle.bits.proofs.Numbers.{Below, part-high, part-low, number-append, number-lt, number-more, number-fits, length-digits, getD-digits, below-digits, below-drop}
 
 pub field-lt : (s : List ℕ) (o w : ℕ) → field s o w < 2 ^ w
 unfolding field
 field-lt s o w = mod-lt _ (pow-pos w)
-
--- a field of no bits, as padding may be, is 0
-pub field-zero : (s : List ℕ) (o : ℕ) → field s o 0 ≡ 0
-unfolding field
-field-zero s o = mod-one _
 
 -- only the bytes that the field touches count: k bytes from byte f on
 pub field-window : (s : List ℕ) (o w f k : ℕ) → Below 8 s → 8 * f ≤ o → o + w ≤ 8 * (f + k) → f + k ≤ length s
@@ -111,26 +106,6 @@ length-fields s o w n = length-digits w n (number 8 s / 2 ^ (8 * length s - (o +
 pub below-fields : (s : List ℕ) (o w n : ℕ) → Below w (fields s o w n)
 unfolding fields
 below-fields s o w n = below-digits w n (number 8 s / 2 ^ (8 * length s - (o + w * n)))
-
--- written, then read: where the bytes' number has the digits ds with e bits after them, the run there is ds
-pub run-read : (s ds : List ℕ) (o w e a r : ℕ) → Below w ds → o + w * length ds + e ≡ 8 * length s → r < 2 ^ e
-    → number 8 s ≡ (a * 2 ^ (w * length ds) + number w ds) * 2 ^ e + r → fields s o w (length ds) ≡ ds
-unfolding fields
-run-read s ds o w e a r b end lt is =
-    ap (λ (x : ℕ). digits w (length ds) (number 8 s / 2 ^ x)) (omega arith)
-    ∙ ap (λ (x : ℕ). digits w (length ds) (x / 2 ^ e)) is
-    ∙ ap (digits w (length ds)) (high (a * 2 ^ (w * length ds) + number w ds) e lt)
-    ∙ digits-high w (length ds) (length ds) a (number w ds) (omega arith)
-    ∙ digits-number w ds b
-
--- read, then written: the number down to e bits from the end is what stands before the run, and the run
-pub run-write : (s : List ℕ) (o w n e : ℕ) → o + w * n + e ≡ 8 * length s
-    → number 8 s / 2 ^ e ≡ number 8 s / 2 ^ (e + w * n) * 2 ^ (w * n) + number w (fields s o w n)
-unfolding fields
-run-write s o w n e end =
-    sym (split (number 8 s / 2 ^ e) (w * n))
-    ∙ ap₂ (λ (x y : ℕ). x * 2 ^ (w * n) + y) (shr-shr (number 8 s) e (w * n))
-    (sym (number-digits w n (number 8 s / 2 ^ e)) ∙ ap (λ (x : ℕ). number w (digits w n (number 8 s / 2 ^ x))) (omega arith))
 
 -- field i of n lies within the run
 pub within : (o w n i m at : ℕ) → i < n → at ≡ o + w * i → o + w * n ≤ m → at + w ≤ m

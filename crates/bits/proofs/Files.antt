@@ -9,7 +9,8 @@ use lib.ListN.{length}
 use lib.Pow.{split, pow-add, shr-shr, high, low}
 use lib.Arith.{digits-lt}
 use Rattle.bits.specs.Bits.{number, digits, field, fields}
-use Rattle.bits.specs.Fields.{Field, bits, total, packed, fileOf, Fit, Holds}
+use Rattle.bits.specs.Fields.{Field, bits, total, packed, fileOf}
+use Rattle.bits.specs.Inner.{Fit, Holds}
 use Rattle.bits.proofs.Numbers.{Below, part-low, number-lt, length-digits, digits-number, number-digits, below-digits}
 use Rattle.bits.proofs.Fields.{fields-cons}
 
@@ -135,10 +136,6 @@ holds-join s o (x ∷ xs) ys h = (h .0 .0, holds-join s (o + x .width) xs ys (h 
 
 pub holds-append : (s : List ℕ) (o : ℕ) (xs ys : List Field) → Holds s o (xs ++ ys) ↔ (Holds s o xs × Holds s (o + total xs) ys)
 holds-append s o xs ys = (holds-split s o xs ys, holds-join s o xs ys)
-
--- each field stands where its own offset says, whatever the fields beside it are
-pub holds-field : (s : List ℕ) (o : ℕ) (xs : List Field) (w v : ℕ) (ys : List Field) → Holds s o (xs ++ bits w v ∷ ys) → field s (o + total xs) w ≡ v
-holds-field s o xs w v ys h = holds-split s o xs (bits w v ∷ ys) h .1 .0
 
 -- ---- a run of one width
 

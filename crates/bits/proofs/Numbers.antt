@@ -1,7 +1,8 @@
 -- Laws of `number` and `digits`, each over the width.
 use mathlib.Core.Path.{_≡_, refl, sym, ap, _∙_}
 use Prim.Native.Nat.{ℕ, zero, suc, _+_, _-_, _*_, _/_, _%_, _^_, _≤_, _<_}
-use native.Mathlib.Nat.{one-mul, mul-one, lt-of-lt-of-le, add-comm, mul-le-mul-left, mul-add, mul-suc, mul-zero, mod-one, mod-lt, mul-add-div-right, mul-add-mod-self-right, mod-eq-of-lt}
+use native.Mathlib.Nat.{zero-add, suc-add, add-comm, mul-zero, one-mul, mul-one, mul-suc, mul-add, mul-le-mul-left, lt-of-lt-of-le}
+use native.Mathlib.Nat.{mod-one, mod-lt, mul-add-div-right, mul-add-mod-self-right, mod-eq-of-lt}
 use native.Mathlib.Numerals.{add-one}
 use native.Mathlib.Omega.{arith}
 use mathlib.Core.List.{List, [], _∷_, _++_}
@@ -52,6 +53,13 @@ pub length-digits : (w n v : ℕ) → length (digits w n v) ≡ n
 length-digits w zero v = refl
 length-digits w (suc n) v = ap suc (length-digits w n v)
 
+-- those above the b lowest, and the b lowest
+pub digits-append : (w a b v : ℕ) → digits w (a + b) v ≡ digits w a (v / 2 ^ (w * b)) ++ digits w b v
+digits-append w zero b v = ap (λ (n : ℕ). digits w n v) (zero-add b)
+digits-append w (suc a) b v =
+    let exp : w * (a + b) ≡ w * b + w * a = mul-add w a b ∙ add-comm (w * a) (w * b) in
+    rw (suc-add a b, exp, ← shr-shr v (w * b) (w * a), digits-append w a b v)
+
 -- digits to number to digits, and number to digits to number
 pub digits-high : (w n m a v : ℕ) → n ≤ m → digits w n (a * 2 ^ (w * m) + v) ≡ digits w n v
 digits-high w zero m a v h = refl
@@ -91,11 +99,6 @@ below-take w (suc n) (x ∷ xs) h (suc i) = below-take w n xs (λ j. h (suc j)) 
 
 pub below-drop : (w n : ℕ) (s : List ℕ) → Below w s → Below w (drop n s)
 below-drop w n s h i = rw getD-drop (h (n + i))
-
-pub below-append : (w : ℕ) (xs ys : List ℕ) → Below w xs → Below w ys → Below w (xs ++ ys)
-below-append w [] ys hx hy i = hy i
-below-append w (x ∷ xs) ys hx hy zero = hx 0
-below-append w (x ∷ xs) ys hx hy (suc i) = below-append w xs ys (λ j. hx (suc j)) hy i
 
 pub number-fits : (w : ℕ) (t : List ℕ) (i k : ℕ) → Below w t → i ≤ k → number w (take i t) < 2 ^ (w * k)
 number-fits w t i k b h =

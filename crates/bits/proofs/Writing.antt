@@ -1,20 +1,19 @@
 -- Laws of a pen, which writes one field after the other: a turn of its loop, and what it has written after many fields.
 use mathlib.Core.Path.{_≡_, refl, sym, ap, ap₂, _∙_}
 use Prim.Native.Nat.{ℕ, _+_, _-_, _*_, _/_, _%_, _^_, _≤_, _<_}
-use native.Mathlib.Nat.{add-zero, mul-zero, mod-one, mod-lt, mod-eq-of-lt}
-use native.Mathlib.Numerals.{add-one}
+use native.Mathlib.Nat.{add-zero, mul-zero, mod-mod, mod-one, mod-lt}
 use native.Mathlib.Omega.{arith}
 use mathlib.Core.List.{List, [], _∷_, _++_, map}
-use lib.ListN.{length, set, getD, take, drop, length-append}
-use lib.Seq.{take-suc-set, take-all, take-at, drop-at, length-take-le}
+use lib.ListN.{length, getD, take, drop, length-append}
+use lib.Seq.{take-all, take-at, drop-at, length-take-le}
 use lib.Pow.{shl-shr, high, low, mod-pow-add, mod-mod-pow, pow-add, pow-pos}
 use lib.Arith.{digits-lt}
 use Rattle.bits.specs.Bits.{number, digits}
 use Rattle.bits.specs.Fields.{Field, bits, total, packed, fileOf}
-use Rattle.bits.specs.Pen.{written, place, Ready, GoesOn}
+use Rattle.bits.specs.Inner.{written, place, Ready, GoesOn}
 use Rattle.bits.specs.declared.Pen.{Pen}
 use Rattle.bits.proofs.Numbers.{Below, number-append, number-more, length-digits, digits-number, number-digits, below-take}
-use Rattle.bits.proofs.Fill.{drop-later}
+use Rattle.lists.proofs.Fill.{drop-later}
 use Rattle.bits.proofs.Files.{packed-append, total-run, packed-run}
 
 -- ---- `v` of w bits behind the bits of `a`, at 64 bits
@@ -41,42 +40,28 @@ module _ (a v w : ℕ) (few : w ≤ 32) (fit : v < 2 ^ w) where
 
 -- ---- bytes that leave the pen
 
--- the bits held are those that are stored and those that stay
-split-held : (bits k held : ℕ) → k ≤ held → bits % 2 ^ held ≡ bits / 2 ^ (held - k) % 2 ^ k * 2 ^ (held - k) + bits % 2 ^ (held - k)
-split-held bits k held h =
-    let same : held ≡ k + (held - k) = omega arith in
-    ap (λ (x : ℕ). bits % 2 ^ x) same ∙ mod-pow-add bits k (held - k)
+-- n bytes, the highest that are held: what is written does not change, nor do the bytes behind them
+module _ (n : ℕ) (s t : List ℕ) (at w : ℕ) (room : at + n ≤ length s) (is : t ≡ take at s ++ digits 8 n w ++ drop (at + n) s) where
+  front-long : length (take at s ++ digits 8 n w) ≡ at + n
+  front-long = length-append (take at s) (digits 8 n w) ∙ ap₂ _+_ (length-take-le at s (omega arith)) (length-digits 8 n w)
 
-pub put-turn : (s : List ℕ) (at held bits byte : ℕ) → at < length s → 8 ≤ held → byte ≡ bits / 2 ^ (held - 8) % 2 ^ 8
-    → number 8 (take (at + 1) (set s at byte)) * 2 ^ (held - 8) + bits % 2 ^ (held - 8) ≡ number 8 (take at s) * 2 ^ held + bits % 2 ^ held
-put-turn s at held bits byte h big b =
-    let same : held ≡ 8 + (held - 8) = omega arith in
-    let pows : 2 ^ held ≡ 256 * 2 ^ (held - 8) = ap (λ (x : ℕ). 2 ^ x) same ∙ pow-add 2 8 (held - 8) in
-    rw (add-one, take-suc-set s at byte h, number-append, b)
-    (omega (arith, ap (λ (x : ℕ). number 8 (take at s) * x) pows, split-held bits 8 held big))
+  pub bytes-rest : drop (at + n) t ≡ drop (at + n) s
+  bytes-rest = ap (drop (at + n)) is ∙ drop-at (take at s ++ digits 8 n w) (drop (at + n) s) (at + n) front-long
 
--- the same of four bytes at once
-module _ (s t : List ℕ) (at w : ℕ) (room : at + 4 ≤ length s) (is : t ≡ take at s ++ digits 8 4 w ++ drop (at + 4) s) where
-  front-long : length (take at s ++ digits 8 4 w) ≡ at + 4
-  front-long = length-append (take at s) (digits 8 4 w) ∙ ap₂ _+_ (length-take-le at s (omega arith)) (length-digits 8 4 w)
-
-  pub word-rest : drop (at + 4) t ≡ drop (at + 4) s
-  word-rest = ap (drop (at + 4)) is ∙ drop-at (take at s ++ digits 8 4 w) (drop (at + 4) s) (at + 4) front-long
-
-  front : number 8 (take (at + 4) t) ≡ number 8 (take at s) * 2 ^ 32 + w % 2 ^ 32
+  front : number 8 (take (at + n) t) ≡ number 8 (take at s) * 2 ^ (8 * n) + w % 2 ^ (8 * n)
   front =
-      ap (λ (x : List ℕ). number 8 (take (at + 4) x)) is
-      ∙ ap (number 8) (take-at (take at s ++ digits 8 4 w) (drop (at + 4) s) (at + 4) front-long)
-      ∙ number-append 8 (take at s) (digits 8 4 w)
-      ∙ ap (λ (x : ℕ). number 8 (take at s) * 2 ^ 32 + x) (number-digits 8 4 w)
+      ap (λ (x : List ℕ). number 8 (take (at + n) x)) is
+      ∙ ap (number 8) (take-at (take at s ++ digits 8 n w) (drop (at + n) s) (at + n) front-long)
+      ∙ rw (number-append 8 (take at s) (digits 8 n w), length-digits 8 n w, number-digits 8 n w)
 
-  pub word-turn : (held bits : ℕ) → 32 ≤ held → w < 2 ^ 32 → w ≡ bits / 2 ^ (held - 32) % 2 ^ 32
-      → number 8 (take (at + 4) t) * 2 ^ (held - 32) + bits % 2 ^ (held - 32) ≡ number 8 (take at s) * 2 ^ held + bits % 2 ^ held
-  word-turn held bits big small e =
-      let same : held ≡ 32 + (held - 32) = omega arith in
-      let pows : 2 ^ held ≡ 2 ^ 32 * 2 ^ (held - 32) = ap (λ (x : ℕ). 2 ^ x) same ∙ pow-add 2 32 (held - 32) in
-      rw (front, mod-eq-of-lt small, e)
-      (omega (arith, ap (λ (x : ℕ). number 8 (take at s) * x) pows, split-held bits 32 held big))
+  pub bytes-turn : (held bits : ℕ) → 8 * n ≤ held → w ≡ bits / 2 ^ (held - 8 * n) % 2 ^ (8 * n)
+      → number 8 (take (at + n) t) * 2 ^ (held - 8 * n) + bits % 2 ^ (held - 8 * n) ≡ number 8 (take at s) * 2 ^ held + bits % 2 ^ held
+  bytes-turn held bits big e =
+      let all : held ≡ 8 * n + (held - 8 * n) = omega arith in
+      let pows : 2 ^ held ≡ 2 ^ (8 * n) * 2 ^ (held - 8 * n) = ap (λ (x : ℕ). 2 ^ x) all ∙ pow-add 2 (8 * n) (held - 8 * n) in
+      let split : bits % 2 ^ held ≡ w * 2 ^ (held - 8 * n) + bits % 2 ^ (held - 8 * n) = ap (λ (x : ℕ). bits % 2 ^ x) all ∙ mod-pow-add bits (8 * n) (held - 8 * n) ∙ rw e in
+      let small : w % 2 ^ (8 * n) ≡ w = rw e (mod-mod _ _) in
+      rw (front, small) (omega (arith, ap (λ (x : ℕ). number 8 (take at s) * x) pows, split))
 
 -- what was written before, and then v
 pub put-more : (n held k bits v w : ℕ) → bits ≡ k * 2 ^ w + v → n * 2 ^ (held + w) + bits ≡ (n * 2 ^ held + k) * 2 ^ w + v

@@ -1,8 +1,7 @@
 -- Fields side by side, most significant bit first: what the bytes of a file are made of. Definitions only.
-use mathlib.Core.Path.{_≡_}
 use mathlib.Core.List.{List, [], _∷_}
-use Prim.Native.Nat.{ℕ, _+_, _*_, _/_, _^_, _<_}
-use Rattle.bits.specs.Bits.{digits, field}
+use Prim.Native.Nat.{ℕ, _+_, _*_, _/_, _^_}
+use Rattle.bits.specs.Bits.{digits}
 
 -- a value and the number of bits that it takes
 pub record Field : Type 0 where
@@ -25,13 +24,3 @@ packed (f ∷ fs) = f .value * 2 ^ total fs + packed fs
 -- the fields as bytes, where they fill whole bytes
 unfoldable pub fileOf : List Field → List ℕ
 fileOf fs = digits 8 (total fs / 8) (packed fs)
-
--- each value fits its width
-abbrev pub Fit : List Field → Type 0
-Fit [] = Unit
-Fit (f ∷ fs) = (f .value < 2 ^ f .width) × Fit fs
-
--- the bytes s hold the fields from bit o on
-abbrev pub Holds : List ℕ → ℕ → List Field → Type 0
-Holds s o [] = Unit
-Holds s o (f ∷ fs) = (field s o (f .width) ≡ f .value) × Holds s (o + f .width) fs

@@ -5,15 +5,23 @@ ghost use Prim.Native.Nat.{ℕ, _+_, _-_, _*_, _/_, _%_, _^_, _≤_, _<_};
 ghost use lib.Signed.{mag};
 ghost use lib.ListN.{length, take, drop};
 ghost use Rattle.bits.specs.Bits.{number, digits, field as fieldOf};
-ghost use Rattle.bits.specs.Pen.{written, place, Ready, GoesOn};
+ghost use Rattle.bits.specs.Inner.{written, place, Ready, GoesOn};
 ghost use Rattle.bits.specs.Signed.{ofInt, toInt};
+ghost use Rattle.lists.specs.Lent.{before, after};
+
+// A byte with its bound.
+fn wide(b: u8) -> u64
+    ensures { λ r. ⌜ (r ≡ b) × (r < 256) ⌝ }
+{
+    b as u64
+}
 
 // One byte more: `acc` is the number of `i` bytes from `first` on, and the result that of `i + 1`.
 fn more(s: &[u8], first: usize, i: usize, acc: u64) -> u64
     requires { ⌜ (first + i < length (now s)) × (i ≤ 6) × (acc ≡ number 8 (take i (drop first (now s)))) ⌝ }
-    ensures { λ r. ⌜ r ≡ number 8 (take (i + 1) (drop first (now (s .entry)))) ⌝ }
+    ensures { λ r. ⌜ r ≡ number 8 (take (i + 1) (drop first (before s))) ⌝ }
 {
-    let b = s[first + i] as u64;
+    let b = wide(s[first + i]);
     acc * 256 + b
 }
 
@@ -21,7 +29,7 @@ fn more(s: &[u8], first: usize, i: usize, acc: u64) -> u64
 pub fn window(s: &[u8], first: usize, count: usize) -> u64
     requires { ⌜ first + count ≤ length (now s) ⌝ }
     requires { ⌜ count ≤ 7 ⌝ }
-    ensures { λ r. ⌜ r ≡ number 8 (take count (drop first (now (s .entry)))) ⌝ }
+    ensures { λ r. ⌜ r ≡ number 8 (take count (drop first (before s))) ⌝ }
 {
     let mut acc: u64 = 0;
     let mut i = 0;
@@ -35,19 +43,19 @@ pub fn window(s: &[u8], first: usize, count: usize) -> u64
 // Four bytes from `first` on. The sum is written out flat, so that the compiler makes one load of it.
 fn window4(s: &[u8], first: usize) -> u64
     requires { ⌜ first + 4 ≤ length (now s) ⌝ }
-    ensures { λ r. ⌜ r ≡ number 8 (take 4 (drop first (now (s .entry)))) ⌝ }
+    ensures { λ r. ⌜ r ≡ number 8 (take 4 (drop first (before s))) ⌝ }
 {
-    let a = s[first] as u64;
-    let b = s[first + 1] as u64;
-    let c = s[first + 2] as u64;
-    let d = s[first + 3] as u64;
+    let a = wide(s[first]);
+    let b = wide(s[first + 1]);
+    let c = wide(s[first + 2]);
+    let d = wide(s[first + 3]);
     a * 16777216 + b * 65536 + c * 256 + d
 }
 
 // Five bytes from `first` on, with no loop: a field of 32 bits lies in five bytes.
 pub fn window5(s: &[u8], first: usize) -> u64
     requires { ⌜ first + 5 ≤ length (now s) ⌝ }
-    ensures { λ r. ⌜ r ≡ number 8 (take 5 (drop first (now (s .entry)))) ⌝ }
+    ensures { λ r. ⌜ r ≡ number 8 (take 5 (drop first (before s))) ⌝ }
 {
     more(s, first, 4, window4(s, first))
 }
@@ -55,7 +63,7 @@ pub fn window5(s: &[u8], first: usize) -> u64
 // Six bytes from `first` on, with no loop: a record of 48 bits.
 pub fn window6(s: &[u8], first: usize) -> u64
     requires { ⌜ first + 6 ≤ length (now s) ⌝ }
-    ensures { λ r. ⌜ r ≡ number 8 (take 6 (drop first (now (s .entry)))) ⌝ }
+    ensures { λ r. ⌜ r ≡ number 8 (take 6 (drop first (before s))) ⌝ }
 {
     more(s, first, 5, window5(s, first))
 }
@@ -72,7 +80,7 @@ pub fn part(v: u64, low: usize, width: usize) -> u64
 fn cut(s: &[u8], offset: usize, width: usize, count: usize, acc: u64) -> u64
     requires { ⌜ (offset % 8 + width ≤ 8 * count) × (offset / 8 + count ≤ length (now s)) × (count ≤ 5) × (width ≤ 32) ⌝ }
     requires { ⌜ acc ≡ number 8 (take count (drop (offset / 8) (now s))) ⌝ }
-    ensures { λ r. ⌜ (r ≡ fieldOf (now (s .entry)) offset width) × (r < 2 ^ width) ⌝ }
+    ensures { λ r. ⌜ (r ≡ fieldOf (before s) offset width) × (r < 2 ^ width) ⌝ }
 {
     part(acc, 8 * count - offset % 8 - width, width)
 }
@@ -81,7 +89,7 @@ fn cut(s: &[u8], offset: usize, width: usize, count: usize, acc: u64) -> u64
 pub fn field(s: &[u8], offset: usize, width: usize) -> u64
     requires { ⌜ offset + width ≤ 8 * length (now s) ⌝ }
     requires { ⌜ width ≤ 32 ⌝ }
-    ensures { λ r. ⌜ (r ≡ fieldOf (now (s .entry)) offset width) × (r < 2 ^ width) ⌝ }
+    ensures { λ r. ⌜ (r ≡ fieldOf (before s) offset width) × (r < 2 ^ width) ⌝ }
 {
     let first = offset / 8;
     let left = s.len() - first;
@@ -109,15 +117,39 @@ fn join(a: u64, v: u64, width: usize) -> u64
     (a << width) + v
 }
 
-// Stores the four bytes of a number of 32 bits at place `at`.
+// Stores the lowest byte of `v` at place `at`.
+fn store1(buf: &mut [u8], at: usize, v: u64)
+    requires { ⌜ at + 1 ≤ length (now buf) ⌝ }
+    ensures { λ r. ⌜ after buf ≡ take at (before buf) ++ digits 8 1 v ++ drop (at + 1) (before buf) ⌝ }
+{
+    buf[at] = part(v, 0, 8) as u8;
+}
+
+// Stores the two lowest bytes of `v` from place `at` on. The lower one goes first, here and below: in that order the compiler makes one store of four bytes.
+fn store2(buf: &mut [u8], at: usize, v: u64)
+    requires { ⌜ at + 2 ≤ length (now buf) ⌝ }
+    ensures { λ r. ⌜ after buf ≡ take at (before buf) ++ digits 8 2 v ++ drop (at + 2) (before buf) ⌝ }
+{
+    store1(buf, at + 1, v);
+    store1(buf, at, v >> 8);
+}
+
+// Stores the four lowest bytes of `v` from place `at` on.
 fn store4(buf: &mut [u8], at: usize, v: u64)
     requires { ⌜ at + 4 ≤ length (now buf) ⌝ }
-    ensures { λ r. ⌜ now (buf .exit) ≡ take at (now (buf .entry)) ++ digits 8 4 v ++ drop (at + 4) (now (buf .entry)) ⌝ }
+    ensures { λ r. ⌜ after buf ≡ take at (before buf) ++ digits 8 4 v ++ drop (at + 4) (before buf) ⌝ }
 {
-    buf[at] = part(v, 24, 8) as u8;
-    buf[at + 1] = part(v, 16, 8) as u8;
-    buf[at + 2] = part(v, 8, 8) as u8;
-    buf[at + 3] = part(v, 0, 8) as u8;
+    store2(buf, at + 2, v);
+    store2(buf, at, v >> 16);
+}
+
+// Stores the six lowest bytes of `v` from place `at` on: a record of 48 bits.
+pub fn store6(buf: &mut [u8], at: usize, v: u64)
+    requires { ⌜ at + 6 ≤ length (now buf) ⌝ }
+    ensures { λ r. ⌜ after buf ≡ take at (before buf) ++ digits 8 6 v ++ drop (at + 6) (before buf) ⌝ }
+{
+    store4(buf, at + 2, v);
+    store2(buf, at, v >> 32);
 }
 
 // Writes `v` as the next `width` bits: four bytes leave the pen at once, as soon as it holds them.
@@ -125,9 +157,9 @@ pub fn put(buf: &mut [u8], pen: Pen, v: u64, width: usize) -> Pen
     requires { ⌜ Ready pen ⌝ }
     requires { ⌜ (v < 2 ^ width) × (width ≤ 32) ⌝ }
     requires { ⌜ place pen + width ≤ 8 * length (now buf) ⌝ }
-    ensures { λ r. ⌜ written (now (buf .exit)) r ≡ written (now (buf .entry)) pen * 2 ^ width + v ⌝ }
+    ensures { λ r. ⌜ written (after buf) r ≡ written (before buf) pen * 2 ^ width + v ⌝ }
     ensures { λ r. ⌜ (place r ≡ place pen + width) × Ready r ⌝ }
-    ensures { λ r. ⌜ GoesOn (now (buf .entry)) pen (now (buf .exit)) r ⌝ }
+    ensures { λ r. ⌜ GoesOn (before buf) pen (after buf) r ⌝ }
 {
     let at = pen.at;
     let held = pen.held + width;
@@ -148,16 +180,16 @@ pub fn put(buf: &mut [u8], pen: Pen, v: u64, width: usize) -> Pen
 fn shed(buf: &mut [u8], pen: Pen) -> Pen
     requires { ⌜ Ready pen ⌝ }
     requires { ⌜ place pen ≤ 8 * length (now buf) ⌝ }
-    ensures { λ r. ⌜ written (now (buf .exit)) r ≡ written (now (buf .entry)) pen ⌝ }
+    ensures { λ r. ⌜ written (after buf) r ≡ written (before buf) pen ⌝ }
     ensures { λ r. ⌜ (place r ≡ place pen) × (r .held ≤ 7) × Ready r ⌝ }
-    ensures { λ r. ⌜ GoesOn (now (buf .entry)) pen (now (buf .exit)) r ⌝ }
+    ensures { λ r. ⌜ GoesOn (before buf) pen (after buf) r ⌝ }
 {
     let mut at = pen.at;
     let mut held = pen.held;
     let bits = pen.bits;
     while 8 <= held {
         held -= 8;
-        buf[at] = part(bits, held, 8) as u8;
+        store1(buf, at, part(bits, held, 8));
         at += 1;
     }
     Pen { at, held, bits }
@@ -168,12 +200,20 @@ pub fn put_last(buf: &mut [u8], pen: Pen, v: u64, width: usize) -> Pen
     requires { ⌜ Ready pen ⌝ }
     requires { ⌜ (v < 2 ^ width) × (width ≤ 32) ⌝ }
     requires { ⌜ place pen + width ≤ 8 * length (now buf) ⌝ }
-    ensures { λ r. ⌜ written (now (buf .exit)) r ≡ written (now (buf .entry)) pen * 2 ^ width + v ⌝ }
+    ensures { λ r. ⌜ written (after buf) r ≡ written (before buf) pen * 2 ^ width + v ⌝ }
     ensures { λ r. ⌜ (place r ≡ place pen + width) × (r .held ≤ 7) × Ready r ⌝ }
-    ensures { λ r. ⌜ GoesOn (now (buf .entry)) pen (now (buf .exit)) r ⌝ }
+    ensures { λ r. ⌜ GoesOn (before buf) pen (after buf) r ⌝ }
 {
     let last = put(buf, pen, v, width);
     shed(buf, last)
+}
+
+// 2 to the power of `k`.
+fn power(k: usize) -> u64
+    requires { ⌜ k ≤ 32 ⌝ }
+    ensures { λ r. ⌜ (r ≡ 2 ^ k) × (0 < r) × (r ≤ 2 ^ 32) ⌝ }
+{
+    1u64 << k
 }
 
 // The integer that `v` is in two's complement of `width` bits.
@@ -182,8 +222,9 @@ pub fn signed(v: u64, width: usize) -> i64
     requires { ⌜ v < 2 ^ width ⌝ }
     ensures { λ r. ⌜ r ≡ toInt width v ⌝ }
 {
-    let half = 1u64 << (width - 1);
-    let raised = (v + half) % (1u64 << width);
+    let whole = power(width);
+    let half = power(width - 1);
+    let raised = (v + half) % whole;
     (raised as i64) - (half as i64)
 }
 
@@ -193,6 +234,6 @@ pub fn unsigned(z: i64, width: usize) -> u64
     requires { ⌜ mag z < 2 ^ (width - 1) ⌝ }
     ensures { λ r. ⌜ (r ≡ ofInt width z) × (r < 2 ^ width) ⌝ }
 {
-    let power = 1u64 << width;
-    ((z + (power as i64)) as u64) % power
+    let whole = power(width);
+    ((z + (whole as i64)) as u64) % whole
 }

@@ -1,62 +1,99 @@
--- What is known of a book that its own checks accept.
-use mathlib.Core.Path.{_≡_}
+-- What is known of a file that reading's checks accept, and of a table that writing's accept.
+use mathlib.Core.Path.{_≡_, ap, _∙_}
 use mathlib.Core.List.{List, [], _∷_}
 use Prim.Native.Nat.{ℕ, _+_, _*_, _≤_, _<_}
-use borrow.Author.Tests.{ltb-false, leb-false, eqb-true, not-false}
-use lib.Dec.{leb, ltb, eqb}
-use lib.ListN.{length}
-use Rattle.integers.proofs.Sizes.{Each}
-use Rattle.tariff.specs.declared.Contract.{Contract}
-use Rattle.tariff.specs.declared.Checked.the-variants.{Passed}
-use Rattle.tariff.specs.Contracts.{InRange}
+use native.Mathlib.Omega.{arith}
+use borrow.Author.Tests.{ltb-false}
+use lib.Dec.{ltb}
+use lib.ListN.{length, getD}
+use Rattle.lists.proofs.Lists.{length-listTo, each-listTo}
+use Rattle.lists.proofs.Search.{neither}
+use Rattle.tariff.specs.declared.refusals.Checked.the-variants.{Passed}
 use Rattle.tariff.specs.Refusals.{first}
 use Rattle.tariff.specs.Checks.{shortTable}
-use Rattle.tariff.proofs.Checks.{neither, passed-cons, passed-append}
-use Rattle.layouts.specs.BookFile.{countIn, spareIn, contractAt, bookIn}
-use Rattle.layouts.proofs.Lists.{each-listTo}
-use Rattle.book_file.specs.BookChecks.{checksAt, contractChecks, bookChecks, readChecks}
-use Rattle.book_file.proofs.Checking.{checks-each}
+use Rattle.tariff.specs.Units.{maxNodes, maxContracts, maxHolder}
+use Rattle.tariff.proofs.Checks.{passed-cons, passed-append, nodes-few-of}
+use Rattle.layouts.specs.BookFile.{endBits, bookBytes, contractCountIn}
+use Rattle.layouts.specs.BookTable.{contractCells, rowFrom, rowAt, rowsIn}
+use Rattle.layouts.specs.Inner.{ContractFits}
+use Rattle.books.specs.BookChecks.{checksTo, contractChecks, bookChecks}
+use Rattle.books.proofs.Checking.{checks-each}
+use Rattle.books.proofs.Accepted.{Accepted, contract-in-range, book-accepted}
+use Rattle.books.proofs.Making.{Made, in-range-fits, book-made}
+use Rattle.book_file.specs.ReadBook.{ReadBookCall, readBookChecks, readBookChecked}
+use Rattle.book_file.specs.WriteBook.{WriteBookCall, rowChecks, writeBookChecks, writeBookChecked, bookWritten}
 
--- a contract that no check of its own refuses
-pub contract-in-range : (n : ℕ) (c : Contract) → first (contractChecks n c) ≡ Passed → InRange n c
-unfolding contractChecks
-contract-in-range n c e =
+-- ---- reading
+
+pub record Readable (q : ReadBookCall) : Type 0 where
+  pub own : Accepted (q .nodes) (q .file)
+  pub room : contractCells * contractCountIn (q .file) ≤ length (q .table)
+
+pub readable : (q : ReadBookCall) → readBookChecked q ≡ Passed → Readable q
+unfolding readBookChecks
+readable q e =
+    let cells = contractCells * contractCountIn (q .file) in
+    let p = passed-append (bookChecks (q .nodes) (q .file)) (shortTable (length (q .table)) cells ∷ []) (passed-cons _ _ e .1) in
+    record { own = book-accepted (q .nodes) (q .file) (p .0); room = ltb-false (length (q .table)) cells (passed-cons _ _ (p .1) .0) }
+
+-- ---- writing
+
+-- a row that its checks accept
+pub record GoodRow (n : ℕ) (table : List ℕ) (i : ℕ) : Type 0 where
+  pub kind-is-bit : getD table (contractCells * i) 0 ≤ 1
+  pub period-is-bit : getD table (contractCells * i + 1) 0 ≤ 1
+  pub passes : first (contractChecks n (rowAt table i)) ≡ Passed
+  pub fits : ContractFits endBits (rowAt table i)
+
+row-good : (n : ℕ) → n ≤ maxNodes → (table : List ℕ) (i : ℕ) → first (rowChecks n table i) ≡ Passed → GoodRow n table i
+unfolding rowChecks rowFrom
+row-good n few table i e =
+    let at = contractCells * i in
     let p = passed-cons _ _ e in
-    let ends = neither (leb n (c .source)) (leb n (c .sink)) (p .0) in
+    let bits = neither (ltb 1 (getD table at 0)) (ltb 1 (getD table (at + 1) 0)) (p .0) in
     let q = passed-cons _ _ (p .1) in
-    let r = passed-cons _ _ (q .1) in
     record {
-      source-below = leb-false n (c .source) (ends .0);
-      sink-below = leb-false n (c .sink) (ends .1);
-      quantity-sized = ltb-false 1000000 (c .quantity .0) (neither (eqb (c .quantity .0) 0) (ltb 1000000 (c .quantity .0)) (r .0) .1);
+      kind-is-bit = ltb-false 1 (getD table at 0) (bits .0);
+      period-is-bit = ltb-false 1 (getD table (at + 1) 0) (bits .1);
+      passes = q .1;
+      fits = in-range-fits n (rowAt table i) few (contract-in-range n (rowAt table i) (q .1)) (ltb-false maxHolder (getD table (at + 2) 0) (q .0));
     }
 
-pub record Accepted (n : ℕ) (s : List ℕ) : Type 0 where
-  pub few : countIn s ≤ 1000
-  pub spare : spareIn s ≡ 0
-  pub size : length s ≡ 2 + 6 * countIn s
-  pub each : (i : ℕ) → i < countIn s → InRange n (contractAt s i)
+pub record Writable (q : WriteBookCall) : Type 0 where
+  pub few : q .contracts ≤ maxContracts
+  pub long : contractCells * q .contracts ≤ length (q .table)
+  pub rows : (i : ℕ) → i < q .contracts → GoodRow (q .nodes) (q .table) i
+  pub room : bookBytes (q .contracts) ≤ length (q .place)
 
-pub book-accepted : (n : ℕ) (s : List ℕ) → first (bookChecks n s) ≡ Passed → Accepted n s
-unfolding bookChecks checksAt
-book-accepted n s e =
+pub writable : (q : WriteBookCall) → writeBookChecked q ≡ Passed → Writable q
+unfolding writeBookChecks
+writable q e =
+    let m = q .contracts in
+    let rows = rowChecks (q .nodes) (q .table) in
     let a = passed-cons _ _ e in
     let b = passed-cons _ _ (a .1) in
     let c = passed-cons _ _ (b .1) in
-    let d = passed-cons _ _ (c .1) in
+    let d = passed-append (checksTo m rows) (shortTable (length (q .place)) (bookBytes m) ∷ []) (c .1) in
     record {
-      few = ltb-false 1000 (countIn s) (b .0);
-      spare = eqb-true (spareIn s) 0 (not-false _ (c .0));
-      size = eqb-true (length s) (2 + 6 * countIn s) (not-false _ (d .0));
-      each = λ i h. contract-in-range n (contractAt s i) (checks-each (checksAt n s) (countIn s) (d .1) i h);
+      few = ltb-false maxContracts m (b .0);
+      long = ltb-false (length (q .table)) (contractCells * m) (c .0);
+      rows = λ i h. row-good (q .nodes) (nodes-few-of (q .nodes) (a .0)) (q .table) i (checks-each rows m (d .0) i h);
+      room = ltb-false (length (q .place)) (bookBytes m) (passed-cons _ _ (d .1) .0);
     }
 
-pub all-in-range : (n : ℕ) (s : List ℕ) → Accepted n s → Each (InRange n) (bookIn s)
-all-in-range n s a = each-listTo (InRange n) (countIn s) (contractAt s) (a .each)
+-- the file of such rows
+module _ (q : WriteBookCall) (ok : Writable q) where
+  rows-many : length (rowsIn (q .contracts) (q .table)) ≡ q .contracts
+  rows-many = length-listTo (q .contracts) (rowAt (q .table))
 
--- a book that reading accepts
-pub read-accepted : (n : ℕ) (s : List ℕ) (cells : ℕ) → first (readChecks n s cells) ≡ Passed → Accepted n s × (6 * countIn s ≤ cells)
-unfolding readChecks
-read-accepted n s cells e =
-    let p = passed-append (bookChecks n s) (shortTable cells (6 * countIn s) ∷ []) (passed-cons _ _ e .1) in
-    (book-accepted n s (p .0), ltb-false cells (6 * countIn s) (passed-cons _ _ (p .1) .0))
+  pub rows-made : Made (q .nodes) (rowsIn (q .contracts) (q .table))
+  rows-made =
+      book-made (q .nodes) (rowsIn (q .contracts) (q .table)) (omega (arith, ok .few, rows-many))
+      (each-listTo (ContractFits endBits) (q .contracts) (rowAt (q .table)) (λ i h. ok .rows i h .fits))
+      (each-listTo (λ c. first (contractChecks (q .nodes) c) ≡ Passed) (q .contracts) (rowAt (q .table)) (λ i h. ok .rows i h .passes))
+
+  pub count-written : contractCountIn (bookWritten q) ≡ q .contracts
+  count-written = rows-made .count ∙ rows-many
+
+  pub length-written : length (bookWritten q) ≡ bookBytes (q .contracts)
+  length-written = rows-made .size ∙ ap bookBytes rows-many

@@ -1,99 +1,30 @@
--- Laws of checks that go contract by contract.
-use mathlib.Core.Path.{_≡_, refl, sym, _∙_}
-use mathlib.Core.Logic.{⊎-elim}
+-- Checks of which some stand behind others, and how writing's checks come to the rows.
+use mathlib.Core.Path.{_≡_, _∙_}
 use mathlib.Core.Bool.{false}
-use mathlib.Core.List.{List, [], _∷_}
-use Prim.Native.Nat.{ℕ, zero, suc, _+_, _*_, _<_, _≤_}
+use mathlib.Core.List.{List, [], _∷_, _++_}
+use Prim.Native.Nat.{_*_, _≤_}
+use borrow.Author.Tests.{le-ltb}
 use lib.ListN.{length}
-use borrow.Author.Tests.{lt-ltb, le-ltb, eq-eqb, ne-eqb}
-use native.Mathlib.Nat.{eq-or-lt-of-le}
-use native.Mathlib.Numerals.{add-one}
-use native.Mathlib.Omega.{arith}
-use Rattle.tariff.specs.declared.Refusal.{Refusal}
-use Rattle.tariff.specs.declared.Checked.{Checked}
-use Rattle.tariff.specs.declared.Checked.the-variants.{Passed, Refused}
-use Rattle.tariff.specs.Refusals.{Check, first, decided}
+use Rattle.tariff.specs.declared.refusals.Refusal.{Refusal}
+use Rattle.tariff.specs.declared.refusals.Checked.the-variants.{Passed, Refused}
+use Rattle.tariff.specs.Refusals.{Check, first}
 use Rattle.tariff.specs.Checks.{nodeCount, shortTable}
-use Rattle.tariff.proofs.Checks.{first-passes, first-append, passed-append}
-use Rattle.tariff.specs.declared.Refusal.the-variants.{ShortFile, SpareBits, FileLength, ShortTable, ContractCount}
-use Rattle.layouts.specs.BookFile.{countIn, spareIn}
-use Rattle.book_file.specs.BookChecks.{checksTo, checksAt, bookChecks, readChecks}
+use Rattle.tariff.specs.Units.{maxContracts}
+use Rattle.tariff.proofs.Checks.{first-passes, first-append}
+use Rattle.layouts.specs.BookFile.{bookBytes}
+use Rattle.layouts.specs.BookTable.{contractCells}
+use Rattle.books.specs.BookChecks.{checksTo}
+use Rattle.book_file.specs.WriteBook.{WriteBookCall, rowChecks, writeBookChecks, writeBookChecked}
 
-module _ (f : ℕ → List Check) where
-  pub checks-start : first (checksTo 0 f) ≡ Passed
-  unfolding first checksTo
-  checks-start = refl
+module _ (xs ys : List Check) where
+  pub append-refuses : (r : Refusal) → first xs ≡ Refused r → first (xs ++ ys) ≡ Refused r
+  append-refuses r e = first-append xs ys ∙ rw e
 
-  -- none so far, and none at i
-  pub checks-more : (i : ℕ) → first (checksTo i f) ≡ Passed → first (f i) ≡ Passed → first (checksTo (i + 1) f) ≡ Passed
-  unfolding checksTo
-  checks-more i e g = rw (add-one, first-append (checksTo i f) (f i), e, g)
+  pub append-passes : first xs ≡ Passed → first (xs ++ ys) ≡ first ys
+  append-passes e = first-append xs ys ∙ rw e
 
-  -- none before i, and one at i: that is the first of all
-  pub checks-stop : (m i : ℕ) (r : Refusal) → i < m → first (checksTo i f) ≡ Passed → first (f i) ≡ Refused r → first (checksTo m f) ≡ Refused r
-  unfolding checksTo
-  checks-stop zero i r h e g = absurd (omega arith)
-  checks-stop (suc m) i r h e g =
-      first-append (checksTo m f) (f m)
-      ∙ ⊎-elim
-      (λ q. let same : i ≡ m = omega arith in rw (rw same at e) (rw same at g))
-      (λ q. rw (checks-stop m i r (omega arith) e g))
-      (eq-or-lt-of-le h)
-
-  -- where each passes, all do
-  pub checks-all : (m : ℕ) → ((i : ℕ) → i < m → first (f i) ≡ Passed) → first (checksTo m f) ≡ Passed
-  unfolding first checksTo
-  checks-all zero h = refl
-  checks-all (suc m) h = first-append (checksTo m f) (f m) ∙ rw (checks-all m (λ i b. h i (omega arith)), h m (omega arith))
-
-  -- where all pass, each does
-  pub checks-each : (m : ℕ) → first (checksTo m f) ≡ Passed → (i : ℕ) → i < m → first (f i) ≡ Passed
-  unfolding checksTo
-  checks-each zero e i h = absurd (omega arith)
-  checks-each (suc m) e i h =
-      let p = passed-append (checksTo m f) (f m) e in
-      ⊎-elim (λ q. let same : m ≡ i = omega arith in rw same at (p .1)) (λ q. checks-each m (p .0) i (omega arith)) (eq-or-lt-of-le h)
-
--- ---- the book's own checks, one after the other; m is the count read and x the spare bits
-module _ (n : ℕ) (s : List ℕ) where
-  pub short-book : length s < 2 → Refused ShortFile ≡ first (bookChecks n s)
-  unfolding first bookChecks
-  short-book h = rw (lt-ltb (length s) 2 h)
-
-  module _ (long : 2 ≤ length s) (m : ℕ) (count : m ≡ countIn s) where
-    pub many-contracts : 1000 < m → Refused ContractCount ≡ first (bookChecks n s)
-    unfolding first bookChecks
-    many-contracts h = rw (le-ltb (length s) 2 long, ← count, lt-ltb 1000 m h)
-
-    module _ (few : m ≤ 1000) (x : ℕ) (spare : x ≡ spareIn s) where
-      pub spare-set : (x ≡ 0 → ⊥) → Refused SpareBits ≡ first (bookChecks n s)
-      unfolding first bookChecks
-      spare-set h = rw (le-ltb (length s) 2 long, ← count, le-ltb 1000 m few, ← spare, ne-eqb x 0 h)
-
-      pub wrong-length : x ≡ 0 → (length s ≡ 2 + 6 * m → ⊥) → Refused FileLength ≡ first (bookChecks n s)
-      unfolding first bookChecks
-      wrong-length z h = rw (le-ltb (length s) 2 long, ← count, le-ltb 1000 m few, ← spare, eq-eqb x 0 z, ne-eqb (length s) (2 + 6 * m) h)
-
-      pub right-header : x ≡ 0 → length s ≡ 2 + 6 * m → first (checksTo m (checksAt n s)) ≡ first (bookChecks n s)
-      unfolding first bookChecks
-      right-header z h = rw (le-ltb (length s) 2 long, ← count, le-ltb 1000 m few, ← spare, eq-eqb x 0 z, eq-eqb (length s) (2 + 6 * m) h)
-
--- ---- reading's checks
-module _ (n : ℕ) (s : List ℕ) (cells : ℕ) where
-  module _ (right-nodes : nodeCount n .fails ≡ false) where
-    -- past 2: the book's own, then 9
-    then-own : first (readChecks n s cells) ≡ decided (first (bookChecks n s)) Refused (first (shortTable cells (6 * countIn s) ∷ []))
-    unfolding readChecks
-    then-own = first-passes (nodeCount n) _ right-nodes ∙ first-append (bookChecks n s) (shortTable cells (6 * countIn s) ∷ [])
-
-    pub own-refuses : (r : Refusal) → first (bookChecks n s) ≡ Refused r → Refused r ≡ first (readChecks n s cells)
-    own-refuses r e = sym (then-own ∙ rw e)
-
-    module _ (own : first (bookChecks n s) ≡ Passed) (m : ℕ) (count : m ≡ countIn s) where
-      pub short-cells : cells < 6 * m → Refused ShortTable ≡ first (readChecks n s cells)
-      unfolding first
-      short-cells h = sym (then-own ∙ rw (own, ← count, lt-ltb cells (6 * m) h))
-
-      pub all-fits : 6 * m ≤ cells → Passed ≡ first (readChecks n s cells)
-      unfolding first
-      all-fits h = sym (then-own ∙ rw (own, ← count, le-ltb cells (6 * m) h))
+-- past 2, 10 and 9: row by row, then 9
+pub then-rows : (q : WriteBookCall) → nodeCount (q .nodes) .fails ≡ false → q .contracts ≤ maxContracts → contractCells * q .contracts ≤ length (q .table)
+    → writeBookChecked q ≡ first (checksTo (q .contracts) (rowChecks (q .nodes) (q .table)) ++ shortTable (length (q .place)) (bookBytes (q .contracts)) ∷ [])
+unfolding writeBookChecks
+then-rows q right few long = first-passes _ _ right ∙ first-passes _ _ (le-ltb _ _ few) ∙ first-passes _ _ (le-ltb _ _ long)

@@ -1,3 +1,5 @@
 pub mod Checking
 pub mod Accepted
-pub mod Table
+pub mod Rows
+pub mod RoundTrip
+pub mod Taken

@@ -1,1 +1,2 @@
-pub mod BookChecks
+pub mod ReadBook
+pub mod WriteBook

@@ -1,16 +1,27 @@
-// Reading a book of contracts, with every refusal. `check_book` and `contract_at` serve the test and the settlement too.
+// Books read into and written from a table of six cells a contract. All checks come first, in the paper's order; then all is written.
 ghost use mathlib.Core.Path.{_≡_};
-ghost use mathlib.Core.List.{[], _∷_, _++_, flatMap};
-ghost use Prim.Native.Nat.{_+_, _*_, _≤_, _<_};
+ghost use mathlib.Core.List.{List, _++_, flatMap};
+ghost use Prim.Native.Nat.{ℕ, _+_, _*_, _≤_, _<_};
 ghost use lib.ListN.{length, take, drop};
-ghost use lib.IntN.{pos};
-ghost use Rattle.tariff.specs.Refusals.{first, answered, cellsAfter, overwrite};
-ghost use Rattle.layouts.specs.Files.{listTo};
-ghost use Rattle.layouts.specs.BookFile.{bookBytes, countIn, contractAt, bookIn, cellsOf};
-ghost use Rattle.book_file.specs.BookChecks.{checksTo, checksAt, contractChecks, bookChecks, readChecks, bookOutcome};
+ghost use Rattle.lists.specs.Lent.{before, after, overwrite};
+ghost use Rattle.lists.specs.Lists.{listTo};
+ghost use Rattle.tariff.specs.Units.{maxContracts};
+ghost use Rattle.tariff.specs.Refusals.{first};
+ghost use Rattle.layouts.specs.BookFile.{endBits, bookBytes, bookFile, contractAt};
+ghost use Rattle.layouts.specs.BookTable.{contractCells, cellsOf, rowFrom, rowAt, rowsIn};
+ghost use Rattle.layouts.specs.Inner.{ContractFits};
+ghost use Rattle.books.specs.BookChecks.{checksTo};
+ghost use Rattle.book_file.specs.ReadBook.{readBookCall, readBookChecked, ReadsBook};
+ghost use Rattle.book_file.specs.WriteBook.{writeBookCall, rowChecks, writeBookChecked, WritesBook};
+use layouts::BOOK_HEADER_BYTES;
+use layouts::CONTRACT_BYTES;
+use layouts::CONTRACT_CELLS;
+use layouts::WriteAnswer;
 use tariff::Checked;
 use tariff::Contract;
 use tariff::Kind;
+use tariff::MAX_CONTRACTS;
+use tariff::MAX_HOLDER;
 use tariff::Period;
 use tariff::Quantity;
 use tariff::Refusal;
@@ -21,18 +32,75 @@ pub enum BookAnswer {
     Refused(Refusal),
 }
 
-// Contract i of a book's bytes: six bytes at once.
-pub fn contract_at(file: &[u8], i: usize) -> Contract
-    requires { ⌜ (i < 1024) × (2 + 6 * i + 6 ≤ length (now file)) ⌝ }
-    ensures { λ r. ⌜ r ≡ contractAt (now (file .entry)) i ⌝ }
+// The reader's checks, for a table of so many cells: 2, the book's own, 9.
+fn check_read(nodes: usize, file: &[u8], cells: usize) -> Checked
+    ensures { λ r. ⌜ ((table : List ℕ) → length table ≡ cells → r ≡ readBookChecked (readBookCall nodes (before file) table)) ⌝ }
 {
-    let v = bits::window6(file, 2 + 6 * i);
-    let kind = Kind::from_number(bits::part(v, 47, 1));
-    let period = Period::from_number(bits::part(v, 46, 1));
-    let holder = bits::part(v, 36, 10);
-    let source = bits::part(v, 28, 8) as usize;
-    let sink = bits::part(v, 20, 8) as usize;
-    let quantity = Quantity(bits::part(v, 0, 20));
+    if tariff::nodes_bad(nodes) {
+        return Checked::Refused(Refusal::NodeCount);
+    }
+    if let Checked::Refused(refusal) = books::check_book(nodes, file) {
+        return Checked::Refused(refusal);
+    }
+    if cells < CONTRACT_CELLS * books::contract_count(file) {
+        return Checked::Refused(Refusal::ShortTable);
+    }
+    Checked::Passed
+}
+
+// Stores a contract into the six cells from `at` on.
+fn store_row(book: &mut [u64], at: usize, c: Contract)
+    requires { ⌜ at + contractCells ≤ length (now book) ⌝ }
+    ensures { λ r. ⌜ after book ≡ take at (before book) ++ cellsOf c ++ drop (at + contractCells) (before book) ⌝ }
+{
+    let kind = c.kind;
+    let period = c.period;
+    let quantity = c.quantity;
+    book[at] = books::kind_bit(kind);
+    book[at + 1] = books::period_bit(period);
+    book[at + 2] = c.holder;
+    book[at + 3] = c.source as u64;
+    book[at + 4] = c.sink as u64;
+    book[at + 5] = quantity.0;
+}
+
+// Stores the file's contracts into the first cells.
+fn read_contracts(file: &[u8], contracts: usize, book: &mut [u64])
+    requires { ⌜ (contracts ≤ maxContracts) × (bookBytes contracts ≤ length (now file)) × (contractCells * contracts ≤ length (now book)) ⌝ }
+    ensures { λ r. ⌜ after book ≡ overwrite (flatMap cellsOf (listTo contracts (contractAt (before file)))) (before book) ⌝ }
+{
+    let mut i = 0;
+    while i < contracts {
+        store_row(book, CONTRACT_CELLS * i, books::contract_at(file, i));
+        i += 1;
+    }
+}
+
+// Reads a book for a grid of `nodes` nodes into a table of six cells a contract.
+pub fn read_book(nodes: usize, file: &[u8], book: &mut [u64]) -> BookAnswer
+    ensures { λ r. ⌜ ReadsBook (readBookCall nodes (before file) (before book)) r (after book) ⌝ }
+{
+    match check_read(nodes, file, book.len()) {
+        Checked::Refused(refusal) => BookAnswer::Refused(refusal),
+        Checked::Passed => {
+            let contracts = books::contract_count(file);
+            read_contracts(file, contracts, book);
+            BookAnswer::Read { contracts }
+        }
+    }
+}
+
+// The contract of the six cells from `at` on.
+fn row_from(cells: &[u64], at: usize) -> Contract
+    requires { ⌜ at + contractCells ≤ length (now cells) ⌝ }
+    ensures { λ r. ⌜ r ≡ rowFrom (before cells) at ⌝ }
+{
+    let kind = Kind::from_number(cells[at]);
+    let period = Period::from_number(cells[at + 1]);
+    let holder = cells[at + 2];
+    let source = cells[at + 3] as usize;
+    let sink = cells[at + 4] as usize;
+    let quantity = Quantity(cells[at + 5]);
     Contract {
         kind,
         period,
@@ -43,42 +111,32 @@ pub fn contract_at(file: &[u8], i: usize) -> Contract
     }
 }
 
-// A contract's own checks: 11, 12, 13.
-pub fn check_contract(nodes: usize, c: Contract) -> Checked
-    ensures { λ r. ⌜ r ≡ first (contractChecks nodes c) ⌝ }
+// A row's checks: 17, 18, 11, 12, 13.
+fn check_row(nodes: usize, cells: &[u64], i: usize) -> Checked
+    requires { ⌜ (i < maxContracts) × (contractCells * i + contractCells ≤ length (now cells)) ⌝ }
+    ensures { λ r. ⌜ r ≡ first (rowChecks nodes (before cells) i) ⌝ }
 {
-    if nodes <= c.source {
-        return Checked::Refused(Refusal::NodeNumber);
+    let at = CONTRACT_CELLS * i;
+    if 1 < cells[at] {
+        return Checked::Refused(Refusal::PeriodOrKind);
     }
-    if nodes <= c.sink {
-        return Checked::Refused(Refusal::NodeNumber);
+    if 1 < cells[at + 1] {
+        return Checked::Refused(Refusal::PeriodOrKind);
     }
-    if c.source == c.sink {
-        return Checked::Refused(Refusal::SameEnds);
+    if MAX_HOLDER < cells[at + 2] {
+        return Checked::Refused(Refusal::HolderRange);
     }
-    let quantity = c.quantity;
-    if quantity.out_of_range() {
-        return Checked::Refused(Refusal::QuantityRange);
-    }
-    Checked::Passed
+    books::check_contract(nodes, row_from(cells, at))
 }
 
-// The checks of contract i of a book's bytes.
-fn check_at(nodes: usize, file: &[u8], i: usize) -> Checked
-    requires { ⌜ (i < 1024) × (2 + 6 * i + 6 ≤ length (now file)) ⌝ }
-    ensures { λ r. ⌜ r ≡ first (checksAt nodes (now (file .entry)) i) ⌝ }
-{
-    check_contract(nodes, contract_at(file, i))
-}
-
-// The checks of a book's contracts, one after the other.
-fn check_contracts(nodes: usize, file: &[u8], count: usize) -> Checked
-    requires { ⌜ (count ≤ 1000) × (bookBytes count ≤ length (now file)) ⌝ }
-    ensures { λ r. ⌜ r ≡ first (checksTo count (checksAt nodes (now (file .entry)))) ⌝ }
+// The checks of the first `contracts` rows, one after the other.
+fn check_rows(nodes: usize, contracts: usize, cells: &[u64]) -> Checked
+    requires { ⌜ (contracts ≤ maxContracts) × (contractCells * contracts ≤ length (now cells)) ⌝ }
+    ensures { λ r. ⌜ r ≡ first (checksTo contracts (rowChecks nodes (before cells))) ⌝ }
 {
     let mut i = 0;
-    while i < count {
-        let checked = check_at(nodes, file, i);
+    while i < contracts {
+        let checked = check_row(nodes, cells, i);
         if let Checked::Refused(refusal) = checked {
             return Checked::Refused(refusal);
         }
@@ -87,81 +145,53 @@ fn check_contracts(nodes: usize, file: &[u8], count: usize) -> Checked
     Checked::Passed
 }
 
-// The book's own checks: 1, 10, 4, 5, then contract by contract 11, 12, 13.
-pub fn check_book(nodes: usize, file: &[u8]) -> Checked
-    ensures { λ r. ⌜ r ≡ first (bookChecks nodes (now (file .entry))) ⌝ }
-{
-    if file.len() < 2 {
-        return Checked::Refused(Refusal::ShortFile);
-    }
-    let count = bits::field(file, 0, 10) as usize;
-    if 1000 < count {
-        return Checked::Refused(Refusal::ContractCount);
-    }
-    if bits::field(file, 10, 6) != 0 {
-        return Checked::Refused(Refusal::SpareBits);
-    }
-    if file.len() != 2 + 6 * count {
-        return Checked::Refused(Refusal::FileLength);
-    }
-    check_contracts(nodes, file, count)
-}
-
-// Reading's checks: 2, the book's own, 9.
-fn check_read(nodes: usize, file: &[u8], cells: usize) -> Checked
-    ensures { λ r. ⌜ r ≡ first (readChecks nodes (now (file .entry)) cells) ⌝ }
+// The writer's checks, with `bytes` lent bytes for the file: 2, 10, 9, row by row, 9.
+fn check_write(nodes: usize, contracts: usize, book: &[u64], bytes: usize) -> Checked
+    ensures { λ r. ⌜ ((place : List ℕ) → length place ≡ bytes → r ≡ writeBookChecked (writeBookCall nodes contracts (before book) place)) ⌝ }
 {
     if tariff::nodes_bad(nodes) {
         return Checked::Refused(Refusal::NodeCount);
     }
-    let own = check_book(nodes, file);
-    if let Checked::Refused(refusal) = own {
+    if MAX_CONTRACTS < contracts {
+        return Checked::Refused(Refusal::ContractCount);
+    }
+    if book.len() < CONTRACT_CELLS * contracts {
+        return Checked::Refused(Refusal::ShortTable);
+    }
+    if let Checked::Refused(refusal) = check_rows(nodes, contracts, book) {
         return Checked::Refused(refusal);
     }
-    let count = bits::field(file, 0, 10) as usize;
-    if cells < 6 * count {
+    if bytes < BOOK_HEADER_BYTES + CONTRACT_BYTES * contracts {
         return Checked::Refused(Refusal::ShortTable);
     }
     Checked::Passed
 }
 
-// Stores contract i into its six cells.
-fn read_contract(file: &[u8], i: usize, book: &mut [u64])
-    requires { ⌜ (i < 1024) × (2 + 6 * i + 6 ≤ length (now file)) × (6 * i + 6 ≤ length (now book)) ⌝ }
-    ensures { λ r. ⌜ now (book .exit) ≡ take (6 * i) (now (book .entry)) ++ cellsOf (contractAt (now (file .entry)) i) ++ drop (6 * i + 6) (now (book .entry)) ⌝ }
+// Writes the header and the first `contracts` rows.
+fn write_contracts(cells: &[u64], contracts: usize, file: &mut [u8])
+    requires { ⌜ (contracts ≤ maxContracts) × (contractCells * contracts ≤ length (now cells)) × (bookBytes contracts ≤ length (now file)) ⌝ }
+    requires { ⌜ ((i : ℕ) → i < contracts → ContractFits endBits (rowAt (now cells) i)) ⌝ }
+    ensures { λ r. ⌜ after file ≡ overwrite (bookFile (rowsIn contracts (before cells))) (before file) ⌝ }
 {
-    let v = bits::window6(file, 2 + 6 * i);
-    let at = 6 * i;
-    book[at] = bits::part(v, 47, 1);
-    book[at + 1] = bits::part(v, 46, 1);
-    book[at + 2] = bits::part(v, 36, 10);
-    book[at + 3] = bits::part(v, 28, 8);
-    book[at + 4] = bits::part(v, 20, 8);
-    book[at + 5] = bits::part(v, 0, 20);
-}
-
-// Stores the first `count` contracts into the first cells.
-fn read_contracts(file: &[u8], count: usize, book: &mut [u64])
-    requires { ⌜ (count ≤ 1000) × (bookBytes count ≤ length (now file)) × (6 * count ≤ length (now book)) ⌝ }
-    ensures { λ r. ⌜ now (book .exit) ≡ overwrite (flatMap cellsOf (listTo count (contractAt (now (file .entry))))) (now (book .entry)) ⌝ }
-{
+    books::store_header(file, contracts);
     let mut i = 0;
-    while i < count {
-        read_contract(file, i, book);
+    while i < contracts {
+        books::store_contract(file, i, row_from(cells, CONTRACT_CELLS * i));
         i += 1;
     }
 }
 
-// Reads a book for a grid of `nodes` nodes into a table of six cells a contract.
-pub fn read_book(nodes: usize, file: &[u8], book: &mut [u64]) -> BookAnswer
-    ensures answer { λ r. ⌜ bookOutcome r ≡ answered (first (readChecks nodes (now (file .entry)) (length (now (book .entry))))) (pos (countIn (now (file .entry))) ∷ []) ⌝ }
-    ensures cells { λ r. ⌜ now (book .exit) ≡ cellsAfter (first (readChecks nodes (now (file .entry)) (length (now (book .entry))))) (flatMap cellsOf (bookIn (now (file .entry)))) (now (book .entry)) ⌝ }
+// Writes the first `contracts` rows of a table as a book for a grid of `nodes` nodes.
+pub fn write_book(nodes: usize, contracts: usize, book: &[u64], file: &mut [u8]) -> WriteAnswer
+    ensures { λ r. ⌜ WritesBook (writeBookCall nodes contracts (before book) (before file)) r (after file) ⌝ }
 {
-    let checked = check_read(nodes, file, book.len());
-    if let Checked::Refused(refusal) = checked {
-        return BookAnswer::Refused(refusal);
+    match check_write(nodes, contracts, book, file.len()) {
+        Checked::Refused(refusal) => WriteAnswer::Refused(refusal),
+        Checked::Passed => {
+            write_contracts(book, contracts, file);
+            WriteAnswer::Written {
+                bytes: BOOK_HEADER_BYTES + CONTRACT_BYTES * contracts,
+            }
+        }
     }
-    let count = bits::field(file, 0, 10) as usize;
-    read_contracts(file, count, book);
-    BookAnswer::Read { contracts: count }
 }

@@ -5,11 +5,14 @@ use Rattle.integers.specs.Sums.{sumTo, sumOver}
 use Rattle.bits.specs.Fields.{fileOf}
 use Rattle.tariff.specs.Contracts.{ofPeriod}
 use Rattle.tariff.specs.Settlement.{congestion, mcc, amount}
-use Rattle.tariff.specs.Feasibility.{setOf, countOf, lowestOf, flow, totalFlow, released, excess, overloaded, overloadSet, overloadCount, lowestOverload}
-use Rattle.layouts.specs.BookFile.{contractFields, bookFields, bookFile}
+use Rattle.lists.specs.Sets.{setOf, countOf, lowestOf}
+use Rattle.tariff.specs.Feasibility.{flow, totalFlow, released, excess, overloaded, overloadSet, overloadCount, lowestOverload}
+use Rattle.layouts.specs.BookFile.{contractFields, packedBook, bookFile}
 use Rattle.layouts.specs.PriceFile.{priceFields, priceFile}
 use Rattle.checked_values.specs.Table.{Row, table}
 
 pub checked-values : map (λ (r : Row). r .given) table ≡ map (λ (r : Row). r .expected) table
-unfolding table sumTo sumOver flatMap fileOf ofPeriod congestion mcc amount setOf countOf lowestOf flow totalFlow released excess overloaded overloadSet overloadCount lowestOverload contractFields bookFields bookFile priceFields priceFile
+unfolding table sumTo sumOver flatMap fileOf ofPeriod congestion mcc amount setOf countOf lowestOf
+    flow totalFlow released excess overloaded overloadSet overloadCount lowestOverload
+    contractFields packedBook bookFile priceFields priceFile
 checked-values = refl

@@ -2,18 +2,18 @@
 use mathlib.Core.List.{List, [], _∷_, map}
 use Prim.Native.Nat.{ℕ}
 use lib.IntN.{ℤ, pos}
-use Rattle.tariff.specs.declared.Contract.{Contract}
-use Rattle.tariff.specs.declared.Period.{Period}
-use Rattle.tariff.specs.declared.Period.the-variants.{OffPeak, OnPeak}
-use Rattle.tariff.specs.declared.Process.{Process}
-use Rattle.tariff.specs.declared.Process.the-variants.{Annual, TierLt, Monthly}
+use Rattle.tariff.specs.declared.contracts.Contract.{Contract}
+use Rattle.tariff.specs.declared.contracts.Period.{Period}
+use Rattle.tariff.specs.declared.contracts.Period.the-variants.{OffPeak, OnPeak}
+use Rattle.tariff.specs.declared.processes.Process.{Process}
+use Rattle.tariff.specs.declared.processes.Process.the-variants.{Annual, TierLt, Monthly}
 use Rattle.tariff.specs.Units.{Grid}
 use Rattle.tariff.specs.Contracts.{ofPeriod}
 use Rattle.tariff.specs.Settlement.{mcc, amount, cents}
 use Rattle.tariff.specs.Feasibility.{totalFlow, excess, overloadSet, overloadCount, lowestOverload}
 use Rattle.layouts.specs.BookFile.{bookFile}
 use Rattle.layouts.specs.PriceFile.{priceFile}
-use Rattle.checked_values.specs.Cases.{minus, gridL, pricesL, bookL, gridP, bookP}
+use Rattle.checked_values.specs.Cases.{minus, factorsL, gridL, pricesL, bookL, gridP, bookP}
 
 pub record Row : Type 0 where
   pub given : List ℤ
@@ -28,11 +28,12 @@ passing g process cs = pos (overloadSet g process cs) ∷ excess g process cs 0 
 
 -- the set, how many, the lowest, and the excess there
 abbrev failing : Grid → Process → List Contract → List ℤ
-failing g process cs = pos (overloadSet g process cs) ∷ pos (overloadCount g process cs) ∷ pos (lowestOverload g process cs) ∷ excess g process cs (lowestOverload g process cs) ∷ []
+failing g process cs =
+    pos (overloadSet g process cs) ∷ pos (overloadCount g process cs) ∷ pos (lowestOverload g process cs) ∷ excess g process cs (lowestOverload g process cs) ∷ []
 
--- the empty book's set
-abbrev empty : Process → Period → ℤ
-empty process period = pos (overloadSet gridL process (ofPeriod period []))
+-- the empty book's set, in every process
+abbrev empties : Period → List ℤ
+empties period = map (λ (process : Process). pos (overloadSet gridL process (ofPeriod period []))) (Annual ∷ TierLt ∷ Monthly ∷ [])
 
 abbrev bytes : List ℕ → List ℤ
 bytes = map pos
@@ -40,11 +41,12 @@ bytes = map pos
 unfoldable pub table : List Row
 table =
     -- P1 MCC in L
-    record { given = map (mcc gridL pricesL) (0 ∷ 1 ∷ 2 ∷ []); expected = minus 9000000 ∷ pos 0 ∷ minus 92000000 ∷ [] }
+    record { given = map (mcc factorsL pricesL) (0 ∷ 1 ∷ 2 ∷ []); expected = minus 9000000 ∷ pos 0 ∷ minus 92000000 ∷ [] }
     -- P2 amounts in L
-    ∷ record { given = map (amount gridL pricesL) (onPeak bookL); expected = pos 90000000000 ∷ pos 0 ∷ minus 83000000 ∷ [] }
+    ∷ record { given = map (amount factorsL pricesL) (onPeak bookL); expected = pos 90000000000 ∷ pos 0 ∷ minus 83000000 ∷ [] }
     -- P3 on-peak flows in L; monthly passes
-    ∷ record { given = totalFlow gridL (onPeak bookL) 0 ∷ totalFlow gridL (onPeak bookL) 1 ∷ pos (overloadSet gridL Monthly (onPeak bookL)) ∷ []; expected = pos 635070000 ∷ minus 200060000 ∷ pos 0 ∷ [] }
+    ∷ record { given = totalFlow factorsL (onPeak bookL) 0 ∷ totalFlow factorsL (onPeak bookL) 1 ∷ []; expected = pos 635070000 ∷ minus 200060000 ∷ [] }
+    ∷ record { given = pos (overloadSet gridL Monthly (onPeak bookL)) ∷ []; expected = pos 0 ∷ [] }
     -- P4 first limit 6,000, monthly: passes with equality
     ∷ record { given = passing (gridP 6000) Monthly (onPeak (bookP 10000)); expected = pos 0 ∷ pos 0 ∷ [] }
     -- P5 quantity 10,001: fails at constraint 0 by 60,000
@@ -54,7 +56,8 @@ table =
     -- P7 limit 7,999: fails by 75,000
     ∷ record { given = failing (gridP 7999) Annual (onPeak (bookP 10000)); expected = pos 1 ∷ pos 1 ∷ pos 0 ∷ pos 75000 ∷ [] }
     -- P8 the empty book passes, in every process and period
-    ∷ record { given = empty Annual OffPeak ∷ empty TierLt OffPeak ∷ empty Monthly OffPeak ∷ empty Annual OnPeak ∷ empty TierLt OnPeak ∷ empty Monthly OnPeak ∷ []; expected = pos 0 ∷ pos 0 ∷ pos 0 ∷ pos 0 ∷ pos 0 ∷ pos 0 ∷ [] }
+    ∷ record { given = empties OffPeak; expected = pos 0 ∷ pos 0 ∷ pos 0 ∷ [] }
+    ∷ record { given = empties OnPeak; expected = pos 0 ∷ pos 0 ∷ pos 0 ∷ [] }
     -- P9 amount -50,000,000 is -1 cent; -49,999,999 is 0
     ∷ record { given = cents (minus 50000000) ∷ cents (minus 49999999) ∷ []; expected = minus 1 ∷ pos 0 ∷ [] }
     -- P10 P4's book

@@ -1,20 +1,27 @@
 // Writes the feasibility report of grid.bin and book.bin, in the folder that it is started in, to standard output.
+// Where a file is there and can't be read, nothing is printed: `files` has told it on standard error.
+use feasibility_report::REPORT_ROOM;
+use layouts::MAX_BOOK_BYTES;
+use layouts::MAX_GRID_BYTES;
 use layouts::WriteAnswer;
-use libc::STDOUT_FILENO;
 
 // The buffers hold one byte more than the longest file allowed, so that the length of a longer one is refused.
 fn main() {
-    let mut grid = [0u8; 29019];
-    let mut book = [0u8; 6003];
-    let mut text = [0u8; 2048];
-    let grid_bytes = files::read_file(b"grid.bin", &mut grid);
-    let book_bytes = files::read_file(b"book.bin", &mut book);
-    let answer = feasibility_report::write_report(
-        &grid[..grid_bytes],
-        &book[..book_bytes],
-        &mut text,
-    );
-    if let WriteAnswer::Written { bytes } = answer {
-        io::write_all(STDOUT_FILENO, &text[..bytes]);
+    let mut grid = [0u8; MAX_GRID_BYTES + 1];
+    let mut book = [0u8; MAX_BOOK_BYTES + 1];
+    let mut text = [0u8; REPORT_ROOM];
+    let grid_file = files::read_file(b"grid.bin", &mut grid);
+    let book_file = files::read_file(b"book.bin", &mut book);
+    if grid_file.readable && book_file.readable {
+        let grid_bytes = grid_file.bytes;
+        let book_bytes = book_file.bytes;
+        let answer = feasibility_report::write_report(
+            &grid[..grid_bytes],
+            &book[..book_bytes],
+            &mut text,
+        );
+        if let WriteAnswer::Written { bytes } = answer {
+            files::print(&text[..bytes]);
+        }
     }
 }

@@ -10,10 +10,10 @@ use lib.Dec.{eqb}
 use lib.ListN.{length}
 use Rattle.text.specs.Ascii.{ascii}
 use Rattle.text.specs.Decimal.{decimal}
-use Rattle.tariff.specs.Feasibility.{setOf}
-use Rattle.tariff.proofs.Overloads.{set-bit}
+use Rattle.lists.specs.Sets.{setOf}
+use Rattle.lists.proofs.Sets.{set-bit}
 use Rattle.feasibility_report.specs.Report.{numbersTo, blankAfter}
-use Rattle.feasibility_report.specs.Parts.{inSet, member}
+use Rattle.feasibility_report.specs.Inner.{inSet, member}
 
 -- ---- one number more
 

@@ -1,4 +1,4 @@
--- The feasibility report's text, for every two files: a heading and six lines, or one line that names the file refused.
+-- The feasibility report's text: a heading and a line for each period and process.
 use mathlib.Core.Bool.{Bool, cond}
 use mathlib.Core.List.{List, [], _++_}
 use Prim.Native.Nat.{ℕ, zero, suc}
@@ -6,24 +6,14 @@ use lib.Dec.{eqb}
 use lib.ListN.{length}
 use Rattle.text.specs.Ascii.{ascii}
 use Rattle.text.specs.Decimal.{decimal, decimalZ}
-use Rattle.refusal_line.specs.RefusedLine.{refusedLine}
-use Rattle.tariff.specs.declared.Contract.{Contract}
-use Rattle.tariff.specs.declared.Period.{Period}
-use Rattle.tariff.specs.declared.Period.the-variants.{OffPeak, OnPeak}
-use Rattle.tariff.specs.declared.Process.{Process}
-use Rattle.tariff.specs.declared.Process.the-variants.{Annual, TierLt, Monthly}
+use Rattle.tariff.specs.declared.contracts.Contract.{Contract}
+use Rattle.tariff.specs.declared.contracts.Period.{Period}
+use Rattle.tariff.specs.declared.contracts.Period.the-variants.{OffPeak, OnPeak}
+use Rattle.tariff.specs.declared.processes.Process.{Process}
+use Rattle.tariff.specs.declared.processes.Process.the-variants.{Annual, TierLt, Monthly}
 use Rattle.tariff.specs.Units.{Grid}
-use Rattle.tariff.specs.Refusals.{first, decided}
 use Rattle.tariff.specs.Contracts.{ofPeriod}
 use Rattle.tariff.specs.Feasibility.{excess, overloaded, overloadSet, overloadCount, lowestOverload}
-use Rattle.layouts.specs.GridFile.{gridIn, nodesIn}
-use Rattle.layouts.specs.BookFile.{bookIn}
-use Rattle.grid_file.specs.GridChecks as grid-checks
-use Rattle.book_file.specs.BookChecks.{bookChecks}
-
--- no report is longer
-abbrev pub longest : ℕ
-longest = 2048
 
 abbrev pub heading : List ℕ
 heading = ascii "period,process,verdict,overloaded,lowest,excess,constraints\n"
@@ -51,18 +41,14 @@ module _ (g : Grid) (process : Process) (cs : List Contract) where
   unfoldable pub figures : List ℕ
   figures =
       cond (eqb (overloadSet g process cs) 0) (ascii "pass,0,,,")
-      (ascii "fail," ++ decimal (overloadCount g process cs) ++ ascii "," ++ decimal (lowestOverload g process cs) ++ ascii "," ++ decimalZ (excess g process cs (lowestOverload g process cs)) ++ ascii ","
-      ++ numbersTo (g .constraints) (overloaded g process cs))
+      (ascii "fail," ++ decimal (overloadCount g process cs) ++ ascii "," ++ decimal (lowestOverload g process cs) ++ ascii ","
+      ++ decimalZ (excess g process cs (lowestOverload g process cs)) ++ ascii "," ++ numbersTo (g .factors .constraints) (overloaded g process cs))
 
 unfoldable pub line : Grid → List Contract → Period → Process → List ℕ
 line g book period process = periodWord period ++ ascii "," ++ processWord process ++ ascii "," ++ figures g process (ofPeriod period book) ++ ascii "\n"
 
-unfoldable pub lines : Grid → List Contract → List ℕ
-lines g book =
-    heading ++ line g book OffPeak Annual ++ line g book OffPeak TierLt ++ line g book OffPeak Monthly ++ line g book OnPeak Annual ++ line g book OnPeak TierLt ++ line g book OnPeak Monthly
+unfoldable pub periodLines : Grid → List Contract → Period → List ℕ
+periodLines g book period = line g book period Annual ++ line g book period TierLt ++ line g book period Monthly
 
--- on a refusal the only line names the file: grid, then book
-unfoldable pub report : List ℕ → List ℕ → List ℕ
-report gridBytes bookBytes =
-    decided (first (grid-checks.readChecks gridBytes 64 12800)) (refusedLine (ascii "grid"))
-    (decided (first (bookChecks (nodesIn gridBytes) bookBytes)) (refusedLine (ascii "book")) (lines (gridIn gridBytes) (bookIn bookBytes)))
+unfoldable pub lines : Grid → List Contract → List ℕ
+lines g book = heading ++ periodLines g book OffPeak ++ periodLines g book OnPeak

@@ -1,35 +1,42 @@
 -- Laws of flows that are carried: a cell more of one contract's flows, and a contract more.
-use mathlib.Core.Path.{_≡_, refl, sym, ap, _∙_}
+use mathlib.Core.Path.{_≡_, refl, sym, ap, ap₂, _∙_}
 use mathlib.Core.Logic.{⊎-elim}
 use mathlib.Core.Bool.{true, false}
 use mathlib.Core.List.{List, [], _∷_, _++_}
 use Prim.Native.Nat.{ℕ, suc, _+_, _*_, _^_, _≤_, _<_}
 use native.Mathlib.Nat.{eq-or-lt-of-le}
 use native.Mathlib.Omega.{arith}
+use lib.Dec.{lit<}
 use lib.ListN.{length, getD, set, replicate, length-append, getD-replicate}
-use lib.Seq.{getD-set-same, getD-set-other}
+use lib.Seq.{getD-set-same, getD-set-other, getD-take}
 use lib.IntN.{ℤ, pos, natAbs, _+ℤ_, _-ℤ_, _*ℤ_}
 use mir.Syntax.{w64}
 use mir.Val.{toZ, ofZ}
-use Rattle.integers.proofs.Sizes.{natAbs-add, natAbs-sub, natAbs-times, Each}
+use Rattle.integers.proofs.Sizes.{natAbs-add}
+use Rattle.lists.specs.Lists.{Each, listTo}
 use Rattle.integers.proofs.Machine.{back}
-use Rattle.tariff.proofs.Sizes.{counted-sized, totalFlow-sized, ofPeriod-in-range}
-use Rattle.tariff.specs.declared.Kind.{Kind}
-use Rattle.tariff.specs.declared.Quantity.{Quantity}
-use Rattle.tariff.specs.declared.Contract.{Contract}
-use Rattle.tariff.specs.declared.Period.{Period}
-use Rattle.tariff.specs.Units.{grid, FactorsInRange}
-use Rattle.tariff.specs.Contracts.{counted, periodOf, samePeriod, ofPeriod, InRange}
+use Rattle.tariff.proofs.Sizes.{counted-times, totalFlow-sized, ofPeriod-in-range}
+use Rattle.tariff.proofs.Kept.{spread-small}
+use Rattle.tariff.specs.declared.contracts.Kind.{Kind}
+use Rattle.tariff.specs.declared.units.Quantity.{Quantity}
+use Rattle.tariff.specs.declared.contracts.Contract.{Contract}
+use Rattle.tariff.specs.declared.contracts.Period.{Period}
+use Rattle.tariff.specs.Units.{Factors, factorsOf, factor, maxConstraints, maxContracts, maxFactor, maxQuantity, maxLimit}
+use Rattle.tariff.specs.Inner.{FactorsInRange, InRange, maxFlow}
+use Rattle.tariff.specs.Contracts.{counted, samePeriod, ofPeriod}
 use Rattle.tariff.specs.Feasibility.{flow, totalFlow}
 use Rattle.tariff.proofs.Periods.{sumOver-more, ofPeriod-same, ofPeriod-other}
 use Rattle.integers.specs.Sums.{sumOver}
-use Rattle.layouts.specs.Files.{listTo}
-use Rattle.layouts.specs.BookFile.{bookIn, countIn, contractAt}
-use Rattle.layouts.proofs.Lists.{listTo-more, length-listTo, each-listTo}
-use Rattle.book_file.proofs.Accepted.{book-accepted}
+use Rattle.layouts.specs.BookFile.{bookIn, contractCountIn, contractAt}
+use Rattle.lists.proofs.Lists.{listTo-more, length-listTo, each-listTo}
+use Rattle.tariff.specs.declared.refusals.Checked.the-variants.{Passed}
+use Rattle.tariff.specs.Refusals.{first}
+use Rattle.tables.specs.Inner.{GoodFactors, GoodCells}
+use Rattle.tables.proofs.Factors.{place-in}
+use Rattle.books.specs.BookChecks.{bookChecks}
+use Rattle.books.proofs.Accepted.{book-accepted}
 use Rattle.feasibility_test.specs.declared.Flows.{Flows}
-use Rattle.feasibility_test.specs.Carried.{Carries}
-use Rattle.feasibility_test.proofs.Checking.{Tested, factors-in-range}
+use Rattle.feasibility_test.specs.Inner.{Carries, Ends, Judgeable}
 
 -- the flow on constraint j of a contract whose rows of factors begin at source and sink, as it counts
 unfoldable pub part : List ℤ → ℕ → ℕ → Quantity → Kind → ℕ → ℤ
@@ -57,73 +64,93 @@ module _ (before cells : List ℤ) (f : ℕ → ℤ) (k : ℕ) (done : (j : ℕ)
 pub kept-sized : (x : ℤ) (B : ℕ) → B < 2 ^ 63 → natAbs x ≤ B → natAbs (toZ w64 (ofZ w64 x)) ≤ B
 kept-sized x B b h = rw (back x (omega arith)) h
 
-module _ (fs : List ℤ) (source sink : ℕ) (q : Quantity) (d : Kind) (k : ℕ) (a : natAbs (getD fs (source + k) (pos 0)) ≤ 100000) (b : natAbs (getD fs (sink + k) (pos 0)) ≤ 100000) where
-  -- y is what the machine gives
-  abbrev spread : ℤ
-  spread = toZ w64 (ofZ w64 (getD fs (source + k) (pos 0))) -ℤ toZ w64 (ofZ w64 (getD fs (sink + k) (pos 0)))
+-- the cells of a contract's two rows, each within its range
+pub rows-kept : (k : ℕ) (fs : List ℤ) (c : Contract) → Ends k fs c → (j : ℕ) → j < k
+    → (natAbs (toZ w64 (ofZ w64 (getD fs (c .source * k + j) (pos 0)))) ≤ maxFactor) × (natAbs (toZ w64 (ofZ w64 (getD fs (c .sink * k + j) (pos 0)))) ≤ maxFactor)
+rows-kept k fs c h j b = (
+  kept-sized (getD fs (c .source * k + j) (pos 0)) maxFactor (lit< tt) (h .source-sized j b),
+  kept-sized (getD fs (c .sink * k + j) (pos 0)) maxFactor (lit< tt) (h .sink-sized j b),
+)
 
-  pub part-is : (y : ℤ) → y ≡ counted d (spread *ℤ pos (q .0)) → y ≡ part fs source sink q d k
-  unfolding part
-  part-is y e = e ∙ rw (back (getD fs (source + k) (pos 0)) (omega arith), back (getD fs (sink + k) (pos 0)) (omega arith))
+-- y is what the machine gives
+pub part-small : (y a b : ℤ) (d : Kind) (q : ℕ) → y ≡ counted d ((a -ℤ b) *ℤ pos q) → natAbs a ≤ maxFactor → natAbs b ≤ maxFactor → q ≤ maxQuantity → natAbs y ≤ maxFlow
+part-small y a b d q e ha hb hq = rw e (counted-times d (a -ℤ b) q (spread-small a b ha hb) hq)
 
-  pub part-small : (y : ℤ) → y ≡ counted d (spread *ℤ pos (q .0)) → q .0 ≤ 1000000 → natAbs y ≤ 200000000000
-  unfolding part
-  part-small y e h =
-      let w : natAbs (getD fs (source + k) (pos 0) -ℤ getD fs (sink + k) (pos 0)) ≤ 200000 = omega (arith, natAbs-sub (getD fs (source + k) (pos 0)) (getD fs (sink + k) (pos 0))) in
-      let product = (getD fs (source + k) (pos 0) -ℤ getD fs (sink + k) (pos 0)) *ℤ pos (q .0) in
-      rw (part-is y e) (omega (arith, counted-sized d product, natAbs-times (getD fs (source + k) (pos 0) -ℤ getD fs (sink + k) (pos 0)) (pos (q .0)) w h))
+pub part-is : (k : ℕ) (fs : List ℤ) (c : Contract) → Ends k fs c → (j : ℕ) → j < k → (y : ℤ)
+    → y ≡ counted (c .kind) ((toZ w64 (ofZ w64 (getD fs (c .source * k + j) (pos 0))) -ℤ toZ w64 (ofZ w64 (getD fs (c .sink * k + j) (pos 0)))) *ℤ pos (c .quantity .0))
+    → y ≡ part fs (c .source * k) (c .sink * k) (c .quantity) (c .kind) j
+unfolding part
+part-is k fs c h j b y e =
+    e ∙ rw (back (getD fs (c .source * k + j) (pos 0)) (omega (arith, h .source-sized j b)), back (getD fs (c .sink * k + j) (pos 0)) (omega (arith, h .sink-sized j b)))
 
 -- v is the sum that the machine gives
-pub sum-is : (x y v p : ℤ) → natAbs x ≤ 200000000000000 → natAbs y ≤ 200000000000 → v ≡ toZ w64 (ofZ w64 x) +ℤ y → y ≡ p → toZ w64 (ofZ w64 v) ≡ x +ℤ p
+pub sum-is : (x y v p : ℤ) → natAbs x ≤ maxFlow * maxContracts → natAbs y ≤ maxFlow → v ≡ toZ w64 (ofZ w64 x) +ℤ y → y ≡ p → toZ w64 (ofZ w64 v) ≡ x +ℤ p
 sum-is x y v p hx hy e ep =
     let f : v ≡ x +ℤ y = e ∙ ap (λ (z : ℤ). z +ℤ y) (back x (omega arith)) in
     back v (rw f (omega (arith, natAbs-add x y))) ∙ f ∙ ap (λ (z : ℤ). x +ℤ z) ep
 
 -- ---- one contract more
-pub step-carries : (n k : ℕ) (ls : List ℕ) (fs : List ℤ) (cs : List Contract) (c : Contract) (f : Flows) (cells : List ℤ)
-    → ((j : ℕ) → j < k → getD cells j (pos 0) ≡ getD (f .flows) j (pos 0) +ℤ part fs (c .source * k) (c .sink * k) (c .quantity) (c .kind) j)
-    → Carries (grid n k ls fs) cs f → Carries (grid n k ls fs) (cs ++ c ∷ []) (record { flows = cells; count = f .count + 1 })
-unfolding totalFlow flow part
-step-carries n k ls fs cs c f cells done carried = record {
-  flows-are = λ j h. done j h ∙ ap (λ (z : ℤ). z +ℤ flow (grid n k ls fs) c j) (carried .flows-are j h) ∙ sym (sumOver-more cs c (λ c. flow (grid n k ls fs) c j));
-  count-is = rw length-append (omega (arith, carried .count-is));
-}
+
+module _ (n k : ℕ) (fs : List ℤ) (c : Contract) (h : InRange n c) where
+  cell : (s j : ℕ) → s < n → j < k → getD fs (s * k + j) (pos 0) ≡ factor (factorsOf n k fs) s j
+  cell s j hs hj = sym (getD-take (n * k) fs (s * k + j) (pos 0) (place-in n k s j hs hj))
+
+  own : (j : ℕ) → j < k → part fs (c .source * k) (c .sink * k) (c .quantity) (c .kind) j ≡ flow (factorsOf n k fs) c j
+  unfolding flow part
+  own j b = rw (cell (c .source) j (h .source-below) b, cell (c .sink) j (h .sink-below) b)
+
+  pub step-carries : (cs : List Contract) (f : Flows) (cells : List ℤ)
+      → ((j : ℕ) → j < k → getD cells j (pos 0) ≡ getD (f .flows) j (pos 0) +ℤ part fs (c .source * k) (c .sink * k) (c .quantity) (c .kind) j)
+      → Carries (factorsOf n k fs) cs f → Carries (factorsOf n k fs) (cs ++ c ∷ []) (record { flows = cells; count = f .count + 1 })
+  unfolding totalFlow
+  step-carries cs f cells done carried =
+      record {
+        flows-are = λ j b. done j b ∙ ap₂ _+ℤ_ (carried .flows-are j b) (own j b) ∙ sym (sumOver-more cs c (λ c. flow (factorsOf n k fs) c j));
+        count-is = rw length-append (omega (arith, carried .count-is));
+      }
 
 -- ---- no contract yet
-pub none-carried : (n k : ℕ) (ls : List ℕ) (fs : List ℤ) → k ≤ 64 → Carries (grid n k ls fs) [] (record { flows = replicate 64 (pos 0); count = 0 })
+
+pub none-carried : (f : Factors) → f .constraints ≤ maxConstraints → Carries f [] (record { flows = replicate maxConstraints (pos 0); count = 0 })
 unfolding totalFlow sumOver
-none-carried n k ls fs h = record { flows-are = λ j b. getD-replicate {A = ℤ} 64 j (pos 0) (pos 0) (omega arith); count-is = refl }
+none-carried f h = record { flows-are = λ j b. getD-replicate {A = ℤ} maxConstraints j (pos 0) (pos 0) (omega arith); count-is = refl }
 
 -- ---- through a book: its contracts below i are carried
-module _ (n k i : ℕ) (ls : List ℕ) (fs : List ℤ) (t : Period) (at : ℕ → Contract) (f : Flows) where
-  module _ (each : (j : ℕ) → j < i → InRange n (at j)) (carried : Carries (grid n k ls fs) (ofPeriod t (listTo i at)) f) where
-    within : Each (InRange n) (ofPeriod t (listTo i at)) × (length (ofPeriod t (listTo i at)) ≤ length (listTo i at))
-    within = ofPeriod-in-range n t (listTo i at) (each-listTo (InRange n) i at each)
 
-    pub count-most : f .count ≤ i
-    count-most = omega (arith, carried .count-is, within .1, length-listTo i at)
+module _ (f : Factors) (i : ℕ) (t : Period) (at : ℕ → Contract) (carried : Flows) where
+  module _ (each : (j : ℕ) → j < i → InRange (f .nodes) (at j)) (h : Carries f (ofPeriod t (listTo i at)) carried) where
+    within : Each (InRange (f .nodes)) (ofPeriod t (listTo i at)) × (length (ofPeriod t (listTo i at)) ≤ length (listTo i at))
+    within = ofPeriod-in-range (f .nodes) t (listTo i at) (each-listTo (InRange (f .nodes)) i at each)
 
-    pub flow-most : FactorsInRange (grid n k ls fs) → (j : ℕ) → j < k → natAbs (getD (f .flows) j (pos 0)) ≤ 200000000000 * f .count
-    flow-most fr j h = rw (carried .flows-are j h, carried .count-is) (totalFlow-sized (grid n k ls fs) fr (ofPeriod t (listTo i at)) j (within .0) h)
+    pub count-most : carried .count ≤ i
+    count-most = omega (arith, h .count-is, within .1, length-listTo i at)
+
+    pub flow-most : FactorsInRange f → (j : ℕ) → j < f .constraints → natAbs (getD (carried .flows) j (pos 0)) ≤ maxFlow * carried .count
+    flow-most fr j b = rw (h .flows-are j b, h .count-is) (totalFlow-sized f fr (ofPeriod t (listTo i at)) j (within .0) b)
 
   -- contract i is of the period and counted, or is of the other
-  pub carry-same : (c : Contract) → c ≡ at i → samePeriod (c .period) t ≡ true → Carries (grid n k ls fs) (ofPeriod t (listTo i at) ++ c ∷ []) f
-      → Carries (grid n k ls fs) (ofPeriod t (listTo (i + 1) at)) f
-  carry-same c e b carried = rw (listTo-more i at, ← e, ofPeriod-same t (listTo i at) c b) carried
+  pub carry-same : (c : Contract) → c ≡ at i → samePeriod (c .period) t ≡ true → Carries f (ofPeriod t (listTo i at) ++ c ∷ []) carried
+      → Carries f (ofPeriod t (listTo (i + 1) at)) carried
+  carry-same c e b h = rw (listTo-more i at, ← e, ofPeriod-same t (listTo i at) c b) h
 
-  pub carry-other : (c : Contract) → c ≡ at i → samePeriod (c .period) t ≡ false → Carries (grid n k ls fs) (ofPeriod t (listTo i at)) f
-      → Carries (grid n k ls fs) (ofPeriod t (listTo (i + 1) at)) f
-  carry-other c e b carried = rw (listTo-more i at, ← e, ofPeriod-other t (listTo i at) c b) carried
+  pub carry-other : (c : Contract) → c ≡ at i → samePeriod (c .period) t ≡ false → Carries f (ofPeriod t (listTo i at)) carried
+      → Carries f (ofPeriod t (listTo (i + 1) at)) carried
+  carry-other c e b h = rw (listTo-more i at, ← e, ofPeriod-other t (listTo i at) c b) h
 
 -- ---- a book that the checks accept: a thousand flows at most
-pub carried-sized : (n k p t : ℕ) (ls : List ℕ) (fs : List ℤ) (book : List ℕ) → Tested n k p t ls fs book → (f : Flows)
-    → Carries (grid n k ls fs) (ofPeriod (periodOf t) (bookIn book)) f → (j : ℕ) → j < k → natAbs (getD (f .flows) j (pos 0)) < 2 ^ 62
-carried-sized n k p t ls fs book ok f carried j h =
-    let b = book-accepted n book (ok .book-good) in
-    let fr = factors-in-range n k ls fs (ok .factors-long) (ok .factors-good) in
-    omega (
-      arith,
-      b .few,
-      count-most n k (countIn book) ls fs (periodOf t) (contractAt book) f (b .each) carried,
-      flow-most n k (countIn book) ls fs (periodOf t) (contractAt book) f (b .each) carried fr j h,
-    )
+
+pub carried-judgeable : (n k : ℕ) (ls : List ℕ) (fs : List ℤ) (t : Period) (book : List ℕ) → GoodCells maxLimit k ls → GoodFactors n k fs → first (bookChecks n book) ≡ Passed
+    → (carried : Flows) → Carries (factorsOf n k fs) (ofPeriod t (bookIn book)) carried → Judgeable k ls carried
+carried-judgeable n k ls fs t book gl gf own carried h =
+    let b = book-accepted n book own in
+    record {
+      few = gf .few;
+      good-limits = gl;
+      flows-sized = λ j l.
+          omega (
+            arith,
+            b .few,
+            count-most (factorsOf n k fs) (contractCountIn book) t (contractAt book) carried (b .each) h,
+            flow-most (factorsOf n k fs) (contractCountIn book) t (contractAt book) carried (b .each) h (gf .in-range) j l,
+          );
+    }

@@ -1,8 +1,8 @@
 -- Laws of the test's answer: the overload set bit by bit, and what its figures are.
 use mathlib.Core.Path.{_≡_, refl, sym, ap, ap₂, _∙_}
-use mathlib.Core.Bool.{Bool, true, false, cond}
+use mathlib.Core.Bool.{Bool, true, false}
 use mathlib.Core.List.{List, [], _∷_}
-use Prim.Native.Nat.{ℕ, zero, suc, _+_, _*_, _%_, _^_, _≤_, _<_}
+use Prim.Native.Nat.{ℕ, _+_, _*_, _%_, _^_, _≤_, _<_}
 use native.Mathlib.Numerals.{add-one}
 use native.Mathlib.Omega.{arith}
 use native.Mathlib.Nat.{mul-le-mul, mod-eq-of-lt, pos-of-ne-zero}
@@ -10,28 +10,31 @@ use borrow.Author.Tests.{ne-eqb}
 use lib.Count.{ones, trailingZeros}
 use lib.Pow.{pow-lt, pow-mono}
 use lib.ListN.{getD}
+use lib.Seq.{getD-take}
 use lib.IntN.{ℤ, pos, natAbs, _-ℤ_}
 use lib.Signed.{ltZ}
 use mir.Syntax.{w64}
 use mir.Val.{toZ, ofZ}
 use Rattle.integers.proofs.Machine.{back}
 use Rattle.tariff.proofs.Sizes.{percent-sized}
-use Rattle.tariff.proofs.Overloads.{set-lt, set-trailing, set-lowest}
+use Rattle.lists.proofs.Sets.{set-cong, set-lt, set-trailing, set-lowest}
 use Rattle.tariff.proofs.Theorems.{pass-is-worst-zero, excess-is-a-shortfall, pass-is-empty-set, fail-names-lowest, count-is-ones, lowest-is-trailing}
-use Rattle.tariff.specs.declared.Contract.{Contract}
-use Rattle.tariff.specs.declared.Flow.{Flow}
-use Rattle.tariff.specs.declared.Period.{Period}
-use Rattle.tariff.specs.declared.Process.{Process}
+use Rattle.tariff.specs.declared.contracts.Contract.{Contract}
+use Rattle.tariff.specs.declared.units.Flow.{Flow}
+use Rattle.tariff.specs.declared.contracts.Period.{Period}
+use Rattle.tariff.specs.declared.processes.Process.{Process}
 use Rattle.tariff.specs.Processes.{percent}
-use Rattle.tariff.specs.Units.{Grid, grid}
+use Rattle.tariff.specs.Units.{Grid, factorsOf, gridOf, maxConstraints, maxLimit}
+use Rattle.tariff.specs.Inner.{maxReleased}
 use Rattle.tariff.specs.Contracts.{ofPeriod}
 use Rattle.tariff.specs.Refusals.{given}
-use Rattle.tariff.specs.Feasibility.{setOf, released, excess, overloaded, overloadSet, overloadCount, lowestOverload}
+use Rattle.lists.specs.Sets.{setOf}
+use Rattle.tariff.specs.Feasibility.{released, excess, overloaded, overloadSet, overloadCount, lowestOverload}
 use Rattle.tariff.specs.Shortfall.{PriceList, shortfall, oneCent}
 use Rattle.feasibility_test.specs.declared.Flows.{Flows}
 use Rattle.feasibility_test.specs.declared.TestAnswer.the-variants.{Pass, Fail}
-use Rattle.feasibility_test.specs.Answer.{testOutcome, testValues, Demand3}
-use Rattle.feasibility_test.specs.Carried.{Carries}
+use Rattle.feasibility_test.specs.TestBook.{testValues}
+use Rattle.feasibility_test.specs.Inner.{Carries, Judges}
 
 -- whether the flow in cell k exceeds the released limit k
 abbrev pub over : List ℕ → Process → List ℤ → ℕ → Bool
@@ -47,16 +50,16 @@ unfolding setOf
 set-skip k f e = rw (add-one, e) (omega arith)
 
 -- the machine's bit k, added to bits below it
-bit-is : (k : ℕ) → k < 64 → 1 * 2 ^ k % 18446744073709551616 ≡ 2 ^ k
+bit-is : (k : ℕ) → k < maxConstraints → 1 * 2 ^ k % 18446744073709551616 ≡ 2 ^ k
 bit-is k h = mod-eq-of-lt {n = 1 * 2 ^ k} (omega (arith, pow-lt h)) ∙ omega arith
 
-pub bit-fits : (s k : ℕ) (f : ℕ → Bool) → k < 64 → s ≡ setOf k f → s + 1 * 2 ^ k % 18446744073709551616 < 2 ^ 64
+pub bit-fits : (s k : ℕ) (f : ℕ → Bool) → k < maxConstraints → s ≡ setOf k f → s + 1 * 2 ^ k % 18446744073709551616 < 2 ^ 64
 bit-fits s k f h e = let p : 2 ^ k ≤ 2 ^ 63 = pow-mono {i = k} {j = 63} (omega arith) in omega (arith, bit-is k h, set-lt k f)
 
-pub bit-set : (s t k : ℕ) (f : ℕ → Bool) → k < 64 → s ≡ setOf k f → t ≡ s + 1 * 2 ^ k % 18446744073709551616 → f k ≡ true → t ≡ setOf (k + 1) f
+pub bit-set : (s t k : ℕ) (f : ℕ → Bool) → k < maxConstraints → s ≡ setOf k f → t ≡ s + 1 * 2 ^ k % 18446744073709551616 → f k ≡ true → t ≡ setOf (k + 1) f
 bit-set s t k f h e u b = u ∙ omega (arith, bit-is k h, set-more k f b)
 
-pub released-small : (z : ℤ) (l : ℕ) (process : Process) → l ≤ 100000000 → z ≡ pos (l * percent process * 1000) → natAbs z ≤ 10000000000000
+pub released-small : (z : ℤ) (l : ℕ) (process : Process) → l ≤ maxLimit → z ≡ pos (l * percent process * 1000) → natAbs z ≤ maxReleased
 released-small z l process h e = rw e (omega (arith, mul-le-mul h (percent-sized process)))
 
 -- x is the flow that the machine keeps and z the released limit
@@ -69,10 +72,10 @@ difference-is x y v r h e d = d ∙ rw (e, back x (omega arith))
 
 -- ---- the lowest of a set that is not empty
 
-pub set-small : (k s : ℕ) (f : ℕ → Bool) → s ≡ setOf k f → k ≤ 64 → s < 2 ^ 64
+pub set-small : (k s : ℕ) (f : ℕ → Bool) → s ≡ setOf k f → k ≤ maxConstraints → s < 2 ^ 64
 set-small k s f e few = let p : 2 ^ k ≤ 2 ^ 64 = pow-mono {i = k} {j = 64} few in omega (arith, set-lt k f)
 
-module _ (k s : ℕ) (f : ℕ → Bool) (e : s ≡ setOf k f) (some-bit : s ≡ 0 → ⊥) (few : k ≤ 64) where
+module _ (k s : ℕ) (f : ℕ → Bool) (e : s ≡ setOf k f) (some-bit : s ≡ 0 → ⊥) (few : k ≤ maxConstraints) where
   above-zero : 0 < setOf k f
   above-zero = rw e at (pos-of-ne-zero {n = s} some-bit)
 
@@ -81,40 +84,37 @@ module _ (k s : ℕ) (f : ℕ → Bool) (e : s ≡ setOf k f) (some-bit : s ≡ 
 
 -- ---- the answer, where flows f are carried from the contracts tested
 
-set-cong : (k : ℕ) (f g : ℕ → Bool) → ((j : ℕ) → j < k → f j ≡ g j) → setOf k f ≡ setOf k g
-unfolding setOf
-set-cong zero f g h = refl
-set-cong (suc k) f g h = ap₂ (λ (x : ℕ) (b : Bool). x + cond b (2 ^ k) 0) (set-cong k f g (λ j b. h j (omega arith))) (h k (omega arith))
-
 module _ (n k : ℕ) (ls : List ℕ) (fs : List ℤ) (process : Process) (t : Period) (cs : List Contract) (f : Flows)
-    (carried : Carries (grid n k ls fs) (ofPeriod t cs) f) (s : ℕ) (is : s ≡ setOf k (over ls process (f .flows))) where
+    (carried : Carries (factorsOf n k fs) (ofPeriod t cs) f) (s : ℕ) (is : s ≡ setOf k (over ls process (f .flows))) where
   abbrev g : Grid
-  g = grid n k ls fs
+  g = gridOf n k ls fs
 
   abbrev tested : List Contract
   tested = ofPeriod t cs
 
   set-is : s ≡ overloadSet g process tested
   unfolding overloadSet overloaded released
-  set-is = is ∙ set-cong k _ _ (λ j h. ap (ltZ (pos (getD ls j 0 * percent process * 1000))) (carried .flows-are j h))
+  set-is = is ∙ set-cong k _ _ (λ j h. rw (getD-take k ls j 0 h, carried .flows-are j h))
 
-  pub pass-answer : s ≡ 0 → (testOutcome Pass ≡ given (testValues g process tested)) × Demand3 g process tested Pass
+  pub pass-answer : s ≡ 0 → Judges g process tested Pass
   unfolding testValues
   pass-answer z =
-      let e : overloadSet g process tested ≡ 0 = sym set-is ∙ z in (
-        rw e,
-        record {
+      let e : overloadSet g process tested ≡ 0 = sym set-is ∙ z in
+      record {
+        figures = rw e;
+        demand3 = record {
           pass-is-worst-zero = (λ p. pass-is-worst-zero g process t cs .0 (pass-is-empty-set g process t cs .1 e), λ w. refl);
           fail-is-a-list = λ s' c' l' o' q. absurd (never q);
           fail-is-its-shortfall = λ s' c' l' o' q. absurd (never q);
           fail-is-above-zero = λ s' c' l' o' q. absurd (never q);
-        },
-      )
+        };
+      }
     where
       never : {s' c' l' : ℕ} {o' : Flow} → Pass ≡ Fail s' c' l' o' → ⊥
       never q = let z : _≡_ {A = ℕ} 0 1 = cc in omega arith
 
-  module _ (few : k ≤ 64) (some-bit : s ≡ 0 → ⊥) (o : Flow) (excess-is : o .0 ≡ getD (f .flows) (trailingZeros 64 s) (pos 0) -ℤ pos (getD ls (trailingZeros 64 s) 0 * percent process * 1000)) where
+  module _ (few : k ≤ maxConstraints) (some-bit : s ≡ 0 → ⊥) (o : Flow)
+      (excess-is : o .0 ≡ getD (f .flows) (trailingZeros 64 s) (pos 0) -ℤ pos (getD ls (trailingZeros 64 s) 0 * percent process * 1000)) where
     above : 0 < overloadSet g process tested
     above = rw set-is at (pos-of-ne-zero {n = s} some-bit)
 
@@ -127,8 +127,9 @@ module _ (n k : ℕ) (ls : List ℕ) (fs : List ℤ) (process : Process) (t : Pe
     over-is-excess : o .0 ≡ excess g process tested (lowestOverload g process tested)
     unfolding excess released
     over-is-excess =
+        let low = lowest-in k s (over ls process (f .flows)) is some-bit few in
         excess-is
-        ∙ ap (λ (z : ℤ). z -ℤ pos (getD ls (trailingZeros 64 s) 0 * percent process * 1000)) (carried .flows-are (trailingZeros 64 s) (lowest-in k s (over ls process (f .flows)) is some-bit few))
+        ∙ ap₂ (λ (z : ℤ) (l : ℕ). z -ℤ pos (l * percent process * 1000)) (carried .flows-are (trailingZeros 64 s) low) (sym (getD-take k ls (trailingZeros 64 s) 0 low))
         ∙ ap (excess g process tested) lowest-is
 
     values-are : pos s ∷ pos (ones s) ∷ pos (trailingZeros 64 s) ∷ o .0 ∷ [] ≡ testValues g process tested
@@ -136,18 +137,19 @@ module _ (n k : ℕ) (ls : List ℕ) (fs : List ℤ) (process : Process) (t : Pe
     values-are = rw (ne-eqb (overloadSet g process tested) 0 (λ e. some-bit (set-is ∙ e)))
         (λ i. pos (set-is i) ∷ pos (count-is i) ∷ pos (lowest-is i) ∷ over-is-excess i ∷ [])
 
-    pub fail-answer : (testOutcome (Fail s (ones s) (trailingZeros 64 s) o) ≡ given (testValues g process tested)) × Demand3 g process tested (Fail s (ones s) (trailingZeros 64 s) o)
-    fail-answer = (
-      ap given values-are,
-      record {
+    pub fail-answer : Judges g process tested (Fail s (ones s) (trailingZeros 64 s) o)
+    fail-answer = record {
+      figures = ap given values-are;
+      demand3 = record {
         pass-is-worst-zero = (λ q. absurd (never q), λ w. absurd (some-bit (set-is ∙ pass-is-empty-set g process t cs .0 (pass-is-worst-zero g process t cs .1 w))));
         fail-is-a-list = λ s' c' l' o' q. rw (← same-lowest q) (list .0);
         fail-is-its-shortfall = λ s' c' l' o' q. rw (← same-lowest q) (list .1 ∙ sym over-is-excess ∙ same-over q);
         fail-is-above-zero = λ s' c' l' o' q. rw (← same-over q, over-is-excess) (fail-names-lowest g process t cs above .1);
-      },
-    )
+      };
+    }
       where
-        list : PriceList g (oneCent g (lowestOverload g process tested)) × (shortfall g process tested (oneCent g (lowestOverload g process tested)) ≡ excess g process tested (lowestOverload g process tested))
+        list : PriceList k (oneCent k (lowestOverload g process tested))
+            × (shortfall g process tested (oneCent k (lowestOverload g process tested)) ≡ excess g process tested (lowestOverload g process tested))
         list = excess-is-a-shortfall g process t cs (lowestOverload g process tested) (fail-names-lowest g process t cs above .0 .inside)
 
         never : Fail s (ones s) (trailingZeros 64 s) o ≡ Pass → ⊥

@@ -1,3 +1,2 @@
-pub mod TestChecks
-pub mod Answer
-pub mod Carried
+pub mod TestBook
+pub mod Inner

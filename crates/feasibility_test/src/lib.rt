@@ -1,35 +1,36 @@
 // The simultaneous feasibility test of a book's bytes against grid tables.
 ghost use mathlib.Core.Path.{_≡_};
-ghost use mathlib.Core.Bool.{false};
 ghost use mathlib.Core.List.{List, [], _∷_, _++_};
-ghost use Prim.Native.Nat.{ℕ, _+_, _*_, _^_, _≤_, _<_};
-ghost use lib.ListN.{length, getD, take};
-ghost use lib.IntN.{ℤ, pos, natAbs};
+ghost use Prim.Native.Nat.{ℕ, _*_, _≤_};
+ghost use lib.ListN.{getD};
+ghost use lib.IntN.{ℤ, pos};
 ghost use lib.Signed.{ltZ};
-ghost use Rattle.tariff.specs.declared.Checked.the-variants.{Passed};
-ghost use Rattle.tariff.specs.declared.Contract.{Contract};
-ghost use Rattle.tariff.specs.declared.Period.{Period};
-ghost use Rattle.tariff.specs.Refusals.{first, given, answered};
-ghost use Rattle.tariff.specs.Checks.{some, factorBad, shortTable, limitRange, factorRange};
-ghost use Rattle.tariff.specs.Units.{grid};
-ghost use Rattle.tariff.specs.Contracts.{periodOf, ofPeriod};
-ghost use Rattle.tariff.specs.Processes.{percent, processOf};
-ghost use Rattle.tariff.specs.Feasibility.{setOf};
+ghost use Rattle.lists.specs.Sets.{setOf};
+ghost use Rattle.lists.specs.Lent.{before};
+ghost use Rattle.tariff.specs.declared.refusals.Checked.the-variants.{Passed};
+ghost use Rattle.tariff.specs.declared.contracts.Contract.{Contract};
+ghost use Rattle.tariff.specs.declared.contracts.Period.{Period};
+ghost use Rattle.tariff.specs.Refusals.{first};
+ghost use Rattle.tariff.specs.Units.{Factors, factorsOf, gridOf, maxConstraints};
+ghost use Rattle.tariff.specs.Inner.{InRange};
+ghost use Rattle.tariff.specs.Contracts.{ofPeriod};
+ghost use Rattle.tariff.specs.Processes.{percent};
 ghost use Rattle.layouts.specs.BookFile.{bookIn};
-ghost use Rattle.book_file.specs.BookChecks.{bookChecks};
-ghost use Rattle.feasibility_test.specs.TestChecks.{testChecks};
-ghost use Rattle.feasibility_test.specs.Answer.{testOutcome, testValues, Demand3};
-ghost use Rattle.feasibility_test.specs.Carried.{Carries};
+ghost use Rattle.tables.specs.Inner.{GoodFactors};
+ghost use Rattle.books.specs.BookChecks.{bookChecks};
+ghost use Rattle.feasibility_test.specs.TestBook.{testCall, testChecked, TestsBook};
+ghost use Rattle.feasibility_test.specs.Inner.{Carries, Ends, Room, Judgeable, Judges};
 use tariff::Checked;
 use tariff::Contract;
 use tariff::Flow;
+use tariff::MAX_CONSTRAINTS;
 use tariff::Period;
 use tariff::Process;
 use tariff::Refusal;
 
 // The flow on all constraints, carried together with the number of contracts counted.
 pub struct Flows {
-    pub flows: [i64; 64],
+    pub flows: [i64; MAX_CONSTRAINTS],
     pub count: usize,
 }
 
@@ -48,21 +49,19 @@ pub enum TestAnswer {
 impl Flows {
     // No contract yet.
     fn none() -> Flows
-        ensures { λ r. ⌜ ((n k : ℕ) (ls : List ℕ) (fs : List ℤ) → k ≤ 64 → Carries (grid n k ls fs) [] r) ⌝ }
+        ensures { λ r. ⌜ ((f : Factors) → f .constraints ≤ maxConstraints → Carries f [] r) ⌝ }
     {
         Flows {
-            flows: [0i64; 64],
+            flows: [0i64; MAX_CONSTRAINTS],
             count: 0,
         }
     }
 
     // One contract more: its flow, as it counts, on every constraint.
     fn step(self, c: Contract, constraints: usize, factors: &[i64]) -> Flows
-        requires { ⌜ (constraints ≤ 64) × (c .source * constraints + constraints ≤ length (now factors)) × (c .sink * constraints + constraints ≤ length (now factors)) ⌝ }
-        requires { ⌜ ((k : ℕ) → k < constraints → natAbs (getD (now factors) (c .source * constraints + k) (pos 0)) ≤ 100000) ⌝ }
-        requires { ⌜ ((k : ℕ) → k < constraints → natAbs (getD (now factors) (c .sink * constraints + k) (pos 0)) ≤ 100000) ⌝ }
-        requires { ⌜ (c .quantity .0 ≤ 1000000) × (self .count < 1000) × ((k : ℕ) → k < constraints → natAbs (getD (self .flows) k (pos 0)) ≤ 200000000000 * self .count) ⌝ }
-        ensures { λ r. ⌜ ((n : ℕ) (ls : List ℕ) (cs : List Contract) → Carries (grid n constraints ls (now (factors .entry))) cs self → Carries (grid n constraints ls (now (factors .entry))) (cs ++ c ∷ []) r) ⌝ }
+        requires { ⌜ Ends constraints (now factors) c × Room constraints self ⌝ }
+        ensures { λ r. ⌜ ((n : ℕ) (cs : List Contract) → InRange n c → Carries (factorsOf n constraints (before factors)) cs self
+            → Carries (factorsOf n constraints (before factors)) (cs ++ c ∷ []) r) ⌝ }
     {
         let mut flows = self.flows;
         let source = c.source * constraints;
@@ -93,15 +92,14 @@ pub fn carry(
     period: Period,
     book: &[u8],
 ) -> Flows
-    requires { ⌜ (nodes ≤ 200) × (constraints ≤ 64) × (nodes * constraints ≤ length (now factors)) ⌝ }
-    requires { ⌜ (some factorBad (take (nodes * constraints) (now factors)) ≡ false) × (first (bookChecks nodes (now book)) ≡ Passed) ⌝ }
-    ensures { λ r. ⌜ ((ls : List ℕ) → Carries (grid nodes constraints ls (now (factors .entry))) (ofPeriod period (bookIn (now (book .entry)))) r) ⌝ }
+    requires { ⌜ GoodFactors nodes constraints (now factors) × (first (bookChecks nodes (now book)) ≡ Passed) ⌝ }
+    ensures { λ r. ⌜ Carries (factorsOf nodes constraints (before factors)) (ofPeriod period (bookIn (before book))) r ⌝ }
 {
-    let count = bits::field(book, 0, 10) as usize;
+    let count = books::contract_count(book);
     let mut flows = Flows::none();
     let mut i = 0;
     while i < count {
-        let c = book_file::contract_at(book, i);
+        let c = books::contract_at(book, i);
         let own = c.period;
         if own.same(period) {
             flows = flows.step(c, constraints, factors);
@@ -113,9 +111,8 @@ pub fn carry(
 
 // The set of overloaded constraints: bit k is set where the flow on constraint k exceeds its released limit.
 fn overload_set(constraints: usize, process: Process, limits: &[u64], flows: Flows) -> u64
-    requires { ⌜ (constraints ≤ 64) × (constraints ≤ length (now limits)) ⌝ }
-    requires { ⌜ ((k : ℕ) → k < constraints → (getD (now limits) k 0 ≤ 100000000) × (natAbs (getD (flows .flows) k (pos 0)) < 2 ^ 62)) ⌝ }
-    ensures { λ r. ⌜ r ≡ setOf constraints (λ (k : ℕ). ltZ (pos (getD (now (limits .entry)) k 0 * percent process * 1000)) (getD (flows .flows) k (pos 0))) ⌝ }
+    requires { ⌜ Judgeable constraints (now limits) flows ⌝ }
+    ensures { λ r. ⌜ r ≡ setOf constraints (λ (k : ℕ). ltZ (pos (getD (before limits) k 0 * percent process * 1000)) (getD (flows .flows) k (pos 0))) ⌝ }
 {
     let cells = flows.flows;
     let mut set = 0u64;
@@ -133,9 +130,9 @@ fn overload_set(constraints: usize, process: Process, limits: &[u64], flows: Flo
 
 // The answer: pass where the set is empty, else the set, its count of ones, its trailing zeros and the excess there.
 pub fn verdict(constraints: usize, process: Process, limits: &[u64], flows: Flows) -> TestAnswer
-    requires { ⌜ (constraints ≤ 64) × (constraints ≤ length (now limits)) ⌝ }
-    requires { ⌜ ((k : ℕ) → k < constraints → (getD (now limits) k 0 ≤ 100000000) × (natAbs (getD (flows .flows) k (pos 0)) < 2 ^ 62)) ⌝ }
-    ensures { λ r. ⌜ ((n : ℕ) (fs : List ℤ) (t : Period) (cs : List Contract) → Carries (grid n constraints (now (limits .entry)) fs) (ofPeriod t cs) flows → (testOutcome r ≡ given (testValues (grid n constraints (now (limits .entry)) fs) process (ofPeriod t cs))) × Demand3 (grid n constraints (now (limits .entry)) fs) process (ofPeriod t cs) r) ⌝ }
+    requires { ⌜ Judgeable constraints (now limits) flows ⌝ }
+    ensures { λ r. ⌜ ((n : ℕ) (fs : List ℤ) (t : Period) (cs : List Contract) → Carries (factorsOf n constraints fs) (ofPeriod t cs) flows
+        → Judges (gridOf n constraints (before limits) fs) process (ofPeriod t cs) r) ⌝ }
 {
     let set = overload_set(constraints, process, limits, flows);
     if set == 0 {
@@ -155,34 +152,7 @@ pub fn verdict(constraints: usize, process: Process, limits: &[u64], flows: Flow
     }
 }
 
-// The checks of the tables and the book: 9 for each table, 6, 7, then the book's own.
-fn check_tables(
-    nodes: usize,
-    constraints: usize,
-    limits: &[u64],
-    factors: &[i64],
-    book: &[u8],
-) -> Checked
-    requires { ⌜ (nodes ≤ 200) × (constraints ≤ 64) ⌝ }
-    ensures { λ r. ⌜ r ≡ first (shortTable (length (now (limits .entry))) constraints ∷ shortTable (length (now (factors .entry))) (nodes * constraints) ∷ limitRange (take constraints (now (limits .entry))) ∷ factorRange (take (nodes * constraints) (now (factors .entry))) ∷ bookChecks nodes (now (book .entry))) ⌝ }
-{
-    let cells = nodes * constraints;
-    if limits.len() < constraints {
-        return Checked::Refused(Refusal::ShortTable);
-    }
-    if factors.len() < cells {
-        return Checked::Refused(Refusal::ShortTable);
-    }
-    if runs::cell_above(limits, constraints, 100000000) {
-        return Checked::Refused(Refusal::LimitRange);
-    }
-    if grid_file::factor_out_of_range(factors, cells) {
-        return Checked::Refused(Refusal::FactorRange);
-    }
-    book_file::check_book(nodes, book)
-}
-
-// The test's checks: 2, 3, 16, 17, then those of the tables and the book.
+// The test's checks: those of the tables, then the book's own.
 fn check_test(
     nodes: usize,
     constraints: usize,
@@ -192,21 +162,13 @@ fn check_test(
     factors: &[i64],
     book: &[u8],
 ) -> Checked
-    ensures { λ r. ⌜ r ≡ first (testChecks nodes constraints process period (now (limits .entry)) (now (factors .entry)) (now (book .entry))) ⌝ }
+    ensures { λ r. ⌜ r ≡ testChecked (testCall nodes constraints process period (before limits) (before factors) (before book)) ⌝ }
 {
-    if tariff::nodes_bad(nodes) {
-        return Checked::Refused(Refusal::NodeCount);
+    let in_tables = tables::check_grid_tables(nodes, constraints, process, period, limits, factors);
+    if let Checked::Refused(refusal) = in_tables {
+        return Checked::Refused(refusal);
     }
-    if 64 < constraints {
-        return Checked::Refused(Refusal::ConstraintCount);
-    }
-    if 2 < process {
-        return Checked::Refused(Refusal::ProcessNumber);
-    }
-    if 1 < period {
-        return Checked::Refused(Refusal::PeriodOrKind);
-    }
-    check_tables(nodes, constraints, limits, factors, book)
+    books::check_book(nodes, book)
 }
 
 // Tests a book's bytes against grid tables: whether the contracts of one period are simultaneously feasible in a process.
@@ -219,8 +181,7 @@ pub fn test_book(
     factors: &[i64],
     book: &[u8],
 ) -> TestAnswer
-    ensures figures { λ r. ⌜ testOutcome r ≡ answered (first (testChecks nodes constraints process period (now (limits .entry)) (now (factors .entry)) (now (book .entry)))) (testValues (grid nodes constraints (now (limits .entry)) (now (factors .entry))) (processOf process) (ofPeriod (periodOf period) (bookIn (now (book .entry))))) ⌝ }
-    ensures demand3 { λ r. ⌜ (first (testChecks nodes constraints process period (now (limits .entry)) (now (factors .entry)) (now (book .entry))) ≡ Passed → Demand3 (grid nodes constraints (now (limits .entry)) (now (factors .entry))) (processOf process) (ofPeriod (periodOf period) (bookIn (now (book .entry)))) r) ⌝ }
+    ensures { λ r. ⌜ TestsBook (testCall nodes constraints process period (before limits) (before factors) (before book)) r ⌝ }
 {
     let checked = check_test(nodes, constraints, process, period, limits, factors, book);
     if let Checked::Refused(refusal) = checked {

@@ -1,3 +1,5 @@
 pub mod Factors
-pub mod GridLaws
+pub mod Passing
+pub mod Filling
 pub mod RoundTrip
+pub mod Taken

@@ -1,2 +1,3 @@
-pub mod GridChecks
-pub mod Searches
+pub mod ReadGrid
+pub mod WriteGrid
+pub mod Inner

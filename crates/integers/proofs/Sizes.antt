@@ -8,6 +8,7 @@ use native.Mathlib.Omega.{arith}
 use lib.Dec.{T, ltb, ltb→lt}
 use lib.ListN.{length}
 use lib.IntN.{ℤ, pos, negsuc, negℤ, natAbs, subℕ, _+ℤ_, _-ℤ_, _*ℤ_}
+use Rattle.lists.specs.Lists.{Each}
 use Rattle.integers.specs.Sums.{max0, sumTo, sumOver}
 
 natAbs-subℕ : (a b : ℕ) → natAbs (subℕ a b) ≤ a + b
@@ -53,11 +54,6 @@ pub natAbs-sumTo : (n B : ℕ) (g : ℕ → ℤ) → ((k : ℕ) → k < n → na
 unfolding sumTo
 natAbs-sumTo zero B g h = omega arith
 natAbs-sumTo (suc n) B g h = rw mul-suc (omega (arith, natAbs-add (sumTo n g) (g n), natAbs-sumTo n B g (λ k b. h k (omega arith)), h n (omega arith)))
-
--- what holds of each element of a list
-abbrev pub Each : {A : Type 0} → (A → Type 0) → List A → Type 0
-Each P [] = Unit
-Each P (x ∷ xs) = P x × Each P xs
 
 -- figures that are the same of each such element have the same sum
 pub sumOver-each : {A : Type 0} (P : A → Type 0) (v w : A → ℤ) → ((x : A) → P x → v x ≡ w x) → (xs : List A) → Each P xs → sumOver xs v ≡ sumOver xs w

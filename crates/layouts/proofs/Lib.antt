@@ -1,5 +1,10 @@
 pub mod Lists
+pub mod ContractBits
+pub mod Records
+pub mod BookFile
+pub mod ContractNumber
+pub mod BookTable
 pub mod Padded
 pub mod GridFile
 pub mod PriceFile
-pub mod BookFile
+pub mod Writing

@@ -7,7 +7,8 @@ use native.Mathlib.Omega.{arith}
 use lib.ListN.{length}
 use lib.Pow.{pow-pos}
 use Rattle.bits.specs.Bits.{field, fields}
-use Rattle.bits.specs.Fields.{Field, bits, total, fileOf, Fit, Holds}
+use Rattle.bits.specs.Fields.{Field, bits, total, fileOf}
+use Rattle.bits.specs.Inner.{Fit, Holds}
 use Rattle.bits.proofs.Numbers.{Below}
 use Rattle.bits.proofs.Files.{total-append, fit-append, length-file, below-file, written-holds, holds-written, holds-append, holds-run}
 use Rattle.layouts.specs.Files.{bytesFor, padFor}

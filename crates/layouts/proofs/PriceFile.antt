@@ -6,11 +6,12 @@ use Prim.Native.Nat.{ℕ, _*_, _^_, _<_}
 use native.Mathlib.Omega.{arith}
 use lib.ListN.{length}
 use Rattle.bits.specs.Bits.{fields}
-use Rattle.bits.specs.Fields.{Field, bits, total, Fit, Holds}
+use Rattle.bits.specs.Fields.{Field, bits, total}
+use Rattle.bits.specs.Inner.{Fit, Holds}
 use Rattle.bits.proofs.Numbers.{Below}
 use Rattle.bits.proofs.Fields.{field-lt, length-fields, below-fields}
 use Rattle.bits.proofs.Files.{total-append, total-run, fit-append, fit-run}
-use Rattle.layouts.specs.PriceFile.{priceBits, priceBytes, priceFields, priceFile, periodIn, countIn, pricesIn, padIn}
+use Rattle.layouts.specs.PriceFile.{priceWidth, priceBits, priceBytes, priceFields, priceFile, periodIn, priceCountIn, pricesIn, pricePadIn}
 use Rattle.layouts.proofs.Padded.{Padded, padded-total, padded-written, padded-read, holds-then-run}
 
 -- what the fields of a prices' file can hold
@@ -18,16 +19,16 @@ pub record PriceFits (t k : ℕ) (ps : List ℕ) : Type 0 where
   pub period-fits : t < 2
   pub count-fits : k < 2 ^ 7
   pub one-price-each : length ps ≡ k
-  pub prices-fit : Below 19 ps
+  pub prices-fit : Below priceWidth ps
 
 -- the bytes s are the file of a period's prices: what each reader finds in them
 pub record PriceWritten (t k : ℕ) (ps s : List ℕ) : Type 0 where
   pub size : length s ≡ priceBytes k
   pub bytes : Below 8 s
   pub period : periodIn s ≡ t
-  pub count : countIn s ≡ k
+  pub count : priceCountIn s ≡ k
   pub prices : pricesIn k s ≡ ps
-  pub pad : padIn k s ≡ 0
+  pub pad : pricePadIn k s ≡ 0
 
 -- ---- the fields before the padding
 
@@ -35,16 +36,16 @@ abbrev header : ℕ → ℕ → List Field
 header t k = bits 1 t ∷ bits 7 k ∷ []
 
 body : ℕ → ℕ → List ℕ → List Field
-body t k ps = header t k ++ map (bits 19) ps
+body t k ps = header t k ++ map (bits priceWidth) ps
 
 module _ (t k : ℕ) (ps : List ℕ) (many : length ps ≡ k) where
   body-total : total (body t k ps) ≡ priceBits k
   unfolding body
-  body-total = rw (total-append (header t k) (map (bits 19) ps), total-run 19 ps, many)
+  body-total = rw (total-append (header t k) (map (bits priceWidth) ps), total-run priceWidth ps, many)
 
-  body-parts : (s : List ℕ) → length s ≡ priceBytes k → (Holds s 0 (body t k ps) ↔ (Holds s 0 (header t k) × (fields s 8 19 k ≡ ps)))
+  body-parts : (s : List ℕ) → length s ≡ priceBytes k → (Holds s 0 (body t k ps) ↔ (Holds s 0 (header t k) × (fields s 8 priceWidth k ≡ ps)))
   unfolding body
-  body-parts s size = holds-then-run s 0 (header t k) 19 ps 8 k refl many (omega arith)
+  body-parts s size = holds-then-run s 0 (header t k) priceWidth ps 8 k refl many (omega arith)
 
 -- ---- written, then read
 
@@ -61,7 +62,7 @@ module _ (t k : ℕ) (ps : List ℕ) (f : PriceFits t k ps) where
 
   fit : Fit (body t k ps)
   unfolding body
-  fit = fit-append (header t k) (map (bits 19) ps) (f .period-fits, (f .count-fits, tt)) (fit-run 19 ps (f .prices-fit))
+  fit = fit-append (header t k) (map (bits priceWidth) ps) (f .period-fits, (f .count-fits, tt)) (fit-run priceWidth ps (f .prices-fit))
 
   pub prices-written : PriceWritten t k ps (priceFile t k ps)
   unfolding priceFile priceFields body
@@ -72,18 +73,18 @@ module _ (t k : ℕ) (ps : List ℕ) (f : PriceFits t k ps) where
 module _ (k : ℕ) (s : List ℕ) where
   pub length-pricesIn : length (pricesIn k s) ≡ k
   unfolding pricesIn
-  length-pricesIn = length-fields s 8 19 k
+  length-pricesIn = length-fields s 8 priceWidth k
 
-  pub below-pricesIn : Below 19 (pricesIn k s)
+  pub below-pricesIn : Below priceWidth (pricesIn k s)
   unfolding pricesIn
-  below-pricesIn = below-fields s 8 19 k
+  below-pricesIn = below-fields s 8 priceWidth k
 
   -- what is read fits
-  pub prices-fit-read : countIn s ≡ k → PriceFits (periodIn s) k (pricesIn k s)
+  pub prices-fit-read : priceCountIn s ≡ k → PriceFits (periodIn s) k (pricesIn k s)
   prices-fit-read count =
       record { period-fits = field-lt s 0 1; count-fits = rw count at (field-lt s 1 7); one-price-each = length-pricesIn; prices-fit = below-pricesIn }
 
-  pub prices-read : Below 8 s → length s ≡ priceBytes k → countIn s ≡ k → padIn k s ≡ 0 → priceFile (periodIn s) k (pricesIn k s) ≡ s
+  pub prices-read : Below 8 s → length s ≡ priceBytes k → priceCountIn s ≡ k → pricePadIn k s ≡ 0 → priceFile (periodIn s) k (pricesIn k s) ≡ s
   unfolding priceFile priceFields pricesIn body
   prices-read b size count pad =
       padded-read (body (periodIn s) k (pricesIn k s)) (priceBits k) (body-total (periodIn s) k (pricesIn k s) length-pricesIn) s

@@ -1,20 +1,17 @@
 -- Document 01, "The three files", book: contracts 10 bits, spare 6; each contract 48 bits: kind 1 (0 obligation, 1 option), period 1, holder 10, source 8,
--- sink 8, quantity 20.
+-- sink 8, quantity 20. First with the width w of the ends left open; each field stands behind those before it.
 use mathlib.Core.List.{List, [], _∷_, _++_, flatMap}
 use Prim.Native.Nat.{ℕ, _+_, _*_}
-use lib.ListN.{length, getD}
+use lib.ListN.{length}
+use Rattle.lists.specs.Lists.{listTo}
 use Rattle.bits.specs.Bits.{field}
 use Rattle.bits.specs.Fields.{Field, bits, fileOf}
-use Rattle.tariff.specs.declared.Kind.{Kind}
-use Rattle.tariff.specs.declared.Kind.the-variants.{Obligation, Option}
-use Rattle.tariff.specs.declared.Period.{Period}
-use Rattle.tariff.specs.declared.Period.the-variants.{OffPeak, OnPeak}
-use Rattle.tariff.specs.declared.Contract.{Contract}
+use Rattle.tariff.specs.declared.contracts.Kind.{Kind}
+use Rattle.tariff.specs.declared.contracts.Kind.the-variants.{Obligation, Option}
+use Rattle.tariff.specs.declared.contracts.Period.{Period}
+use Rattle.tariff.specs.declared.contracts.Period.the-variants.{OffPeak, OnPeak}
+use Rattle.tariff.specs.declared.contracts.Contract.{Contract}
 use Rattle.tariff.specs.Contracts.{kindOf, periodOf}
-use Rattle.layouts.specs.Files.{listTo}
-
-abbrev pub bookBytes : ℕ → ℕ
-bookBytes m = 2 + 6 * m
 
 abbrev pub kindBit : Kind → ℕ
 kindBit Obligation = 0
@@ -29,42 +26,44 @@ abbrev pub contract : ℕ → ℕ → ℕ → ℕ → ℕ → ℕ → Contract
 contract kind period holder source sink quantity =
     record { kind = kindOf kind; period = periodOf period; holder = holder; source = source; sink = sink; quantity = record { 0 = quantity } }
 
--- ---- a book as a table: six cells a contract, in the file's order
+-- ---- over the width of the ends
 
-unfoldable pub cellsOf : Contract → List ℕ
-cellsOf c = kindBit (c .kind) ∷ periodBit (c .period) ∷ c .holder ∷ c .source ∷ c .sink ∷ c .quantity .0 ∷ []
+abbrev pub contractBits : ℕ → ℕ
+contractBits w = 1 + 1 + 10 + w + w + 20
 
-unfoldable pub rowAt : List ℕ → ℕ → Contract
-rowAt cells i =
-    contract (getD cells (6 * i) 0) (getD cells (6 * i + 1) 0) (getD cells (6 * i + 2) 0) (getD cells (6 * i + 3) 0) (getD cells (6 * i + 4) 0) (getD cells (6 * i + 5) 0)
+unfoldable pub contractFields : ℕ → Contract → List Field
+contractFields w c =
+    bits 1 (kindBit (c .kind)) ∷ bits 1 (periodBit (c .period)) ∷ bits 10 (c .holder) ∷ bits w (c .source) ∷ bits w (c .sink) ∷ bits 20 (c .quantity .0) ∷ []
 
--- the first m rows of a table
-abbrev pub rowsIn : ℕ → List ℕ → List Contract
-rowsIn m cells = listTo m (rowAt cells)
+-- a book's fields, with the spare bits p
+unfoldable pub packedBook : ℕ → ℕ → List Contract → List Field
+packedBook w p cs = (bits 10 (length cs) ∷ bits 6 p ∷ []) ++ flatMap (contractFields w) cs
 
--- ---- values to bytes
+-- the contract whose bits begin at a
+unfoldable pub contractFrom : ℕ → List ℕ → ℕ → Contract
+contractFrom w s a =
+    contract (field s a 1) (field s (a + 1) 1) (field s (a + 1 + 1) 10)
+    (field s (a + 1 + 1 + 10) w) (field s (a + 1 + 1 + 10 + w) w) (field s (a + 1 + 1 + 10 + w + w) 20)
 
-unfoldable pub contractFields : Contract → List Field
-contractFields c =
-    bits 1 (kindBit (c .kind)) ∷ bits 1 (periodBit (c .period)) ∷ bits 10 (c .holder) ∷ bits 8 (c .source) ∷ bits 8 (c .sink) ∷ bits 20 (c .quantity .0) ∷ []
+-- ---- with ends of 8 bits
 
-unfoldable pub bookFields : List Contract → List Field
-bookFields cs = (bits 10 (length cs) ∷ bits 6 0 ∷ []) ++ flatMap contractFields cs
+abbrev pub endBits : ℕ
+endBits = 8
+
+abbrev pub bookBytes : ℕ → ℕ
+bookBytes m = 2 + 6 * m
 
 unfoldable pub bookFile : List Contract → List ℕ
-bookFile cs = fileOf (bookFields cs)
+bookFile cs = fileOf (packedBook endBits 0 cs)
 
--- ---- bytes to values
+abbrev pub contractCountIn : List ℕ → ℕ
+contractCountIn s = field s 0 10
 
-abbrev pub countIn : List ℕ → ℕ
-countIn s = field s 0 10
+abbrev pub bookSpareIn : List ℕ → ℕ
+bookSpareIn s = field s 10 6
 
-abbrev pub spareIn : List ℕ → ℕ
-spareIn s = field s 10 6
-
-unfoldable pub contractAt : List ℕ → ℕ → Contract
-contractAt s i =
-    contract (field s (16 + 48 * i) 1) (field s (17 + 48 * i) 1) (field s (18 + 48 * i) 10) (field s (28 + 48 * i) 8) (field s (36 + 48 * i) 8) (field s (44 + 48 * i) 20)
+abbrev pub contractAt : List ℕ → ℕ → Contract
+contractAt s i = contractFrom endBits s (16 + contractBits endBits * i)
 
 abbrev pub bookIn : List ℕ → List Contract
-bookIn s = listTo (countIn s) (contractAt s)
+bookIn s = listTo (contractCountIn s) (contractAt s)

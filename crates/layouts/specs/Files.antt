@@ -1,14 +1,11 @@
 -- Document 01, "The three files": what they share. Fields are packed most significant bit first; zero bits fill the last byte.
 use mathlib.Core.Bool.{not}
-use mathlib.Core.List.{List, [], _∷_, _++_}
-use Prim.Native.Nat.{ℕ, zero, suc, _+_, _-_, _*_, _/_}
+use mathlib.Core.List.{List}
+use Prim.Native.Nat.{ℕ, _+_, _-_, _*_, _/_}
 use lib.Dec.{ltb, eqb}
 use lib.ListN.{length}
-use lib.IntN.{pos}
-use Rattle.tariff.specs.declared.Refusal.the-variants.{ShortFile, SpareBits, FileLength, Padding}
-use Rattle.tariff.specs.Refusals.{Check, Outcome, given, refusedBy}
-use Rattle.layouts.specs.declared.WriteAnswer.{WriteAnswer}
-use Rattle.layouts.specs.declared.WriteAnswer.the-variants.{Written, Refused}
+use Rattle.tariff.specs.declared.refusals.Refusal.the-variants.{ShortFile, SpareBits, FileLength, Padding}
+use Rattle.tariff.specs.Refusals.{Check}
 
 -- how many bytes hold so many bits, and how many bits of padding that leaves
 abbrev pub bytesFor : ℕ → ℕ
@@ -32,13 +29,3 @@ fileLength s size = record { fails = not (eqb (length s) size); refusal = FileLe
 -- 8: a padding bit set
 abbrev pub padding : ℕ → Check
 padding pad = record { fails = not (eqb pad 0); refusal = Padding }
-
--- a writer's answer by the paper's figures: the length written
-abbrev pub writeOutcome : WriteAnswer → Outcome
-writeOutcome (Written n) = given (pos n ∷ [])
-writeOutcome (Refused r) = refusedBy r
-
--- f 0, f 1, .., f (n − 1)
-unfoldable pub listTo : {A : Type 0} → ℕ → (ℕ → A) → List A
-listTo zero f = []
-listTo (suc n) f = listTo n f ++ f n ∷ []

@@ -2,29 +2,43 @@
 -- all of node 0, then node 1 and so on; zero bits to the byte's end.
 use mathlib.Core.List.{List, [], _∷_, _++_, map}
 use Prim.Native.Nat.{ℕ, _+_, _*_}
-use lib.ListN.{take}
 use lib.IntN.{ℤ}
 use Rattle.bits.specs.Bits.{field, fields}
 use Rattle.bits.specs.Signed.{ofInt, toInt}
 use Rattle.bits.specs.Fields.{Field, bits, fileOf}
-use Rattle.tariff.specs.Units.{Grid, grid}
+use Rattle.tariff.specs.Units.{Grid, gridOf}
 use Rattle.layouts.specs.Files.{bytesFor, padFor}
 
--- the bits before the padding, and the bytes of the file
+abbrev pub limitWidth : ℕ
+limitWidth = 27
+
+abbrev pub factorWidth : ℕ
+factorWidth = 18
+
+-- the bits of the header, those before the padding, and the bytes of the file
+abbrev pub gridHeaderBits : ℕ
+gridHeaderBits = 16
+
 abbrev pub gridBits : ℕ → ℕ → ℕ
-gridBits n k = 16 + 27 * k + 18 * (n * k)
+gridBits n k = gridHeaderBits + limitWidth * k + factorWidth * (n * k)
 
 abbrev pub gridBytes : ℕ → ℕ → ℕ
 gridBytes n k = bytesFor (gridBits n k)
 
 -- ---- values to bytes
 
-unfoldable pub gridFields : ℕ → ℕ → List ℕ → List ℤ → List Field
-gridFields n k ls fs = (bits 8 n ∷ bits 7 k ∷ bits 1 0 ∷ []) ++ map (bits 27) ls ++ map (bits 18) (map (ofInt 18) fs) ++ bits (padFor (gridBits n k)) 0 ∷ []
+unfoldable pub gridHeader : ℕ → ℕ → List Field
+gridHeader n k = bits 8 n ∷ bits 7 k ∷ bits 1 0 ∷ []
 
--- the file of a grid: of its tables, as many cells as the counts say
+-- limits and factors, behind whatever header
+unfoldable pub gridBody : List ℕ → List ℤ → List Field
+gridBody ls fs = map (bits limitWidth) ls ++ map (bits factorWidth) (map (ofInt factorWidth) fs)
+
+unfoldable pub gridFields : ℕ → ℕ → List ℕ → List ℤ → List Field
+gridFields n k ls fs = gridHeader n k ++ gridBody ls fs ++ bits (padFor (gridBits n k)) 0 ∷ []
+
 unfoldable pub gridFile : Grid → List ℕ
-gridFile g = fileOf (gridFields (g .nodes) (g .constraints) (take (g .constraints) (g .limits)) (take (g .nodes * g .constraints) (g .factors)))
+gridFile g = fileOf (gridFields (g .factors .nodes) (g .factors .constraints) (g .limits) (g .factors .cells))
 
 -- ---- bytes to values
 
@@ -34,17 +48,24 @@ nodesIn s = field s 0 8
 abbrev pub constraintsIn : List ℕ → ℕ
 constraintsIn s = field s 8 7
 
-abbrev pub spareIn : List ℕ → ℕ
-spareIn s = field s 15 1
+abbrev pub gridSpareIn : List ℕ → ℕ
+gridSpareIn s = field s 15 1
 
-unfoldable pub limitsIn : List ℕ → List ℕ
-limitsIn s = fields s 16 27 (constraintsIn s)
+-- the limits of k constraints, and the factors of n nodes, from bit o on
+unfoldable pub limitsFrom : List ℕ → ℕ → ℕ → List ℕ
+limitsFrom s o k = fields s o limitWidth k
 
-unfoldable pub factorsIn : List ℕ → List ℤ
-factorsIn s = map (toInt 18) (fields s (16 + 27 * constraintsIn s) 18 (nodesIn s * constraintsIn s))
+unfoldable pub factorsFrom : List ℕ → ℕ → ℕ → ℕ → List ℤ
+factorsFrom s o n k = map (toInt factorWidth) (fields s (o + limitWidth * k) factorWidth (n * k))
 
-abbrev pub padIn : List ℕ → ℕ
-padIn s = field s (gridBits (nodesIn s) (constraintsIn s)) (padFor (gridBits (nodesIn s) (constraintsIn s)))
+abbrev pub limitsIn : List ℕ → List ℕ
+limitsIn s = limitsFrom s gridHeaderBits (constraintsIn s)
+
+abbrev pub factorsIn : List ℕ → List ℤ
+factorsIn s = factorsFrom s gridHeaderBits (nodesIn s) (constraintsIn s)
+
+abbrev pub gridPadIn : List ℕ → ℕ
+gridPadIn s = field s (gridBits (nodesIn s) (constraintsIn s)) (padFor (gridBits (nodesIn s) (constraintsIn s)))
 
 abbrev pub gridIn : List ℕ → Grid
-gridIn s = grid (nodesIn s) (constraintsIn s) (limitsIn s) (factorsIn s)
+gridIn s = gridOf (nodesIn s) (constraintsIn s) (limitsIn s) (factorsIn s)

@@ -1,4 +1,7 @@
 pub mod Files
 pub mod GridFile
 pub mod BookFile
+pub mod BookTable
 pub mod PriceFile
+pub mod Writing
+pub mod Inner

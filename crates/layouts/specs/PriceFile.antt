@@ -5,13 +5,16 @@ use Prim.Native.Nat.{ℕ, _+_, _*_}
 use lib.Dec.{eqb}
 use Rattle.bits.specs.Bits.{field, fields}
 use Rattle.bits.specs.Fields.{Field, bits, fileOf}
-use Rattle.tariff.specs.declared.Refusal.the-variants.{PriceCount}
+use Rattle.tariff.specs.declared.refusals.Refusal.the-variants.{PriceCount}
 use Rattle.tariff.specs.Refusals.{Check}
 use Rattle.layouts.specs.Files.{bytesFor, padFor}
 
+abbrev pub priceWidth : ℕ
+priceWidth = 19
+
 -- the bits before the padding, and the bytes of the file
 abbrev pub priceBits : ℕ → ℕ
-priceBits k = 8 + 19 * k
+priceBits k = 8 + priceWidth * k
 
 abbrev pub priceBytes : ℕ → ℕ
 priceBytes k = bytesFor (priceBits k)
@@ -19,7 +22,7 @@ priceBytes k = bytesFor (priceBits k)
 -- ---- values to bytes
 
 unfoldable pub priceFields : ℕ → ℕ → List ℕ → List Field
-priceFields t k ps = (bits 1 t ∷ bits 7 k ∷ []) ++ map (bits 19) ps ++ bits (padFor (priceBits k)) 0 ∷ []
+priceFields t k ps = (bits 1 t ∷ bits 7 k ∷ []) ++ map (bits priceWidth) ps ++ bits (padFor (priceBits k)) 0 ∷ []
 
 -- the file of a period's prices, one for each of k constraints
 unfoldable pub priceFile : ℕ → ℕ → List ℕ → List ℕ
@@ -30,15 +33,15 @@ priceFile t k ps = fileOf (priceFields t k ps)
 abbrev pub periodIn : List ℕ → ℕ
 periodIn s = field s 0 1
 
-abbrev pub countIn : List ℕ → ℕ
-countIn s = field s 1 7
+abbrev pub priceCountIn : List ℕ → ℕ
+priceCountIn s = field s 1 7
 
 unfoldable pub pricesIn : ℕ → List ℕ → List ℕ
-pricesIn k s = fields s 8 19 k
+pricesIn k s = fields s 8 priceWidth k
 
-abbrev pub padIn : ℕ → List ℕ → ℕ
-padIn k s = field s (priceBits k) (padFor (priceBits k))
+abbrev pub pricePadIn : ℕ → List ℕ → ℕ
+pricePadIn k s = field s (priceBits k) (padFor (priceBits k))
 
 -- 14: the file's count differs from the stated one
 abbrev pub priceCount : List ℕ → ℕ → Check
-priceCount s k = record { fails = not (eqb (countIn s) k); refusal = PriceCount }
+priceCount s k = record { fails = not (eqb (priceCountIn s) k); refusal = PriceCount }

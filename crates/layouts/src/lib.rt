@@ -1,8 +1,52 @@
-// Document 01's three files: values to bytes and bytes to values, as definitions and laws. The only code here is the type of a writer's answer.
+// Document 01's three files: values to bytes and bytes to values, as definitions and laws. The code here is what their writers share.
+ghost use mathlib.Core.Path.{_≡_};
+ghost use Rattle.lists.specs.Lent.{before, after};
+ghost use Rattle.layouts.specs.Writing.{writeOutcome};
+ghost use Rattle.layouts.specs.Inner.{lengthAfter};
 use tariff::Refusal;
+
+// The bytes of the largest files.
+pub const MAX_GRID_BYTES: usize = 29018;
+
+pub const MAX_BOOK_BYTES: usize = 6002;
+
+pub const MAX_PRICE_BYTES: usize = 153;
+
+// Bits of a grid's header, of a limit, of a factor, of a price file's header and of a price.
+pub const GRID_HEADER_BITS: usize = 16;
+
+pub const LIMIT_WIDTH: usize = 27;
+
+pub const FACTOR_WIDTH: usize = 18;
+
+pub const PRICE_HEADER_BITS: usize = 8;
+
+pub const PRICE_WIDTH: usize = 19;
+
+// Bytes of a book's header and of a contract, and a contract's cells in a table.
+pub const BOOK_HEADER_BYTES: usize = 2;
+
+pub const CONTRACT_BYTES: usize = 6;
+
+pub const CONTRACT_CELLS: usize = 6;
 
 // What writing a file gives: the bytes written, or the refusal.
 pub enum WriteAnswer {
     Written { bytes: usize },
     Refused(Refusal),
+}
+
+impl WriteAnswer {
+    // The refusal's number, 0 for none; the length goes into a lent figure.
+    pub fn into_cell(self, bytes: &mut usize) -> u64
+        ensures { λ r. ⌜ (r ≡ writeOutcome self .number) × (after bytes ≡ lengthAfter self (before bytes)) ⌝ }
+    {
+        match self {
+            WriteAnswer::Refused(refusal) => refusal.number(),
+            WriteAnswer::Written { bytes: written } => {
+                *bytes = written;
+                0
+            }
+        }
+    }
 }

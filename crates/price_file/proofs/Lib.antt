@@ -1,2 +1,3 @@
 pub mod PriceLaws
 pub mod RoundTrip
+pub mod Taken

@@ -1,61 +1,56 @@
 -- A price file there and back, over what the entries ensure: bytes that no check of the reader refuses are the file of the prices that are read from them,
 -- and a file that is written is not refused and gives the period and the prices.
-use mathlib.Core.Path.{_≡_, refl, _∙_}
-use mathlib.Core.Bool.{Bool, true, false}
+use mathlib.Core.Path.{_≡_, _∙_}
 use mathlib.Core.List.{List}
 use Prim.Native.Nat.{ℕ, _^_, _≤_, _<_}
 use native.Mathlib.Omega.{arith}
-use borrow.Author.Tests.{ltb-true, ltb-false, le-ltb}
-use lib.Dec.{ltb}
+use borrow.Author.Tests.{le-ltb}
 use lib.Pow.{pow-pos}
-use lib.ListN.{length, getD, take, List·getD-eq-default}
-use lib.Seq.{getD-take, length-take-le}
+use lib.ListN.{length, take}
+use lib.Seq.{length-take-le}
+use Rattle.lists.proofs.Lists.{every-cell}
 use Rattle.bits.proofs.Numbers.{Below}
-use Rattle.tariff.specs.declared.Checked.the-variants.{Passed}
-use Rattle.tariff.specs.Refusals.{first}
-use Rattle.tariff.proofs.Checks.{first-passes, passed-cons}
-use Rattle.layouts.specs.PriceFile.{priceFile, periodIn, pricesIn}
+use Rattle.tariff.specs.declared.refusals.Checked.the-variants.{Passed}
+use Rattle.tariff.proofs.Checks.{first-passes, passed-cons, same, last-passes}
+use Rattle.tariff.specs.Units.{maxPrice}
+use Rattle.tables.proofs.Cells.{cut-sized}
+use Rattle.layouts.specs.PriceFile.{priceWidth, priceFile, periodIn, pricesIn}
 use Rattle.layouts.proofs.PriceFile.{PriceWritten, prices-written, prices-read}
-use Rattle.runs.proofs.Tests.{same, same-of, last-passes}
-use Rattle.price_file.specs.PriceChecks.{readChecks, writeChecks}
-use Rattle.price_file.proofs.PriceLaws.{Writable, writable}
+use Rattle.price_file.specs.ReadPrices.{readPricesCall, priceFileChecks, readPricesChecks, readPricesChecked}
+use Rattle.price_file.specs.WritePrices.{writePricesCall, writePricesChecks, writePricesChecked}
+use Rattle.price_file.proofs.PriceLaws.{readable, Writable, writable}
 
 -- ---- read, then written
 
-pub read-then-written : (k : ℕ) (s : List ℕ) (cells : ℕ) → Below 8 s → first (readChecks k s cells) ≡ Passed → priceFile (periodIn s) k (pricesIn k s) ≡ s
-read-then-written k s cells b e =
-    let count = passed-cons _ _ (passed-cons _ _ (passed-cons _ _ e .1) .1) in
-    let size = passed-cons _ _ (count .1) in
-    let pad = passed-cons _ _ (passed-cons _ _ (size .1) .1) in
-    prices-read k s b (same-of _ _ (size .0)) (same-of _ _ (count .0)) (same-of _ _ (pad .0))
+pub read-then-written : (k : ℕ) (s table : List ℕ) → Below 8 s → readPricesChecked (readPricesCall k s table) ≡ Passed → priceFile (periodIn s) k (pricesIn k s) ≡ s
+read-then-written k s table b e = let ok = readable k s table e in prices-read k s b (ok .size) (ok .count) (ok .pad)
 
 -- ---- written, then read
 
 -- what the reader finds in a file: it is not refused where the table is long enough
 pub record ReadBack (t k : ℕ) (prices s : List ℕ) : Type 0 where
-  pub passes : (cells : ℕ) → k ≤ cells → first (readChecks k s cells) ≡ Passed
+  pub passes : (table : List ℕ) → k ≤ length table → readPricesChecked (readPricesCall k s table) ≡ Passed
   pub period : periodIn s ≡ t
   pub prices-are : pricesIn k s ≡ take k prices
 
-module _ (t k : ℕ) (prices : List ℕ) (bytes : ℕ) (e : first (writeChecks t k prices bytes) ≡ Passed) where
-  ok : Writable t k prices bytes
-  ok = writable t k prices bytes e
+module _ (t k : ℕ) (prices place : List ℕ) (e : writePricesChecked (writePricesCall t k prices place) ≡ Passed) where
+  ok : Writable t k prices place
+  ok = writable t k prices place e
 
-  prices-fit : Below 19 (take k prices)
-  prices-fit i = by (ltb i k) refl
-    where
-      by : (b : Bool) → ltb i k ≡ b → getD (take k prices) i 0 < 2 ^ 19
-      by true q = let h = ltb-true i k q in rw (getD-take k prices i 0 h) (omega (arith, ok .small i h))
-      by false q = rw (List·getD-eq-default (take k prices) 0 {n = i} (omega (arith, length-take-le k prices (ok .cells), ltb-false i k q))) (pow-pos 19)
+  prices-fit : Below priceWidth (take k prices)
+  prices-fit =
+      let long = length-take-le k prices (ok .good .long) in
+      every-cell (λ v. v < 2 ^ priceWidth) (take k prices) 0 (pow-pos priceWidth) (λ i h. omega (arith, cut-sized maxPrice k prices (ok .good) i (rw long at h)))
 
   found : PriceWritten t k (take k prices) (priceFile t k (take k prices))
   found =
       prices-written t k (take k prices)
-      (record { period-fits = omega (arith, ok .period); count-fits = omega (arith, ok .few); one-price-each = length-take-le k prices (ok .cells); prices-fit = prices-fit })
+      (record { period-fits = omega (arith, ok .period); count-fits = omega (arith, ok .few); one-price-each = length-take-le k prices (ok .good .long); prices-fit = prices-fit })
 
   -- each check of the reader is one that the writer made, or is settled by the file
-  not-refused : (cells : ℕ) → k ≤ cells → first (readChecks k (priceFile t k (take k prices)) cells) ≡ Passed
-  not-refused cells h =
+  not-refused : (table : List ℕ) → k ≤ length table → readPricesChecked (readPricesCall k (priceFile t k (take k prices)) table) ≡ Passed
+  unfolding priceFileChecks readPricesChecks writePricesChecks
+  not-refused table h =
       let s = priceFile t k (take k prices) in
       let three = passed-cons _ _ (passed-cons _ _ e .1) in
       let fifteen = passed-cons _ _ (passed-cons _ _ (three .1) .1) in

@@ -1,2 +1,2 @@
-pub mod PriceAnswers
-pub mod PriceChecks
+pub mod ReadPrices
+pub mod WritePrices

@@ -6,13 +6,13 @@ use native.Mathlib.Omega.{arith}
 use lib.ListN.{length, drop, take-append-drop}
 use Rattle.bits.specs.Bits.{number}
 use Rattle.bits.specs.Fields.{Field, bits, total, packed, fileOf}
-use Rattle.bits.specs.Pen.{written, place, Ready, GoesOn}
+use Rattle.bits.specs.Inner.{written, place, Ready, GoesOn}
 use Rattle.bits.specs.declared.Pen.{Pen}
 use Rattle.bits.proofs.Numbers.{Below}
-use Rattle.bits.proofs.Fill.{drop-later}
+use Rattle.lists.proofs.Fill.{drop-later}
 use Rattle.bits.proofs.Files.{total-append, total-run, length-file}
 use Rattle.bits.proofs.Writing.{pen-start, pen-step, pen-end, run-packed}
-use Rattle.tariff.specs.Refusals.{overwrite}
+use Rattle.lists.specs.Lent.{overwrite}
 
 -- the pen p has written the fields fs into buf, which was first before
 pub record Penned (fs : List Field) (first buf : List ℕ) (p : Pen) : Type 0 where

@@ -1,18 +1,12 @@
 -- Laws of a search, a reading and a writing that go through a run from the front: one for a turn and one for each end.
-use mathlib.Core.Path.{_≡_, refl, sym, ap, _∙_}
-use mathlib.Core.Bool.{true, false}
-use mathlib.Core.List.{List, []}
+use mathlib.Core.Path.{_≡_, sym, ap, _∙_}
+use mathlib.Core.List.{List}
 use Prim.Native.Nat.{ℕ, _+_, _-_, _*_, _≤_, _<_}
-use borrow.Author.Tests.{lt-ltb, le-ltb}
 use lib.ListN.{length, getD, take, drop, set}
-use lib.Seq.{take-all, length-take-le}
 use Rattle.bits.specs.Bits.{field, fields}
 use Rattle.bits.proofs.Fields.{field-of-run, length-fields}
-use Rattle.bits.proofs.Fill.{fill-turn, rest-turn, fill-front}
-use Rattle.tariff.specs.Checks.{some}
-use Rattle.tariff.specs.Refusals.{overwrite}
-use Rattle.tariff.proofs.Checks.{some-good, some-bad}
-use Rattle.runs.specs.Runs.{above}
+use Rattle.lists.proofs.Fill.{fill-turn, rest-turn, fill-front}
+use Rattle.lists.specs.Lent.{overwrite}
 
 -- a field that is read is the run's
 pub run-at : (s : List ℕ) (o w n i at v : ℕ) → i < n → o + w * n ≤ 8 * length s → at ≡ o + w * i → v ≡ field s at w → v ≡ getD (fields s o w n) i 0
@@ -20,27 +14,6 @@ run-at s o w n i at v h le a e = e ∙ ap (λ (x : ℕ). field s x w) a ∙ sym 
 
 pub run-in : (s : List ℕ) (o w n i : ℕ) → i < n → i < length (fields s o w n)
 run-in s o w n i h = rw length-fields h
-
--- a cell of the first n
-pub cell-in : (cells : List ℕ) (n i : ℕ) → n ≤ length cells → i < n → i < length (take n cells)
-cell-in cells n i le h = rw length-take-le h
-
--- ---- a search in a list, from the front
-
-module _ (xs : List ℕ) (most i v : ℕ) (h : i < length xs) (e : v ≡ getD xs i 0) where
-  pub above-found : most < v → true ≡ some (above most) xs
-  above-found l = sym (some-bad (above most) xs i 0 h (rw (← e) (lt-ltb most v l)))
-
-  pub above-turn : v ≤ most → some (above most) (take i xs) ≡ false → some (above most) (take (i + 1) xs) ≡ false
-  above-turn l none = some-good (above most) xs i 0 h none (rw (← e) (le-ltb most v l))
-
-pub above-end : (xs : List ℕ) (most i : ℕ) → length xs ≤ i → some (above most) (take i xs) ≡ false → false ≡ some (above most) xs
-above-end xs most i h none = sym (ap (some (above most)) (sym (take-all i xs h)) ∙ none)
-
--- nothing is searched yet
-pub above-start : (most : ℕ) → some (above most) [] ≡ false
-unfolding some
-above-start most = refl
 
 -- ---- a reading into the first cells: one cell more, and all
 

@@ -1,12 +1,11 @@
-// Runs of fields of one width, and tables of cells: searched for a figure above a limit, read into cells from the front, and written from cells by a pen.
+// Runs of fields of one width: searched for a figure above a limit, read into cells from the front, and written from cells by a pen.
 ghost use mathlib.Core.Path.{_≡_};
 ghost use Prim.Native.Nat.{ℕ, _+_, _*_, _^_, _≤_, _<_};
 ghost use lib.ListN.{length, getD, take};
 ghost use Rattle.bits.specs.Bits.{number, fields};
-ghost use Rattle.bits.specs.Pen.{written, place, Ready, GoesOn};
-ghost use Rattle.tariff.specs.Checks.{some};
-ghost use Rattle.tariff.specs.Refusals.{overwrite};
-ghost use Rattle.runs.specs.Runs.{above};
+ghost use Rattle.bits.specs.Inner.{written, place, Ready, GoesOn};
+ghost use Rattle.lists.specs.Lists.{some, above};
+ghost use Rattle.lists.specs.Lent.{overwrite};
 use bits::Pen;
 
 // Whether one of `count` fields of `width` bits, from bit `offset` on, is above `most`.
@@ -41,21 +40,6 @@ pub fn read_run(s: &[u8], offset: usize, width: usize, count: usize, out: &mut [
         at += width;
         i += 1;
     }
-}
-
-// Whether one of the first `count` cells is above `most`.
-pub fn cell_above(cells: &[u64], count: usize, most: u64) -> bool
-    requires { ⌜ count ≤ length (now cells) ⌝ }
-    ensures { λ r. ⌜ r ≡ some (above most) (take count (now (cells .entry))) ⌝ }
-{
-    let mut i = 0;
-    while i < count {
-        if most < cells[i] {
-            return true;
-        }
-        i += 1;
-    }
-    false
 }
 
 // Writes each of the first `count` cells as the next `width` bits.

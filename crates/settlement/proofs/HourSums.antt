@@ -1,10 +1,11 @@
 -- The running totals, and the sums of an hour: contract by contract, nothing for the other period's.
 use mathlib.Core.Path.{_≡_, refl, sym, ap, ap₂, _∙_}
 use mathlib.Core.Bool.{Bool, true, false, cond}
-use mathlib.Core.List.{List, [], _∷_, _++_}
-use Prim.Native.Nat.{ℕ, zero, suc, _+_, _-_, _^_, _≤_, _<_}
+use mathlib.Core.List.{List, [], _∷_, _++_, map}
+use Prim.Native.Nat.{ℕ, zero, suc, _+_, _*_, _-_, _^_, _≤_, _<_}
 use native.Mathlib.Numerals.{add-one}
 use native.Mathlib.Omega.{arith}
+use lib.ListN.{getD, take}
 use lib.IntN.{ℤ, pos, natAbs, _+ℤ_, _*ℤ_, +ℤ-idr}
 use mir.Syntax.{w64}
 use mir.Val.{SFits, toZ, ofZ}
@@ -13,18 +14,27 @@ use Rattle.integers.proofs.Linear.{⊖of, ⊖s}
 use Rattle.integers.proofs.Sizes.{natAbs-add}
 use Rattle.integers.proofs.Machine.{back, op-fits, op-is}
 use Rattle.integers.proofs.Division.{floor-split, floor-unique}
-use Rattle.tariff.specs.declared.Contract.{Contract}
-use Rattle.tariff.specs.declared.Period.{Period}
-use Rattle.tariff.specs.Units.{grid}
-use Rattle.tariff.specs.Contracts.{samePeriod, ofPeriod, InRange}
-use Rattle.tariff.specs.Settlement.{mcc, amount, exactTotal, cents, wholeCents, parts}
+use Rattle.lists.specs.Lists.{listTo}
+use Rattle.lists.specs.Lent.{overwrite}
+use Rattle.lists.proofs.Lists.{listTo-cong, map-listTo}
+use Rattle.tariff.specs.declared.contracts.Contract.{Contract}
+use Rattle.tariff.specs.declared.contracts.Period.{Period}
+use Rattle.tariff.specs.declared.refusals.Checked.the-variants.{Passed}
+use Rattle.tariff.specs.Units.{Factors, factorsOf, perCent}
+use Rattle.tariff.specs.Contracts.{samePeriod, ofPeriod}
+use Rattle.tariff.specs.Refusals.{first}
+use Rattle.tariff.specs.Inner.{InRange, maxCents}
+use Rattle.tariff.specs.Settlement.{amount, exactTotal, cents, wholeCents, parts}
 use Rattle.tariff.proofs.Periods.{ofPeriod-same, ofPeriod-other, sumOver-more}
-use Rattle.layouts.specs.Files.{listTo}
-use Rattle.layouts.proofs.Lists.{listTo-cong, map-listTo}
+use Rattle.tariff.proofs.Sizes.{amount-sized, cents-sized}
+use Rattle.layouts.specs.BookFile.{contractCountIn, contractAt}
+use Rattle.books.specs.BookChecks.{bookChecks}
+use Rattle.books.proofs.Accepted.{book-accepted}
+use Rattle.settlement.specs.declared.Totals.{Totals}
 use Rattle.settlement.specs.declared.SettleAnswer.the-variants.{Settled}
-use Rattle.settlement.specs.Answers.{cellOf, centsCells, centsSum, hourTotal, settleValues}
-use Rattle.settlement.specs.Tables.{Hour, hourAmount}
-use Rattle.settlement.proofs.Congestion.{amount-by}
+use Rattle.settlement.specs.SettleHour.{centsOf, centsSum, hourTotal}
+use Rattle.settlement.specs.Inner.{Hour, mccIn, hourAmount, exactOf, Bounded, SettlesBy, Settles}
+use Rattle.settlement.proofs.Congestion.{prices-in, front-at, amount-by}
 
 -- ---- a machine sum of two numbers that are kept in an i64
 
@@ -35,20 +45,24 @@ module _ (x y : ℤ) (h : natAbs x + natAbs y < 2 ^ 63) where
   pub add-is : toZ w64 (ofZ w64 (toZ w64 (ofZ w64 x) +ℤ toZ w64 (ofZ w64 y))) ≡ x +ℤ y
   add-is = op-is _+ℤ_ (back x (omega arith)) (back y (omega arith)) (omega (arith, natAbs-add x y))
 
+-- one more, or none, on top of a sum z
+pub carry-fits : {v z : ℤ} → v ≡ z → (d : ℤ) → natAbs z + 1 < 2 ^ 63 → natAbs d ≤ 1 → SFits w64 (v +ℤ d)
+carry-fits {v} {z} e d h one = op-fits _+ℤ_ e refl (omega (arith, natAbs-add z d))
+
 -- ---- one amount more
 
-split-more : (W w : ℤ) (P p : ℕ) (a : ℤ) → w *ℤ pos 100000000 +ℤ pos p ≡ a → (W +ℤ w) *ℤ pos 100000000 +ℤ pos (P + p) ≡ W *ℤ pos 100000000 +ℤ pos P +ℤ a
+split-more : (W w : ℤ) (P p : ℕ) (a : ℤ) → w *ℤ pos perCent +ℤ pos p ≡ a → (W +ℤ w) *ℤ pos perCent +ℤ pos (P + p) ≡ W *ℤ pos perCent +ℤ pos P +ℤ a
 split-more W w P p a = rw (⊖of W, ⊖of w, ⊖of a) (simp ⊖s (omega arith))
 
-carry : (W : ℤ) (x : ℕ) → 100000000 ≤ x → (W +ℤ pos 1) *ℤ pos 100000000 +ℤ pos (x - 100000000) ≡ W *ℤ pos 100000000 +ℤ pos x
+carry : (W : ℤ) (x : ℕ) → perCent ≤ x → (W +ℤ pos 1) *ℤ pos perCent +ℤ pos (x - perCent) ≡ W *ℤ pos perCent +ℤ pos x
 carry W x h = rw (⊖of W) (simp ⊖s (omega arith))
 
 -- the whole cents w and the parts p of an amount a, added to W and P
 module _ (W w : ℤ) (P p : ℕ) (a : ℤ) (whole : w ≡ wholeCents a) (part : p ≡ parts a) where
-  pub exact-more : (W +ℤ w) *ℤ pos 100000000 +ℤ pos (P + p) ≡ W *ℤ pos 100000000 +ℤ pos P +ℤ a
-  exact-more = split-more W w P p a (rw (whole, part) (floor-split a 100000000 (omega arith)))
+  pub exact-more : (W +ℤ w) *ℤ pos perCent +ℤ pos (P + p) ≡ W *ℤ pos perCent +ℤ pos P +ℤ a
+  exact-more = split-more W w P p a (rw (whole, part) (floor-split a perCent (omega arith)))
 
-  pub exact-carry : 100000000 ≤ P + p → (W +ℤ w +ℤ pos 1) *ℤ pos 100000000 +ℤ pos (P + p - 100000000) ≡ W *ℤ pos 100000000 +ℤ pos P +ℤ a
+  pub exact-carry : perCent ≤ P + p → (W +ℤ w +ℤ pos 1) *ℤ pos perCent +ℤ pos (P + p - perCent) ≡ W *ℤ pos perCent +ℤ pos P +ℤ a
   exact-carry h = carry (W +ℤ w) (P + p) h ∙ exact-more
 
 -- ---- sums of the first m, one more
@@ -57,9 +71,14 @@ pub sum-start : (f : ℕ → ℤ) → pos 0 ≡ sumTo 0 f
 unfolding sumTo
 sum-start f = refl
 
-pub sum-more : (m : ℕ) (f : ℕ → ℤ) (s x r : ℤ) → s ≡ sumTo m f → x ≡ f m → r ≡ s +ℤ x → r ≡ sumTo (m + 1) f
+pub sum-more : (m : ℕ) (f : ℕ → ℤ) {s x r : ℤ} → s ≡ sumTo m f → x ≡ f m → r ≡ s +ℤ x → r ≡ sumTo (m + 1) f
 unfolding sumTo
-sum-more m f s x r a b e = e ∙ ap₂ _+ℤ_ a b ∙ rw add-one
+sum-more m f a b e = e ∙ ap₂ _+ℤ_ a b ∙ rw add-one
+
+-- totals of fewer contracts are within the bounds of more
+pub bounded-most : (m n : ℕ) (t : Totals) → m ≤ n → Bounded m t → Bounded n t
+bounded-most m n t h b =
+    record { parts-small = b .parts-small; sum-sized = omega (arith, b .sum-sized); whole-sized = omega (arith, b .whole-sized) }
 
 -- ---- a period's sum, over all contracts
 
@@ -77,50 +96,75 @@ cents-cond : (b : Bool) (x : ℤ) → cents (cond b x (pos 0)) ≡ cond b (cents
 cents-cond true x = refl
 cents-cond false x = refl
 
--- whole cents and parts that make the total are its own
-split-values : (w : ℤ) (p : ℕ) (total : ℤ) → w *ℤ pos 100000000 +ℤ pos p ≡ total → p < 100000000 → (w ≡ wholeCents total) × (p ≡ parts total)
-split-values w p total e h = rw (← e) (sym (floor-unique w p 100000000 h .0), sym (floor-unique w p 100000000 h .1))
+cond-sized : (b : Bool) (x : ℤ) (most : ℕ) → natAbs x ≤ most → natAbs (cond b x (pos 0)) ≤ most
+cond-sized true x most h = h
+cond-sized false x most h = omega arith
 
--- ---- an hour's figures, by a table of MCCs
+-- ---- an answer
 
-module _ (n k : ℕ) (fs : List ℤ) (ps : List ℕ) (h : Hour n k fs ps) (mccs rest : List ℤ) (e : mccs ≡ listTo n (mcc (grid n k [] fs) ps) ++ rest) (t : Period)
-    (m : ℕ) (f : ℕ → Contract) (ok : (i : ℕ) → i < m → InRange n (f i)) where
-  by-table : (i : ℕ) → i < m → hourAmount mccs t (f i) ≡ cond (samePeriod (f i .period) t) (amount (grid n k [] fs) ps (f i)) (pos 0)
-  unfolding hourAmount
-  by-table i b = ap (λ (x : ℤ). cond (samePeriod (f i .period) t) x (pos 0)) (amount-by n k fs ps h mccs rest e (f i) (ok i b))
-
-  cents-by-table : (i : ℕ) → i < m → cents (hourAmount mccs t (f i)) ≡ cond (samePeriod (f i .period) t) (cents (amount (grid n k [] fs) ps (f i))) (pos 0)
-  cents-by-table i b = ap cents (by-table i b) ∙ cents-cond (samePeriod (f i .period) t) (amount (grid n k [] fs) ps (f i))
-
-  cells-are : listTo m (λ i. cents (hourAmount mccs t (f i))) ≡ centsCells (grid n k [] fs) ps t (listTo m f)
-  unfolding centsCells cellOf
-  cells-are = listTo-cong m _ _ cents-by-table ∙ sym (map-listTo m f (cellOf (grid n k [] fs) ps t))
-
-  sum-is : centsSum (grid n k [] fs) ps t (listTo m f) ≡ sumTo m (λ i. cents (hourAmount mccs t (f i)))
-  unfolding centsSum
-  sum-is = period-sum t m f (λ c. cents (amount (grid n k [] fs) ps c)) _ cents-by-table
-
-  total-is : hourTotal (grid n k [] fs) ps t (listTo m f) ≡ sumTo m (λ i. hourAmount mccs t (f i))
-  unfolding hourTotal exactTotal
-  total-is = period-sum t m f (amount (grid n k [] fs) ps) _ by-table
-
-  -- what settling gives: the values, the cells, and whole cents and parts that make the exact total
-  pub record Figures (s w : ℤ) (p : ℕ) : Type 0 where
-    pub values : s ∷ w ∷ pos p ∷ [] ≡ settleValues (grid n k [] fs) ps t (listTo m f)
-    pub cells : listTo m (λ i. cents (hourAmount mccs t (f i))) ≡ centsCells (grid n k [] fs) ps t (listTo m f)
-    pub exact : w *ℤ pos 100000000 +ℤ pos p ≡ hourTotal (grid n k [] fs) ps t (listTo m f)
-
-  pub figures : (s w : ℤ) (p : ℕ) → s ≡ sumTo m (λ i. cents (hourAmount mccs t (f i))) → w *ℤ pos 100000000 +ℤ pos p ≡ sumTo m (λ i. hourAmount mccs t (f i))
-      → p < 100000000 → Figures s w p
-  unfolding settleValues
-  figures s w p sum exact small =
-      let all = exact ∙ sym total-is in
-      let v = split-values w p (hourTotal (grid n k [] fs) ps t (listTo m f)) all small in
-      record { values = λ j. (sum ∙ sym sum-is) j ∷ v .0 j ∷ pos (v .1 j) ∷ []; cells = cells-are; exact = all }
+-- of totals that are those of contracts, the figures are the contracts'
+pub values-are : (f : Factors) (p : List ℕ) (t : Period) (cs : List Contract) (r : Totals) → r .parts < perCent → r .sum ≡ centsSum f p t cs → exactOf r ≡ hourTotal f p t cs
+    → r .sum ∷ r .whole ∷ pos (r .parts) ∷ [] ≡ centsSum f p t cs ∷ wholeCents (hourTotal f p t cs) ∷ pos (parts (hourTotal f p t cs)) ∷ []
+values-are f p t cs r small sum exact =
+    let only = floor-unique (r .whole) (r .parts) perCent small in
+    rw (← exact, ← sum) (λ i. r .sum ∷ sym (only .0) i ∷ pos (sym (only .1) i) ∷ [])
 
 -- an answer of the exact total's figures makes it
-pub exact-of : (S W s w : ℤ) (P p : ℕ) (total : ℤ) → W *ℤ pos 100000000 +ℤ pos P ≡ total → Settled S W P ≡ Settled s w p → w *ℤ pos 100000000 +ℤ pos p ≡ total
+pub exact-of : (S W s w : ℤ) (P p : ℕ) (total : ℤ) → W *ℤ pos perCent +ℤ pos P ≡ total → Settled S W P ≡ Settled s w p → w *ℤ pos perCent +ℤ pos p ≡ total
 exact-of S W s w P p total e q =
     let whole : W ≡ w = cc in
     let part : P ≡ p = cc in
     rw (← whole, ← part) e
+
+-- ---- an hour's figures, by a table of MCCs
+
+module _ (n k : ℕ) (fs : List ℤ) (ps : List ℕ) (h : Hour n k fs ps) (t : Period) where
+  cents-small : (c : Contract) → InRange n c → natAbs (centsOf (factorsOf n k fs) (take k ps) t c) ≤ maxCents
+  unfolding centsOf
+  cents-small c r =
+      let sized = amount-sized (factorsOf n k fs) (take k ps) (h .good-factors .few) (h .good-factors .in-range) (prices-in n k fs ps h) c r in
+      cond-sized (samePeriod (c .period) t) _ maxCents (cents-sized (amount (factorsOf n k fs) (take k ps) c) maxCents sized)
+
+  module _ (m : ℕ) (f : ℕ → Contract) (ok : (i : ℕ) → i < m → InRange n (f i)) where
+    cell-small : (entry exit : List ℤ) → exit ≡ overwrite (map (centsOf (factorsOf n k fs) (take k ps) t) (listTo m f)) entry → (i : ℕ) → i < m → natAbs (getD exit i (pos 0)) ≤ maxCents
+    cell-small entry exit e i b =
+        rw (e, map-listTo m f (centsOf (factorsOf n k fs) (take k ps) t), front-at m (λ i. centsOf (factorsOf n k fs) (take k ps) t (f i)) _ i b) (cents-small (f i) (ok i b))
+
+    module _ (mccs rest : List ℤ) (e : mccs ≡ listTo n (mccIn n k fs ps) ++ rest) where
+      by-table : (i : ℕ) → i < m → hourAmount mccs t (f i) ≡ cond (samePeriod (f i .period) t) (amount (factorsOf n k fs) (take k ps) (f i)) (pos 0)
+      unfolding hourAmount
+      by-table i b = ap (λ (x : ℤ). cond (samePeriod (f i .period) t) x (pos 0)) (amount-by n k fs ps h mccs rest e (f i) (ok i b))
+
+      cents-by-table : (i : ℕ) → i < m → cents (hourAmount mccs t (f i)) ≡ cond (samePeriod (f i .period) t) (cents (amount (factorsOf n k fs) (take k ps) (f i))) (pos 0)
+      cents-by-table i b = ap cents (by-table i b) ∙ cents-cond (samePeriod (f i .period) t) (amount (factorsOf n k fs) (take k ps) (f i))
+
+      cells-are : listTo m (λ i. cents (hourAmount mccs t (f i))) ≡ map (centsOf (factorsOf n k fs) (take k ps) t) (listTo m f)
+      unfolding centsOf
+      cells-are = listTo-cong m _ _ cents-by-table ∙ sym (map-listTo m f (centsOf (factorsOf n k fs) (take k ps) t))
+
+      cells-settled : (entry exit : List ℤ) → exit ≡ overwrite (listTo m (λ i. cents (hourAmount mccs t (f i)))) entry
+          → exit ≡ overwrite (map (centsOf (factorsOf n k fs) (take k ps) t) (listTo m f)) entry
+      cells-settled entry exit x = x ∙ ap (λ (xs : List ℤ). overwrite xs entry) cells-are
+
+      sum-is : centsSum (factorsOf n k fs) (take k ps) t (listTo m f) ≡ sumTo m (λ i. cents (hourAmount mccs t (f i)))
+      unfolding centsSum
+      sum-is = period-sum t m f (λ c. cents (amount (factorsOf n k fs) (take k ps) c)) _ cents-by-table
+
+      total-is : hourTotal (factorsOf n k fs) (take k ps) t (listTo m f) ≡ sumTo m (λ i. hourAmount mccs t (f i))
+      unfolding hourTotal exactTotal
+      total-is = period-sum t m f (amount (factorsOf n k fs) (take k ps)) _ by-table
+
+  -- what the contracts of an accepted book settle to by the table, they settle to by the hour's tables
+  pub settled : (s : List ℕ) → first (bookChecks n s) ≡ Passed → (mccs rest : List ℤ) → mccs ≡ listTo n (mccIn n k fs ps) ++ rest
+      → (m : ℕ) → m ≡ contractCountIn s → (entry exit : List ℤ) (r : Totals) → SettlesBy mccs t m (contractAt s) entry r exit → Settles n k t fs ps s entry r exit
+  settled s passed mccs rest e m count entry exit r by =
+      let each = book-accepted n s passed .each in
+      let b = rw count at by in
+      let are = cells-settled (contractCountIn s) (contractAt s) each mccs rest e entry exit (b .cells) in
+      record {
+        cells = are;
+        sum = b .sum ∙ sym (sum-is (contractCountIn s) (contractAt s) each mccs rest e);
+        exact = b .exact ∙ sym (total-is (contractCountIn s) (contractAt s) each mccs rest e);
+        bounded = b .bounded;
+        cells-sized = cell-small (contractCountIn s) (contractAt s) each entry exit are;
+      }

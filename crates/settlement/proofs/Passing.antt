@@ -1,119 +1,86 @@
--- The checks of finding the MCC and of settling an hour: what each test says of them, and what holds where none refuses.
-use mathlib.Core.Path.{_≡_, sym, ap, _∙_}
-use mathlib.Core.Bool.{false}
+-- The checks of finding the MCC and of settling an hour: those of an hour's tables, the book's own, then the place for the cents.
+use mathlib.Core.Path.{_≡_, refl, sym, ap, _∙_}
 use mathlib.Core.List.{List, [], _∷_, _++_}
-use Prim.Native.Nat.{ℕ, _+_, _*_, _≤_, _<_}
+use Prim.Native.Nat.{ℕ, _≤_, _<_}
+use native.Mathlib.Omega.{arith}
 use borrow.Author.Tests.{ltb-false, lt-ltb, le-ltb}
-use lib.Dec.{ltb}
-use lib.ListN.{length, getD, take}
-use lib.IntN.{ℤ, pos}
-use lib.Seq.{getD-take, length-take-le}
-use Rattle.tariff.specs.declared.Refusal.{Refusal}
-use Rattle.tariff.specs.declared.Refusal.the-variants.{ShortTable}
-use Rattle.tariff.specs.declared.Checked.{Checked}
-use Rattle.tariff.specs.declared.Checked.the-variants.{Passed, Refused}
-use Rattle.tariff.specs.Units.{maxConstraints, maxPrice}
+use lib.ListN.{length}
+use lib.IntN.{ℤ}
+use Rattle.tariff.specs.declared.refusals.Refusal.{Refusal}
+use Rattle.tariff.specs.declared.refusals.Refusal.the-variants.{ShortTable}
+use Rattle.tariff.specs.declared.refusals.Checked.{Checked}
+use Rattle.tariff.specs.declared.refusals.Checked.the-variants.{Passed, Refused}
 use Rattle.tariff.specs.Refusals.{Check, first, decided}
-use Rattle.tariff.specs.Checks.{some, factorBad, priceBad, nodeCount, constraintCount, periodNumber, shortTable, factorRange, priceRange}
-use Rattle.tariff.proofs.Checks.{first-append, passed-cons, passed-append, nodes-few-of, none-bad}
-use Rattle.layouts.specs.BookFile.{countIn}
-use Rattle.book_file.specs.BookChecks.{bookChecks}
-use Rattle.book_file.proofs.Accepted.{Accepted, book-accepted}
-use Rattle.grid_file.proofs.Factors.{good-small, place-in, cell-in}
-use Rattle.settlement.specs.SettleChecks.{mccChecks, settleChecks}
-use Rattle.settlement.specs.Tables.{Hour}
+use Rattle.tariff.specs.Checks.{shortTable}
+use Rattle.tariff.proofs.Checks.{first-append, passed-cons, passed-append}
+use Rattle.layouts.specs.BookFile.{contractCountIn}
+use Rattle.tables.specs.Inner.{hourTableChecks}
+use Rattle.tables.proofs.Passing.{HourTables, hour-tables}
+use Rattle.books.specs.BookChecks.{bookChecks}
+use Rattle.settlement.specs.FindMcc.{FindMccCall, findMccChecks, findMccChecked}
+use Rattle.settlement.specs.SettleHour.{HourCall, settleChecks, settleChecked}
+use Rattle.settlement.specs.Inner.{Hour}
 
--- ---- tables that no check refuses
+-- the tables of an hour that no check refuses
+pub hour-of : {n k period : ℕ} {fs : List ℤ} {ps : List ℕ} {place : ℕ} → HourTables n k period fs ps place → Hour n k fs ps
+hour-of t = record { good-factors = t .good-factors; good-prices = t .good-prices }
 
-module _ (n k : ℕ) (fs : List ℤ) (ps : List ℕ) where
-  hour-of : nodeCount n .fails ≡ false → ltb maxConstraints k ≡ false → ltb (length fs) (n * k) ≡ false → ltb (length ps) k ≡ false
-      → some factorBad (take (n * k) fs) ≡ false → some priceBad (take k ps) ≡ false → Hour n k fs ps
-  hour-of two three short shorter seven fifteen =
-      let long : n * k ≤ length fs = ltb-false (length fs) (n * k) short in
-      let longer : k ≤ length ps = ltb-false (length ps) k shorter in
+-- ---- finding the MCC: period 0 is never refused
+
+pub mcc-checks : (q : FindMccCall) → first (hourTableChecks (q .nodes) (q .constraints) 0 (q .factors) (q .prices) (length (q .place))) ≡ findMccChecked q
+unfolding first hourTableChecks findMccChecks
+mcc-checks q = refl
+
+-- ---- settling: as many cells as nodes are never too few
+
+module _ (q : HourCall) where
+  abbrev pub tableChecked : Checked
+  tableChecked = first (hourTableChecks (q .nodes) (q .constraints) (q .period) (q .factors) (q .prices) (q .nodes))
+
+  abbrev pub bookChecked : Checked
+  bookChecked = first (bookChecks (q .nodes) (q .book))
+
+  abbrev roomCheck : List Check
+  roomCheck = shortTable (length (q .place)) (contractCountIn (q .book)) ∷ []
+
+  in-parts : settleChecked q ≡ first (hourTableChecks (q .nodes) (q .constraints) (q .period) (q .factors) (q .prices) (q .nodes) ++ (bookChecks (q .nodes) (q .book) ++ roomCheck))
+  unfolding first settleChecks hourTableChecks
+  in-parts = rw (le-ltb (q .nodes) (q .nodes) (omega arith))
+
+  one-by-one : settleChecked q ≡ decided tableChecked Refused (decided bookChecked Refused (first roomCheck))
+  one-by-one =
+      in-parts
+      ∙ first-append (hourTableChecks (q .nodes) (q .constraints) (q .period) (q .factors) (q .prices) (q .nodes)) (bookChecks (q .nodes) (q .book) ++ roomCheck)
+      ∙ ap (λ (x : Checked). decided tableChecked Refused x) (first-append (bookChecks (q .nodes) (q .book)) roomCheck)
+
+  pub tables-refuse : (r : Refusal) → tableChecked ≡ Refused r → Refused r ≡ settleChecked q
+  tables-refuse r e = sym (one-by-one ∙ rw e)
+
+  module _ (tables : tableChecked ≡ Passed) where
+    pub book-refuses : (r : Refusal) → bookChecked ≡ Refused r → Refused r ≡ settleChecked q
+    book-refuses r e = sym (one-by-one ∙ rw (tables, e))
+
+    module _ (own : bookChecked ≡ Passed) (m : ℕ) (count : m ≡ contractCountIn (q .book)) where
+      pub no-room : length (q .place) < m → Refused ShortTable ≡ settleChecked q
+      unfolding first
+      no-room h = sym (one-by-one ∙ rw (tables, own, ← count, lt-ltb (length (q .place)) m h))
+
+      pub all-fits : m ≤ length (q .place) → Passed ≡ settleChecked q
+      unfolding first
+      all-fits h = sym (one-by-one ∙ rw (tables, own, ← count, le-ltb (length (q .place)) m h))
+
+  -- what holds where none refuses
+  pub record Ready : Type 0 where
+    pub hour : Hour (q .nodes) (q .constraints) (q .factors) (q .prices)
+    pub own : bookChecked ≡ Passed
+    pub room : contractCountIn (q .book) ≤ length (q .place)
+
+  pub settle-ready : settleChecked q ≡ Passed → Ready
+  settle-ready e =
+      let all = passed-append (hourTableChecks (q .nodes) (q .constraints) (q .period) (q .factors) (q .prices) (q .nodes)) (bookChecks (q .nodes) (q .book) ++ roomCheck) (sym in-parts ∙ e) in
+      let rest = passed-append (bookChecks (q .nodes) (q .book)) roomCheck (all .1) in
       record {
-        nodes-few = nodes-few-of n two;
-        few = ltb-false 64 k three;
-        factor-cells = long;
-        price-cells = longer;
-        factors-in = record {
-          factor-sized = λ i j hi hj.
-              let h = place-in n k i j hi hj in
-              rw (getD-take (n * k) fs (i * k + j) (pos 0) h) at (good-small (getD (take (n * k) fs) (i * k + j) (pos 0)) (none-bad factorBad (take (n * k) fs) (pos 0) seven (i * k + j) (cell-in fs (n * k) (i * k + j) long h)));
-        };
-        prices-in = record {
-          price-sized = λ j h.
-              rw (getD-take k ps j 0 h) at (ltb-false maxPrice (getD (take k ps) j 0) (none-bad priceBad (take k ps) 0 fifteen j (rw (length-take-le k ps longer) h)));
-        };
+        hour = hour-of (hour-tables (q .nodes) (q .constraints) (q .period) (q .factors) (q .prices) (q .nodes) (all .0));
+        own = rest .0;
+        room = ltb-false (length (q .place)) (contractCountIn (q .book)) (passed-cons _ _ (rest .1) .0);
       }
-
-  pub mcc-ready : (place : ℕ) → first (mccChecks n k fs ps place) ≡ Passed → Hour n k fs ps × (n ≤ place)
-  unfolding mccChecks
-  mcc-ready place e =
-      let two = passed-cons _ _ e in
-      let three = passed-cons _ _ (two .1) in
-      let short = passed-cons _ _ (three .1) in
-      let shorter = passed-cons _ _ (short .1) in
-      let room = passed-cons _ _ (shorter .1) in
-      let seven = passed-cons _ _ (room .1) in
-      let fifteen = passed-cons _ _ (seven .1) in
-      (hour-of (two .0) (three .0) (short .0) (shorter .0) (seven .0) (fifteen .0), ltb-false place n (room .0))
-
--- ---- settling: the tables' checks, the book's own, then the place for the cents
-
-module _ (n k period : ℕ) (fs : List ℤ) (ps : List ℕ) where
-  abbrev pub hourChecks : List Check
-  hourChecks =
-      nodeCount n ∷ constraintCount k ∷ periodNumber period ∷ shortTable (length fs) (n * k) ∷ shortTable (length ps) k
-      ∷ factorRange (take (n * k) fs) ∷ priceRange (take k ps) ∷ []
-
-  hour-ready : first hourChecks ≡ Passed → Hour n k fs ps
-  hour-ready e =
-      let two = passed-cons _ _ e in
-      let three = passed-cons _ _ (two .1) in
-      let seventeen = passed-cons _ _ (three .1) in
-      let short = passed-cons _ _ (seventeen .1) in
-      let shorter = passed-cons _ _ (short .1) in
-      let seven = passed-cons _ _ (shorter .1) in
-      let fifteen = passed-cons _ _ (seven .1) in
-      hour-of n k fs ps (two .0) (three .0) (short .0) (shorter .0) (seven .0) (fifteen .0)
-
-  module _ (s : List ℕ) (cells : ℕ) where
-    then-book : first (settleChecks n k period fs ps s cells) ≡ decided (first hourChecks) Refused (decided (first (bookChecks n s)) Refused (first (shortTable cells (countIn s) ∷ [])))
-    unfolding settleChecks
-    then-book =
-        first-append hourChecks (bookChecks n s ++ shortTable cells (countIn s) ∷ [])
-        ∙ ap (λ (x : Checked). decided (first hourChecks) Refused x) (first-append (bookChecks n s) (shortTable cells (countIn s) ∷ []))
-
-    pub hour-refuses : (r : Refusal) → first hourChecks ≡ Refused r → Refused r ≡ first (settleChecks n k period fs ps s cells)
-    hour-refuses r e = sym (then-book ∙ rw e)
-
-    module _ (hour : first hourChecks ≡ Passed) where
-      pub book-refuses : (r : Refusal) → first (bookChecks n s) ≡ Refused r → Refused r ≡ first (settleChecks n k period fs ps s cells)
-      book-refuses r e = sym (then-book ∙ rw (hour, e))
-
-      module _ (own : first (bookChecks n s) ≡ Passed) (m : ℕ) (count : m ≡ countIn s) where
-        pub no-room : cells < m → Refused ShortTable ≡ first (settleChecks n k period fs ps s cells)
-        unfolding first
-        no-room h = sym (then-book ∙ rw (hour, own, ← count, lt-ltb cells m h))
-
-        pub all-fits : m ≤ cells → Passed ≡ first (settleChecks n k period fs ps s cells)
-        unfolding first
-        all-fits h = sym (then-book ∙ rw (hour, own, ← count, le-ltb cells m h))
-
-    -- what holds where none refuses
-    pub record Ready : Type 0 where
-      pub hour : Hour n k fs ps
-      pub book : Accepted n s
-      pub room : countIn s ≤ cells
-
-    pub settle-ready : first (settleChecks n k period fs ps s cells) ≡ Passed → Ready
-    unfolding settleChecks
-    settle-ready e =
-        let all = passed-append hourChecks (bookChecks n s ++ shortTable cells (countIn s) ∷ []) e in
-        let rest = passed-append (bookChecks n s) (shortTable cells (countIn s) ∷ []) (all .1) in
-        record {
-          hour = hour-ready (all .0);
-          book = book-accepted n s (rest .0);
-          room = ltb-false cells (countIn s) (passed-cons _ _ (rest .1) .0);
-        }

@@ -1,3 +1,3 @@
-pub mod SettleChecks
-pub mod Answers
-pub mod Tables
+pub mod FindMcc
+pub mod SettleHour
+pub mod Inner

@@ -1,8 +1,8 @@
 -- How long figures are, and a contract's line as it is put.
-use mathlib.Core.Path.{_≡_, sym, ap}
+use mathlib.Core.Path.{_≡_, sym}
 use mathlib.Core.Bool.{Bool, true, false}
 use mathlib.Core.List.{List, [], _++_, append-assoc}
-use Prim.Native.Nat.{ℕ, suc, _+_, _^_, _≤_, _<_}
+use Prim.Native.Nat.{ℕ, _+_, _^_, _≤_, _<_}
 use native.Mathlib.Numerals.{add-one}
 use native.Mathlib.Omega.{arith}
 use lib.ListN.{length, getD}
@@ -12,43 +12,46 @@ use mir.Val.{toZ, ofZ}
 use Rattle.integers.proofs.Machine.{back}
 use Rattle.text.specs.Ascii.{ascii}
 use Rattle.text.specs.Decimal.{decimal, decimalZ}
-use Rattle.text.proofs.Laws.{decimal-below, decimalZ-below}
-use Rattle.tariff.specs.declared.Period.{Period}
-use Rattle.tariff.specs.declared.Contract.{Contract}
+use Rattle.text.proofs.Digits.{decimal-below, decimalZ-below}
+use Rattle.tariff.specs.declared.contracts.Period.{Period}
+use Rattle.tariff.specs.declared.contracts.Contract.{Contract}
+use Rattle.tariff.specs.Units.{maxContracts, maxHolder, perCent}
+use Rattle.tariff.specs.Inner.{maxCents}
 use Rattle.tariff.specs.Contracts.{samePeriod}
 use Rattle.statement_lines.specs.Lines.{kindWord, contractLine, lineOf}
-use Rattle.statement_lines.specs.Parts.{linesTo}
+use Rattle.statement_lines.specs.Inner.{maxTotal, linesTo}
 
 -- ---- how long they are
 
-pub three-digits : (n : ℕ) → n < 1000 → length (decimal n) ≤ 3
-three-digits n h = decimal-below 3 n (omega arith) (omega arith)
+pub number-long : (n : ℕ) → n < maxContracts → length (decimal n) ≤ 3
+number-long n h = decimal-below 3 n (omega arith) (omega arith)
 
-pub four-digits : (n : ℕ) → n < 1024 → length (decimal n) ≤ 4
-four-digits n h = decimal-below 4 n (omega arith) (omega arith)
+pub holder-long : (n : ℕ) → n ≤ maxHolder → length (decimal n) ≤ 4
+holder-long n h = decimal-below 4 n (omega arith) (omega arith)
+
+pub parts-long : (n : ℕ) → n < perCent → length (decimal n) ≤ 8
+parts-long n h = decimal-below 8 n (omega arith) (omega arith)
 
 -- a signed figure that is kept in an i64
-module _ (z : ℤ) (h : natAbs z < 10 ^ 14) where
+module _ (z : ℤ) (h : natAbs z ≤ maxTotal) where
   pub kept : toZ w64 (ofZ w64 z) ≡ z
   kept = back z (omega arith)
-
-  pub kept-text : decimalZ z ≡ decimalZ (toZ w64 (ofZ w64 z))
-  kept-text = ap decimalZ (sym kept)
 
   pub kept-small : natAbs (toZ w64 (ofZ w64 z)) < 2 ^ 63
   kept-small = rw kept (omega arith)
 
-pub kept-sized : (z : ℤ) → natAbs z < 10 ^ 11 → natAbs (toZ w64 (ofZ w64 z)) < 10 ^ 11
-kept-sized z h = rw (kept z (omega arith)) h
+  pub kept-total : natAbs (toZ w64 (ofZ w64 z)) ≤ maxTotal
+  kept-total = rw kept h
 
-pub kept-long : (d : ℕ) (z : ℤ) → 1 ≤ d → natAbs z < 10 ^ d → natAbs z < 10 ^ 14 → length (decimalZ (toZ w64 (ofZ w64 z))) ≤ suc d
-kept-long d z some h fits = rw (kept z fits) (decimalZ-below d z some h)
+  pub total-long : length (decimalZ (toZ w64 (ofZ w64 z))) ≤ 15
+  total-long = rw kept (decimalZ-below 14 z (omega arith) (omega arith))
 
-pub eleven-digits : (z : ℤ) → natAbs z < 10 ^ 11 → length (decimalZ (toZ w64 (ofZ w64 z))) ≤ 12
-eleven-digits z h = kept-long 11 z (omega arith) h (omega arith)
+module _ (z : ℤ) (h : natAbs z ≤ maxCents) where
+  pub kept-cents : natAbs (toZ w64 (ofZ w64 z)) ≤ maxCents
+  kept-cents = rw (kept z (omega arith)) h
 
-pub fourteen-digits : (z : ℤ) → natAbs z < 10 ^ 14 → length (decimalZ (toZ w64 (ofZ w64 z))) ≤ 15
-fourteen-digits z h = kept-long 14 z (omega arith) h h
+  pub cents-long : length (decimalZ (toZ w64 (ofZ w64 z))) ≤ 12
+  cents-long = rw (kept z (omega arith)) (decimalZ-below 11 z (omega arith) (omega arith))
 
 -- ---- a contract's line
 
@@ -69,6 +72,7 @@ module _ (t : Period) (i : ℕ) (c : Contract) (z : ℤ) (b : Bool) (e : b ≡ s
 -- ---- one contract more
 
 -- contract m as c, its cell of cents as x
-pub lines-more : (t : Period) (f : ℕ → Contract) (cells : List ℤ) (m : ℕ) (c : Contract) (x : ℤ) → c ≡ f m → x ≡ getD cells m (pos 0) → linesTo t f cells (m + 1) ≡ linesTo t f cells m ++ lineOf t m c x
+pub lines-more : (t : Period) (f : ℕ → Contract) (cells : List ℤ) (m : ℕ) (c : Contract) (x : ℤ) → c ≡ f m → x ≡ getD cells m (pos 0)
+    → linesTo t f cells (m + 1) ≡ linesTo t f cells m ++ lineOf t m c x
 unfolding linesTo
 lines-more t f cells m c x e q = rw (add-one, e, q)

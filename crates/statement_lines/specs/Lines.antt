@@ -1,18 +1,19 @@
 -- Document 01, "The hour statement": its lines. Lines end in one line feed; figures are those of text/specs.
 use mathlib.Core.Bool.{cond}
 use mathlib.Core.List.{List, [], _∷_, _++_}
-use Prim.Native.Nat.{ℕ, suc}
+use Prim.Native.Nat.{ℕ, suc, _+_, _*_}
+use lib.ListN.{length}
 use lib.IntN.{ℤ}
 use Rattle.text.specs.Ascii.{ascii}
 use Rattle.text.specs.Decimal.{decimal, decimalZ}
-use Rattle.tariff.specs.declared.Kind.{Kind}
-use Rattle.tariff.specs.declared.Kind.the-variants.{Obligation, Option}
-use Rattle.tariff.specs.declared.Period.{Period}
-use Rattle.tariff.specs.declared.Contract.{Contract}
-use Rattle.tariff.specs.Units.{Grid}
+use Rattle.tariff.specs.declared.contracts.Kind.{Kind}
+use Rattle.tariff.specs.declared.contracts.Kind.the-variants.{Obligation, Option}
+use Rattle.tariff.specs.declared.contracts.Period.{Period}
+use Rattle.tariff.specs.declared.contracts.Contract.{Contract}
+use Rattle.tariff.specs.Units.{Factors, maxContracts}
 use Rattle.tariff.specs.Contracts.{samePeriod}
 use Rattle.tariff.specs.Settlement.{amount, cents, wholeCents, parts}
-use Rattle.settlement.specs.Answers.{centsSum, hourTotal}
+use Rattle.settlement.specs.SettleHour.{centsSum, hourTotal}
 
 -- "The first line is the fixed text"
 abbrev pub heading : List ℕ
@@ -38,11 +39,25 @@ sumLine sum = ascii "sum," ++ decimalZ sum ++ ascii "\n"
 unfoldable pub exactLine : ℤ → ℕ → List ℕ
 exactLine whole part = ascii "exact," ++ decimalZ whole ++ ascii "," ++ decimal part ++ ascii "\n"
 
-module _ (g : Grid) (p : List ℕ) (t : Period) where
+module _ (f : Factors) (p : List ℕ) (t : Period) where
   -- the lines of contracts that are numbered from i on, in the book's order
   unfoldable pub contractLines : ℕ → List Contract → List ℕ
   contractLines i [] = []
-  contractLines i (c ∷ cs) = lineOf t i c (cents (amount g p c)) ++ contractLines (suc i) cs
+  contractLines i (c ∷ cs) = lineOf t i c (cents (amount f p c)) ++ contractLines (suc i) cs
 
   unfoldable pub lines : List Contract → List ℕ
-  lines book = heading ++ contractLines 0 book ++ sumLine (centsSum g p t book) ++ exactLine (wholeCents (hourTotal g p t book)) (parts (hourTotal g p t book))
+  lines book =
+      heading ++ contractLines 0 book ++ sumLine (centsSum f p t book) ++ exactLine (wholeCents (hourTotal f p t book)) (parts (hourTotal f p t book))
+
+-- the longest lines of a contract, of the sum and of the exact total, and with the heading the longest statement
+abbrev pub longestLine : ℕ
+longestLine = length (ascii "999,1023,OBL,-64000000000\n")
+
+abbrev pub longestSum : ℕ
+longestSum = length (ascii "sum,-64000000000000\n")
+
+abbrev pub longestExact : ℕ
+longestExact = length (ascii "exact,-64000000000000,99999999\n")
+
+abbrev pub longestStatement : ℕ
+longestStatement = length heading + longestLine * maxContracts + longestSum + longestExact

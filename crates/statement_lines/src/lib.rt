@@ -1,25 +1,43 @@
 // The hour statement's lines, put into a lent buffer. Each function puts a part of them at a place and gives the place behind it.
 ghost use mathlib.Core.Path.{_≡_};
 ghost use mathlib.Core.List.{_++_};
-ghost use Prim.Native.Nat.{ℕ, _+_, _*_, _^_, _≤_, _<_};
+ghost use Prim.Native.Nat.{ℕ, _+_, _*_, _≤_, _<_};
 ghost use lib.ListN.{length, getD};
 ghost use lib.IntN.{pos, natAbs};
+ghost use Rattle.lists.specs.Lent.{before, after};
 ghost use Rattle.text.specs.Ascii.{ascii};
-ghost use Rattle.text.specs.Decimal.{decimal, Put};
+ghost use Rattle.text.specs.Decimal.{decimal};
+ghost use Rattle.text.specs.Inner.{Put};
+ghost use Rattle.tariff.specs.Units.{maxContracts, maxHolder, perCent};
+ghost use Rattle.tariff.specs.Inner.{maxCents};
 ghost use Rattle.layouts.specs.BookFile.{bookBytes, contractAt};
-ghost use Rattle.statement_lines.specs.Lines.{kindWord, contractLine, lineOf, sumLine, exactLine};
-ghost use Rattle.statement_lines.specs.Parts.{linesTo, settledLines, Sized};
+ghost use Rattle.statement_lines.specs.Lines.{heading, kindWord, contractLine, lineOf, sumLine, exactLine, longestLine, longestSum, longestExact};
+ghost use Rattle.statement_lines.specs.Inner.{maxTotal, linesTo, settledLines, Sized};
+use settlement::Totals;
 use tariff::Contract;
 use tariff::Kind;
+use tariff::MAX_CONTRACTS;
 use tariff::Period;
 
 // The first line.
 const HEADING: [u8; 27] = *b"contract,holder,kind,cents\n";
 
+// The longest lines of a contract, of the sum and of the exact total, and with the heading the longest statement.
+const LONGEST_LINE: usize = (*b"999,1023,OBL,-64000000000\n").len();
+
+const LONGEST_SUM: usize = (*b"sum,-64000000000000\n").len();
+
+const LONGEST_EXACT: usize = (*b"exact,-64000000000000,99999999\n").len();
+
+pub const LONGEST_STATEMENT: usize = HEADING.len()
+    + LONGEST_LINE * MAX_CONTRACTS
+    + LONGEST_SUM
+    + LONGEST_EXACT;
+
 // A contract's number and its holder, each with a comma.
 fn put_numbers(buf: &mut [u8], at: usize, number: u64, holder: u64) -> usize
     requires { ⌜ at + length (decimal number) + length (decimal holder) + 2 ≤ length (now buf) ⌝ }
-    ensures { λ r. ⌜ Put (now (buf .entry)) at (decimal number ++ ascii "," ++ decimal holder ++ ascii ",") (now (buf .exit)) r ⌝ }
+    ensures { λ r. ⌜ Put (before buf) at (decimal number ++ ascii "," ++ decimal holder ++ ascii ",") (after buf) r ⌝ }
     ensures { λ r. ⌜ r ≡ at + length (decimal number) + length (decimal holder) + 2 ⌝ }
 {
     let first = text::put_decimal(buf, at, number);
@@ -31,7 +49,7 @@ fn put_numbers(buf: &mut [u8], at: usize, number: u64, holder: u64) -> usize
 // The kind's word and a comma.
 fn put_kind(buf: &mut [u8], at: usize, kind: Kind) -> usize
     requires { ⌜ at + 4 ≤ length (now buf) ⌝ }
-    ensures { λ r. ⌜ Put (now (buf .entry)) at (kindWord kind ++ ascii ",") (now (buf .exit)) r ⌝ }
+    ensures { λ r. ⌜ Put (before buf) at (kindWord kind ++ ascii ",") (after buf) r ⌝ }
     ensures { λ r. ⌜ r ≡ at + 4 ⌝ }
 {
     match kind {
@@ -42,9 +60,9 @@ fn put_kind(buf: &mut [u8], at: usize, kind: Kind) -> usize
 
 // The line of one contract.
 fn put_contract(buf: &mut [u8], at: usize, number: u64, c: Contract, cents: i64) -> usize
-    requires { ⌜ (number < 1000) × (c .holder < 1024) × (natAbs cents < 10 ^ 11) × (at + 26 ≤ length (now buf)) ⌝ }
-    ensures { λ r. ⌜ Put (now (buf .entry)) at (contractLine number c cents) (now (buf .exit)) r ⌝ }
-    ensures { λ r. ⌜ r ≤ at + 26 ⌝ }
+    requires { ⌜ (number < maxContracts) × (c .holder ≤ maxHolder) × (natAbs cents ≤ maxCents) × (at + longestLine ≤ length (now buf)) ⌝ }
+    ensures { λ r. ⌜ Put (before buf) at (contractLine number c cents) (after buf) r ⌝ }
+    ensures { λ r. ⌜ r ≤ at + longestLine ⌝ }
 {
     let holder = c.holder;
     let kind = c.kind;
@@ -56,9 +74,9 @@ fn put_contract(buf: &mut [u8], at: usize, number: u64, c: Contract, cents: i64)
 
 // The line of a contract of the period; nothing for the other period's.
 fn put_own(buf: &mut [u8], at: usize, period: Period, number: u64, c: Contract, cents: i64) -> usize
-    requires { ⌜ (number < 1000) × (c .holder < 1024) × (natAbs cents < 10 ^ 11) × (at + 26 ≤ length (now buf)) ⌝ }
-    ensures { λ r. ⌜ Put (now (buf .entry)) at (lineOf period number c cents) (now (buf .exit)) r ⌝ }
-    ensures { λ r. ⌜ r ≤ at + 26 ⌝ }
+    requires { ⌜ (number < maxContracts) × (c .holder ≤ maxHolder) × (natAbs cents ≤ maxCents) × (at + longestLine ≤ length (now buf)) ⌝ }
+    ensures { λ r. ⌜ Put (before buf) at (lineOf period number c cents) (after buf) r ⌝ }
+    ensures { λ r. ⌜ r ≤ at + longestLine ⌝ }
 {
     let own = c.period;
     if own.same(period) {
@@ -77,15 +95,15 @@ fn put_contracts(
     count: usize,
     cents: &[i64],
 ) -> usize
-    requires { ⌜ (count ≤ 1000) × (bookBytes count ≤ length (now book)) × (count ≤ length (now cents)) × (at + 26 * count ≤ length (now buf)) ⌝ }
-    requires { ⌜ ((i : ℕ) → i < count → natAbs (getD (now cents) i (pos 0)) < 10 ^ 11) ⌝ }
-    ensures { λ r. ⌜ Put (now (buf .entry)) at (linesTo period (contractAt (now (book .entry))) (now (cents .entry)) count) (now (buf .exit)) r ⌝ }
-    ensures { λ r. ⌜ r ≤ at + 26 * count ⌝ }
+    requires { ⌜ (count ≤ maxContracts) × (bookBytes count ≤ length (now book)) × (count ≤ length (now cents)) ⌝ }
+    requires { ⌜ ((i : ℕ) → i < count → natAbs (getD (now cents) i (pos 0)) ≤ maxCents) × (at + longestLine * count ≤ length (now buf)) ⌝ }
+    ensures { λ r. ⌜ Put (before buf) at (linesTo period (contractAt (before book)) (before cents) count) (after buf) r ⌝ }
+    ensures { λ r. ⌜ r ≤ at + longestLine * count ⌝ }
 {
     let mut next = at;
     let mut i = 0;
     while i < count {
-        let c = book_file::contract_at(book, i);
+        let c = books::contract_at(book, i);
         next = put_own(buf, next, period, i as u64, c, cents[i]);
         i += 1;
     }
@@ -94,9 +112,9 @@ fn put_contracts(
 
 // The sum of the rounded cents.
 fn put_sum(buf: &mut [u8], at: usize, sum: i64) -> usize
-    requires { ⌜ (natAbs sum < 10 ^ 14) × (at + 20 ≤ length (now buf)) ⌝ }
-    ensures { λ r. ⌜ Put (now (buf .entry)) at (sumLine sum) (now (buf .exit)) r ⌝ }
-    ensures { λ r. ⌜ r ≤ at + 20 ⌝ }
+    requires { ⌜ (natAbs sum ≤ maxTotal) × (at + longestSum ≤ length (now buf)) ⌝ }
+    ensures { λ r. ⌜ Put (before buf) at (sumLine sum) (after buf) r ⌝ }
+    ensures { λ r. ⌜ r ≤ at + longestSum ⌝ }
 {
     let word = text::put_text(buf, at, b"sum,");
     let figure = text::put_signed(buf, word, sum);
@@ -105,9 +123,9 @@ fn put_sum(buf: &mut [u8], at: usize, sum: i64) -> usize
 
 // The exact total: whole cents and parts.
 fn put_exact(buf: &mut [u8], at: usize, whole: i64, parts: u64) -> usize
-    requires { ⌜ (natAbs whole < 10 ^ 14) × (parts < 10 ^ 8) × (at + 31 ≤ length (now buf)) ⌝ }
-    ensures { λ r. ⌜ Put (now (buf .entry)) at (exactLine whole parts) (now (buf .exit)) r ⌝ }
-    ensures { λ r. ⌜ r ≤ at + 31 ⌝ }
+    requires { ⌜ (natAbs whole ≤ maxTotal) × (parts < perCent) × (at + longestExact ≤ length (now buf)) ⌝ }
+    ensures { λ r. ⌜ Put (before buf) at (exactLine whole parts) (after buf) r ⌝ }
+    ensures { λ r. ⌜ r ≤ at + longestExact ⌝ }
 {
     let word = text::put_text(buf, at, b"exact,");
     let cents = text::put_signed(buf, word, whole);
@@ -123,16 +141,14 @@ pub fn put_lines(
     book: &[u8],
     count: usize,
     cents: &[i64],
-    sum: i64,
-    whole: i64,
-    parts: u64,
+    totals: Totals,
 ) -> usize
-    requires { ⌜ (count ≤ 1000) × (bookBytes count ≤ length (now book)) × (count ≤ length (now cents)) × (78 + 26 * count ≤ length (now buf)) ⌝ }
-    requires { ⌜ Sized count (now cents) sum whole parts ⌝ }
-    ensures { λ r. ⌜ Put (now (buf .entry)) 0 (settledLines period (contractAt (now (book .entry))) (now (cents .entry)) count sum whole parts) (now (buf .exit)) r ⌝ }
+    requires { ⌜ (count ≤ maxContracts) × (bookBytes count ≤ length (now book)) × (count ≤ length (now cents)) × Sized count (now cents) totals ⌝ }
+    requires { ⌜ length heading + longestLine * count + longestSum + longestExact ≤ length (now buf) ⌝ }
+    ensures { λ r. ⌜ Put (before buf) 0 (settledLines period (contractAt (before book)) (before cents) count totals) (after buf) r ⌝ }
 {
     let first = text::put_text(buf, 0, &HEADING);
     let second = put_contracts(buf, first, period, book, count, cents);
-    let third = put_sum(buf, second, sum);
-    put_exact(buf, third, whole, parts)
+    let third = put_sum(buf, second, totals.sum);
+    put_exact(buf, third, totals.whole, totals.parts)
 }

@@ -1,2 +1,2 @@
-pub mod Statement
-pub mod Parts
+pub mod WriteStatement
+pub mod Inner

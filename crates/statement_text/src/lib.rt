@@ -1,46 +1,47 @@
-// The hour statement's text, rendered into a lent buffer.
+// The hour statement's text, rendered into a lent buffer. The files are checked one after the other, each once.
 ghost use mathlib.Core.Path.{_≡_};
-ghost use mathlib.Core.List.{[], _∷_};
 ghost use Prim.Native.Nat.{_≤_};
-ghost use lib.ListN.{length};
-ghost use lib.IntN.{pos};
-ghost use Rattle.text.specs.Decimal.{Put};
-ghost use Rattle.tariff.specs.declared.Checked.the-variants.{Passed};
-ghost use Rattle.tariff.specs.Units.{grid};
-ghost use Rattle.tariff.specs.Contracts.{periodOf};
-ghost use Rattle.tariff.specs.Refusals.{first, answered, cellsAfter};
-ghost use Rattle.tariff.specs.Checks.{shortTable};
-ghost use Rattle.layouts.specs.Files.{writeOutcome};
+ghost use lib.ListN.{length, take};
+ghost use Rattle.lists.specs.Lent.{before, after};
+ghost use Rattle.text.specs.Inner.{Put};
+ghost use Rattle.tariff.specs.declared.refusals.Checked.the-variants.{Passed};
+ghost use Rattle.tariff.specs.Units.{factorsOf};
+ghost use Rattle.tariff.specs.Refusals.{first};
 ghost use Rattle.layouts.specs.BookFile.{bookIn};
-ghost use Rattle.book_file.specs.BookChecks.{bookChecks};
-ghost use Rattle.settlement.specs.SettleChecks.{settleChecks};
-ghost use Rattle.statement_lines.specs.Lines.{lines};
-ghost use Rattle.statement_text.specs.Statement.{longest, statement};
-ghost use Rattle.statement_text.specs.Parts.{gridChecks, pricedText, bookedText};
+ghost use Rattle.tables.specs.Inner.{GoodFactors};
+ghost use Rattle.books.specs.BookChecks.{bookChecks};
+ghost use Rattle.settlement.specs.Inner.{Hour};
+ghost use Rattle.statement_lines.specs.Lines.{lines, longestStatement};
+ghost use Rattle.statement_text.specs.WriteStatement.{statement, statementCall, WritesStatement};
+ghost use Rattle.statement_text.specs.Inner.{pricedText, bookedText};
 use grid_file::GridAnswer;
 use layouts::WriteAnswer;
 use price_file::PriceAnswer;
-use settlement::SettleAnswer;
+use statement_lines::LONGEST_STATEMENT;
 use tariff::Checked;
+use tariff::MAX_CONSTRAINTS;
+use tariff::MAX_CONTRACTS;
+use tariff::MAX_FACTORS;
 use tariff::Period;
 use tariff::Refusal;
 
-// The lines of an hour that settling accepts.
+// The lines of an hour whose tables and book no check refuses.
 fn put_settled(
     buf: &mut [u8],
     nodes: usize,
     constraints: usize,
-    period: u64,
+    period: Period,
     factors: &[i64],
     prices: &[u64],
     book: &[u8],
 ) -> usize
-    requires { ⌜ longest ≤ length (now buf) ⌝ }
-    requires { ⌜ first (settleChecks nodes constraints period (now factors) (now prices) (now book) 1000) ≡ Passed ⌝ }
-    ensures { λ r. ⌜ Put (now (buf .entry)) 0 (lines (grid nodes constraints [] (now (factors .entry))) (now (prices .entry)) (periodOf period) (bookIn (now (book .entry)))) (now (buf .exit)) r ⌝ }
+    requires { ⌜ longestStatement ≤ length (now buf) ⌝ }
+    requires { ⌜ Hour nodes constraints (now factors) (now prices) × (first (bookChecks nodes (now book)) ≡ Passed) ⌝ }
+    ensures { λ r. ⌜ Put (before buf) 0
+        (lines (factorsOf nodes constraints (before factors)) (take constraints (before prices)) period (bookIn (before book))) (after buf) r ⌝ }
 {
-    let mut cents = [0i64; 1000];
-    match settlement::settle_hour(
+    let mut cents = [0i64; MAX_CONTRACTS];
+    let totals = settlement::settle(
         nodes,
         constraints,
         period,
@@ -48,14 +49,9 @@ fn put_settled(
         prices,
         book,
         &mut cents,
-    ) {
-        SettleAnswer::Refused(_) => 0,
-        SettleAnswer::Settled { sum, whole, parts } => {
-            let count = bits::field(book, 0, 10) as usize;
-            let hour = Period::from_number(period);
-            statement_lines::put_lines(buf, hour, book, count, &cents, sum, whole, parts)
-        }
-    }
+    );
+    let count = books::contract_count(book);
+    statement_lines::put_lines(buf, period, book, count, &cents, totals)
 }
 
 // The statement of a grid and a book that are accepted.
@@ -67,15 +63,17 @@ fn put_priced(
     book: &[u8],
     price_file: &[u8],
 ) -> usize
-    requires { ⌜ longest ≤ length (now buf) ⌝ }
-    requires { ⌜ (first (gridChecks nodes constraints (now factors)) ≡ Passed) × (first (bookChecks nodes (now book)) ≡ Passed) ⌝ }
-    ensures { λ r. ⌜ Put (now (buf .entry)) 0 (pricedText nodes constraints (now (factors .entry)) (now (book .entry)) (now («price_file» .entry))) (now (buf .exit)) r ⌝ }
+    requires { ⌜ longestStatement ≤ length (now buf) ⌝ }
+    requires { ⌜ GoodFactors nodes constraints (now factors) × (first (bookChecks nodes (now book)) ≡ Passed) ⌝ }
+    ensures { λ r. ⌜ Put (before buf) 0
+        (pricedText (factorsOf nodes constraints (before factors)) (bookIn (before book)) (before «price_file»)) (after buf) r ⌝ }
 {
-    let mut prices = [0u64; 64];
+    let mut prices = [0u64; MAX_CONSTRAINTS];
     match price_file::read_prices(constraints, price_file, &mut prices) {
-        PriceAnswer::Refused(refusal) => refusal_line::put_refused(buf, b"prices", refusal),
+        PriceAnswer::Refused(refusal) => text::put_refused(buf, b"prices", refusal),
         PriceAnswer::Read { period } => {
-            put_settled(buf, nodes, constraints, period, factors, &prices, book)
+            let hour = Period::from_number(period);
+            put_settled(buf, nodes, constraints, hour, factors, &prices, book)
         }
     }
 }
@@ -89,25 +87,24 @@ fn put_booked(
     book: &[u8],
     price_file: &[u8],
 ) -> usize
-    requires { ⌜ longest ≤ length (now buf) ⌝ }
-    requires { ⌜ first (gridChecks nodes constraints (now factors)) ≡ Passed ⌝ }
-    ensures { λ r. ⌜ Put (now (buf .entry)) 0 (bookedText nodes constraints (now (factors .entry)) (now (book .entry)) (now («price_file» .entry))) (now (buf .exit)) r ⌝ }
+    requires { ⌜ (longestStatement ≤ length (now buf)) × GoodFactors nodes constraints (now factors) ⌝ }
+    ensures { λ r. ⌜ Put (before buf) 0 (bookedText (factorsOf nodes constraints (before factors)) (before book) (before «price_file»)) (after buf) r ⌝ }
 {
-    match book_file::check_book(nodes, book) {
-        Checked::Refused(refusal) => refusal_line::put_refused(buf, b"book", refusal),
+    match books::check_book(nodes, book) {
+        Checked::Refused(refusal) => text::put_refused(buf, b"book", refusal),
         Checked::Passed => put_priced(buf, nodes, constraints, factors, book, price_file),
     }
 }
 
 // The statement of three files.
 fn put_statement(grid_file: &[u8], book_file: &[u8], price_file: &[u8], buf: &mut [u8]) -> usize
-    requires { ⌜ longest ≤ length (now buf) ⌝ }
-    ensures { λ r. ⌜ Put (now (buf .entry)) 0 (statement (now («grid_file» .entry)) (now («book_file» .entry)) (now («price_file» .entry))) (now (buf .exit)) r ⌝ }
+    requires { ⌜ longestStatement ≤ length (now buf) ⌝ }
+    ensures { λ r. ⌜ Put (before buf) 0 (statement (before «grid_file») (before «book_file») (before «price_file»)) (after buf) r ⌝ }
 {
-    let mut limits = [0u64; 64];
-    let mut factors = [0i64; 12800];
+    let mut limits = [0u64; MAX_CONSTRAINTS];
+    let mut factors = [0i64; MAX_FACTORS];
     match grid_file::read_grid(grid_file, &mut limits, &mut factors) {
-        GridAnswer::Refused(refusal) => refusal_line::put_refused(buf, b"grid", refusal),
+        GridAnswer::Refused(refusal) => text::put_refused(buf, b"grid", refusal),
         GridAnswer::Read { nodes, constraints } => {
             put_booked(buf, nodes, constraints, &factors, book_file, price_file)
         }
@@ -121,10 +118,9 @@ pub fn write_statement(
     price_file: &[u8],
     text: &mut [u8],
 ) -> WriteAnswer
-    ensures answer { λ r. ⌜ writeOutcome r ≡ answered (first (shortTable (length (now (text .entry))) longest ∷ [])) (pos (length (statement (now («grid_file» .entry)) (now («book_file» .entry)) (now («price_file» .entry)))) ∷ []) ⌝ }
-    ensures cells { λ r. ⌜ now (text .exit) ≡ cellsAfter (first (shortTable (length (now (text .entry))) longest ∷ [])) (statement (now («grid_file» .entry)) (now («book_file» .entry)) (now («price_file» .entry))) (now (text .entry)) ⌝ }
+    ensures { λ r. ⌜ WritesStatement (statementCall (before «grid_file») (before «book_file») (before «price_file») (before text)) r (after text) ⌝ }
 {
-    if text.len() < 26078 {
+    if text.len() < LONGEST_STATEMENT {
         return WriteAnswer::Refused(Refusal::ShortTable);
     }
     WriteAnswer::Written {

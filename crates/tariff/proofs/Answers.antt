@@ -1,13 +1,17 @@
--- What an answer says of its checks: values given mean that none refuses, and a refusal's number is the first one's.
-use mathlib.Core.Path.{_≡_, refl, sym, ap}
+-- What an answer says of its checks, and what an entry that checks first answers: values given mean that none refuses, and a refusal's number is the first one's.
+use mathlib.Core.Path.{_≡_, refl, sym, ap, _∙_}
 use mathlib.Core.List.{List}
+use Prim.Native.Nat.{ℕ}
 use native.Mathlib.Omega.{arith}
-use lib.IntN.{ℤ}
-use Rattle.tariff.specs.declared.Refusal.{Refusal}
-use Rattle.tariff.specs.declared.Refusal.the-variants.{ShortFile, NodeCount, ConstraintCount, SpareBits, FileLength, LimitRange, FactorRange, Padding, ShortTable, ContractCount, NodeNumber, SameEnds, QuantityRange, PriceCount, PriceRange, ProcessNumber, PeriodOrKind, HolderRange}
-use Rattle.tariff.specs.declared.Checked.{Checked}
-use Rattle.tariff.specs.declared.Checked.the-variants.{Passed, Refused}
-use Rattle.tariff.specs.Refusals.{Outcome, numberOf, given, refusedBy, decided, answered}
+use lib.ListN.{getD}
+use lib.IntN.{ℤ, pos, natAbs}
+use Rattle.tariff.specs.declared.refusals.Refusal.{Refusal}
+use Rattle.tariff.specs.declared.refusals.Refusal.the-variants.{ShortFile, NodeCount, ConstraintCount, SpareBits, FileLength, LimitRange, FactorRange, Padding, ShortTable}
+use Rattle.tariff.specs.declared.refusals.Refusal.the-variants.{ContractCount, NodeNumber, SameEnds, QuantityRange, PriceCount, PriceRange, ProcessNumber, PeriodOrKind, HolderRange}
+use Rattle.tariff.specs.declared.refusals.Checked.{Checked}
+use Rattle.tariff.specs.declared.refusals.Checked.the-variants.{Passed, Refused}
+use Rattle.lists.specs.Lent.{overwrite}
+use Rattle.tariff.specs.Refusals.{Outcome, numberOf, given, refusedBy, decided, answered, cellsAfter, cellAfter, numberAfter}
 
 -- no refusal has the number 0
 pub numbered : (r : Refusal) → numberOf r ≡ 0 → ⊥
@@ -46,3 +50,52 @@ refused-number (Refused q) vs r e = ap (λ (o : Outcome). o .number) e
 pub refused-side : {A : Type 0} (checked : Checked) (vs : List ℤ) (r : Refusal) → refusedBy r ≡ answered checked vs → (a b : A) → decided checked (λ q. a) b ≡ a
 refused-side Passed vs r e a b = absurd (never-given r vs e)
 refused-side (Refused q) vs r e a b = refl
+
+-- ---- an entry that checks first: x is what the checking function gave
+
+module _ (x checked : Checked) (found : x ≡ checked) where
+  pub answer-refused : (r : Refusal) → x ≡ Refused r → (vs : List ℤ) → refusedBy r ≡ answered checked vs
+  answer-refused r told vs = rw (← found, told)
+
+  pub cells-refused : {A : Type 0} (r : Refusal) → x ≡ Refused r → (values entry : List A) → entry ≡ cellsAfter checked values entry
+  cells-refused r told values entry = rw (← found, told)
+
+  pub answer-passed : x ≡ Passed → (vs : List ℤ) → given vs ≡ answered checked vs
+  answer-passed told vs = rw (← found, told)
+
+  pub cells-passed : {A : Type 0} → x ≡ Passed → (values entry last : List A) → last ≡ overwrite values entry → last ≡ cellsAfter checked values entry
+  cells-passed told values entry last e = rw (← found, told) e
+
+-- ---- as a C caller gets it: the number, and each lent figure
+
+-- refused: the number is the first check's, and a figure keeps its value
+module _ (checked : Checked) (vs : List ℤ) (r : Refusal) (told : refusedBy r ≡ answered checked vs) where
+  pub refused-answers : {n : ℕ} → n ≡ numberOf r → n ≡ numberAfter checked
+  refused-answers h = h ∙ refused-number checked vs r told
+
+  pub refused-keeps : {A : Type 0} (value entry : A) → entry ≡ cellAfter checked value entry
+  refused-keeps value entry = sym (refused-side checked vs r told entry value)
+
+  pub some-refuses : checked ≡ Passed → ⊥
+  some-refuses h = never-given r vs (told ∙ ap (λ (k : Checked). answered k vs) h)
+
+-- given: the number is 0, and a figure has its new value
+module _ (checked : Checked) (vs ws : List ℤ) (told : given ws ≡ answered checked vs) where
+  pub none-refuses : checked ≡ Passed
+  none-refuses = given-told checked vs ws told .0
+
+  pub given-answers : 0 ≡ numberAfter checked
+  given-answers = rw none-refuses refl
+
+  pub given-values : ws ≡ vs
+  given-values = given-told checked vs ws told .1
+
+  pub given-cell : {A : Type 0} {written : A} (value entry : A) → written ≡ value → written ≡ cellAfter checked value entry
+  given-cell value entry h = rw none-refuses h
+
+  -- the i-th of the values given
+  pub given-signed : (i : ℕ) (entry : ℤ) → getD ws i (pos 0) ≡ cellAfter checked (getD vs i (pos 0)) entry
+  given-signed i entry = given-cell (getD vs i (pos 0)) entry (ap (λ (xs : List ℤ). getD xs i (pos 0)) given-values)
+
+  pub given-count : (i : ℕ) (entry : ℕ) → natAbs (getD ws i (pos 0)) ≡ cellAfter checked (natAbs (getD vs i (pos 0))) entry
+  given-count i entry = given-cell (natAbs (getD vs i (pos 0))) entry (ap (λ (xs : List ℤ). natAbs (getD xs i (pos 0))) given-values)

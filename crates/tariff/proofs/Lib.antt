@@ -1,9 +1,12 @@
 pub mod Worst
 pub mod Overloads
 pub mod Theorems
+pub mod Kept
 pub mod Sizes
 pub mod Rules
 pub mod Checks
 pub mod Periods
 pub mod Rounding
 pub mod Answers
+pub mod Maximum
+pub mod WorstNumber

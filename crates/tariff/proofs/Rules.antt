@@ -1,16 +1,21 @@
--- What the tests in the code say of the definitions: kinds and periods by number, options by sign.
+-- What the definitions say of kinds and periods by number, and of options by sign, as the tests in the code find them.
 use mathlib.Core.Path.{_≡_, refl}
 use Prim.Native.Nat.{ℕ, zero, suc, _*_, _<_}
-use native.Mathlib.Nat.{mul-zero, mul-suc, add-suc}
+use native.Mathlib.Nat.{mul-zero, mul-suc, add-suc, le-max-right}
 use native.Mathlib.Omega.{arith}
 use borrow.Author.Tests.{ltb-true}
-use lib.IntN.{ℤ, pos, negsuc, natAbs, _*ℤ_}
+use lib.IntN.{ℤ, pos, negsuc, natAbs, _-ℤ_, _*ℤ_}
 use mathlib.Core.Bool.{true, false}
 use lib.Dec.{T}
-use lib.Signed.{ltZ, nonNeg}
-use Rattle.tariff.specs.declared.Kind.the-variants.{Option}
-use Rattle.tariff.specs.declared.Period.the-variants.{OnPeak}
+use lib.Signed.{_≤ℤ_, ltZ, nonNeg}
+use Rattle.integers.specs.Sums.{max0}
+use Rattle.integers.proofs.Linear.{⊖of, ⊖s, above, below}
+use Rattle.tariff.specs.declared.contracts.Kind.the-variants.{Option}
+use Rattle.tariff.specs.declared.contracts.Period.the-variants.{OnPeak}
+use Rattle.tariff.specs.declared.contracts.Contract.{Contract}
+use Rattle.tariff.specs.Units.{Factors, factor}
 use Rattle.tariff.specs.Contracts.{kindOf, periodOf, counted}
+use Rattle.tariff.specs.Feasibility.{flow}
 
 pub kind-nonzero : (n : ℕ) → (n ≡ 0 → ⊥) → Option ≡ kindOf n
 kind-nonzero zero h = absurd (h refl)
@@ -20,6 +25,15 @@ pub period-nonzero : (n : ℕ) → (n ≡ 0 → ⊥) → OnPeak ≡ periodOf n
 period-nonzero zero h = absurd (h refl)
 period-nonzero (suc n) h = refl
 
+-- an option never relieves a constraint
+max0≥0 : (x : ℤ) → pos 0 ≤ℤ max0 x
+max0≥0 x = rw (⊖of x) (simp ⊖s (omega (arith, le-max-right (above x) (below x))))
+
+pub option-flow : (f : Factors) (c : Contract) → c .kind ≡ Option → (k : ℕ) → pos 0 ≤ℤ flow f c k
+unfolding flow
+option-flow f c e k = rw e (max0≥0 ((factor f (c .source) k -ℤ factor f (c .sink) k) *ℤ pos (c .quantity .0)))
+
+-- an option by the sign of what it counts
 pub option-negative : (z : ℤ) → ltZ z (pos 0) ≡ true → pos 0 ≡ counted Option z
 option-negative (pos n) e = let no : n < 0 = ltb-true n 0 e in absurd (omega arith)
 option-negative (negsuc n) e = refl

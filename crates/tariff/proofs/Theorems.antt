@@ -1,24 +1,27 @@
 -- THE THEOREMS over document 01's definitions, each for every grid, book, period and process. Statements only: the proofs are in Worst.antt,
--- Overloads.antt and Periods.antt.
+-- WorstNumber.antt, Overloads.antt, Rules.antt and Periods.antt.
 use mathlib.Core.Path.{_≡_}
 use mathlib.Core.Logic.{_↔_}
-use mathlib.Core.List.{List, []}
+use mathlib.Core.List.{List, [], _∷_, _++_}
 use Prim.Native.Nat.{ℕ, _<_, _≤_}
 use lib.Count.{ones, trailingZeros}
 use lib.IntN.{ℤ, pos}
 use lib.Signed.{_≤ℤ_, _<ℤ_}
-use Rattle.integers.proofs.Sizes.{Each}
-use Rattle.tariff.specs.declared.Contract.{Contract}
-use Rattle.tariff.specs.declared.Kind.the-variants.{Option}
-use Rattle.tariff.specs.declared.Period.{Period}
-use Rattle.tariff.specs.declared.Process.{Process}
-use Rattle.tariff.specs.Units.{Grid, maxConstraints}
+use Rattle.lists.specs.Lists.{Each}
+use Rattle.lists.proofs.Sets.{Lowest, set-ones, set-trailing}
+use Rattle.tariff.specs.declared.contracts.Contract.{Contract}
+use Rattle.tariff.specs.declared.contracts.Kind.the-variants.{Option}
+use Rattle.tariff.specs.declared.contracts.Period.{Period}
+use Rattle.tariff.specs.declared.processes.Process.{Process}
+use Rattle.tariff.specs.Units.{Factors, Grid, maxConstraints}
 use Rattle.tariff.specs.Contracts.{ofPeriod}
 use Rattle.tariff.specs.Feasibility.{flow, Passes, excess, overloaded, overloadSet, overloadCount, lowestOverload}
 use Rattle.tariff.specs.Shortfall.{PriceList, shortfall, oneCent, IsWorst}
 use Rattle.tariff.proofs.Worst as W
 use Rattle.tariff.proofs.Overloads as O
+use Rattle.tariff.proofs.Rules as R
 use Rattle.tariff.proofs.Periods as P
+use Rattle.tariff.proofs.WorstNumber as N
 
 module _ (g : Grid) (process : Process) (period : Period) (book : List Contract) where
   abbrev tested : List Contract
@@ -29,7 +32,9 @@ module _ (g : Grid) (process : Process) (period : Period) (book : List Contract)
   pass-is-worst-zero = (W.pass→worst g process tested, W.worst→pass g process tested)
 
   -- Demand 3: the one-cent list is a price list, and its shortfall is the excess at its constraint
-  pub excess-is-a-shortfall : (k : ℕ) → k < g .constraints → PriceList g (oneCent g k) × (shortfall g process tested (oneCent g k) ≡ excess g process tested k)
+  pub excess-is-a-shortfall : (k : ℕ) → k < g .factors .constraints
+      → PriceList (g .factors .constraints) (oneCent (g .factors .constraints) k)
+      × (shortfall g process tested (oneCent (g .factors .constraints) k) ≡ excess g process tested k)
   excess-is-a-shortfall k h = (W.only-list g k h, W.only-shortfall g process tested k h)
 
   -- the test passes exactly when no constraint is in the overload set
@@ -37,21 +42,35 @@ module _ (g : Grid) (process : Process) (period : Period) (book : List Contract)
   pass-is-empty-set = O.passes-empty g process tested
 
   -- when it fails, the constraint named is the lowest overloaded one, and its excess is above 0
-  pub fail-names-lowest : 0 < overloadSet g process tested → O.Lowest (g .constraints) (overloaded g process tested) (lowestOverload g process tested) × (pos 0 <ℤ excess g process tested (lowestOverload g process tested))
+  pub fail-names-lowest : 0 < overloadSet g process tested
+      → Lowest (g .factors .constraints) (overloaded g process tested) (lowestOverload g process tested) × (pos 0 <ℤ excess g process tested (lowestOverload g process tested))
   fail-names-lowest s = (O.fails-lowest g process tested s, O.fails-excess g process tested s)
 
   -- the count is the set's count of ones, and the lowest its trailing zeros
   pub count-is-ones : ones (overloadSet g process tested) ≡ overloadCount g process tested
   unfolding overloadSet overloadCount
-  count-is-ones = O.set-ones (g .constraints) (overloaded g process tested)
+  count-is-ones = set-ones (g .factors .constraints) (overloaded g process tested)
 
-  pub lowest-is-trailing : g .constraints ≤ maxConstraints → 0 < overloadSet g process tested → trailingZeros 64 (overloadSet g process tested) ≡ lowestOverload g process tested
+  pub lowest-is-trailing : g .factors .constraints ≤ maxConstraints → 0 < overloadSet g process tested → trailingZeros 64 (overloadSet g process tested) ≡ lowestOverload g process tested
   unfolding overloadSet lowestOverload
-  lowest-is-trailing h s = O.set-trailing (g .constraints) 64 (overloaded g process tested) h s
+  lowest-is-trailing h s = set-trailing (g .factors .constraints) 64 (overloaded g process tested) h s
+
+  -- "this number exists": the worst shortfall is one number
+  pub worst-is-one-number : (w : ℤ) × IsWorst g process tested w × ((v : ℤ) → IsWorst g process tested v → v ≡ w)
+  worst-is-one-number = N.worst-is-one-number g process tested
+
+  -- and it is above 0 where the test does not pass
+  pub fail-worst-above-zero : (Passes g process tested → ⊥) → (w : ℤ) → IsWorst g process tested w → pos 0 <ℤ w
+  fail-worst-above-zero = N.fail-worst-above g process tested
 
 -- the contracts tested are of the period, every one
 pub tested-are-of-the-period : (period : Period) (book : List Contract) → Each (λ (c : Contract). c .period ≡ period) (ofPeriod period book)
 tested-are-of-the-period = P.ofPeriod-each
+
+-- and every contract of the period is tested, at its place in the book's order
+pub of-the-period-is-tested : (period : Period) (earlier later : List Contract) (c : Contract) → c .period ≡ period
+    → ofPeriod period (earlier ++ c ∷ later) ≡ ofPeriod period earlier ++ c ∷ ofPeriod period later
+of-the-period-is-tested = P.ofPeriod-at
 
 -- the empty book passes
 pub empty-book-passes : (g : Grid) (process : Process) (period : Period) → Passes g process (ofPeriod period [])
@@ -59,5 +78,5 @@ unfolding ofPeriod
 empty-book-passes g process period = W.empty-passes g process
 
 -- an option never relieves a constraint
-pub option-never-relieves : (g : Grid) (c : Contract) → c .kind ≡ Option → (k : ℕ) → pos 0 ≤ℤ flow g c k
-option-never-relieves g c e k = W.option-flow g c e k
+pub option-never-relieves : (f : Factors) (c : Contract) → c .kind ≡ Option → (k : ℕ) → pos 0 ≤ℤ flow f c k
+option-never-relieves f c e k = R.option-flow f c e k

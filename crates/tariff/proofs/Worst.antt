@@ -13,11 +13,11 @@ use lib.Signed.{_≤ℤ_, ≤ℤ-refl}
 use Rattle.integers.specs.Sums.{max0, sumTo, sumOver}
 use Rattle.integers.proofs.Linear.{⊖of, ⊖s, above, below, ≤ℤ-trans, *pos-mono, minus≤0, *ℤ-pos1, ≤ℤ-of-≡, expand, monos}
 use Rattle.integers.proofs.Sums.{sumTo-cong, sumTo-zero, sumTo-one, sumTo-mono, sumOver-cong, sumOver-zero, sumOver-mono, sumOver-times, sum-swap}
-use Rattle.tariff.specs.declared.Kind.{Kind}
-use Rattle.tariff.specs.declared.Kind.the-variants.{Obligation, Option}
-use Rattle.tariff.specs.declared.Contract.{Contract}
-use Rattle.tariff.specs.declared.Process.{Process}
-use Rattle.tariff.specs.Units.{Grid, factor, price}
+use Rattle.tariff.specs.declared.contracts.Kind.{Kind}
+use Rattle.tariff.specs.declared.contracts.Kind.the-variants.{Obligation, Option}
+use Rattle.tariff.specs.declared.contracts.Contract.{Contract}
+use Rattle.tariff.specs.declared.processes.Process.{Process}
+use Rattle.tariff.specs.Units.{Factors, Grid, factor, price, maxPrice}
 use Rattle.tariff.specs.Contracts.{counted}
 use Rattle.tariff.specs.Settlement.{congestion, mcc, amount, exactTotal}
 use Rattle.tariff.specs.Feasibility.{flow, totalFlow, released, Passes, excess}
@@ -58,21 +58,27 @@ weigh-one n k x w h e z = sumTo-one n k (λ j. x j *ℤ pos (w j)) h (λ j b ne.
 zero≤ : (n : ℕ) → pos 0 ≤ℤ pos n
 zero≤ n = simp ⊖s (omega arith)
 
-max0≥0 : (x : ℤ) → pos 0 ≤ℤ max0 x
-max0≥0 x = rw (⊖of x) (simp ⊖s (omega (arith, le-max-right (above x) (below x))))
-
 module _ (g : Grid) where
   abbrev K : ℕ
-  K = g .constraints
+  K = g .factors .constraints
 
-  amount≤ : (p : List ℕ) (c : Contract) → amount g p c ≤ℤ sumTo K (λ k. flow g c k *ℤ pos (price p k))
+  abbrev F : Factors
+  F = g .factors
+
+  abbrev room : Process → ℕ → ℕ
+  room process k = released (g .limits) process k
+
+  amount≤ : (p : List ℕ) (c : Contract) → amount F p c ≤ℤ sumTo K (λ k. flow F c k *ℤ pos (price p k))
   unfolding amount mcc congestion flow
-  amount≤ p c = rw (linear K (factor g (c .source)) (factor g (c .sink)) (price p) (c .quantity .0)) (convex (c .kind) K _ (price p))
+  amount≤ p c =
+      ≤ℤ-trans
+      (≤ℤ-of-≡ (ap (counted (c .kind)) (linear K (factor F (c .source)) (factor F (c .sink)) (price p) (c .quantity .0))))
+      (convex (c .kind) K (λ k. (factor F (c .source) k -ℤ factor F (c .sink) k) *ℤ pos (c .quantity .0)) (price p))
 
   -- the flows at their prices, contract by contract, are the total flows at their prices
-  by-constraint : (cs : List Contract) (p : List ℕ) → sumOver cs (λ c. sumTo K (λ k. flow g c k *ℤ pos (price p k))) ≡ sumTo K (λ k. totalFlow g cs k *ℤ pos (price p k))
+  by-constraint : (cs : List Contract) (p : List ℕ) → sumOver cs (λ c. sumTo K (λ k. flow F c k *ℤ pos (price p k))) ≡ sumTo K (λ k. totalFlow F cs k *ℤ pos (price p k))
   unfolding totalFlow
-  by-constraint cs p = sum-swap cs K _ ∙ sumTo-cong K (λ k b. sumOver-times cs (λ c. flow g c k) (pos (price p k)))
+  by-constraint cs p = sum-swap cs K _ ∙ sumTo-cong K (λ k b. sumOver-times cs (λ c. flow F c k) (pos (price p k)))
 
   -- ---- the prices that are all 0
   zeros : List ℕ
@@ -82,41 +88,41 @@ module _ (g : Grid) where
   unfolding zeros
   zeros-at k b = getD-replicate {A = ℕ} K k 0 0 b
 
-  zeros-list : PriceList g zeros
+  zeros-list : PriceList K zeros
   unfolding zeros
   zeros-list = record { one-each = length-replicate {A = ℕ} K 0; capped = λ k b. omega (arith, zeros-at k b) }
 
-  zeros-mcc : (n : ℕ) → mcc g zeros n ≡ pos 0
+  zeros-mcc : (n : ℕ) → mcc F zeros n ≡ pos 0
   unfolding mcc congestion
-  zeros-mcc n = ap negℤ (weigh-none K (factor g n) (price zeros) zeros-at)
+  zeros-mcc n = ap negℤ (weigh-none K (factor F n) (price zeros) zeros-at)
 
-  zeros-amount : (c : Contract) → amount g zeros c ≡ pos 0
+  zeros-amount : (c : Contract) → amount F zeros c ≡ pos 0
   unfolding amount
   zeros-amount c = simp (zeros-mcc, zero-mul) (counted-zero (c .kind))
 
   -- ---- the prices that are 1 at k and 0 elsewhere
   module _ (k : ℕ) (h : k < K) where
-    only-at : price (oneCent g k) k ≡ 1
+    only-at : price (oneCent K k) k ≡ 1
     unfolding oneCent
     only-at = getD-set-same {A = ℕ} (replicate K 0) k 1 0 (rw length-replicate h)
 
-    only-else : (j : ℕ) → j < K → j ≢ k → price (oneCent g k) j ≡ 0
+    only-else : (j : ℕ) → j < K → j ≢ k → price (oneCent K k) j ≡ 0
     unfolding oneCent
     only-else j b ne = getD-set-other {A = ℕ} (replicate K 0) k j 1 0 ne ∙ getD-replicate {A = ℕ} K j 0 0 b
 
-    only-small : (j : ℕ) → j < K → price (oneCent g k) j ≤ 500000
+    only-small : (j : ℕ) → j < K → price (oneCent K k) j ≤ maxPrice
     only-small j b = elim (ℕ-discrete j k) [ yes e ↦ rw e (omega (arith, only-at)) | no ne ↦ omega (arith, only-else j b ne) ]
 
-    pub only-list : PriceList g (oneCent g k)
+    pub only-list : PriceList K (oneCent K k)
     unfolding oneCent
     only-list = record { one-each = length-set {A = ℕ} (replicate K 0) k 1 ∙ length-replicate {A = ℕ} K 0; capped = only-small }
 
-    at-only : (x : ℕ → ℤ) → sumTo K (λ j. x j *ℤ pos (price (oneCent g k) j)) ≡ x k
-    at-only x = weigh-one K k x (price (oneCent g k)) h only-at only-else
+    at-only : (x : ℕ → ℤ) → sumTo K (λ j. x j *ℤ pos (price (oneCent K k) j)) ≡ x k
+    at-only x = weigh-one K k x (price (oneCent K k)) h only-at only-else
 
-    only-amount : (c : Contract) → amount g (oneCent g k) c ≡ flow g c k
+    only-amount : (c : Contract) → amount F (oneCent K k) c ≡ flow F c k
     unfolding amount mcc congestion flow
-    only-amount c = rw (at-only (factor g (c .sink)), at-only (factor g (c .source)), turn (factor g (c .source) k))
+    only-amount c = rw (at-only (factor F (c .sink)), at-only (factor F (c .source)), turn (factor F (c .source) k))
 
   module _ (process : Process) (cs : List Contract) where
     pass→≤0 : Passes g process cs → (p : List ℕ) → shortfall g process cs p ≤ℤ pos 0
@@ -125,24 +131,20 @@ module _ (g : Grid) where
 
     zeros-shortfall : shortfall g process cs zeros ≡ pos 0
     unfolding shortfall netPayment exactTotal rent
-    zeros-shortfall = ap₂ _-ℤ_ (sumOver-cong cs zeros-amount ∙ sumOver-zero cs) (weigh-none K (λ k. pos (released g process k)) (price zeros) zeros-at)
+    zeros-shortfall = ap₂ _-ℤ_ (sumOver-cong cs zeros-amount ∙ sumOver-zero cs) (weigh-none K (λ k. pos (room process k)) (price zeros) zeros-at)
 
-    pub only-shortfall : (k : ℕ) → k < K → shortfall g process cs (oneCent g k) ≡ excess g process cs k
+    pub only-shortfall : (k : ℕ) → k < K → shortfall g process cs (oneCent K k) ≡ excess g process cs k
     unfolding shortfall netPayment exactTotal rent excess totalFlow
-    only-shortfall k h = ap₂ _-ℤ_ (sumOver-cong cs (only-amount k h)) (at-only k h (λ j. pos (released g process j)))
+    only-shortfall k h = ap₂ _-ℤ_ (sumOver-cong cs (only-amount k h)) (at-only k h (λ j. pos (room process j)))
 
     pub pass→worst : Passes g process cs → IsWorst g process cs (pos 0)
     pass→worst h = record { prices = zeros; is-list = zeros-list; reached = zeros-shortfall; most = λ p v. pass→≤0 h p }
 
     pub worst→pass : IsWorst g process cs (pos 0) → Passes g process cs
     unfolding excess
-    worst→pass h = record { within = λ k b. minus≤0 .1 (rw (only-shortfall k b) at (h .most (oneCent g k) (only-list k b))) }
+    worst→pass h = record { within = λ k b. minus≤0 .1 (rw (only-shortfall k b) at (h .most (oneCent K k) (only-list k b))) }
 
-  -- ---- the empty book, and options
+  -- ---- the empty book
   pub empty-passes : (process : Process) → Passes g process []
   unfolding totalFlow sumOver
-  empty-passes process = record { within = λ k h. zero≤ (released g process k) }
-
-  pub option-flow : (c : Contract) → c .kind ≡ Option → (k : ℕ) → pos 0 ≤ℤ flow g c k
-  unfolding flow
-  option-flow c e k = rw e (max0≥0 ((factor g (c .source) k -ℤ factor g (c .sink) k) *ℤ pos (c .quantity .0)))
+  empty-passes process = record { within = λ k h. zero≤ (room process k) }

@@ -1,17 +1,14 @@
 -- Document 01, "When input is turned down": the conditions on counts, numbers and figures, each with its refusal. Those on a file's bytes are in layouts.
-use mathlib.Core.Bool.{Bool, false, _||_}
-use mathlib.Core.List.{List, [], _∷_}
+use mathlib.Core.Bool.{Bool, _||_}
+use mathlib.Core.List.{List}
 use Prim.Native.Nat.{ℕ}
 use lib.Dec.{leb, ltb, eqb}
 use lib.IntN.{ℤ, natAbs}
-use Rattle.tariff.specs.declared.Refusal.the-variants.{NodeCount, ConstraintCount, LimitRange, FactorRange, ShortTable, ContractCount, NodeNumber, SameEnds, QuantityRange, PriceRange, ProcessNumber, PeriodOrKind, HolderRange}
+use Rattle.lists.specs.Lists.{some, above}
+use Rattle.tariff.specs.declared.refusals.Refusal.the-variants.{NodeCount, ConstraintCount, LimitRange, FactorRange, ShortTable, ContractCount}
+use Rattle.tariff.specs.declared.refusals.Refusal.the-variants.{NodeNumber, SameEnds, QuantityRange, PriceRange, ProcessNumber, PeriodOrKind, HolderRange}
 use Rattle.tariff.specs.Units.{maxNodes, maxConstraints, maxContracts, maxLimit, maxFactor, maxPrice, maxQuantity, maxHolder}
 use Rattle.tariff.specs.Refusals.{Check}
-
--- whether some element of a list is bad
-unfoldable pub some : {A : Type 0} → (A → Bool) → List A → Bool
-some bad [] = false
-some bad (x ∷ xs) = bad x || some bad xs
 
 -- 2: nodes 0 or above 200
 abbrev pub nodeCount : ℕ → Check
@@ -23,7 +20,7 @@ constraintCount k = record { fails = ltb maxConstraints k; refusal = ConstraintC
 
 -- 6: a limit too large
 abbrev pub limitBad : ℕ → Bool
-limitBad l = ltb maxLimit l
+limitBad l = above maxLimit l
 
 abbrev pub limitRange : List ℕ → Check
 limitRange ls = record { fails = some limitBad ls; refusal = LimitRange }
@@ -57,7 +54,7 @@ quantityRange q = record { fails = eqb q 0 || ltb maxQuantity q; refusal = Quant
 
 -- 15: a price too large
 abbrev pub priceBad : ℕ → Bool
-priceBad p = ltb maxPrice p
+priceBad p = above maxPrice p
 
 abbrev pub priceRange : List ℕ → Check
 priceRange ps = record { fails = some priceBad ps; refusal = PriceRange }

@@ -6,3 +6,4 @@ pub mod Processes
 pub mod Settlement
 pub mod Feasibility
 pub mod Shortfall
+pub mod Inner

@@ -1,13 +1,15 @@
 -- Document 01, "When input is turned down": the refusals' numbers, the first check that holds, and what becomes of lent cells.
 use mathlib.Core.Bool.{Bool, cond}
-use mathlib.Core.List.{List, [], _∷_, _++_}
+use mathlib.Core.List.{List, [], _∷_}
 use Prim.Native.Nat.{ℕ}
-use lib.ListN.{length, drop}
 use lib.IntN.{ℤ}
-use Rattle.tariff.specs.declared.Refusal.{Refusal}
-use Rattle.tariff.specs.declared.Refusal.the-variants.{ShortFile, NodeCount, ConstraintCount, SpareBits, FileLength, LimitRange, FactorRange, Padding, ShortTable, ContractCount, NodeNumber, SameEnds, QuantityRange, PriceCount, PriceRange, ProcessNumber, PeriodOrKind, HolderRange}
-use Rattle.tariff.specs.declared.Checked.{Checked}
-use Rattle.tariff.specs.declared.Checked.the-variants.{Passed, Refused}
+use Rattle.lists.specs.Lent.{overwrite}
+use Rattle.tariff.specs.declared.refusals.Refusal.{Refusal}
+use Rattle.tariff.specs.declared.refusals.Refusal.the-variants.{ShortFile, NodeCount, ConstraintCount, SpareBits, FileLength, LimitRange, FactorRange}
+use Rattle.tariff.specs.declared.refusals.Refusal.the-variants.{Padding, ShortTable, ContractCount, NodeNumber, SameEnds, QuantityRange}
+use Rattle.tariff.specs.declared.refusals.Refusal.the-variants.{PriceCount, PriceRange, ProcessNumber, PeriodOrKind, HolderRange}
+use Rattle.tariff.specs.declared.refusals.Checked.{Checked}
+use Rattle.tariff.specs.declared.refusals.Checked.the-variants.{Passed, Refused}
 
 -- the paper's number of each refusal
 abbrev pub numberOf : Refusal → ℕ
@@ -60,10 +62,14 @@ refusedBy r = record { number = numberOf r; values = [] }
 abbrev pub answered : Checked → List ℤ → Outcome
 answered checked vs = decided checked refusedBy (given vs)
 
--- "success writes the cells named and no other": the values from the front, the rest as at entry
-abbrev pub overwrite : {A : Type 0} → List A → List A → List A
-overwrite values entry = values ++ drop (length values) entry
-
--- "a refusal changes no lent cell"
+-- "a refusal changes no lent cell"; "success writes the cells named and no other"
 abbrev pub cellsAfter : {A : Type 0} → Checked → List A → List A → List A
 cellsAfter checked values entry = decided checked (λ r. entry) (overwrite values entry)
+
+-- the same of one lent figure
+abbrev pub cellAfter : {A : Type 0} → Checked → A → A → A
+cellAfter checked value entry = decided checked (λ r. entry) value
+
+-- the number alone: 0 is no refusal's
+abbrev pub numberAfter : Checked → ℕ
+numberAfter checked = decided checked numberOf 0

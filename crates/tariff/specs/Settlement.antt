@@ -1,25 +1,21 @@
 -- Document 01, "The rules": congestion components, amounts, cents and the exact total.
 use mathlib.Core.List.{List}
-use Prim.Native.Nat.{ℕ, _-_, _*_}
+use Prim.Native.Nat.{ℕ}
 use lib.IntN.{ℤ, pos, negℤ, _-ℤ_, _*ℤ_}
 use Rattle.integers.specs.Sums.{sumTo, sumOver}
 use Rattle.integers.specs.Division.{floorDiv, floorMod, roundAway}
-use Rattle.tariff.specs.declared.Contract.{Contract}
-use Rattle.tariff.specs.Units.{Grid, factor, price}
+use Rattle.tariff.specs.declared.contracts.Contract.{Contract}
+use Rattle.tariff.specs.Units.{Factors, factor, price, perCent}
 use Rattle.tariff.specs.Contracts.{counted}
 
--- 10^-8 cents in a cent
-abbrev pub perCent : ℕ
-perCent = 100000000
-
-module _ (g : Grid) (p : List ℕ) where
+module _ (f : Factors) (p : List ℕ) where
   -- the sum of factor × price over the first k constraints, at node n: 002 part C before its negation
   unfoldable pub congestion : ℕ → ℕ → ℤ
-  congestion n k = sumTo k (λ j. factor g n j *ℤ pos (price p j))
+  congestion n k = sumTo k (λ j. factor f n j *ℤ pos (price p j))
 
   -- the MCC of node n, in 10^-5 cents per MWh (002 part C): products summed first to last, then one negation
   unfoldable pub mcc : ℕ → ℤ
-  mcc n = negℤ (congestion n (g .constraints))
+  mcc n = negℤ (congestion n (f .constraints))
 
   -- the exact amount of a contract, in 10^-8 cents for one hour (003, 36.2.1 and 36.2.2): sink minus source
   unfoldable pub amount : Contract → ℤ

@@ -1,8 +1,8 @@
--- Document 01, "Units": the ranges of figures and counts, and the grid that figures are looked up in.
+-- Document 01, "Units": the ranges of figures and counts, and the tables that figures are looked up in.
 use mathlib.Core.List.{List}
-use Prim.Native.Nat.{ℕ, _+_, _*_, _≤_, _<_}
-use lib.ListN.{getD}
-use lib.IntN.{ℤ, pos, natAbs}
+use Prim.Native.Nat.{ℕ, _+_, _*_}
+use lib.ListN.{getD, take}
+use lib.IntN.{ℤ, pos}
 
 -- quantity, in thousandths of a MW: 1 to this
 abbrev pub maxQuantity : ℕ
@@ -33,33 +33,35 @@ maxContracts = 1000
 abbrev pub maxHolder : ℕ
 maxHolder = 1023
 
--- A grid. Nodes and constraints are numbered from 0; the factor of node n on constraint k stands in cell n × constraints + k. Cells past those that the
--- counts name do not matter.
-pub record Grid : Type 0 where
+-- "Exact amount: 10^-8 cents": so many parts in a cent
+abbrev pub perCent : ℕ
+perCent = 100000000
+
+-- The shift factors of a grid, its nodes and constraints numbered from 0: all of node 0, then node 1 and so on.
+pub record Factors : Type 0 where
   pub nodes : ℕ
   pub constraints : ℕ
+  pub cells : List ℤ
+
+-- of a table, as many cells as the counts say
+abbrev pub factorsOf : ℕ → ℕ → List ℤ → Factors
+factorsOf n k table = record { nodes = n; constraints = k; cells = take (n * k) table }
+
+-- of node n on constraint k
+abbrev pub factor : Factors → ℕ → ℕ → ℤ
+factor f n k = getD (f .cells) (n * f .constraints + k) (pos 0)
+
+-- A grid: its factors, and a limit for each constraint.
+pub record Grid : Type 0 where
+  pub factors : Factors
   pub limits : List ℕ
-  pub factors : List ℤ
 
-abbrev pub grid : ℕ → ℕ → List ℕ → List ℤ → Grid
-grid n k ls fs = record { nodes = n; constraints = k; limits = ls; factors = fs }
+abbrev pub gridOf : ℕ → ℕ → List ℕ → List ℤ → Grid
+gridOf n k limits table = record { factors = factorsOf n k table; limits = take k limits }
 
-abbrev pub limit : Grid → ℕ → ℕ
-limit g k = getD (g .limits) k 0
+-- the limit, and the shadow price, of constraint k
+abbrev pub limit : List ℕ → ℕ → ℕ
+limit ls k = getD ls k 0
 
-abbrev pub factor : Grid → ℕ → ℕ → ℤ
-factor g n k = getD (g .factors) (n * g .constraints + k) (pos 0)
-
--- the shadow price of constraint k
 abbrev pub price : List ℕ → ℕ → ℕ
-price p k = getD p k 0
-
--- figures of a grid that are within their ranges
-pub record FactorsInRange (g : Grid) : Type 0 where
-  pub factor-sized : (n k : ℕ) → n < g .nodes → k < g .constraints → natAbs (factor g n k) ≤ maxFactor
-
-pub record LimitsInRange (g : Grid) : Type 0 where
-  pub limit-sized : (k : ℕ) → k < g .constraints → limit g k ≤ maxLimit
-
-pub record PricesInRange (g : Grid) (p : List ℕ) : Type 0 where
-  pub price-sized : (k : ℕ) → k < g .constraints → price p k ≤ maxPrice
+price ps k = getD ps k 0

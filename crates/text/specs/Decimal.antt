@@ -1,10 +1,8 @@
--- Figures as text: "figures have no leading zeros, and a minus sign if negative" (document 01, "The hour statement"), and text put into a lent buffer.
-use mathlib.Core.Path.{_≡_}
+-- Figures as text: "figures have no leading zeros, and a minus sign if negative" (document 01, "The hour statement").
 use mathlib.Core.Bool.{cond}
 use mathlib.Core.List.{List, [], _∷_, _++_}
 use Prim.Native.Nat.{ℕ, zero, suc, _+_, _/_, _%_}
 use lib.Dec.{ltb}
-use lib.ListN.{length, take, drop}
 use lib.IntN.{ℤ, pos, negsuc}
 
 -- the decimal digits of n as characters, the most significant first; at most d of them
@@ -19,12 +17,3 @@ decimal n = digitsIn 20 n
 unfoldable pub decimalZ : ℤ → List ℕ
 decimalZ (pos n) = decimal n
 decimalZ (negsuc n) = 45 ∷ decimal (suc n)
-
--- a buffer with text put at a place, the rest as it was
-abbrev pub pasted : List ℕ → ℕ → List ℕ → List ℕ
-pasted buf at text = take at buf ++ text ++ drop (at + length text) buf
-
--- a buffer that has become another by a text put at a place, and the place behind it
-pub record Put (entry : List ℕ) (at : ℕ) (text exit : List ℕ) (next : ℕ) : Type 0 where
-  pub cells : exit ≡ pasted entry at text
-  pub place : next ≡ at + length text

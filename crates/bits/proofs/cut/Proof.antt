@@ -6,18 +6,6 @@ use Rattle.bits.proofs.Fields.{field-code}
 use Rattle.bits.proofs.cut.Statement.{statement}
 use Rattle.bits.proofs.cut.Tie as tie
 
-mul-part : tie.Need-mul-part
-mul-part c = search needs
-
-sub-part : tie.Need-sub-part
-sub-part c = search needs
-
-sub-part-2 : tie.Need-sub-part-2
-sub-part-2 c = search needs
-
-part-requires : tie.Need-part-requires
-part-requires c κs = search needs
-
 returns : tie.Need-returns
 returns c =
     let a = c .before .before .args in
@@ -26,4 +14,4 @@ returns c =
     (c .part .ensures .0 ∙ field-code (a .s .now) (a .offset) (a .width) (a .count) (a .acc) bytes (p .0 .0) (p .0 .1) (p .1), c .part .ensures .1)
 
 pub cut-spec : {M : Type 1} → statement M
-cut-spec = tie.close (tie.spec mul-part sub-part sub-part-2 part-requires returns)
+cut-spec = tie.close (tie.spec (λ c. search needs) (λ c. search needs) (λ c. search needs) (λ c κs. search needs) returns)

@@ -5,9 +5,6 @@ use borrow.Author.Needs.{needs}
 use Rattle.bits.proofs.join.Statement.{statement}
 use Rattle.bits.proofs.join.Tie as tie
 
-shl-result : tie.Need-shl-result
-shl-result c = search needs
-
 add-result : tie.Need-add-result
 add-result c = omega (arith, join-lt (c .args .a) (c .args .v) (c .args .width) (c .pre .1) (c .pre .0))
 
@@ -15,4 +12,4 @@ returns : tie.Need-returns
 returns c held h = join-low (c .args .a) (c .args .v) (c .args .width) (c .pre .1) (c .pre .0) held h
 
 pub join-spec : {M : Type 1} → statement M
-join-spec = tie.close (tie.spec shl-result add-result returns)
+join-spec = tie.close (tie.spec (λ c. search needs) add-result returns)

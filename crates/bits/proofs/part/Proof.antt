@@ -7,12 +7,6 @@ use borrow.Author.Needs.{needs}
 use Rattle.bits.proofs.part.Statement.{statement}
 use Rattle.bits.proofs.part.Tie as tie
 
-shr-result : tie.Need-shr-result
-shr-result c = search needs
-
-shl-result : tie.Need-shl-result
-shl-result c = search needs
-
 rem-result : tie.Need-rem-result
 rem-result c = rw (one-shl (c .args .width) (c .pre .1)) (pow-pos (c .args .width))
 
@@ -20,4 +14,4 @@ returns : tie.Need-returns
 returns c = rw (one-shl (c .args .width) (c .pre .1)) (refl, mod-lt _ (pow-pos (c .args .width)))
 
 pub part-spec : {M : Type 1} → statement M
-part-spec = tie.close (tie.spec shr-result shl-result rem-result returns)
+part-spec = tie.close (tie.spec (λ c. search needs) (λ c. search needs) rem-result returns)

@@ -4,16 +4,10 @@ use Prim.Native.Nat.{_+_, _≤_}
 use native.Mathlib.Omega.{arith}
 use lib.ListN.{length}
 use borrow.Author.Needs.{needs}
-use Rattle.bits.specs.Pen.{written}
-use Rattle.bits.proofs.Writing.{word-turn, word-rest, put-more}
+use Rattle.bits.specs.Inner.{written}
+use Rattle.bits.proofs.Writing.{bytes-turn, bytes-rest, put-more}
 use Rattle.bits.proofs.put.Statement.{statement}
 use Rattle.bits.proofs.put.Tie as tie
-
-add-held : tie.Need-add-held
-add-held c = search needs
-
-join-requires : tie.Need-join-requires
-join-requires c κs = search needs
 
 returns : tie.Need-returns
 unfolding written
@@ -23,18 +17,6 @@ returns c =
       put-more _ (a .pen .held) _ _ (a .v) (a .width) (j .ensures (a .pen .held) (omega arith)),
       ((omega arith, omega (arith, c .if1 .taken)), record { onward = omega arith; rest = refl }),
     )
-
-part-requires : tie.Need-part-requires
-part-requires c κs = search needs
-
-store4-requires : tie.Need-store4-requires
-store4-requires c κs = search needs
-
-add-t14 : tie.Need-add-t14
-add-t14 c = search needs
-
-same-length : tie.Need-same-length
-same-length c = search needs
 
 returns-2 : tie.Need-returns-2
 unfolding written
@@ -46,20 +28,12 @@ returns-2 c =
     let w = c .before .before .before .part in
     let st = c .before .before .store4 in
     let room : a .pen .at + 4 ≤ length (a .buf .now) = omega (arith, s .pre, i .if1 .left) in (
-      word-turn (a .buf .now) _ (a .pen .at) (w .result) room (st .ensures) (a .pen .held + a .width) (j .result) (omega (arith, i .if1 .left)) (w .ensures .1) (w .ensures .0)
+      bytes-turn 4 (a .buf .now) _ (a .pen .at) (w .result) room (st .ensures) (a .pen .held + a .width) (j .result) (omega (arith, i .if1 .left)) (w .ensures .0)
           ∙ put-more _ (a .pen .held) _ _ (a .v) (a .width) (j .ensures (a .pen .held) (omega (arith, s .pre))),
-      ((omega (arith, i .if1 .left), omega (arith, s .pre)), record { onward = omega arith; rest = word-rest (a .buf .now) _ (a .pen .at) (w .result) room (st .ensures) }),
+      ((omega (arith, i .if1 .left), omega (arith, s .pre)), record { onward = omega arith; rest = bytes-rest 4 (a .buf .now) _ (a .pen .at) (w .result) room (st .ensures) }),
     )
 
 pub put-spec : {M : Type 1} → statement M
 put-spec =
-    tie.close
-    (tie.spec
-    add-held
-    join-requires
-    returns
-    part-requires
-    store4-requires
-    add-t14
-    same-length
-    returns-2)
+    tie.close (tie.spec
+    (λ c. search needs) (λ c κs. search needs) returns (λ c κs. search needs) (λ c κs. search needs) (λ c. search needs) (λ c. search needs) returns-2)

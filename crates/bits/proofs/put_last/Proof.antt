@@ -5,20 +5,11 @@ use Rattle.bits.proofs.Writing.{goes-on}
 use Rattle.bits.proofs.put_last.Statement.{statement}
 use Rattle.bits.proofs.put_last.Tie as tie
 
-put-requires : tie.Need-put-requires
-put-requires c κs = search needs
-
-shed-requires : tie.Need-shed-requires
-shed-requires c κs = search needs
-
-same-length : tie.Need-same-length
-same-length c = search needs
-
 returns : tie.Need-returns
 returns c =
     let p = c .before .before .before .before .before .before .put in
     let s = c .before .before .shed in
-    (s .ensures .0 ∙ p .ensures .0, ((s .ensures .1 .0 .0 ∙ p .ensures .1 .0 .0, s .ensures .1 .0 .1, s .ensures .1 .0 .2), goes-on (p .ensures .1 .1) (s .ensures .1 .1)))
+    (rw (p .ensures .0) at (s .ensures .0), ((s .ensures .1 .0 .0 ∙ p .ensures .1 .0 .0, s .ensures .1 .0 .1, s .ensures .1 .0 .2), goes-on (p .ensures .1 .1) (s .ensures .1 .1)))
 
 pub put-last-spec : {M : Type 1} → statement M
-put-last-spec = tie.close (tie.spec put-requires shed-requires same-length returns)
+put-last-spec = tie.close (tie.spec (λ c κs. search needs) (λ c κs. search needs) (λ c. search needs) returns)

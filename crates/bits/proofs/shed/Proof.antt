@@ -2,12 +2,12 @@
 use mathlib.Core.Path.{_≡_, _∙_}
 use Prim.Native.Nat.{_≤_, _+_, _*_, _%_, _^_}
 use native.Mathlib.Omega.{arith}
-use lib.ListN.{length, take, drop, length-set}
+use lib.ListN.{length, take, drop}
 use borrow.Author.Needs.{needs}
 use Rattle.bits.specs.Bits.{number}
-use Rattle.bits.specs.Pen.{written}
-use Rattle.bits.proofs.Writing.{put-turn}
-use Rattle.bits.proofs.Fill.{rest-turn}
+use Rattle.bits.specs.Inner.{written}
+use Rattle.bits.proofs.Writing.{bytes-turn, bytes-rest}
+use Rattle.lists.proofs.Fill.{drop-later}
 use Rattle.bits.proofs.shed.Statement.{statement}
 use Rattle.bits.proofs.shed.Tie as tie
 
@@ -19,37 +19,19 @@ Inv-loop buf₀ at₀ held₀ bits buf at held =
 abbrev μ-loop : tie.MeasureT-loop
 μ-loop buf₀ at₀ held₀ bits buf at held = held
 
-loop-holds : tie.Need-loop-holds Inv-loop μ-loop
-loop-holds c = search needs
-
-part-requires : tie.Need-part-requires Inv-loop μ-loop
-part-requires c κs = search needs
-
-cast-buf : tie.Need-cast-buf Inv-loop μ-loop
-cast-buf c = search needs
-
-slice-write-buf : tie.Need-slice-write-buf Inv-loop μ-loop
-slice-write-buf c = search needs
-
-add-at : tie.Need-add-at Inv-loop μ-loop
-add-at c = search needs
-
-loop-less : tie.Need-loop-less Inv-loop μ-loop
-loop-less c = search needs
-
 loop-again : tie.Need-loop-again Inv-loop μ-loop
 loop-again c =
-    let l = c .before .before .loop in (
-      rest-turn (l .buf) _ (l .at) _ (l .inv .0),
-      simp length-set (omega arith),
+    let b = c .before .before .store1 in
+    let p = c .before .before .before .part in
+    let l = c .before .before .before .before .before .before .loop in
+    let room : l .at + 1 ≤ length (l .buf) = omega arith in (
+      bytes-rest 1 (l .buf) (b .last .0) (l .at) (p .result) room (b .ensures) ∙ drop-later (l .buf) _ (l .at) (l .at + 1) (omega arith) (l .inv .0),
       omega arith,
       omega arith,
       omega arith,
-      put-turn (l .buf) (l .at) (l .held) _ _ (omega arith) (omega arith) (c .part .ensures .0) ∙ l .inv .5,
+      omega arith,
+      bytes-turn 1 (l .buf) (b .last .0) (l .at) (p .result) room (b .ensures) (l .held) _ (omega arith) (p .ensures .0) ∙ l .inv .5,
     )
-
-same-length : tie.Need-same-length Inv-loop μ-loop
-same-length c = search needs
 
 returns : tie.Need-returns Inv-loop μ-loop
 unfolding written
@@ -59,16 +41,6 @@ returns c =
 
 pub shed-spec : {M : Type 1} → statement M
 shed-spec =
-    tie.close
-    (tie.spec
-    Inv-loop
-    μ-loop
-    loop-holds
-    part-requires
-    cast-buf
-    slice-write-buf
-    add-at
-    loop-less
-    loop-again
-    same-length
+    tie.close (tie.spec
+    Inv-loop μ-loop (λ c. search needs) (λ c κs. search needs) (λ c κs. search needs) (λ c. search needs) (λ c. search needs) loop-again (λ c. search needs)
     returns)

@@ -15,27 +15,10 @@ Inv-loop s first count acc₀ i₀ acc i =
 abbrev μ-loop : tie.MeasureT-loop
 μ-loop s first count acc₀ i₀ acc i = count - i
 
-loop-holds : tie.Need-loop-holds Inv-loop μ-loop
-loop-holds c = search needs
-
-more-requires : tie.Need-more-requires Inv-loop μ-loop
-more-requires c κs = search needs
-
-add-i : tie.Need-add-i Inv-loop μ-loop
-add-i c = search needs
-
-loop-less : tie.Need-loop-less Inv-loop μ-loop
-loop-less c = search needs
-
-loop-again : tie.Need-loop-again Inv-loop μ-loop
-loop-again c = search needs
-
 returns : tie.Need-returns Inv-loop μ-loop
 returns c =
     let last : c .before .loop .i ≡ c .before .before .before .args .count = omega arith in
     rw last at (c .before .loop .inv .1)
 
 pub window-spec : {M : Type 1} → statement M
-window-spec =
-    tie.close
-    (tie.spec Inv-loop μ-loop loop-holds more-requires add-i loop-less loop-again returns)
+window-spec = tie.close (tie.spec Inv-loop μ-loop (λ c. search needs) (λ c κs. search needs) (λ c. search needs) (λ c. search needs) (λ c. search needs) returns)

@@ -1,49 +1,24 @@
--- `check_test`: each return by the tests that led there.
-use mathlib.Core.Path.{sym, _∙_}
-use borrow.Author.Tests.{lt-ltb, le-ltb}
-use Rattle.tariff.proofs.Checks.{first-passes, first-refuses, nodes-few-of}
-use Rattle.feasibility_test.specs.TestChecks.{testChecks}
+-- `check_test`: the tables' checks, then the book's own.
+use mathlib.Core.Path.{_∙_}
+use Rattle.feasibility_test.specs.TestBook.{TestCall, testCall}
+use Rattle.feasibility_test.proofs.Checking.{table-refuses, then-book}
 use borrow.Author.Needs.{needs}
 use Rattle.feasibility_test.proofs.check_test.Statement.{statement}
 use Rattle.feasibility_test.proofs.check_test.Tie as tie
 
-nodes-bad-requires : tie.Need-nodes-bad-requires
-nodes-bad-requires c κs = search needs
+abbrev call : tie.Start → TestCall
+call c = testCall (c .args .nodes) (c .args .constraints) (c .args .process) (c .args .period) (c .args .limits .now) (c .args .factors .now) (c .args .book .now)
 
 returns : tie.Need-returns
-unfolding testChecks
-returns c = sym (first-refuses _ _ (sym (c .before .nodes-bad .ensures) ∙ c .if1 .taken))
+returns c =
+    let k = c .before .before .before in
+    table-refuses (call (k .before .before .before)) (k .check-grid-tables .result) (k .check-grid-tables .ensures) _ (c .before .in-tables .given .1)
 
 returns-2 : tie.Need-returns-2
-unfolding testChecks
-returns-2 c = let n = c .before in sym (first-passes _ _ (sym (n .before .nodes-bad .ensures) ∙ n .if1 .left) ∙ first-refuses _ _ (lt-ltb _ _ (c .if2 .taken)))
-
-returns-3 : tie.Need-returns-3
-unfolding testChecks
-returns-3 c =
-    let n = c .before .before in
-    sym (first-passes _ _ (sym (n .before .nodes-bad .ensures) ∙ n .if1 .left) ∙ first-passes _ _ (le-ltb _ _ (c .before .if2 .left)) ∙ first-refuses _ _ (lt-ltb _ _ (c .if3 .taken)))
-
-returns-4 : tie.Need-returns-4
-unfolding testChecks
-returns-4 c =
-    let n = c .before .before .before in
-    sym (first-passes _ _ (sym (n .before .nodes-bad .ensures) ∙ n .if1 .left) ∙ first-passes _ _ (le-ltb _ _ (c .before .before .if2 .left))
-    ∙ first-passes _ _ (le-ltb _ _ (c .before .if3 .left)) ∙ first-refuses _ _ (lt-ltb _ _ (c .if4 .taken)))
-
-check-tables-requires : tie.Need-check-tables-requires
-check-tables-requires c κs = let n = c .before .before .before in (nodes-few-of _ (sym (n .before .nodes-bad .ensures) ∙ n .if1 .left), search needs)
-
-returns-5 : tie.Need-returns-5
-unfolding testChecks
-returns-5 c =
-    let p = c .before in
-    let n = p .before .before .before in
-    c .check-tables .ensures
-    ∙ sym (first-passes _ _ (sym (n .before .nodes-bad .ensures) ∙ n .if1 .left) ∙ first-passes _ _ (le-ltb _ _ (p .before .before .if2 .left))
-    ∙ first-passes _ _ (le-ltb _ _ (p .before .if3 .left)) ∙ first-passes _ _ (le-ltb _ _ (p .if4 .left)))
+returns-2 c =
+    let k = c .before .before .before in
+    c .check-book .ensures
+    ∙ then-book (call (k .before .before .before)) (k .check-grid-tables .result) (k .check-grid-tables .ensures) (c .before .enum-told .given .1)
 
 pub check-test-spec : {M : Type 1} → statement M
-check-test-spec =
-    tie.close
-    (tie.spec nodes-bad-requires returns returns-2 returns-3 returns-4 check-tables-requires returns-5)
+check-test-spec = tie.close (tie.spec (λ c κs. search needs) (λ c. search needs) returns (λ c. search needs) (λ c κs. search needs) returns-2)

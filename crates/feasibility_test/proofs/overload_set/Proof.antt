@@ -1,10 +1,11 @@
 -- `overload_set`: the bits below k are set.
 use mathlib.Core.Path.{_≡_, refl, sym, ap, _∙_}
-use Prim.Native.Nat.{ℕ, _-_, _≤_}
+use mathlib.Core.Bool.{Bool}
+use Prim.Native.Nat.{ℕ, _-_, _^_, _≤_}
 use native.Mathlib.Omega.{arith}
 use lib.ListN.{getD, set}
 use borrow.Author.Needs.{needs}
-use Rattle.tariff.specs.Feasibility.{setOf}
+use Rattle.lists.specs.Sets.{setOf}
 use lib.IntN.{pos}
 use mathlib.Core.Logic.{⊎-elim}
 use lib.Dec.{lit<}
@@ -24,60 +25,51 @@ loop-holds : tie.Need-loop-holds Inv-loop μ-loop
 unfolding setOf
 loop-holds c = (omega arith, refl)
 
-mul-t11 : tie.Need-mul-t11 Inv-loop μ-loop
-mul-t11 c = search needs
-
-array-copy-out-t14 : tie.Need-array-copy-out-t14 Inv-loop μ-loop
-array-copy-out-t14 c = search needs
-
-mul-released : tie.Need-mul-released Inv-loop μ-loop
-mul-released c = search needs
-
-shared-slice-read-released : tie.Need-shared-slice-read-released Inv-loop μ-loop
-shared-slice-read-released c = search needs
-
 released-requires : tie.Need-released-requires Inv-loop μ-loop
-released-requires c κs = c .before .before .before .before .before .before .pre .1 (c .before .before .before .loop .k) (c .before .before .loop-test .taken) .0
+released-requires c κs = c .before .before .before .before .before .before .pre .good-limits .sized (c .before .before .before .loop .k) (c .before .before .loop-test .taken)
 
 exceeds-requires : tie.Need-exceeds-requires Inv-loop μ-loop
 exceeds-requires c κs =
     let s = c .before .before .before .before .before .before .before in
     let k = c .before .before .before .before .loop .k in
-    let p = s .pre .1 k (c .before .before .before .loop-test .taken) in
-    let flow = kept-sized (getD (s .args .flows .flows) k (pos 0)) 4611686018427387904 (lit< tt) (omega (arith, p .1)) in
-    let limit = released-small (c .released .result .0) (getD (s .args .limits .now) k 0) (s .args .process) (p .0) (c .released .ensures) in
+    let t = c .before .before .before .loop-test .taken in
+    let flow = kept-sized (getD (s .args .flows .flows) k (pos 0)) (2 ^ 62) (lit< tt) (omega (arith, s .pre .flows-sized k t)) in
+    let limit = released-small (c .released .result .0) (getD (s .args .limits .now) k 0) (s .args .process) (s .pre .good-limits .sized k t) (c .released .ensures) in
     (omega (arith, flow, limit), omega (arith, flow, limit))
 
-is : (c : tie.After-exceeds Inv-loop μ-loop) → let s = c .before .before .before .before .before .before .before .before in over (s .args .limits .now) (s .args .process) (s .args .flows .flows) (c .before .before .before .before .before .loop .k) ≡ c .exceeds .result
+-- whether it is overloaded is what the test found
+abbrev overloaded : tie.Start Inv-loop μ-loop → ℕ → Bool
+overloaded s = over (s .args .limits .now) (s .args .process) (s .args .flows .flows)
+
+is : (c : tie.After-exceeds Inv-loop μ-loop)
+    → overloaded (c .before .before .before .before .before .before .before .before) (c .before .before .before .before .before .loop .k) ≡ c .exceeds .result
 is c =
     let s = c .before .before .before .before .before .before .before .before in
     let k = c .before .before .before .before .before .loop .k in
-    over-is (s .args .limits .now) (s .args .process) (s .args .flows .flows) k (c .before .released .result .0) (c .exceeds .result) (s .pre .1 k (c .before .before .before .before .loop-test .taken) .1) (c .before .released .ensures) (c .exceeds .ensures)
-
-shl-set : tie.Need-shl-set Inv-loop μ-loop
-shl-set c = search needs
+    let flow = s .pre .flows-sized k (c .before .before .before .before .loop-test .taken) in
+    let r = c .before .released in
+    over-is (s .args .limits .now) (s .args .process) (s .args .flows .flows) k (r .result .0) (c .exceeds .result) flow (r .ensures) (c .exceeds .ensures)
 
 add-set : tie.Need-add-set Inv-loop μ-loop
 add-set c = let l = c .before .before .before .before .before .before .loop in record { fits = bit-fits (l .set) (l .k) _ (omega arith) (l .inv .1) }
-
-add-k : tie.Need-add-k Inv-loop μ-loop
-add-k c = search needs
-
-loop-less : tie.Need-loop-less Inv-loop μ-loop
-loop-less c = search needs
 
 loop-again : tie.Need-loop-again Inv-loop μ-loop
 loop-again c =
     let s = c .before .before .before .before .before .before .before .before .before in
     let l = c .before .before .before .before .before .before .loop in
-    let f = over (s .args .limits .now) (s .args .process) (s .args .flows .flows) in
-    (omega arith, ⊎-elim (λ w. bit-set (l .set) (c .if1 .set) (l .k) f (omega arith) (l .inv .1) (w .1) (is (c .before) ∙ w .0 .taken)) (λ w. w .1 ∙ l .inv .1 ∙ sym (set-skip (l .k) f (is (c .before) ∙ w .0 .left))) (c .if1 .came))
+    let f = overloaded s in (
+      omega arith,
+      ⊎-elim
+          (λ w. bit-set (l .set) (c .if1 .set) (l .k) f (omega arith) (l .inv .1) (w .1) (is (c .before) ∙ w .0 .taken))
+          (λ w. w .1 ∙ l .inv .1 ∙ sym (set-skip (l .k) f (is (c .before) ∙ w .0 .left)))
+          (c .if1 .came),
+    )
 
 returns : tie.Need-returns Inv-loop μ-loop
 returns c =
     let s = c .before .before .before .before in
     let last : c .before .loop .k ≡ s .args .constraints = omega arith in
-    c .before .loop .inv .1 ∙ ap (λ (x : ℕ). setOf x (over (s .args .limits .now) (s .args .process) (s .args .flows .flows))) last
+    c .before .loop .inv .1 ∙ ap (λ (x : ℕ). setOf x (overloaded s)) last
 
 pub overload-set-spec : {M : Type 1} → statement M
 overload-set-spec =
@@ -86,15 +78,15 @@ overload-set-spec =
     Inv-loop
     μ-loop
     loop-holds
-    mul-t11
-    array-copy-out-t14
-    mul-released
-    shared-slice-read-released
+    (λ c. search needs)
+    (λ c. search needs)
+    (λ c. search needs)
+    (λ c. search needs)
     released-requires
     exceeds-requires
-    shl-set
+    (λ c. search needs)
     add-set
-    add-k
-    loop-less
+    (λ c. search needs)
+    (λ c. search needs)
     loop-again
     returns)

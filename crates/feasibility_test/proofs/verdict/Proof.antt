@@ -1,5 +1,6 @@
 -- `verdict`.
-use Prim.Native.Nat.{_<_}
+use mathlib.Core.Bool.{Bool}
+use Prim.Native.Nat.{ℕ, _^_, _<_}
 use native.Mathlib.Omega.{arith}
 use lib.Dec.{lit<}
 use lib.ListN.{getD}
@@ -11,25 +12,27 @@ use borrow.Author.Needs.{needs}
 use Rattle.feasibility_test.proofs.verdict.Statement.{statement}
 use Rattle.feasibility_test.proofs.verdict.Tie as tie
 
--- the lowest is one of the constraints
-inside : (c : tie.Else1) → trailingZeros 64 (c .before .overload-set .result) < c .before .before .before .args .constraints
-inside c =
-    let s = c .before .before .before in
-    lowest-in (s .args .constraints) (c .before .overload-set .result) (over (s .args .limits .now) (s .args .process) (s .args .flows .flows)) (c .before .overload-set .ensures) (c .if1 .left) (s .pre .0 .0)
-
-overload-set-requires : tie.Need-overload-set-requires
-overload-set-requires c κs = search needs
+-- whether a constraint is overloaded, by the flows and limits given
+abbrev overloaded : tie.Start → ℕ → Bool
+overloaded s = over (s .args .limits .now) (s .args .process) (s .args .flows .flows)
 
 returns : tie.Need-returns
 returns c n fs t cs carried =
     let s = c .before .before .before in
     pass-answer n (s .args .constraints) (s .args .limits .now) fs (s .args .process) t cs (s .args .flows) carried (c .before .overload-set .result) (c .before .overload-set .ensures) (c .if1 .taken)
 
+-- the lowest is one of the constraints
+inside : (c : tie.Else1) → trailingZeros 64 (c .before .overload-set .result) < c .before .before .before .args .constraints
+inside c =
+    let s = c .before .before .before in
+    let o = c .before .overload-set in
+    lowest-in (s .args .constraints) (o .result) (overloaded s) (o .ensures) (c .if1 .left) (s .pre .few)
+
 cast-count : tie.Need-cast-count
 cast-count c =
     let s = c .before .before .before in
-    let small = set-small (s .args .constraints) (c .before .overload-set .result) (over (s .args .limits .now) (s .args .process) (s .args .flows .flows)) (c .before .overload-set .ensures) (s .pre .0 .0) in
-    record { fits = omega (arith, ones-le 64 (c .before .overload-set .result) small) }
+    let o = c .before .overload-set in
+    record { fits = omega (arith, ones-le 64 (o .result) (set-small (s .args .constraints) (o .result) (overloaded s) (o .ensures) (s .pre .few))) }
 
 cast-lowest : tie.Need-cast-lowest
 cast-lowest c = record { fits = omega (arith, inside c) }
@@ -47,28 +50,33 @@ shared-slice-read-released : tie.Need-shared-slice-read-released
 shared-slice-read-released c = omega (arith, inside (c .before .before .before))
 
 released-requires : tie.Need-released-requires
-released-requires c κs = c .before .before .before .before .before .before .pre .1 _ (inside (c .before .before .before)) .0
+released-requires c κs = c .before .before .before .before .before .before .pre .good-limits .sized _ (inside (c .before .before .before))
 
 minus-requires : tie.Need-minus-requires
 minus-requires c κs =
     let s = c .before .before .before .before .before .before .before in
     let l = trailingZeros 64 (c .before .before .before .before .before .overload-set .result) in
-    let p = s .pre .1 l (inside (c .before .before .before .before)) in
-    omega (arith, kept-sized (getD (s .args .flows .flows) l (pos 0)) 4611686018427387904 (lit< tt) (omega (arith, p .1)), released-small (c .released .result .0) (getD (s .args .limits .now) l 0) (s .args .process) (p .0) (c .released .ensures))
+    let low = inside (c .before .before .before .before) in
+    let flow = kept-sized (getD (s .args .flows .flows) l (pos 0)) (2 ^ 62) (lit< tt) (omega (arith, s .pre .flows-sized l low)) in
+    let limit = released-small (c .released .result .0) (getD (s .args .limits .now) l 0) (s .args .process) (s .pre .good-limits .sized l low) (c .released .ensures) in
+    omega (arith, flow, limit)
 
 returns-2 : tie.Need-returns-2
 returns-2 c n fs t cs carried =
     let e = c .before .before .before .before .before in
     let s = e .before .before .before in
     let l = trailingZeros 64 (e .before .overload-set .result) in
-    fail-answer n (s .args .constraints) (s .args .limits .now) fs (s .args .process) t cs (s .args .flows) carried (e .before .overload-set .result) (e .before .overload-set .ensures) (s .pre .0 .0) (e .if1 .left) (c .minus .result)
-    (difference-is (getD (s .args .flows .flows) l (pos 0)) (c .before .released .result .0) (c .minus .result .0) _ (s .pre .1 l (inside e) .1) (c .before .released .ensures) (c .minus .ensures))
+    let r = c .before .released in
+    let over = difference-is (getD (s .args .flows .flows) l (pos 0)) (r .result .0) (c .minus .result .0) _ (s .pre .flows-sized l (inside e)) (r .ensures) (c .minus .ensures) in
+    let o = e .before .overload-set in
+    fail-answer n (s .args .constraints) (s .args .limits .now) fs (s .args .process) t cs (s .args .flows) carried
+    (o .result) (o .ensures) (s .pre .few) (e .if1 .left) (c .minus .result) over
 
 pub verdict-spec : {M : Type 1} → statement M
 verdict-spec =
     tie.close
     (tie.spec
-    overload-set-requires
+    (λ c κs. search needs)
     returns
     cast-count
     cast-lowest

@@ -1,37 +1,15 @@
 -- `price_file::check_figures`: each return by the tests that led there.
 use mathlib.Core.Path.{sym, _∙_}
 use borrow.Author.Tests.{lt-ltb, le-ltb}
-use Rattle.tariff.proofs.Checks.{first-passes, first-refuses}
-use Rattle.runs.proofs.Tests.{differs, same, last-passes}
+use Rattle.tariff.proofs.Checks.{first-passes, first-refuses, differs, same, last-passes}
 use Rattle.layouts.specs.PriceFile.{pricesIn}
 use borrow.Author.Needs.{needs}
 use Rattle.price_file.proofs.check_figures.Statement.{statement}
 use Rattle.price_file.proofs.check_figures.Tie as tie
 
-mul-used : tie.Need-mul-used
-mul-used c = search needs
-
-add-used : tie.Need-add-used
-add-used c = search needs
-
-add-size : tie.Need-add-size
-add-size c = search needs
-
-field-above-requires : tie.Need-field-above-requires
-field-above-requires c κs = search needs
-
 returns : tie.Need-returns
 unfolding pricesIn
 returns c = sym (first-refuses _ _ (sym (c .before .field-above .ensures) ∙ c .if1 .taken))
-
-mul-field : tie.Need-mul-field
-mul-field c = search needs
-
-sub-field : tie.Need-sub-field
-sub-field c = search needs
-
-field-requires : tie.Need-field-requires
-field-requires c κs = search needs
 
 returns-2 : tie.Need-returns-2
 unfolding pricesIn
@@ -55,16 +33,6 @@ returns-4 c =
 
 pub check-figures-spec : {M : Type 1} → statement M
 check-figures-spec =
-    tie.close
-    (tie.spec
-    mul-used
-    add-used
-    add-size
-    field-above-requires
-    returns
-    mul-field
-    sub-field
-    field-requires
-    returns-2
-    returns-3
-    returns-4)
+    tie.close (tie.spec
+    (λ c. search needs) (λ c. search needs) (λ c. search needs) (λ c κs. search needs) returns (λ c. search needs) (λ c. search needs) (λ c κs. search needs)
+    returns-2 returns-3 returns-4)

@@ -1,62 +1,43 @@
 -- `price_file::read_prices`: where no check refuses, the file has its length and the table its cells.
-use mathlib.Core.Path.{sym, _∙_}
+use mathlib.Core.Path.{_≡_, refl, sym, _∙_}
 use native.Mathlib.Omega.{arith}
-use lib.ListN.{length}
 use Rattle.layouts.specs.PriceFile.{pricesIn}
-use Rattle.runs.proofs.Answers.{answer-refused, cells-refused, answer-passed, cells-passed}
-use Rattle.price_file.proofs.PriceLaws.{readable}
+use Rattle.tariff.specs.declared.refusals.Checked.the-variants.{Passed}
+use Rattle.tariff.proofs.Answers.{answer-refused, cells-refused, answer-passed, cells-passed}
+use Rattle.price_file.proofs.PriceLaws.{Readable, readable}
 use borrow.Author.Needs.{needs}
 use Rattle.price_file.proofs.read_prices.Statement.{statement}
 use Rattle.price_file.proofs.read_prices.Tie as tie
 
-check-read-requires : tie.Need-check-read-requires
-check-read-requires c κs = search needs
-
-enum-known-refusal : tie.Need-enum-known-refusal
-enum-known-refusal c = search needs
-
-enum-told : tie.Need-enum-told
-enum-told c = search needs
+-- what holds of a file that is not refused
+ok : (c : tie.After-check-read) → c .check-read .result ≡ Passed → let a = c .before .before .before .args in Readable (a .constraints) (a .file .now) (a .prices .now)
+ok c told = readable _ _ _ (sym (c .check-read .ensures _ refl) ∙ told)
 
 read-run-requires : tie.Need-read-run-requires
-read-run-requires c κs =
-    let s = c .before .before .before .before .before .before in
-    let ok = readable (s .args .constraints) (s .args .file .now) (length (s .args .prices .now)) (sym (c .before .before .before .check-read .ensures) ∙ c .before .enum-told .given .1) in
-    (omega arith, ((omega arith, omega arith), omega arith))
+read-run-requires c κs = let r = ok (c .before .before .before) (c .before .enum-told .given .1) in (omega arith, ((omega arith, omega arith), omega arith))
 
 field-requires : tie.Need-field-requires
-field-requires c κs =
-    let s = c .before .before .before .before .before .before .before .before .before in
-    let ok = readable (s .args .constraints) (s .args .file .now) (length (s .args .prices .now)) (sym (c .before .before .before .before .before .before .check-read .ensures) ∙ c .before .before .before .before .enum-told .given .1) in
-    (omega arith, omega arith)
+field-requires c κs = let r = ok (c .before .before .before .before .before .before) (c .before .before .before .before .enum-told .given .1) in (omega arith, omega arith)
 
 returns : tie.Need-returns
 returns c =
-    let found = c .before .before .before .check-read .ensures in
-    let told = c .before .refusal .given .1 in
     let a = c .before .before .before .before .before .before .args in
-    (answer-refused _ _ found _ told _, cells-refused _ _ found _ told (pricesIn (a .constraints) (a .file .now)) _)
-
-same-length : tie.Need-same-length
-same-length c = search needs
+    let found = c .before .before .before .check-read .ensures (a .prices .now) refl in
+    let told = c .before .refusal .given .1 in
+    record { period-given = answer-refused _ _ found _ told _; prices-read = cells-refused _ _ found _ told (pricesIn (a .constraints) (a .file .now)) _ }
 
 returns-2 : tie.Need-returns-2
 unfolding pricesIn
 returns-2 c =
-    let found = c .before .before .before .before .before .before .before .check-read .ensures in
-    let told = c .before .before .before .before .before .enum-told .given .1 in
     let a = c .before .before .before .before .before .before .before .before .before .before .args in
-    (rw (c .field .ensures .0) (answer-passed _ _ found told _), cells-passed _ _ found told (pricesIn (a .constraints) (a .file .now)) (a .prices .now) _ (c .before .before .before .read-run .ensures))
+    let found = c .before .before .before .before .before .before .before .check-read .ensures (a .prices .now) refl in
+    let told = c .before .before .before .before .before .enum-told .given .1 in
+    record {
+      period-given = rw (c .field .ensures .0) (answer-passed _ _ found told _);
+      prices-read = cells-passed _ _ found told (pricesIn (a .constraints) (a .file .now)) (a .prices .now) _ (c .before .before .before .read-run .ensures);
+    }
 
 pub read-prices-spec : {M : Type 1} → statement M
 read-prices-spec =
-    tie.close
-    (tie.spec
-    check-read-requires
-    enum-known-refusal
-    enum-told
-    read-run-requires
-    field-requires
-    returns
-    same-length
-    returns-2)
+    tie.close (tie.spec
+    (λ c κs. search needs) (λ c. search needs) (λ c. search needs) read-run-requires field-requires returns (λ c. search needs) returns-2)

@@ -10,7 +10,7 @@ use lib.Signed.{mag, ltZ}
 use mir.Syntax.{w64}
 use mir.Val.{toZ, ofZ}
 use mir.Facts.{toZ-ofZ}
-use Rattle.text.proofs.Laws.{length-decimalZ}
+use Rattle.text.proofs.Digits.{length-decimalZ}
 use borrow.Author.Needs.{needs}
 use Rattle.printing.proofs.print_signed.Statement.{statement}
 use Rattle.printing.proofs.print_signed.Tie as tie
@@ -20,47 +20,26 @@ above : (z : ℤ) → mag z < 2 ^ 63 → ltZ z (negsuc 8999999999999999999) ≡ 
 above (pos n) f e = f
 above (negsuc n) f e = omega (arith, ltb-false 8999999999999999999 n e)
 
-slice-aggregate-print : tie.Need-slice-aggregate-print
-slice-aggregate-print c = search needs
-
-print-requires : tie.Need-print-requires
-print-requires c κs = search needs
-
-returns : tie.Need-returns
-returns c = search needs
-
-slice-aggregate-put-signed : tie.Need-slice-aggregate-put-signed
-slice-aggregate-put-signed c = search needs
-
 put-signed-requires : tie.Need-put-signed-requires
 put-signed-requires c κs =
     let s = c .before .before in
     (omega (arith, length-decimalZ (toZ w64 (ofZ w64 (s .args .z)))), rw (toZ-ofZ (s .fits .z)) (above (s .args .z) (s .fits .z .sfits) (rw (toZ-ofZ (s .fits .z)) at (c .before .if1 .left))))
 
-array-share-prefix-digits : tie.Need-array-share-prefix-digits
-array-share-prefix-digits c = search needs
-
 slice-aggregate-print-2 : tie.Need-slice-aggregate-print-2
 slice-aggregate-print-2 c =
     let d = c .before .before .put-signed in
-    sym (length-take-le (d .result) (d .last .0) (omega (arith, d .ensures .1 .1, d .kept .0)))
-
-print-requires-2 : tie.Need-print-requires-2
-print-requires-2 c κs = search needs
-
-returns-2 : tie.Need-returns-2
-returns-2 c = search needs
+    sym (length-take-le (d .result) (d .last .0) (omega (arith, d .ensures .1, d .kept .0)))
 
 pub print-signed-spec : {M : Type 1} → statement M
 print-signed-spec =
     tie.close
     (tie.spec
-    slice-aggregate-print
-    print-requires
-    returns
-    slice-aggregate-put-signed
+    (λ c. search needs)
+    (λ c κs. search needs)
+    (λ c. search needs)
+    (λ c. search needs)
     put-signed-requires
-    array-share-prefix-digits
+    (λ c. search needs)
     slice-aggregate-print-2
-    print-requires-2
-    returns-2)
+    (λ c κs. search needs)
+    (λ c. search needs))

@@ -7,9 +7,9 @@ use borrow.Author.Needs.{needs}
 use mathlib.Core.Bool.{false}
 use Rattle.bits.specs.Bits.{fields}
 use Rattle.bits.proofs.Fields.{length-fields, within}
-use Rattle.tariff.specs.Checks.{some}
-use Rattle.runs.specs.Runs.{above}
-use Rattle.runs.proofs.Runs.{run-at, run-in, above-start, above-found, above-turn, above-end}
+use Rattle.lists.specs.Lists.{some, above}
+use Rattle.lists.proofs.Search.{some-start, some-end, above-found, above-turn}
+use Rattle.runs.proofs.Runs.{run-at, run-in}
 use Rattle.runs.proofs.field_above.Statement.{statement}
 use Rattle.runs.proofs.field_above.Tie as tie
 
@@ -21,7 +21,7 @@ abbrev μ-loop : tie.MeasureT-loop
 μ-loop s offset width count most at₀ i₀ at i = count - i
 
 loop-holds : tie.Need-loop-holds Inv-loop μ-loop
-loop-holds c = (search needs, search needs, above-start _)
+loop-holds c = (search needs, search needs, some-start (above _))
 
 field-requires : tie.Need-field-requires Inv-loop μ-loop
 field-requires c κs =
@@ -44,12 +44,6 @@ add-at c =
     let l = c .before .before .before .loop in
     omega (arith, within (s .args .offset) (s .args .width) (s .args .count) (l .i) (8 * length (s .args .s .now)) (l .at) (omega arith) (l .inv .1) (s .pre .0))
 
-add-i : tie.Need-add-i Inv-loop μ-loop
-add-i c = search needs
-
-loop-less : tie.Need-loop-less Inv-loop μ-loop
-loop-less c = search needs
-
 loop-again : tie.Need-loop-again Inv-loop μ-loop
 loop-again c =
     let s = c .before .before .before .before .before in
@@ -67,19 +61,7 @@ returns-2 : tie.Need-returns-2 Inv-loop μ-loop
 returns-2 c =
     let a = c .before .before .before .args in
     let l = c .before .loop in
-    above-end (fields (a .s .now) (a .offset) (a .width) (a .count)) (a .most) (l .i) (rw length-fields (omega arith)) (l .inv .2)
+    some-end (above (a .most)) (fields (a .s .now) (a .offset) (a .width) (a .count)) (l .i) (rw length-fields (omega arith)) (l .inv .2)
 
 pub field-above-spec : {M : Type 1} → statement M
-field-above-spec =
-    tie.close
-    (tie.spec
-    Inv-loop
-    μ-loop
-    loop-holds
-    field-requires
-    returns
-    add-at
-    add-i
-    loop-less
-    loop-again
-    returns-2)
+field-above-spec = tie.close (tie.spec Inv-loop μ-loop loop-holds field-requires returns add-at (λ c. search needs) (λ c. search needs) loop-again returns-2)

@@ -17,32 +17,17 @@ Inv-loop s offset width count out₀ at₀ i₀ out at i =
 abbrev μ-loop : tie.MeasureT-loop
 μ-loop s offset width count out₀ at₀ i₀ out at i = count - i
 
-loop-holds : tie.Need-loop-holds Inv-loop μ-loop
-loop-holds c = search needs
-
 field-requires : tie.Need-field-requires Inv-loop μ-loop
 field-requires c κs =
     let s = c .before .before .before .before in
     let l = c .before .loop in
     (within (s .args .offset) (s .args .width) (s .args .count) (l .i) _ (l .at) (omega arith) (l .inv .2) (s .pre .0), search needs)
 
-mul-out : tie.Need-mul-out Inv-loop μ-loop
-mul-out c = search needs
-
-slice-write-out : tie.Need-slice-write-out Inv-loop μ-loop
-slice-write-out c = search needs
-
 add-at : tie.Need-add-at Inv-loop μ-loop
 add-at c =
     let s = c .before .before .before .before .before in
     let l = c .before .before .loop in
     omega (arith, within (s .args .offset) (s .args .width) (s .args .count) (l .i) (8 * length (s .args .s .now)) (l .at) (omega arith) (l .inv .2) (s .pre .0))
-
-add-i : tie.Need-add-i Inv-loop μ-loop
-add-i c = search needs
-
-loop-less : tie.Need-loop-less Inv-loop μ-loop
-loop-less c = search needs
 
 loop-again : tie.Need-loop-again Inv-loop μ-loop
 loop-again c =
@@ -53,9 +38,6 @@ loop-again c =
     let t = read-turn (a .s .now) (a .offset) (a .width) (a .count) (l .out) (a .out .now) (l .i) (l .inv .3) (l .inv .4) _ (omega arith) (omega arith) v in
     (omega arith, simp length-set (omega arith), omega arith, t .0, t .1)
 
-same-length : tie.Need-same-length Inv-loop μ-loop
-same-length c = search needs
-
 returns : tie.Need-returns Inv-loop μ-loop
 returns c =
     let a = c .before .before .before .before .args in
@@ -64,17 +46,6 @@ returns c =
 
 pub read-run-spec : {M : Type 1} → statement M
 read-run-spec =
-    tie.close
-    (tie.spec
-    Inv-loop
-    μ-loop
-    loop-holds
-    field-requires
-    mul-out
-    slice-write-out
-    add-at
-    add-i
-    loop-less
-    loop-again
-    same-length
-    returns)
+    tie.close (tie.spec
+    Inv-loop μ-loop (λ c. search needs) field-requires (λ c. search needs) (λ c. search needs) add-at (λ c. search needs) (λ c. search needs) loop-again
+    (λ c. search needs) returns)

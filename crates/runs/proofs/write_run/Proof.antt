@@ -6,10 +6,10 @@ use lib.ListN.{length, take, getD}
 use borrow.Author.Needs.{needs}
 use lib.Seq.{getD-take, length-take-le}
 use Rattle.bits.specs.Bits.{number}
-use Rattle.bits.specs.Pen.{written, place, Ready, GoesOn}
+use Rattle.bits.specs.Inner.{written, place, Ready, GoesOn}
 use Rattle.bits.proofs.Fields.{within}
 use Rattle.bits.proofs.Writing.{stays, goes-on, run-start, run-turn, run-end}
-use Rattle.runs.proofs.Runs.{cell-in}
+use Rattle.lists.proofs.Search.{cell-in}
 use Rattle.runs.proofs.write_run.Statement.{statement}
 use Rattle.runs.proofs.write_run.Tie as tie
 
@@ -27,24 +27,12 @@ loop-holds c =
     let s = c .before .before in
     (omega arith, refl, s .pre .0, omega arith, run-start (s .args .width) (take (s .args .count) (s .args .cells .now)) _, stays _ _)
 
-mul-put : tie.Need-mul-put Inv-loop μ-loop
-mul-put c = search needs
-
-shared-slice-read-put : tie.Need-shared-slice-read-put Inv-loop μ-loop
-shared-slice-read-put c = search needs
-
 put-requires : tie.Need-put-requires Inv-loop μ-loop
 put-requires c κs =
     let s = c .before .before .before .before .before .before in
     let l = c .before .before .before .loop in
     let fit = within (place (s .args .from)) (s .args .width) (s .args .count) (l .i) (8 * length (s .args .buf .now)) (place (l .pen)) (omega arith) (l .inv .3) (s .pre .1 .1) in
     (l .inv .2, ((s .pre .1 .0 .2 (l .i) (omega arith), s .pre .1 .0 .0), omega (arith, fit)))
-
-add-i : tie.Need-add-i Inv-loop μ-loop
-add-i c = search needs
-
-loop-less : tie.Need-loop-less Inv-loop μ-loop
-loop-less c = search needs
 
 loop-again : tie.Need-loop-again Inv-loop μ-loop
 loop-again c =
@@ -61,9 +49,6 @@ loop-again c =
       goes-on (l .inv .5) (e .1 .1),
     )
 
-same-length : tie.Need-same-length Inv-loop μ-loop
-same-length c = search needs
-
 returns : tie.Need-returns Inv-loop μ-loop
 returns c =
     let a = c .before .before .before .before .args in
@@ -77,16 +62,6 @@ returns c =
 
 pub write-run-spec : {M : Type 1} → statement M
 write-run-spec =
-    tie.close
-    (tie.spec
-    Inv-loop
-    μ-loop
-    loop-holds
-    mul-put
-    shared-slice-read-put
-    put-requires
-    add-i
-    loop-less
-    loop-again
-    same-length
+    tie.close (tie.spec
+    Inv-loop μ-loop loop-holds (λ c. search needs) (λ c. search needs) put-requires (λ c. search needs) (λ c. search needs) loop-again (λ c. search needs)
     returns)

@@ -1,60 +1,35 @@
 -- `put_kind`.
 use mathlib.Core.Path.{ap}
 use mathlib.Core.List.{_++_}
-use native.Mathlib.Omega.{arith}
 use Rattle.text.specs.Ascii.{ascii}
-use Rattle.text.proofs.Putting.{put-as}
-use Rattle.tariff.specs.declared.Kind.{Kind}
+use Rattle.text.proofs.Putting.{put-same}
+use Rattle.tariff.specs.declared.contracts.Kind.{Kind}
 use Rattle.statement_lines.specs.Lines.{kindWord}
 use borrow.Author.Needs.{needs}
 use Rattle.statement_lines.proofs.put_kind.Statement.{statement}
 use Rattle.statement_lines.proofs.put_kind.Tie as tie
 
-enum-told : tie.Need-enum-told
-enum-told c = search needs
-
-slice-aggregate-put-text : tie.Need-slice-aggregate-put-text
-slice-aggregate-put-text c = search needs
-
-put-text-requires : tie.Need-put-text-requires
-put-text-requires c κs = search needs
-
-enum-told-2 : tie.Need-enum-told-2
-enum-told-2 c = search needs
-
-slice-aggregate-put-text-2 : tie.Need-slice-aggregate-put-text-2
-slice-aggregate-put-text-2 c = search needs
-
-put-text-requires-2 : tie.Need-put-text-requires-2
-put-text-requires-2 c κs = search needs
-
-same-length : tie.Need-same-length
-same-length c = search needs
-
 returns : tie.Need-returns
 returns c =
-    let d = c .before .before .put-text in
-    (put-as (ap (λ (k : Kind). kindWord k ++ ascii ",") (c .before .before .before .before .before .enum-told .given .1)) (d .ensures .0) (d .ensures .1), omega (arith, d .ensures .1))
-
-same-length-2 : tie.Need-same-length-2
-same-length-2 c = search needs
+    let d = c .before .before .put-text .ensures in
+    (put-same (ap (λ (k : Kind). kindWord k ++ ascii ",") (c .before .before .before .before .before .enum-told .given .1)) d, d .place)
 
 returns-2 : tie.Need-returns-2
 returns-2 c =
-    let d = c .before .before .put-text2 in
-    (put-as (ap (λ (k : Kind). kindWord k ++ ascii ",") (c .before .before .before .before .before .enum-told2 .given .1)) (d .ensures .0) (d .ensures .1), omega (arith, d .ensures .1))
+    let d = c .before .before .put-text2 .ensures in
+    (put-same (ap (λ (k : Kind). kindWord k ++ ascii ",") (c .before .before .before .before .before .enum-told2 .given .1)) d, d .place)
 
 pub put-kind-spec : {M : Type 1} → statement M
 put-kind-spec =
     tie.close
     (tie.spec
-    enum-told
-    slice-aggregate-put-text
-    put-text-requires
-    enum-told-2
-    slice-aggregate-put-text-2
-    put-text-requires-2
-    same-length
+    (λ c. search needs)
+    (λ c. search needs)
+    (λ c κs. search needs)
+    (λ c. search needs)
+    (λ c. search needs)
+    (λ c κs. search needs)
+    (λ c. search needs)
     returns
-    same-length-2
+    (λ c. search needs)
     returns-2)

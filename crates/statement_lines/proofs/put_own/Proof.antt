@@ -8,27 +8,21 @@ use borrow.Author.Needs.{needs}
 use Rattle.statement_lines.proofs.put_own.Statement.{statement}
 use Rattle.statement_lines.proofs.put_own.Tie as tie
 
-same-requires : tie.Need-same-requires
-same-requires c κs = search needs
-
-put-contract-requires : tie.Need-put-contract-requires
-put-contract-requires c κs = search needs
-
-same-length : tie.Need-same-length
-same-length c = search needs
-
 returns : tie.Need-returns
 returns c =
     let p = c .before .before .put-contract in
     let i = c .before .before .before .before in
-    let a = i .before .before .before .args in
-    (put-same (own-line (a .period) (a .number) (a .c) (a .cents) (i .before .same .result) (i .before .same .ensures) (i .if1 .taken) ∙ ap (contractLine (a .number) (a .c)) (sym (kept (a .cents) (omega (arith, i .before .before .before .pre .2))))) (p .ensures .0), p .ensures .1)
+    let s = i .before .before .before in
+    let a = s .args in
+    let own = own-line (a .period) (a .number) (a .c) (a .cents) (i .before .same .result) (i .before .same .ensures) (i .if1 .taken) in
+    (put-same (own ∙ ap (contractLine (a .number) (a .c)) (sym (kept (a .cents) (omega (arith, s .pre .2))))) (p .ensures .0), p .ensures .1)
 
 returns-2 : tie.Need-returns-2
 returns-2 c =
-    let a = c .before .before .before .args in
-    (put-same (no-line (a .period) (a .number) (a .c) (a .cents) (c .before .same .result) (c .before .same .ensures) (c .if1 .left)) (put-none (a .buf .now) (a .at)), omega arith)
+    let s = c .before .before .before in
+    let a = s .args in
+    (put-same (no-line (a .period) (a .number) (a .c) (a .cents) (c .before .same .result) (c .before .same .ensures) (c .if1 .left)) (put-none (omega (arith, s .pre .3))), omega arith)
 
 pub put-own-spec : {M : Type 1} → statement M
 put-own-spec =
-    tie.close (tie.spec same-requires put-contract-requires same-length returns returns-2)
+    tie.close (tie.spec (λ c κs. search needs) (λ c κs. search needs) (λ c. search needs) returns returns-2)

@@ -6,90 +6,54 @@ use lib.ListN.{length, getD, length-set, length-map}
 use lib.Dec.{lit<}
 use borrow.Author.Needs.{needs}
 use lib.IntN.{ℤ, pos, natAbs, _+ℤ_}
-use Rattle.feasibility_test.proofs.Flowing.{part, cell-done, cell-rest, kept-sized, part-is, part-small, sum-is, step-carries}
+use Rattle.tariff.specs.Units.{maxConstraints, maxContracts}
+use Rattle.tariff.specs.Inner.{maxFlow}
+use Rattle.feasibility_test.proofs.Flowing.{part, cell-done, cell-rest, kept-sized, rows-kept, part-is, part-small, sum-is, step-carries}
 use Rattle.feasibility_test.proofs.Flows.step.Statement.{statement}
 use Rattle.feasibility_test.proofs.Flows.step.Tie as tie
 
 abbrev Inv-loop : tie.InvT-loop
 Inv-loop self constraints factors flows₀ source sink quantity kind k₀ flows k =
-    (k ≤ constraints) × (length flows ≡ 64) × ((j : ℕ) → j < k → getD flows j (pos 0) ≡ getD flows₀ j (pos 0) +ℤ part factors source sink quantity kind j) × ((j : ℕ) → k ≤ j → getD flows j (pos 0) ≡ getD flows₀ j (pos 0))
+    (k ≤ constraints) × (length flows ≡ maxConstraints)
+    × ((j : ℕ) → j < k → getD flows j (pos 0) ≡ getD flows₀ j (pos 0) +ℤ part factors source sink quantity kind j)
+    × ((j : ℕ) → k ≤ j → getD flows j (pos 0) ≡ getD flows₀ j (pos 0))
 
 abbrev μ-loop : tie.MeasureT-loop
 μ-loop self constraints factors flows₀ source sink quantity kind k₀ flows k = constraints - k
 
-mul-source : tie.Need-mul-source Inv-loop μ-loop
-mul-source c = search needs
-
-mul-sink : tie.Need-mul-sink Inv-loop μ-loop
-mul-sink c = search needs
-
-full : (c : tie.Start Inv-loop μ-loop) → length (c .args .self .flows) ≡ 64
+full : (c : tie.Start Inv-loop μ-loop) → length (c .args .self .flows) ≡ maxConstraints
 full c = sym (length-map (c .args .self .flows) (λ (z : ℤ). z)) ∙ c .good .0 .1 .1 .0 .1 .0 .1
 
 loop-holds : tie.Need-loop-holds Inv-loop μ-loop
 loop-holds c = (omega arith, full (c .before .before .before .before), (λ j h. absurd (omega arith)), (λ j h. refl))
-
-add-counted-flow : tie.Need-add-counted-flow Inv-loop μ-loop
-add-counted-flow c = search needs
-
-mul-counted-flow : tie.Need-mul-counted-flow Inv-loop μ-loop
-mul-counted-flow c = search needs
-
-shared-slice-copy-out-counted-flow : tie.Need-shared-slice-copy-out-counted-flow Inv-loop μ-loop
-shared-slice-copy-out-counted-flow c = search needs
-
-add-counted-flow-2 : tie.Need-add-counted-flow-2 Inv-loop μ-loop
-add-counted-flow-2 c = search needs
-
-mul-counted-flow-2 : tie.Need-mul-counted-flow-2 Inv-loop μ-loop
-mul-counted-flow-2 c = search needs
-
-shared-slice-copy-out-counted-flow-2 : tie.Need-shared-slice-copy-out-counted-flow-2 Inv-loop μ-loop
-shared-slice-copy-out-counted-flow-2 c = search needs
 
 counted-flow-requires : tie.Need-counted-flow-requires Inv-loop μ-loop
 counted-flow-requires c κs =
     let s = c .before .before .before .before .before .before .before .before in
     let k = c .before .before .before .loop .k in
     let a : k < s .args .constraints = c .before .before .loop-test .taken in
-    let source = kept-sized (getD (s .args .factors .now) (s .args .c .source * s .args .constraints + k) (pos 0)) 100000 (lit< tt) (s .pre .1 .0 k a) in
-    let sink = kept-sized (getD (s .args .factors .now) (s .args .c .sink * s .args .constraints + k) (pos 0)) 100000 (lit< tt) (s .pre .1 .1 .0 k a) in
-    (omega (arith, source, sink), omega (arith, source, sink), s .pre .1 .1 .1 .0)
+    let r = rows-kept (s .args .constraints) (s .args .factors .now) (s .args .c) (s .pre .0) k a in
+    (omega (arith, r), omega (arith, r), s .pre .0 .quantity-sized)
 
-small : (c : tie.After-counted-flow Inv-loop μ-loop) → natAbs (c .counted-flow .result .0) ≤ 200000000000
+small : (c : tie.After-counted-flow Inv-loop μ-loop) → natAbs (c .counted-flow .result .0) ≤ maxFlow
 small c =
     let s = c .before .before .before .before .before .before .before .before .before in
     let k = c .before .before .before .before .loop .k in
     let a : k < s .args .constraints = c .before .before .before .loop-test .taken in
-    part-small (s .args .factors .now) (s .args .c .source * s .args .constraints) (s .args .c .sink * s .args .constraints) (s .args .c .quantity) (s .args .c .kind) k (s .pre .1 .0 k a) (s .pre .1 .1 .0 k a) _ (c .counted-flow .ensures) (s .pre .1 .1 .1 .0)
+    let r = rows-kept (s .args .constraints) (s .args .factors .now) (s .args .c) (s .pre .0) k a in
+    search (part-small, c .counted-flow .ensures, r .0, r .1, s .pre .0 .quantity-sized)
 
 -- the cell has its old flow still
-old : (c : tie.After-counted-flow Inv-loop μ-loop) → natAbs (getD (c .before .before .before .before .loop .flows) (c .before .before .before .before .loop .k) (pos 0)) ≤ 200000000000000
+old : (c : tie.After-counted-flow Inv-loop μ-loop) → natAbs (getD (c .before .before .before .before .loop .flows) (c .before .before .before .before .loop .k) (pos 0)) ≤ maxFlow * maxContracts
 old c =
     let s = c .before .before .before .before .before .before .before .before .before in
     let l = c .before .before .before .before .loop in
-    rw (l .inv .3 (l .k) (omega arith)) (omega (arith, s .pre .1 .1 .1 .2 (l .k) (c .before .before .before .loop-test .taken)))
-
-mul-t16 : tie.Need-mul-t16 Inv-loop μ-loop
-mul-t16 c = search needs
-
-array-copy-out-t23 : tie.Need-array-copy-out-t23 Inv-loop μ-loop
-array-copy-out-t23 c = search needs
+    rw (l .inv .3 (l .k) (omega arith)) (omega (arith, s .pre .1 .count-below, s .pre .1 .flows-sized (l .k) (c .before .before .before .loop-test .taken)))
 
 plus-requires : tie.Need-plus-requires Inv-loop μ-loop
-plus-requires c κs = let l = c .before .before .before .before .before .loop in omega (arith, small (c .before), kept-sized (getD (l .flows) (l .k) (pos 0)) 200000000000000 (lit< tt) (old (c .before)))
-
-mul-flows : tie.Need-mul-flows Inv-loop μ-loop
-mul-flows c = search needs
-
-array-set-from-flows : tie.Need-array-set-from-flows Inv-loop μ-loop
-array-set-from-flows c = search needs
-
-add-k : tie.Need-add-k Inv-loop μ-loop
-add-k c = search needs
-
-loop-less : tie.Need-loop-less Inv-loop μ-loop
-loop-less c = search needs
+plus-requires c κs =
+    let l = c .before .before .before .before .before .loop in
+    omega (arith, small (c .before), kept-sized (getD (l .flows) (l .k) (pos 0)) (maxFlow * maxContracts) (lit< tt) (old (c .before)))
 
 loop-again : tie.Need-loop-again Inv-loop μ-loop
 loop-again c =
@@ -98,22 +62,20 @@ loop-again c =
     let p = c .before .before .before in
     let a : l .k < s .args .constraints = c .before .before .before .before .before .before .loop-test .taken in
     let f = part (s .args .factors .now) (s .args .c .source * s .args .constraints) (s .args .c .sink * s .args .constraints) (s .args .c .quantity) (s .args .c .kind) in
-    let e = part-is (s .args .factors .now) (s .args .c .source * s .args .constraints) (s .args .c .sink * s .args .constraints) (s .args .c .quantity) (s .args .c .kind) (l .k) (s .pre .1 .0 (l .k) a) (s .pre .1 .1 .0 (l .k) a) _ (p .counted-flow .ensures) in (
+    let e = part-is (s .args .constraints) (s .args .factors .now) (s .args .c) (s .pre .0) (l .k) a _ (p .counted-flow .ensures) in
+    let more = sum-is (getD (l .flows) (l .k) (pos 0)) (p .counted-flow .result .0) (c .before .plus .result .0) (f (l .k)) (old p) (small p) (c .before .plus .ensures) e in (
       omega arith,
       length-set (l .flows) (l .k) _ ∙ l .inv .1,
-      cell-done (s .args .self .flows) (l .flows) f (l .k) (l .inv .2) (l .inv .3) _ (omega arith) (sum-is (getD (l .flows) (l .k) (pos 0)) (p .counted-flow .result .0) (c .before .plus .result .0) (f (l .k)) (old p) (small p) (c .before .plus .ensures) e),
+      cell-done (s .args .self .flows) (l .flows) f (l .k) (l .inv .2) (l .inv .3) _ (omega arith) more,
       cell-rest (s .args .self .flows) (l .flows) f (l .k) (l .inv .2) (l .inv .3) _,
     )
 
-add-t29 : tie.Need-add-t29 Inv-loop μ-loop
-add-t29 c = search needs
-
 returns : tie.Need-returns Inv-loop μ-loop
-returns c n ls cs carried =
+returns c n cs own carried =
     let s = c .before .before .before .before .before .before .before in
     let l = c .before .before .loop in
     let last : s .args .constraints ≤ l .k = c .before .loop-test .left in
-    step-carries n (s .args .constraints) ls (s .args .factors .now) cs (s .args .c) (s .args .self) (l .flows) (λ j h. l .inv .2 j (omega arith)) carried
+    step-carries n (s .args .constraints) (s .args .factors .now) (s .args .c) own cs (s .args .self) (l .flows) (λ j h. l .inv .2 j (omega arith)) carried
 
 pub step-spec : {M : Type 1} → statement M
 step-spec =
@@ -121,23 +83,23 @@ step-spec =
     (tie.spec
     Inv-loop
     μ-loop
-    mul-source
-    mul-sink
+    (λ c. search needs)
+    (λ c. search needs)
     loop-holds
-    add-counted-flow
-    mul-counted-flow
-    shared-slice-copy-out-counted-flow
-    add-counted-flow-2
-    mul-counted-flow-2
-    shared-slice-copy-out-counted-flow-2
+    (λ c. search needs)
+    (λ c. search needs)
+    (λ c. search needs)
+    (λ c. search needs)
+    (λ c. search needs)
+    (λ c. search needs)
     counted-flow-requires
-    mul-t16
-    array-copy-out-t23
+    (λ c. search needs)
+    (λ c. search needs)
     plus-requires
-    mul-flows
-    array-set-from-flows
-    add-k
-    loop-less
+    (λ c. search needs)
+    (λ c. search needs)
+    (λ c. search needs)
+    (λ c. search needs)
     loop-again
-    add-t29
+    (λ c. search needs)
     returns)

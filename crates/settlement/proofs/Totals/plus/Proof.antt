@@ -7,46 +7,44 @@ use lib.IntN.{ℤ, pos, natAbs, _+ℤ_}
 use mir.Syntax.{w64}
 use mir.Val.{toZ, ofZ}
 use Rattle.integers.proofs.Sizes.{natAbs-add}
-use Rattle.integers.proofs.Machine.{op-fits, op-is}
-use Rattle.settlement.proofs.HourSums.{add-fits, add-is, exact-more, exact-carry}
+use Rattle.integers.proofs.Machine.{op-is}
+use Rattle.tariff.specs.Inner.{maxCents}
+use Rattle.settlement.proofs.HourSums.{add-fits, add-is, carry-fits, exact-more, exact-carry}
 use Rattle.settlement.proofs.Totals.plus.Statement.{statement}
 use Rattle.settlement.proofs.Totals.plus.Tie as tie
 
-cents-requires : tie.Need-cents-requires
-cents-requires c κs = search needs
-
 -- the machine's sums are those of the numbers
-sum-is : (c : tie.After-cents) → let a = c .before .args in toZ w64 (ofZ w64 (toZ w64 (ofZ w64 (a .self .sum)) +ℤ toZ w64 (ofZ w64 (c .cents .result)))) ≡ a .self .sum +ℤ c .cents .result
-sum-is c = add-is (c .before .args .self .sum) (c .cents .result) (omega (arith, c .before .pre, c .cents .ensures))
+sum-is : (c : tie.After-cents)
+    → let a = c .before .args in toZ w64 (ofZ w64 (toZ w64 (ofZ w64 (a .self .sum)) +ℤ toZ w64 (ofZ w64 (c .cents .result)))) ≡ a .self .sum +ℤ c .cents .result
+sum-is c = add-is (c .before .args .self .sum) (c .cents .result) (omega (arith, c .before .pre .1 .sum-sized, c .cents .ensures .1))
 
-whole-is : (c : tie.After-whole) → let a = c .before .before .before .before .args in toZ w64 (ofZ w64 (toZ w64 (ofZ w64 (a .self .whole)) +ℤ toZ w64 (ofZ w64 (c .whole .result)))) ≡ a .self .whole +ℤ c .whole .result
-whole-is c = add-is (c .before .before .before .before .args .self .whole) (c .whole .result) (omega (arith, c .before .before .before .before .pre, c .whole .ensures))
+whole-is : (c : tie.After-whole)
+    → let a = c .before .before .before .before .args in toZ w64 (ofZ w64 (toZ w64 (ofZ w64 (a .self .whole)) +ℤ toZ w64 (ofZ w64 (c .whole .result)))) ≡ a .self .whole +ℤ c .whole .result
+whole-is c = let s = c .before .before .before .before in add-is (s .args .self .whole) (c .whole .result) (omega (arith, s .pre .1 .whole-sized, c .whole .ensures .1))
 
 add-sum : tie.Need-add-sum
 add-sum c =
-    add-fits (c .before .before .before .args .self .sum) (c .before .before .cents .result) (omega (arith, c .before .before .before .pre, c .before .before .cents .ensures))
-
-whole-requires : tie.Need-whole-requires
-whole-requires c κs = search needs
+    let s = c .before .before .before in
+    let x = c .before .before .cents in
+    add-fits (s .args .self .sum) (x .result) (omega (arith, s .pre .1 .sum-sized, x .ensures .1))
 
 add-whole : tie.Need-add-whole
 add-whole c =
-    add-fits (c .before .before .before .before .before .before .args .self .whole) (c .before .before .whole .result) (omega (arith, c .before .before .before .before .before .before .pre, c .before .before .whole .ensures))
+    let s = c .before .before .before .before .before .before in
+    let w = c .before .before .whole in
+    add-fits (s .args .self .whole) (w .result) (omega (arith, s .pre .1 .whole-sized, w .ensures .1))
 
-parts-requires : tie.Need-parts-requires
-parts-requires c κs = search needs
-
-add-parts : tie.Need-add-parts
-add-parts c = search needs
-
-small : (c : tie.After-whole) → natAbs (c .before .before .before .before .args .self .whole +ℤ c .whole .result +ℤ pos 1) ≤ natAbs (c .before .before .before .before .args .self .whole) + 64000000001
+small : (c : tie.After-whole) → let W = c .before .before .before .before .args .self .whole in natAbs (W +ℤ c .whole .result +ℤ pos 1) ≤ natAbs W + (maxCents + 1)
 small c =
     let W = c .before .before .before .before .args .self .whole in
     omega (arith, natAbs-add W (c .whole .result), natAbs-add (W +ℤ c .whole .result) (pos 1), c .whole .ensures .1)
 
 add-t10 : tie.Need-add-t10
 add-t10 c =
-    op-fits _+ℤ_ (whole-is (c .before .before .before .before .before)) refl (omega (arith, small (c .before .before .before .before .before), c .before .before .before .before .before .before .before .before .before .pre))
+    let w = c .before .before .before .before .before in
+    let s = w .before .before .before .before in
+    let W = s .args .self .whole in
+    carry-fits (whole-is w) _ (omega (arith, natAbs-add W (w .whole .result), s .pre .1 .whole-sized, w .whole .ensures .1)) (omega arith)
 
 returns : tie.Need-returns
 returns c =
@@ -54,32 +52,39 @@ returns c =
     let x = c .before .before .before .before .before .before .before .before .cents in
     let w = c .before .before .before .before .before .whole in
     let p = c .before .before .parts in
-    rw (sum-is (c .before .before .before .before .before .before .before .before), whole-is (c .before .before .before .before .before)) (
-      (ap (λ (z : ℤ). a .self .sum +ℤ z) (x .ensures .0), exact-more (a .self .whole) (w .result) (a .self .parts) (p .result) (a .amount .0) (w .ensures .0) (p .ensures .0)),
-      (c .if1 .taken, omega (arith, natAbs-add (a .self .sum) (x .result), x .ensures .1), omega (arith, natAbs-add (a .self .whole) (w .result), w .ensures .1)),
-    )
+    let sum = sum-is (c .before .before .before .before .before .before .before .before) in
+    let whole = whole-is (c .before .before .before .before .before) in
+    record {
+      sum = rw sum (ap (λ (z : ℤ). a .self .sum +ℤ z) (x .ensures .0));
+      exact = rw whole (exact-more (a .self .whole) (w .result) (a .self .parts) (p .result) (a .amount .0) (w .ensures .0) (p .ensures .0));
+      bounded = λ m b.
+          record {
+            parts-small = c .if1 .taken;
+            sum-sized = rw sum (omega (arith, natAbs-add (a .self .sum) (x .result), x .ensures .1, b .sum-sized));
+            whole-sized = rw whole (omega (arith, natAbs-add (a .self .whole) (w .result), w .ensures .1, b .whole-sized));
+          };
+    }
 
 returns-2 : tie.Need-returns-2
 returns-2 c =
-    let a = c .before .before .before .before .before .before .before .before .before .args in
+    let s = c .before .before .before .before .before .before .before .before .before in
+    let a = s .args in
     let x = c .before .before .before .before .before .before .before .before .cents in
     let w = c .before .before .before .before .before .whole in
     let p = c .before .before .parts in
-    rw (sum-is (c .before .before .before .before .before .before .before .before), op-is _+ℤ_ {u = pos 1} (whole-is (c .before .before .before .before .before)) refl (omega (arith, small (c .before .before .before .before .before), c .before .before .before .before .before .before .before .before .before .pre))) (
-      (ap (λ (z : ℤ). a .self .sum +ℤ z) (x .ensures .0), exact-carry (a .self .whole) (w .result) (a .self .parts) (p .result) (a .amount .0) (w .ensures .0) (p .ensures .0) (c .if1 .left)),
-      (omega (arith, c .before .before .before .before .before .before .before .before .before .pre, p .ensures .1), omega (arith, natAbs-add (a .self .sum) (x .result), x .ensures .1), small (c .before .before .before .before .before)),
-    )
+    let sum = sum-is (c .before .before .before .before .before .before .before .before) in
+    let more = small (c .before .before .before .before .before) in
+    let whole = op-is _+ℤ_ {u = pos 1} (whole-is (c .before .before .before .before .before)) refl (omega (arith, more, s .pre .1 .whole-sized)) in
+    record {
+      sum = rw sum (ap (λ (z : ℤ). a .self .sum +ℤ z) (x .ensures .0));
+      exact = rw whole (exact-carry (a .self .whole) (w .result) (a .self .parts) (p .result) (a .amount .0) (w .ensures .0) (p .ensures .0) (c .if1 .left));
+      bounded = λ m b.
+          record {
+            parts-small = omega (arith, s .pre .1 .parts-small, p .ensures .1);
+            sum-sized = rw sum (omega (arith, natAbs-add (a .self .sum) (x .result), x .ensures .1, b .sum-sized));
+            whole-sized = rw whole (omega (arith, more, b .whole-sized));
+          };
+    }
 
 pub plus-spec : {M : Type 1} → statement M
-plus-spec =
-    tie.close
-    (tie.spec
-    cents-requires
-    add-sum
-    whole-requires
-    add-whole
-    parts-requires
-    add-parts
-    add-t10
-    returns
-    returns-2)
+plus-spec = tie.close (tie.spec (λ c κs. search needs) add-sum (λ c κs. search needs) add-whole (λ c κs. search needs) (λ c. search needs) add-t10 returns returns-2)

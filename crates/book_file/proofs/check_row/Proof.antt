@@ -1,0 +1,28 @@
+-- `check_row`.
+use mathlib.Core.Path.{ap, _∙_}
+use borrow.Author.Tests.{lt-ltb, le-ltb}
+use Rattle.tariff.specs.declared.contracts.Contract.{Contract}
+use Rattle.tariff.specs.Refusals.{first}
+use Rattle.books.specs.BookChecks.{contractChecks}
+use Rattle.book_file.specs.WriteBook.{rowChecks}
+use borrow.Author.Needs.{needs}
+use Rattle.book_file.proofs.check_row.Statement.{statement}
+use Rattle.book_file.proofs.check_row.Tie as tie
+
+returns-4 : tie.Need-returns-4
+unfolding first rowChecks
+returns-4 c =
+    let e = c .before .before in
+    let a = e .before .before .before .before .before .before .before .args in
+    c .check-contract .ensures ∙ ap (λ (x : Contract). first (contractChecks (a .nodes) x)) (c .before .row-from .ensures)
+    ∙ rw (le-ltb _ _ (e .before .before .before .before .if1 .left), le-ltb _ _ (e .before .before .if2 .left), le-ltb _ _ (e .if3 .left))
+
+pub check-row-spec : {M : Type 1} → statement M
+unfolding first rowChecks
+check-row-spec =
+    tie.close (tie.spec
+    (λ c. search needs) (λ c. search needs) (λ c. search needs) (λ c. rw (lt-ltb _ _ (c .if1 .taken)))
+    (λ c. search needs) (λ c. search needs) (λ c. search needs) (λ c. rw (le-ltb _ _ (c .before .before .if1 .left), lt-ltb _ _ (c .if2 .taken)))
+    (λ c. search needs) (λ c. search needs) (λ c. search needs)
+    (λ c. rw (le-ltb _ _ (c .before .before .before .before .if1 .left), le-ltb _ _ (c .before .before .if2 .left), lt-ltb _ _ (c .if3 .taken)))
+    (λ c κs. search needs) (λ c κs. search needs) returns-4)

@@ -1,0 +1,68 @@
+-- `write_contracts`: after i turns the front of the book is there, as far as its first i contracts, in the place that the header was stored in.
+use mathlib.Core.Path.{_≡_, refl, _∙_}
+use mathlib.Core.List.{List}
+use Prim.Native.Nat.{ℕ, _-_, _≤_}
+use native.Mathlib.Omega.{arith}
+use lib.ListN.{length}
+use Rattle.lists.specs.Lists.{listTo}
+use Rattle.lists.specs.Lent.{overwrite}
+use Rattle.lists.proofs.Lists.{length-listTo, listTo-more, each-listTo}
+use Rattle.layouts.specs.BookFile.{endBits}
+use Rattle.layouts.specs.Inner.{ContractFits}
+use Rattle.layouts.specs.BookTable.{rowAt, rowsIn}
+use Rattle.books.specs.Inner.{headerBytes, bookFront}
+use Rattle.books.proofs.Making.{front-begins, front-more, front-ends}
+use borrow.Author.Needs.{needs}
+use Rattle.book_file.proofs.write_contracts.Statement.{statement}
+use Rattle.book_file.proofs.write_contracts.Tie as tie
+
+abbrev Inv-loop : tie.InvT-loop
+Inv-loop cells contracts file₀ i₀ file i =
+    (i ≤ contracts) × (length file ≡ length file₀) × ((f : List ℕ) → file₀ ≡ overwrite (headerBytes contracts) f → file ≡ overwrite (bookFront contracts (rowsIn i cells)) f)
+
+abbrev μ-loop : tie.MeasureT-loop
+μ-loop cells contracts file₀ i₀ file i = contracts - i
+
+loop-holds : tie.Need-loop-holds Inv-loop μ-loop
+unfolding listTo
+loop-holds c =
+    (omega arith, refl, λ f e. front-begins (c .before .before .before .before .before .before .args .contracts) f _ e)
+
+store-contract-requires : tie.Need-store-contract-requires Inv-loop μ-loop
+store-contract-requires c κs =
+    let l = c .before .before .before .loop in
+    let s = c .before .before .before .before .before .before .before .before .before .before in
+    ((omega arith, omega (arith, l .inv .1, c .before .before .before .before .before .before .store-header .kept .0)), rw (c .row-from .ensures) (s .pre .1 (l .i) (omega arith)))
+
+loop-again : tie.Need-loop-again Inv-loop μ-loop
+loop-again c =
+    let s = c .before .before .before .before .before .before in
+    let a = s .before .before .before .before .before .before .before .args in
+    let l = s .loop in
+    let g = rowAt (a .cells .now) in
+    let stored = c .before .before .store-contract in (
+      omega arith,
+      stored .kept .0 ∙ l .inv .1,
+      λ f e.
+          rw (listTo-more (l .i) g, ← c .before .before .before .row-from .ensures)
+          (front-more (a .contracts) f (rowsIn (l .i) (a .cells .now)) _ (l .i) (l .file) _ (length-listTo (l .i) g) (l .inv .2 f e) (stored .ensures)),
+    )
+
+same-length : tie.Need-same-length Inv-loop μ-loop
+same-length c = c .before .loop .inv .1 ∙ c .before .before .before .before .store-header .kept .0
+
+returns : tie.Need-returns Inv-loop μ-loop
+returns c =
+    let l = c .before .loop in
+    let s = c .before .before .before .before .before .before .before .before in
+    let m = s .args .contracts in
+    let g = rowAt (s .args .cells .now) in
+    let last : l .i ≡ m = omega arith in
+    front-ends m (s .args .file .now) (listTo m g) (l .file) (length-listTo m g) (each-listTo (ContractFits endBits) m g (s .pre .1))
+    (rw last at (l .inv .2 (s .args .file .now) (c .before .before .before .before .store-header .ensures)))
+
+pub write-contracts-spec : {M : Type 1} → statement M
+write-contracts-spec =
+    tie.close (tie.spec
+    Inv-loop μ-loop (λ c κs. search needs) loop-holds (λ c. search needs) (λ c κs. search needs) store-contract-requires (λ c. search needs) (λ c. search needs)
+    loop-again same-length returns)

@@ -1,0 +1,52 @@
+-- Reading a book for a grid of a stated node count (document 01, "When input is turned down" and "The three files").
+use mathlib.Core.Path.{_≡_}
+use mathlib.Core.List.{List, [], _∷_, _++_, flatMap}
+use Prim.Native.Nat.{ℕ, _*_}
+use lib.ListN.{length}
+use lib.IntN.{pos}
+use Rattle.lists.specs.Lent.{Lent, before, after}
+use Rattle.tariff.specs.declared.refusals.Checked.{Checked}
+use Rattle.tariff.specs.Refusals.{Check, first, Outcome, given, refusedBy, answered, cellsAfter, cellAfter, numberAfter}
+use Rattle.tariff.specs.Checks.{nodeCount, shortTable}
+use Rattle.layouts.specs.BookFile.{contractCountIn, bookIn}
+use Rattle.layouts.specs.BookTable.{contractCells, cellsOf}
+use Rattle.books.specs.BookChecks.{bookChecks}
+use Rattle.book_file.specs.declared.BookAnswer.{BookAnswer}
+use Rattle.book_file.specs.declared.BookAnswer.the-variants.{Read, Refused}
+
+-- the node count, the file, and the lent table as it is at entry
+pub record ReadBookCall : Type 0 where
+  pub nodes : ℕ
+  pub file : List ℕ
+  pub table : List ℕ
+
+abbrev pub readBookCall : ℕ → List ℕ → List ℕ → ReadBookCall
+readBookCall n file table = record { nodes = n; file = file; table = table }
+
+-- how many contracts were read, or the refusal's number
+abbrev pub bookOutcome : BookAnswer → Outcome
+bookOutcome (Read m) = given (pos m ∷ [])
+bookOutcome (Refused r) = refusedBy r
+
+module _ (q : ReadBookCall) where
+  -- "2 for that count, then 1 .. 10 .. 4, 5. Then contract by contract: 11 .. 12 .. 13 .. Last, 9."
+  unfoldable pub readBookChecks : List Check
+  readBookChecks = nodeCount (q .nodes) ∷ bookChecks (q .nodes) (q .file) ++ shortTable (length (q .table)) (contractCells * contractCountIn (q .file)) ∷ []
+
+  abbrev pub readBookChecked : Checked
+  readBookChecked = first readBookChecks
+
+  -- six cells a contract
+  abbrev pub bookCells : List ℕ
+  bookCells = flatMap cellsOf (bookIn (q .file))
+
+-- the promise: the answer, and the table at exit
+pub record ReadsBook (q : ReadBookCall) (answer : BookAnswer) (table : List ℕ) : Type 0 where
+  pub count-given : bookOutcome answer ≡ answered (readBookChecked q) (pos (contractCountIn (q .file)) ∷ [])
+  pub contracts-read : table ≡ cellsAfter (readBookChecked q) (bookCells q) (q .table)
+
+-- the same for C: the refusal's number, and the count in a lent figure
+pub record ReadsBookForC (q : ReadBookCall) (number : ℕ) (table : List ℕ) (contracts : Lent ℕ) : Type 0 where
+  pub refusal-number : number ≡ numberAfter (readBookChecked q)
+  pub contracts-read : table ≡ cellsAfter (readBookChecked q) (bookCells q) (q .table)
+  pub count-given : after contracts ≡ cellAfter (readBookChecked q) (contractCountIn (q .file)) (before contracts)

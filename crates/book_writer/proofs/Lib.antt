@@ -1,4 +1,0 @@
-pub mod Checking
-pub mod Accepted
-pub mod Bytes
-pub mod RoundTrip

@@ -1,2 +1,0 @@
-pub mod WriteChecks
-pub mod Rows

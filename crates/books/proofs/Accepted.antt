@@ -1,0 +1,56 @@
+-- What is known of a book that its own checks accept.
+use mathlib.Core.Path.{_≡_}
+use mathlib.Core.List.{List}
+use Prim.Native.Nat.{ℕ, _≤_, _<_}
+use borrow.Author.Tests.{ltb-false, leb-false}
+use lib.Dec.{leb, ltb, eqb}
+use lib.ListN.{length}
+use Rattle.lists.specs.Lists.{Each}
+use Rattle.tariff.specs.declared.contracts.Contract.{Contract}
+use Rattle.tariff.specs.declared.refusals.Checked.the-variants.{Passed}
+use Rattle.tariff.specs.Inner.{InRange}
+use Rattle.tariff.specs.Refusals.{first}
+use Rattle.tariff.specs.Units.{maxQuantity, maxContracts}
+use Rattle.lists.proofs.Search.{neither}
+use Rattle.tariff.proofs.Checks.{passed-cons, same-of}
+use Rattle.layouts.specs.BookFile.{bookBytes, contractCountIn, bookSpareIn, contractAt, bookIn}
+use Rattle.lists.proofs.Lists.{each-listTo}
+use Rattle.books.specs.BookChecks.{contractChecks, bookChecks}
+use Rattle.books.proofs.Checking.{checks-each}
+
+-- a contract that no check of its own refuses
+pub contract-in-range : (n : ℕ) (c : Contract) → first (contractChecks n c) ≡ Passed → InRange n c
+unfolding contractChecks
+contract-in-range n c e =
+    let p = passed-cons _ _ e in
+    let ends = neither (leb n (c .source)) (leb n (c .sink)) (p .0) in
+    let q = passed-cons _ _ (p .1) in
+    let r = passed-cons _ _ (q .1) in
+    record {
+      source-below = leb-false n (c .source) (ends .0);
+      sink-below = leb-false n (c .sink) (ends .1);
+      quantity-sized = ltb-false maxQuantity (c .quantity .0) (neither (eqb (c .quantity .0) 0) (ltb maxQuantity (c .quantity .0)) (r .0) .1);
+    }
+
+pub record Accepted (n : ℕ) (s : List ℕ) : Type 0 where
+  pub few : contractCountIn s ≤ maxContracts
+  pub spare : bookSpareIn s ≡ 0
+  pub size : length s ≡ bookBytes (contractCountIn s)
+  pub each : (i : ℕ) → i < contractCountIn s → InRange n (contractAt s i)
+
+pub book-accepted : (n : ℕ) (s : List ℕ) → first (bookChecks n s) ≡ Passed → Accepted n s
+unfolding bookChecks
+book-accepted n s e =
+    let a = passed-cons _ _ e in
+    let b = passed-cons _ _ (a .1) in
+    let c = passed-cons _ _ (b .1) in
+    let d = passed-cons _ _ (c .1) in
+    record {
+      few = ltb-false maxContracts (contractCountIn s) (b .0);
+      spare = same-of (bookSpareIn s) 0 (c .0);
+      size = same-of (length s) (bookBytes (contractCountIn s)) (d .0);
+      each = λ i h. contract-in-range n (contractAt s i) (checks-each (λ j. contractChecks n (contractAt s j)) (contractCountIn s) (d .1) i h);
+    }
+
+pub all-in-range : (n : ℕ) (s : List ℕ) → Accepted n s → Each (InRange n) (bookIn s)
+all-in-range n s a = each-listTo (InRange n) (contractCountIn s) (contractAt s) (a .each)

@@ -1,0 +1,4 @@
+pub mod Checking
+pub mod Accepted
+pub mod Bytes
+pub mod Making

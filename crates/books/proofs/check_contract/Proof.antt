@@ -1,0 +1,27 @@
+-- `check_contract`.
+use mathlib.Core.Path.{sym, _∙_}
+use borrow.Author.Tests.{le-leb, lt-leb, eq-eqb, ne-eqb}
+use Rattle.tariff.specs.Refusals.{first}
+use Rattle.books.specs.BookChecks.{contractChecks}
+use borrow.Author.Needs.{needs}
+use Rattle.books.proofs.check_contract.Statement.{statement}
+use Rattle.books.proofs.check_contract.Tie as tie
+
+returns-4 : tie.Need-returns-4
+unfolding first contractChecks
+returns-4 c =
+    let d = c .before .before .before in
+    rw (lt-leb _ _ (d .before .before .before .before .if1 .left), lt-leb _ _ (d .before .before .if2 .left), ne-eqb _ _ (d .if3 .left), sym (c .before .out-of-range .ensures) ∙ c .if4 .taken)
+
+returns-5 : tie.Need-returns-5
+unfolding first contractChecks
+returns-5 c =
+    let d = c .before .before .before in
+    rw (lt-leb _ _ (d .before .before .before .before .if1 .left), lt-leb _ _ (d .before .before .if2 .left), ne-eqb _ _ (d .if3 .left), sym (c .before .out-of-range .ensures) ∙ c .if4 .left)
+
+pub check-contract-spec : {M : Type 1} → statement M
+unfolding first contractChecks
+check-contract-spec =
+    tie.close (tie.spec (λ c. rw (le-leb _ _ (c .if1 .taken))) (λ c. rw (lt-leb _ _ (c .before .before .if1 .left), le-leb _ _ (c .if2 .taken)))
+    (λ c. rw (lt-leb _ _ (c .before .before .before .before .if1 .left), lt-leb _ _ (c .before .before .if2 .left), eq-eqb _ _ (c .if3 .taken)))
+    (λ c κs. search needs) returns-4 returns-5)

@@ -1,0 +1,41 @@
+-- `check_contracts`.
+use mathlib.Core.Path.{_≡_, sym, _∙_}
+use Prim.Native.Nat.{_-_, _≤_}
+use native.Mathlib.Omega.{arith}
+use borrow.Author.Needs.{needs}
+use Rattle.tariff.specs.Refusals.{first}
+use Rattle.tariff.specs.declared.refusals.Checked.the-variants.{Passed}
+use Rattle.layouts.specs.BookFile.{contractAt}
+use Rattle.books.specs.BookChecks.{checksTo, contractChecks}
+use Rattle.books.proofs.Checking.{checks-start, checks-more, checks-stop, checks-end}
+use Rattle.books.proofs.check_contracts.Statement.{statement}
+use Rattle.books.proofs.check_contracts.Tie as tie
+
+abbrev Inv-loop : tie.InvT-loop
+Inv-loop nodes file count i₀ i =
+    (i ≤ count) × (first (checksTo i (λ j. contractChecks nodes (contractAt file j))) ≡ Passed)
+
+abbrev μ-loop : tie.MeasureT-loop
+μ-loop nodes file count i₀ i = count - i
+
+loop-holds : tie.Need-loop-holds Inv-loop μ-loop
+loop-holds c = (omega arith, checks-start (λ i. contractChecks (c .before .args .nodes) (contractAt (c .before .args .file .now) i)))
+
+returns : tie.Need-returns Inv-loop μ-loop
+returns c =
+    let l = c .before .before .before .before .before .loop in
+    let a = c .before .before .before .before .before .before .before .args in
+    sym (checks-stop (λ i. contractChecks (a .nodes) (contractAt (a .file .now) i)) (a .count) (l .i) _ (omega arith) (l .inv .1)
+    (sym (c .before .before .before .check-at .ensures) ∙ c .before .checked .given .1))
+
+loop-again : tie.Need-loop-again Inv-loop μ-loop
+loop-again c =
+    let l = c .before .before .before .before .loop in
+    let a = c .before .before .before .before .before .before .args in
+    (omega arith, checks-more (λ i. contractChecks (a .nodes) (contractAt (a .file .now) i)) (l .i) (l .inv .1) (sym (c .before .before .check-at .ensures) ∙ c .enum-told .given .1))
+
+pub check-contracts-spec : {M : Type 1} → statement M
+check-contracts-spec =
+    tie.close (tie.spec
+    Inv-loop μ-loop loop-holds (λ c κs. search needs) (λ c. search needs) returns (λ c. search needs) (λ c. search needs) (λ c. search needs) loop-again
+    (λ c. checks-end _ _ _ (omega arith) (c .before .loop .inv .1)))

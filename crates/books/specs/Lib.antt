@@ -1,0 +1,2 @@
+pub mod BookChecks
+pub mod Inner

@@ -1,0 +1,32 @@
+// The book's two operations for C: figures go into lent cells, and the answer is the refusal's number, 0 for none.
+ghost use Rattle.lists.specs.Lent.{before, after};
+ghost use Rattle.book_file.specs.ReadBook.{readBookCall, ReadsBookForC};
+ghost use Rattle.book_file.specs.WriteBook.{writeBookCall, WritesBookForC};
+use book_file::BookAnswer;
+
+// Reads a book's file for a grid of `nodes` nodes into a table of six cells a contract, and gives how many contracts it has.
+pub fn read_book(nodes: usize, file: &[u8], book: &mut [u64], contracts: &mut usize) -> u64
+    ensures { λ r. ⌜ ReadsBookForC (readBookCall nodes (before file) (before book)) r (after book) contracts ⌝ }
+{
+    match book_file::read_book(nodes, file, book) {
+        BookAnswer::Refused(refusal) => refusal.number(),
+        BookAnswer::Read { contracts: m } => {
+            *contracts = m;
+            0
+        }
+    }
+}
+
+// Writes the first `contracts` rows of a table as a book's file for a grid of `nodes` nodes, and gives its length.
+pub fn write_book(
+    nodes: usize,
+    contracts: usize,
+    book: &[u64],
+    file: &mut [u8],
+    bytes: &mut usize,
+) -> u64
+    ensures { λ r. ⌜ WritesBookForC (writeBookCall nodes contracts (before book) (before file)) r (after file) bytes ⌝ }
+{
+    let answer = book_file::write_book(nodes, contracts, book, file);
+    answer.into_cell(bytes)
+}

@@ -1,0 +1,52 @@
+// Finding the MCC and settling an hour for C: figures go into lent cells, and the answer is the refusal's number, 0 for none.
+ghost use Rattle.lists.specs.Lent.{before, after};
+ghost use Rattle.settlement.specs.FindMcc.{findMccCall, FindsMccForC};
+ghost use Rattle.settlement.specs.SettleHour.{hourCall, SettlesForC};
+use settlement::MccAnswer;
+use settlement::SettleAnswer;
+
+// Finds the MCC of all nodes, one cell each.
+pub fn find_mcc(
+    nodes: usize,
+    constraints: usize,
+    factors: &[i64],
+    prices: &[u64],
+    mcc: &mut [i64],
+) -> u64
+    ensures { λ r. ⌜ FindsMccForC (findMccCall nodes constraints (before factors) (before prices) (before mcc)) r (after mcc) ⌝ }
+{
+    match settlement::find_mcc(nodes, constraints, factors, prices, mcc) {
+        MccAnswer::Refused(refusal) => refusal.number(),
+        MccAnswer::Found => 0,
+    }
+}
+
+// Settles an hour of a period: one cell of cents for each contract, and gives their sum and the exact total as whole cents and parts.
+pub fn settle_hour(
+    nodes: usize,
+    constraints: usize,
+    period: u64,
+    factors: &[i64],
+    prices: &[u64],
+    book: &[u8],
+    cents: &mut [i64],
+    sum: &mut i64,
+    whole: &mut i64,
+    part: &mut u64,
+) -> u64
+    ensures { λ r. ⌜ SettlesForC (hourCall nodes constraints period (before factors) (before prices) (before book) (before cents)) r (after cents) sum whole part ⌝ }
+{
+    match settlement::settle_hour(nodes, constraints, period, factors, prices, book, cents) {
+        SettleAnswer::Refused(refusal) => refusal.number(),
+        SettleAnswer::Settled {
+            sum: added,
+            whole: down,
+            parts: rest,
+        } => {
+            *sum = added;
+            *whole = down;
+            *part = rest;
+            0
+        }
+    }
+}

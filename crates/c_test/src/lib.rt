@@ -1,0 +1,45 @@
+// The test for C: its figures go into lent cells, and the answer is the refusal's number, 0 for none.
+ghost use Rattle.lists.specs.Lent.{before};
+ghost use Rattle.feasibility_test.specs.TestBook.{testCall, TestsBookForC};
+use feasibility_test::TestAnswer;
+
+// Tests a book's bytes against grid tables for a process and a period, and gives the test's figures: on a pass all are 0, and only then is the set.
+pub fn test_book(
+    nodes: usize,
+    constraints: usize,
+    process: u64,
+    period: u64,
+    limits: &[u64],
+    factors: &[i64],
+    book: &[u8],
+    set: &mut u64,
+    count: &mut usize,
+    lowest: &mut usize,
+    excess: &mut i64,
+) -> u64
+    ensures { λ r. ⌜ TestsBookForC (testCall nodes constraints process period (before limits) (before factors) (before book)) r set count lowest excess ⌝ }
+{
+    match feasibility_test::test_book(nodes, constraints, process, period, limits, factors, book) {
+        TestAnswer::Refused(refusal) => refusal.number(),
+        TestAnswer::Pass => {
+            *set = 0;
+            *count = 0;
+            *lowest = 0;
+            *excess = 0;
+            0
+        }
+        TestAnswer::Fail {
+            set: overloads,
+            count: many,
+            lowest: named,
+            excess: over,
+        } => {
+            let flow = over.0;
+            *set = overloads;
+            *count = many;
+            *lowest = named;
+            *excess = flow;
+            0
+        }
+    }
+}

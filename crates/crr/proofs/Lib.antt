@@ -1,2 +1,0 @@
-mod Cells
-mod Testing

@@ -1,0 +1,37 @@
+-- A contract of the file from one number, over the width of its ends: its bits are B bytes.
+use mathlib.Core.Path.{_≡_, refl, ap, _∙_}
+use mathlib.Core.List.{List}
+use Prim.Native.Nat.{ℕ, _+_, _-_, _*_, _/_, _%_, _^_, _≤_}
+use native.Mathlib.Omega.{arith}
+use lib.ListN.{length, take, drop}
+use Rattle.bits.specs.Bits.{number, field}
+use Rattle.bits.proofs.Numbers.{Below}
+use Rattle.bits.proofs.Fields.{field-part}
+use Rattle.layouts.specs.BookFile.{contract, contractBits, contractFrom, contractAt}
+
+module _ (w B : ℕ) (whole : 8 * B ≡ contractBits w) (s : List ℕ) (i v : ℕ) (b : Below 8 s) (le : 2 + B * i + B ≤ length s) (e : v ≡ number 8 (take B (drop (2 + B * i) s))) where
+  -- where the contract's bits begin, in bytes
+  begins : contractBits w * i ≡ 8 * (B * i)
+  begins = rw (← whole) (omega arith)
+
+  -- the field of x bits at o, a bits into the contract, with r bits of the contract behind it
+  pub contract-part : (a x o r : ℕ) → a + x + r ≡ contractBits w → o ≡ 16 + contractBits w * i + a → field s o x ≡ v / 2 ^ r % 2 ^ x
+  contract-part a x o r end at =
+      rw e
+      (ap (λ (y : ℕ). field s y x) {x = o} {y = 8 * (2 + B * i) + a} (omega (arith, begins)) ∙ field-part s (2 + B * i) B a x b le (omega arith)
+      ∙ ap (λ (y : ℕ). number 8 (take B (drop (2 + B * i) s)) / 2 ^ y % 2 ^ x) {x = 8 * B - (a + x)} {y = r} (omega arith))
+
+  -- the six fields as parts of the number v
+  pub contract-number : contractFrom w s (16 + contractBits w * i)
+      ≡ contract (v / 2 ^ (31 + (w + w)) % 2 ^ 1) (v / 2 ^ (30 + (w + w)) % 2 ^ 1) (v / 2 ^ (20 + (w + w)) % 2 ^ 10) (v / 2 ^ (20 + w) % 2 ^ w) (v / 2 ^ 20 % 2 ^ w) (v / 2 ^ 0 % 2 ^ 20)
+  unfolding contractFrom
+  contract-number =
+      let o = 16 + contractBits w * i in
+      λ t. contract (contract-part 0 1 o (31 + (w + w)) (omega arith) (omega arith) t) (contract-part 1 1 (o + 1) (30 + (w + w)) (omega arith) (omega arith) t)
+      (contract-part 2 10 (o + 1 + 1) (20 + (w + w)) (omega arith) (omega arith) t) (contract-part 12 w (o + 1 + 1 + 10) (20 + w) (omega arith) (omega arith) t)
+      (contract-part (12 + w) w (o + 1 + 1 + 10 + w) 20 (omega arith) (omega arith) t) (contract-part (12 + w + w) 20 (o + 1 + 1 + 10 + w + w) 0 (omega arith) (omega arith) t)
+
+-- with ends of 8 bits
+pub contract-at-number : (s : List ℕ) (i v : ℕ) → Below 8 s → 2 + 6 * i + 6 ≤ length s → v ≡ number 8 (take 6 (drop (2 + 6 * i) s))
+    → contractAt s i ≡ contract (v / 2 ^ 47 % 2 ^ 1) (v / 2 ^ 46 % 2 ^ 1) (v / 2 ^ 36 % 2 ^ 10) (v / 2 ^ 28 % 2 ^ 8) (v / 2 ^ 20 % 2 ^ 8) (v / 2 ^ 0 % 2 ^ 20)
+contract-at-number = contract-number 8 6 refl

@@ -1,0 +1,17 @@
+-- What inner functions and proofs say: a writer's answer as a lent figure takes it, and contracts that a book's fields can hold.
+use Prim.Native.Nat.{ℕ, _^_, _<_}
+use Rattle.tariff.specs.declared.contracts.Contract.{Contract}
+use Rattle.layouts.specs.declared.WriteAnswer.{WriteAnswer}
+use Rattle.layouts.specs.declared.WriteAnswer.the-variants.{Written, Refused}
+
+-- a lent figure that takes the length
+abbrev pub lengthAfter : WriteAnswer → ℕ → ℕ
+lengthAfter (Written n) entry = n
+lengthAfter (Refused r) entry = entry
+
+-- what the fields of a contract can hold, with ends of w bits
+pub record ContractFits (w : ℕ) (c : Contract) : Type 0 where
+  pub holder-fits : c .holder < 2 ^ 10
+  pub source-fits : c .source < 2 ^ w
+  pub sink-fits : c .sink < 2 ^ w
+  pub quantity-fits : c .quantity .0 < 2 ^ 20

@@ -1,0 +1,5 @@
+pub mod Exits
+pub mod Prices
+pub mod Books
+pub mod Grids
+pub mod Theorems

@@ -1,0 +1,64 @@
+// The marginal cost of congestion, node by node (002 part C).
+ghost use mathlib.Core.Path.{_≡_};
+ghost use Prim.Native.Nat.{_≤_, _<_};
+ghost use lib.ListN.{length};
+ghost use lib.IntN.{natAbs};
+ghost use Rattle.lists.specs.Lists.{listTo};
+ghost use Rattle.lists.specs.Lent.{before, after, overwrite};
+ghost use Rattle.tariff.specs.Inner.{maxMcc};
+ghost use Rattle.settlement.specs.FindMcc.{findMccCall, FindsMcc};
+ghost use Rattle.settlement.specs.Inner.{Hour, mccIn};
+use crate::MccAnswer;
+use tariff::Checked;
+use tariff::Mcc;
+use tariff::Price;
+
+// The MCC of a node: the products summed first to last, then one negation.
+fn node_mcc(nodes: usize, constraints: usize, factors: &[i64], prices: &[u64], node: usize) -> Mcc
+    requires { ⌜ Hour nodes constraints (now factors) (now prices) ⌝ }
+    requires { ⌜ node < nodes ⌝ }
+    ensures { λ r. ⌜ (r .0 ≡ mccIn nodes constraints (before factors) (before prices) node) × (natAbs (r .0) ≤ maxMcc) ⌝ }
+{
+    let base = node * constraints;
+    let mut sum = Mcc(0);
+    let mut k = 0;
+    while k < constraints {
+        let product = Price(prices[k]).times(factors[base + k]);
+        sum = sum.plus(product);
+        k += 1;
+    }
+    sum.negated()
+}
+
+// The MCC of each node, into the first cells of `out`.
+pub fn fill_mcc(nodes: usize, constraints: usize, factors: &[i64], prices: &[u64], out: &mut [i64])
+    requires { ⌜ Hour nodes constraints (now factors) (now prices) ⌝ }
+    requires { ⌜ nodes ≤ length (now out) ⌝ }
+    ensures { λ r. ⌜ after out ≡ overwrite (listTo nodes (mccIn nodes constraints (before factors) (before prices))) (before out) ⌝ }
+{
+    let mut node = 0;
+    while node < nodes {
+        out[node] = node_mcc(nodes, constraints, factors, prices, node).cell();
+        node += 1;
+    }
+}
+
+// Finds the MCC of all nodes, one cell each.
+pub fn find_mcc(
+    nodes: usize,
+    constraints: usize,
+    factors: &[i64],
+    prices: &[u64],
+    mcc: &mut [i64],
+) -> MccAnswer
+    ensures { λ r. ⌜ FindsMcc (findMccCall nodes constraints (before factors) (before prices) (before mcc)) r (after mcc) ⌝ }
+{
+    // No period is asked for: 0 is always one.
+    match tables::check_hour_tables(nodes, constraints, 0, factors, prices, mcc.len()) {
+        Checked::Refused(refusal) => MccAnswer::Refused(refusal),
+        Checked::Passed => {
+            fill_mcc(nodes, constraints, factors, prices, mcc);
+            MccAnswer::Found
+        }
+    }
+}

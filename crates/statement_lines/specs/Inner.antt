@@ -1,0 +1,29 @@
+-- The statement's lines as they are put one behind the other, by a table of cents.
+use mathlib.Core.List.{List, [], _++_}
+use Prim.Native.Nat.{ℕ, zero, suc, _+_, _*_, _≤_, _<_}
+use lib.ListN.{getD}
+use lib.IntN.{ℤ, pos, natAbs}
+use Rattle.tariff.specs.declared.contracts.Period.{Period}
+use Rattle.tariff.specs.declared.contracts.Contract.{Contract}
+use Rattle.tariff.specs.Units.{maxContracts}
+use Rattle.tariff.specs.Inner.{maxCents}
+use Rattle.settlement.specs.declared.Totals.{Totals}
+use Rattle.settlement.specs.Inner.{Bounded}
+use Rattle.statement_lines.specs.Lines.{heading, lineOf, sumLine, exactLine}
+
+-- the largest totals that are told in a line
+abbrev pub maxTotal : ℕ
+maxTotal = (maxCents + 1) * maxContracts
+
+-- the lines of contracts 0 to m − 1
+unfoldable pub linesTo : Period → (ℕ → Contract) → List ℤ → ℕ → List ℕ
+linesTo t f cells zero = []
+linesTo t f cells (suc m) = linesTo t f cells m ++ lineOf t m (f m) (getD cells m (pos 0))
+
+unfoldable pub settledLines : Period → (ℕ → Contract) → List ℤ → ℕ → Totals → List ℕ
+settledLines t f cells m r = heading ++ linesTo t f cells m ++ sumLine (r .sum) ++ exactLine (r .whole) (r .parts)
+
+-- figures of m contracts that fit their places in the lines
+pub record Sized (m : ℕ) (cells : List ℤ) (r : Totals) : Type 0 where
+  pub cells-sized : (i : ℕ) → i < m → natAbs (getD cells i (pos 0)) ≤ maxCents
+  pub bounded : Bounded m r

@@ -1,0 +1,40 @@
+-- What inner functions and proofs say of lent tables: those that no check refuses, what a search looks at, and the checks of an hour's tables.
+use mathlib.Core.Bool.{Bool, _||_}
+use mathlib.Core.List.{List, [], _∷_}
+use Prim.Native.Nat.{ℕ, _+_, _*_, _≤_, _<_}
+use lib.ListN.{length, getD, take}
+use lib.IntN.{ℤ, pos}
+use Rattle.tariff.specs.Units.{factorsOf, maxNodes, maxConstraints}
+use Rattle.tariff.specs.Refusals.{Check}
+use Rattle.tariff.specs.Checks.{factorBad, nodeCount, constraintCount, periodNumber, shortTable, factorRange, priceRange}
+use Rattle.tariff.specs.Inner.{FactorsInRange}
+
+-- a table of factors for n nodes and k constraints
+pub record GoodFactors (n k : ℕ) (table : List ℤ) : Type 0 where
+  pub nodes-few : n ≤ maxNodes
+  pub few : k ≤ maxConstraints
+  pub long : n * k ≤ length table
+  pub in-range : FactorsInRange (factorsOf n k table)
+
+-- a table of limits or prices, one for each of k constraints and none above `most`
+pub record GoodCells (most k : ℕ) (table : List ℕ) : Type 0 where
+  pub long : k ≤ length table
+  pub sized : (j : ℕ) → j < k → getD table j 0 ≤ most
+
+-- one of the four from i on is out of range
+abbrev pub fourBad : List ℤ → ℕ → Bool
+fourBad fs i =
+    factorBad (getD fs i (pos 0)) || (factorBad (getD fs (i + 1) (pos 0)) || (factorBad (getD fs (i + 2) (pos 0)) || factorBad (getD fs (i + 3) (pos 0))))
+
+-- 2, 3, 17, 9, 7, 15, with `place` cells for an answer of one cell a node
+unfoldable pub hourTableChecks : ℕ → ℕ → ℕ → List ℤ → List ℕ → ℕ → List Check
+hourTableChecks n k period factors prices place =
+    nodeCount n
+    ∷ constraintCount k
+    ∷ periodNumber period
+    ∷ shortTable (length factors) (n * k)
+    ∷ shortTable (length prices) k
+    ∷ shortTable place n
+    ∷ factorRange (take (n * k) factors)
+    ∷ priceRange (take k prices)
+    ∷ []

@@ -1,0 +1,2 @@
+pub mod TableChecks
+pub mod Inner

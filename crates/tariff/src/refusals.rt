@@ -1,0 +1,70 @@
+// What input is turned down for ("When input is turned down"), by meaning and by the paper's number.
+ghost use mathlib.Core.Path.{_≡_};
+ghost use Rattle.tariff.specs.Refusals.{numberOf};
+ghost use Rattle.tariff.specs.Checks.{nodeCount};
+use crate::MAX_NODES;
+
+// Why input is turned down ("When input is turned down"): one case for each of the paper's numbers.
+pub enum Refusal {
+    ShortFile,
+    NodeCount,
+    ConstraintCount,
+    SpareBits,
+    FileLength,
+    LimitRange,
+    FactorRange,
+    Padding,
+    ShortTable,
+    ContractCount,
+    NodeNumber,
+    SameEnds,
+    QuantityRange,
+    PriceCount,
+    PriceRange,
+    ProcessNumber,
+    PeriodOrKind,
+    HolderRange,
+}
+
+impl Refusal {
+    pub fn number(self) -> u64
+        ensures { λ r. ⌜ r ≡ numberOf self ⌝ }
+    {
+        match self {
+            Refusal::ShortFile => 1,
+            Refusal::NodeCount => 2,
+            Refusal::ConstraintCount => 3,
+            Refusal::SpareBits => 4,
+            Refusal::FileLength => 5,
+            Refusal::LimitRange => 6,
+            Refusal::FactorRange => 7,
+            Refusal::Padding => 8,
+            Refusal::ShortTable => 9,
+            Refusal::ContractCount => 10,
+            Refusal::NodeNumber => 11,
+            Refusal::SameEnds => 12,
+            Refusal::QuantityRange => 13,
+            Refusal::PriceCount => 14,
+            Refusal::PriceRange => 15,
+            Refusal::ProcessNumber => 16,
+            Refusal::PeriodOrKind => 17,
+            Refusal::HolderRange => 18,
+        }
+    }
+}
+
+// What an operation's checks find: none refuses, or the first that does.
+pub enum Checked {
+    Passed,
+    Refused(Refusal),
+}
+
+// 2: no node, or more than a grid may have.
+pub fn nodes_bad(nodes: usize) -> bool
+    ensures { λ r. ⌜ r ≡ nodeCount nodes .fails ⌝ }
+{
+    if nodes == 0 {
+        return true;
+    }
+    MAX_NODES < nodes
+}

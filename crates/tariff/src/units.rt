@@ -1,0 +1,238 @@
+// Units as tuple structs. Sums keep their unit: a quantity, a price or an MCC is opened only here, in its own sums and in the product rules.
+ghost use mathlib.Core.Path.{_≡_};
+ghost use Prim.Native.Nat.{_+_, _^_, _≤_, _<_};
+ghost use lib.IntN.{pos, natAbs, negℤ, _+ℤ_, _-ℤ_, _*ℤ_};
+ghost use lib.Signed.{ltZ};
+ghost use Rattle.integers.specs.Division.{roundUp};
+ghost use Rattle.tariff.specs.Units.{maxFactor, maxQuantity, maxPrice, perCent};
+ghost use Rattle.tariff.specs.Checks.{quantityRange};
+ghost use Rattle.tariff.specs.Contracts.{counted as countedAs};
+ghost use Rattle.tariff.specs.Settlement.{cents as centsOf, wholeCents, parts as partsOf};
+ghost use Rattle.tariff.specs.Inner.{maxSpread, maxAmount, maxCents};
+use crate::MAX_QUANTITY;
+use crate::PER_CENT;
+use crate::contracts::Kind;
+
+// The largest parts of a cent.
+const LAST_PART: u64 = PER_CENT - 1;
+
+// Thousandths of a MW.
+pub struct Quantity(pub u64);
+
+impl Quantity {
+    pub fn plus(self, other: Quantity) -> Quantity
+        requires { ⌜ self .0 + other .0 < 2 ^ 64 ⌝ }
+        ensures { λ r. ⌜ r .0 ≡ self .0 + other .0 ⌝ }
+    {
+        Quantity(self.0 + other.0)
+    }
+
+    // 13: 0 or too large.
+    pub fn out_of_range(self) -> bool
+        ensures { λ r. ⌜ r ≡ quantityRange (self .0) .fails ⌝ }
+    {
+        if self.0 == 0 {
+            return true;
+        }
+        MAX_QUANTITY < self.0
+    }
+
+    // The product rule of flows: this quantity from source to sink, by their shift factors on one constraint.
+    pub fn flow(self, source: i64, sink: i64) -> Flow
+        requires { ⌜ (natAbs source ≤ maxFactor) × (natAbs sink ≤ maxFactor) × (self .0 ≤ maxQuantity) ⌝ }
+        ensures { λ r. ⌜ r .0 ≡ (source -ℤ sink) *ℤ pos (self .0) ⌝ }
+    {
+        let q = self.0 as i64;
+        Flow((source - sink) * q)
+    }
+
+    // The product rule of an option's flow, which counts only where it is positive: two numbers of 32 bits are multiplied there.
+    fn option_flow(self, source: i64, sink: i64) -> Flow
+        requires { ⌜ (natAbs source ≤ maxFactor) × (natAbs sink ≤ maxFactor) × (self .0 ≤ maxQuantity) ⌝ }
+        ensures { λ r. ⌜ r .0 ≡ countedAs Kind.Option ((source -ℤ sink) *ℤ pos (self .0)) ⌝ }
+    {
+        let spread = source - sink;
+        if spread < 0 {
+            return Flow(0);
+        }
+        let rise = (spread as u32) as u64;
+        Flow((rise * self.0) as i64)
+    }
+
+    // The flow from source to sink as it counts.
+    pub fn counted_flow(self, kind: Kind, source: i64, sink: i64) -> Flow
+        requires { ⌜ (natAbs source ≤ maxFactor) × (natAbs sink ≤ maxFactor) × (self .0 ≤ maxQuantity) ⌝ }
+        ensures { λ r. ⌜ r .0 ≡ countedAs kind ((source -ℤ sink) *ℤ pos (self .0)) ⌝ }
+    {
+        match kind {
+            Kind::Obligation => self.flow(source, sink),
+            Kind::Option => self.option_flow(source, sink),
+        }
+    }
+}
+
+// Cents per MWh.
+pub struct Price(pub u64);
+
+impl Price {
+    pub fn plus(self, other: Price) -> Price
+        requires { ⌜ self .0 + other .0 < 2 ^ 64 ⌝ }
+        ensures { λ r. ⌜ r .0 ≡ self .0 + other .0 ⌝ }
+    {
+        Price(self.0 + other.0)
+    }
+
+    // The product rule of congestion (002 part C): shift factor × shadow price.
+    pub fn times(self, factor: i64) -> Mcc
+        requires { ⌜ (natAbs factor ≤ maxFactor) × (self .0 ≤ maxPrice) ⌝ }
+        ensures { λ r. ⌜ r .0 ≡ factor *ℤ pos (self .0) ⌝ }
+    {
+        // Through 32 bits, so that the compiler knows how small it is.
+        let p = (self.0 as u32) as i64;
+        Mcc(factor * p)
+    }
+}
+
+// The marginal cost of congestion: 10^-5 cents per MWh.
+pub struct Mcc(pub i64);
+
+impl Mcc {
+    pub fn plus(self, other: Mcc) -> Mcc
+        requires { ⌜ natAbs (self .0) + natAbs (other .0) < 2 ^ 63 ⌝ }
+        ensures { λ r. ⌜ r .0 ≡ self .0 +ℤ other .0 ⌝ }
+    {
+        Mcc(self.0 + other.0)
+    }
+
+    pub fn minus(self, other: Mcc) -> Mcc
+        requires { ⌜ natAbs (self .0) + natAbs (other .0) < 2 ^ 63 ⌝ }
+        ensures { λ r. ⌜ r .0 ≡ self .0 -ℤ other .0 ⌝ }
+    {
+        Mcc(self.0 - other.0)
+    }
+
+    pub fn negated(self) -> Mcc
+        requires { ⌜ natAbs (self .0) < 2 ^ 63 ⌝ }
+        ensures { λ r. ⌜ r .0 ≡ negℤ (self .0) ⌝ }
+    {
+        Mcc(-self.0)
+    }
+
+    // As a cell of a table.
+    pub fn cell(self) -> i64
+        requires { ⌜ natAbs (self .0) < 2 ^ 63 ⌝ }
+        ensures { λ r. ⌜ r ≡ self .0 ⌝ }
+    {
+        self.0
+    }
+
+    // The product rule of amounts (003, 36.2.1): a difference of two MCCs × quantity.
+    pub fn times(self, quantity: Quantity) -> Amount
+        requires { ⌜ (natAbs (self .0) ≤ maxSpread) × (quantity .0 ≤ maxQuantity) ⌝ }
+        ensures { λ r. ⌜ r .0 ≡ self .0 *ℤ pos (quantity .0) ⌝ }
+    {
+        let q = quantity.0 as i64;
+        Amount(self.0 * q)
+    }
+}
+
+// 10^-8 MW.
+pub struct Flow(pub i64);
+
+impl Flow {
+    pub fn plus(self, other: Flow) -> Flow
+        requires { ⌜ natAbs (self .0) + natAbs (other .0) < 2 ^ 63 ⌝ }
+        ensures { λ r. ⌜ r .0 ≡ self .0 +ℤ other .0 ⌝ }
+    {
+        Flow(self.0 + other.0)
+    }
+
+    pub fn minus(self, other: Flow) -> Flow
+        requires { ⌜ natAbs (self .0) + natAbs (other .0) < 2 ^ 63 ⌝ }
+        ensures { λ r. ⌜ r .0 ≡ self .0 -ℤ other .0 ⌝ }
+    {
+        Flow(self.0 - other.0)
+    }
+
+    pub fn exceeds(self, other: Flow) -> bool
+        requires { ⌜ (natAbs (self .0) < 2 ^ 63) × (natAbs (other .0) < 2 ^ 63) ⌝ }
+        ensures { λ r. ⌜ r ≡ ltZ (other .0) (self .0) ⌝ }
+    {
+        other.0 < self.0
+    }
+}
+
+// 10^-8 cents for one hour.
+pub struct Amount(pub i64);
+
+impl Amount {
+    // This amount as it counts: an option is never charged.
+    pub fn counted(self, kind: Kind) -> Amount
+        requires { ⌜ natAbs (self .0) < 2 ^ 63 ⌝ }
+        ensures { λ r. ⌜ r .0 ≡ countedAs kind (self .0) ⌝ }
+    {
+        match kind {
+            Kind::Obligation => self,
+            Kind::Option => { if self.0 < 0 { Amount(0) } else { self } }
+        }
+    }
+
+    // Its size, whatever its sign.
+    fn size(self) -> u64
+        requires { ⌜ natAbs (self .0) < 2 ^ 63 ⌝ }
+        ensures { λ r. ⌜ r ≡ natAbs (self .0) ⌝ }
+    {
+        if self.0 < 0 {
+            (-self.0) as u64
+        } else {
+            self.0 as u64
+        }
+    }
+
+    // Its size in cents: to the nearest, a half upwards.
+    fn rounded(self) -> u64
+        requires { ⌜ natAbs (self .0) ≤ maxAmount ⌝ }
+        ensures { λ r. ⌜ (r ≡ roundUp (natAbs (self .0)) perCent) × (r ≤ maxCents) ⌝ }
+    {
+        (self.size() + PER_CENT / 2) / PER_CENT
+    }
+
+    // In cents: to the nearest, a half away from zero.
+    pub fn cents(self) -> i64
+        requires { ⌜ natAbs (self .0) ≤ maxAmount ⌝ }
+        ensures { λ r. ⌜ (r ≡ centsOf (self .0)) × (natAbs r ≤ maxCents) ⌝ }
+    {
+        let rounded = self.rounded();
+        if self.0 < 0 {
+            -(rounded as i64)
+        } else {
+            rounded as i64
+        }
+    }
+
+    // The whole cents, rounded down.
+    pub fn whole(self) -> i64
+        requires { ⌜ natAbs (self .0) ≤ maxAmount ⌝ }
+        ensures { λ r. ⌜ (r ≡ wholeCents (self .0)) × (natAbs r ≤ maxCents) ⌝ }
+    {
+        let size = self.size();
+        if self.0 < 0 {
+            -(((size + LAST_PART) / PER_CENT) as i64)
+        } else {
+            (size / PER_CENT) as i64
+        }
+    }
+
+    // What is left above the whole cents.
+    pub fn parts(self) -> u64
+        requires { ⌜ natAbs (self .0) ≤ maxAmount ⌝ }
+        ensures { λ r. ⌜ (r ≡ partsOf (self .0)) × (r < perCent) ⌝ }
+    {
+        let size = self.size();
+        if self.0 < 0 {
+            LAST_PART - (size - 1) % PER_CENT
+        } else {
+            size % PER_CENT
+        }
+    }
+}

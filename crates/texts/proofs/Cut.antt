@@ -1,0 +1,134 @@
+-- A file that is cut one byte past its largest length is answered as the whole file is.
+use mathlib.Core.Path.{_≡_, refl, sym, ap}
+use mathlib.Core.Bool.{Bool, true, false}
+use mathlib.Core.List.{List, [], _∷_, _++_}
+use Prim.Native.Nat.{ℕ, _+_, _*_, _≤_, _<_}
+use native.Mathlib.Omega.{arith}
+use borrow.Author.Tests.{ltb-true, ltb-false, le-ltb}
+use lib.Dec.{ltb}
+use lib.ListN.{length, take}
+use lib.Seq.{take-all, length-take-le}
+use Rattle.bits.specs.Bits.{field}
+use Rattle.bits.proofs.Bytes.{Bytes, bytes-below}
+use Rattle.bits.proofs.Fields.{field-window}
+use Rattle.tariff.specs.declared.contracts.Contract.{Contract}
+use Rattle.tariff.specs.declared.contracts.Period.{Period}
+use Rattle.tariff.specs.declared.refusals.Refusal.{Refusal}
+use Rattle.tariff.specs.declared.refusals.Checked.{Checked}
+use Rattle.tariff.specs.declared.refusals.Checked.the-variants.{Passed, Refused}
+use Rattle.tariff.specs.Units.{Grid, maxNodes, maxConstraints, maxContracts}
+use Rattle.tariff.specs.Refusals.{Check, first, decided}
+use Rattle.tariff.specs.Checks.{nodeCount, constraintCount, contractCount}
+use Rattle.tariff.proofs.Checks.{first-append, first-refuses, passed-cons, nodes-few-of, differs}
+use Rattle.layouts.specs.Files.{shortFile, spareBits, fileLength}
+use Rattle.layouts.specs.GridFile.{gridBytes, nodesIn, constraintsIn, gridSpareIn}
+use Rattle.layouts.specs.BookFile.{bookBytes, contractCountIn, bookSpareIn}
+use Rattle.layouts.specs.PriceFile.{priceBytes, priceCount}
+use Rattle.grid_file.specs.ReadGrid.{gridFileChecks}
+use Rattle.tables.proofs.Factors.{count-fits}
+use Rattle.books.specs.BookChecks.{bookChecks}
+use Rattle.price_file.specs.ReadPrices.{priceFileChecks}
+use Rattle.texts.specs.WithFiles.{withGrid, withBook, withPrices}
+
+-- what a program reads of a file: one byte more than its largest length, `MAX_GRID_BYTES`, `MAX_BOOK_BYTES` and `MAX_PRICE_BYTES` of layouts
+abbrev pub gridCut : ℕ
+gridCut = 29018 + 1
+
+abbrev pub bookCut : ℕ
+bookCut = 6002 + 1
+
+abbrev pub priceCut : ℕ
+priceCut = 153 + 1
+
+-- a field of the first m bytes
+field-cut : (s : List ℕ) (m o w : ℕ) → Bytes s → m ≤ length s → o + w ≤ 8 * m → field (take m s) o w ≡ field s o w
+unfolding field
+field-cut s m o w b le in-first =
+    let front : length (take m s) ≡ m = length-take-le m s le in
+    let all : 0 + m ≡ m = omega arith in
+    rw front (sym (rw all at (field-window s o w 0 m (bytes-below s b) (omega arith) (omega arith) (omega arith))))
+
+-- checks that a file and its cut share, behind which the length refuses both
+module _ (head : List Check) (size m : ℕ) (s : List ℕ) (most : first head ≡ Passed → size < m) (long : m ≤ length s) where
+  too-long : {A : Type 0} (xs ys : List Check) (f : Refusal → A) (x y : A)
+      → decided (first (head ++ fileLength (take m s) size ∷ xs)) f x ≡ decided (first (head ++ fileLength s size ∷ ys)) f y
+  too-long xs ys f x y = rw (first-append head (fileLength (take m s) size ∷ xs), first-append head (fileLength s size ∷ ys)) (by (first head) refl)
+    where
+      by : (c : Checked) → first head ≡ c
+          → decided (decided c Refused (first (fileLength (take m s) size ∷ xs))) f x ≡ decided (decided c Refused (first (fileLength s size ∷ ys))) f y
+      by (Refused r) e = refl
+      by Passed e =
+          let less = most e in
+          rw (
+            first-refuses (fileLength (take m s) size) xs (differs (length (take m s)) size (λ q. omega (arith, length-take-le m s long))),
+            first-refuses (fileLength s size) ys (differs (length s) size (λ q. omega arith)),
+          )
+
+-- a header that is there in both
+short-cut : (s : List ℕ) (m h : ℕ) → m ≤ length s → h ≤ m → ltb (length (take m s)) h ≡ ltb (length s) h
+short-cut s m h le there = rw (length-take-le m s le, le-ltb m h there, le-ltb (length s) h (omega arith))
+
+-- only a file of m bytes and more is to be looked at
+cut-or-whole : {A : Type 0} (s : List ℕ) (m : ℕ) (f : List ℕ → A) → (m ≤ length s → f (take m s) ≡ f s) → f (take m s) ≡ f s
+cut-or-whole {A} s m f cut = by (ltb (length s) m) refl
+  where
+    by : (short : Bool) → ltb (length s) m ≡ short → f (take m s) ≡ f s
+    by true e = ap f (take-all m s (omega (arith, ltb-true (length s) m e)))
+    by false e = cut (ltb-false (length s) m e)
+
+-- ---- the three files
+
+module _ (s : List ℕ) (m : ℕ) (b : Bytes s) where
+  pub cut-grid : gridCut ≤ m → (text : Grid → List ℕ) → withGrid (take m s) text ≡ withGrid s text
+  unfolding withGrid gridFileChecks
+  cut-grid most text = cut-or-whole s m (λ x. withGrid x text) cut
+    where
+      head : List Check
+      head = shortFile s 2 ∷ nodeCount (nodesIn s) ∷ constraintCount (constraintsIn s) ∷ spareBits (gridSpareIn s) ∷ []
+
+      size : first head ≡ Passed → gridBytes (nodesIn s) (constraintsIn s) < m
+      size e =
+          let two = passed-cons _ _ (passed-cons _ _ e .1) in
+          let three = passed-cons _ _ (two .1) in
+          let few : nodesIn s ≤ maxNodes = nodes-few-of (nodesIn s) (two .0) in
+          let some : constraintsIn s ≤ maxConstraints = ltb-false maxConstraints (constraintsIn s) (three .0) in
+          omega (arith, count-fits (nodesIn s) (constraintsIn s) few some)
+
+      cut : m ≤ length s → withGrid (take m s) text ≡ withGrid s text
+      cut long =
+          rw (
+            short-cut s m 2 long (omega arith),
+            field-cut s m 0 8 b long (omega arith),
+            field-cut s m 8 7 b long (omega arith),
+            field-cut s m 15 1 b long (omega arith),
+          ) (too-long head (gridBytes (nodesIn s) (constraintsIn s)) m s size long _ _ _ _ _)
+
+  pub cut-book : bookCut ≤ m → (n : ℕ) (text : List Contract → List ℕ) → withBook n (take m s) text ≡ withBook n s text
+  unfolding withBook bookChecks
+  cut-book most n text = cut-or-whole s m (λ x. withBook n x text) cut
+    where
+      head : List Check
+      head = shortFile s 2 ∷ contractCount (contractCountIn s) ∷ spareBits (bookSpareIn s) ∷ []
+
+      size : first head ≡ Passed → bookBytes (contractCountIn s) < m
+      size e = omega (arith, ltb-false maxContracts (contractCountIn s) (passed-cons _ _ (passed-cons _ _ e .1) .0))
+
+      cut : m ≤ length s → withBook n (take m s) text ≡ withBook n s text
+      cut long =
+          rw (short-cut s m 2 long (omega arith), field-cut s m 0 10 b long (omega arith), field-cut s m 10 6 b long (omega arith))
+          (too-long head (bookBytes (contractCountIn s)) m s size long _ _ _ _ _)
+
+  pub cut-prices : priceCut ≤ m → (k : ℕ) (text : Period → List ℕ → List ℕ) → withPrices k (take m s) text ≡ withPrices k s text
+  unfolding withPrices priceFileChecks
+  cut-prices most k text = cut-or-whole s m (λ x. withPrices k x text) cut
+    where
+      head : List Check
+      head = constraintCount k ∷ shortFile s 1 ∷ priceCount s k ∷ []
+
+      size : first head ≡ Passed → priceBytes k < m
+      size e = omega (arith, ltb-false maxConstraints k (passed-cons _ _ e .0))
+
+      cut : m ≤ length s → withPrices k (take m s) text ≡ withPrices k s text
+      cut long =
+          rw (short-cut s m 1 long (omega arith), field-cut s m 1 7 b long (omega arith))
+          (too-long head (priceBytes k) m s size long _ _ _ _ _)

@@ -1,0 +1,3 @@
+pub mod WithFiles
+pub mod Written
+pub mod Cut

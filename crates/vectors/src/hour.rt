@@ -1,0 +1,191 @@
+// The MCC and settlement: P1, P2 and P9 and case L by the code, the manual's direction vector, and the extremes both ways.
+use printing::figure;
+use printing::signed_figure;
+use settlement::MccAnswer;
+use settlement::SettleAnswer;
+
+// Three cells beside what is expected.
+fn three(name: &[u8], got: [i64; 3], a: i64, b: i64, c: i64) {
+    signed_figure(name, got[0], a);
+    signed_figure(name, got[1], b);
+    signed_figure(name, got[2], c);
+}
+
+// P1: the MCC of case L's nodes.
+fn p1() {
+    let mut mcc = [0i64; 3];
+    match settlement::find_mcc(
+        3,
+        2,
+        &[60000, -20000, 0, 0, -10000, 40000],
+        &[1000, 2550],
+        &mut mcc,
+    ) {
+        MccAnswer::Found => three(b"P1, MCC", mcc, -9000000, 0, -92000000),
+        MccAnswer::Refused(refusal) => figure(b"P1, refusal", refusal.number(), 0),
+    }
+}
+
+// Case L's hour: cents, their sum, and the exact total.
+fn case_l_hour() {
+    let book =
+        b"\x01\x00\x40\x70\x00\x10\x27\x10\xc0\x80\x00\x20\x01\xf4\x40\x70\x00\x20\x00\x01\x00\x90\x00\x10\x00\x05";
+    let mut cents = [0i64; 4];
+    match settlement::settle_hour(
+        3,
+        2,
+        1,
+        &[60000, -20000, 0, 0, -10000, 40000],
+        &[1000, 2550],
+        book,
+        &mut cents,
+    ) {
+        SettleAnswer::Settled { sum, whole, parts } => {
+            signed_figure(b"L, cents of contract 0", cents[0], 900);
+            signed_figure(b"L, cents of contract 1", cents[1], 0);
+            signed_figure(b"L, cents of contract 2", cents[2], -1);
+            signed_figure(b"L, cents of contract 3", cents[3], 0);
+            signed_figure(b"L, sum", sum, 899);
+            signed_figure(b"L, whole cents", whole, 899);
+            figure(b"L, parts", parts, 17000000);
+        }
+        SettleAnswer::Refused(refusal) => figure(b"L, hour refusal", refusal.number(), 0),
+    }
+}
+
+// One on-peak obligation from a node to another, by their factors on one constraint.
+fn one_contract(
+    name: &[u8],
+    source: i64,
+    sink: i64,
+    price: u64,
+    quantity: u64,
+    expected: i64,
+    whole_expected: i64,
+    parts_expected: u64,
+) {
+    let mut file = [0u8; 8];
+    book_file::write_book(2, 1, &[0, 1, 0, 0, 1, quantity], &mut file);
+    let mut cents = [0i64; 1];
+    match settlement::settle_hour(2, 1, 1, &[source, sink], &[price], &file, &mut cents) {
+        SettleAnswer::Settled {
+            sum: _,
+            whole,
+            parts,
+        } => {
+            signed_figure(name, cents[0], expected);
+            signed_figure(name, whole, whole_expected);
+            figure(name, parts, parts_expected);
+        }
+        SettleAnswer::Refused(refusal) => figure(name, refusal.number(), 0),
+    }
+}
+
+// The cells of a thousand equal obligations of the largest quantity.
+fn equal_rows(source: u64, sink: u64) -> [u64; 6000] {
+    let mut cells = [0u64; 6000];
+    let mut i = 0;
+    while i < 1000 {
+        cells[6 * i + 1] = 1;
+        cells[6 * i + 3] = source;
+        cells[6 * i + 4] = sink;
+        cells[6 * i + 5] = 1000000;
+        i += 1;
+    }
+    cells
+}
+
+// A factor at its end: the largest at even nodes, the smallest at odd ones.
+fn end_factor(node: usize) -> i64 {
+    if node % 2 == 1 { -100000 } else { 100000 }
+}
+
+fn end_factors() -> [i64; 12800] {
+    let mut factors = [0i64; 12800];
+    let mut i = 0;
+    while i < 12800 {
+        factors[i] = end_factor(i / 64);
+        i += 1;
+    }
+    factors
+}
+
+// 200 nodes, 64 constraints, 1,000 contracts, every figure at its end: the exact total passes 2^63.
+fn extreme(name: &[u8], source: u64, sink: u64, cents_expected: i64, sum_expected: i64) {
+    let mut file = [0u8; 6002];
+    let cells = equal_rows(source, sink);
+    book_file::write_book(200, 1000, &cells, &mut file);
+    let factors = end_factors();
+    let mut cents = [0i64; 1000];
+    match settlement::settle_hour(200, 64, 1, &factors, &[500000; 64], &file, &mut cents) {
+        SettleAnswer::Settled { sum, whole, parts } => {
+            signed_figure(name, cents[999], cents_expected);
+            signed_figure(name, sum, sum_expected);
+            signed_figure(name, whole, sum_expected);
+            figure(name, parts, 0);
+        }
+        SettleAnswer::Refused(refusal) => figure(name, refusal.number(), 0),
+    }
+}
+
+// P2 and P9: amounts of one contract, rounded and as whole cents and parts.
+fn amounts() {
+    one_contract(
+        b"P2, contract 0 (amount 90,000,000,000)",
+        60000,
+        0,
+        150,
+        10000,
+        900,
+        900,
+        0,
+    );
+    one_contract(
+        b"P2, contract 2 (amount -83,000,000)",
+        -83,
+        0,
+        1,
+        1000000,
+        -1,
+        -1,
+        17000000,
+    );
+    one_contract(
+        b"P9, amount -50,000,000",
+        -50,
+        0,
+        1,
+        1000000,
+        -1,
+        -1,
+        50000000,
+    );
+    one_contract(
+        b"P9, amount -49,999,999",
+        -161,
+        0,
+        1,
+        310559,
+        0,
+        -1,
+        50000001,
+    );
+}
+
+pub fn go_through() {
+    p1();
+    case_l_hour();
+    amounts();
+    one_contract(
+        b"001 H 2.2, direction",
+        -50000,
+        -100000,
+        1000,
+        1000,
+        500,
+        500,
+        0,
+    );
+    extreme(b"extremes, paid", 0, 1, 64000000000, 64000000000000);
+    extreme(b"extremes, charged", 1, 0, -64000000000, -64000000000000);
+}

@@ -1,0 +1,69 @@
+/*
+ * Calls every function of crr.h once, on case L of document 01: each file read and
+ * written again, the test, the MCC, the hour, the two texts. Also a C++ program.
+ */
+#include <stdint.h>
+#include <stdio.h>
+#include <string.h>
+#include "crr.h"
+
+static uint8_t grid_file[CRR_MAX_GRID_BYTES], book_file[CRR_MAX_BOOK_BYTES], price_file[CRR_MAX_PRICE_BYTES];
+static uint8_t copy[CRR_MAX_GRID_BYTES], text[CRR_STATEMENT_BYTES];
+static uint64_t limits[CRR_MAX_CONSTRAINTS], prices[CRR_MAX_CONSTRAINTS], rows[6 * CRR_MAX_CONTRACTS];
+static int64_t factors[CRR_MAX_NODES * CRR_MAX_CONSTRAINTS], mcc[CRR_MAX_NODES], cents[CRR_MAX_CONTRACTS];
+static int passed, failed;
+
+static void expect(const char *what, int holds) {
+    if (holds) {
+        passed++;
+    } else {
+        failed++;
+        printf("interface: %s is wrong\n", what);
+    }
+}
+
+static size_t load(const char *name, uint8_t *bytes, size_t room) {
+    FILE *file = fopen(name, "rb");
+    size_t n = file ? fread(bytes, 1, room, file) : 0;
+    if (file) fclose(file);
+    return n;
+}
+
+static int starts_with(const char *line, size_t bytes) {
+    return bytes >= strlen(line) && memcmp(text, line, strlen(line)) == 0;
+}
+
+int main(void) {
+    size_t grid_len = load("grid.bin", grid_file, sizeof grid_file);
+    size_t book_len = load("book.bin", book_file, sizeof book_file);
+    size_t price_len = load("prices.bin", price_file, sizeof price_file);
+    size_t nodes = 0, constraints = 0, contracts = 0, bytes = 0, count = 7, lowest = 7;
+    uint64_t period = 7, set = 7, parts = 0;
+    int64_t excess = 7, sum = 0, whole = 0;
+
+    expect("crr_read_grid", crr_read_grid(grid_file, grid_len, limits, CRR_MAX_CONSTRAINTS, factors, CRR_MAX_NODES * CRR_MAX_CONSTRAINTS, &nodes, &constraints) == CRR_OK
+                                && nodes == 3 && constraints == 2 && limits[0] == 100000 && factors[0] == 60000 && factors[4] == -10000);
+    expect("crr_write_grid", crr_write_grid(nodes, constraints, limits, CRR_MAX_CONSTRAINTS, factors, CRR_MAX_NODES * CRR_MAX_CONSTRAINTS, copy, sizeof copy, &bytes) == CRR_OK
+                                 && bytes == grid_len && memcmp(copy, grid_file, bytes) == 0);
+    expect("crr_read_book", crr_read_book(nodes, book_file, book_len, rows, 6 * CRR_MAX_CONTRACTS, &contracts) == CRR_OK && contracts == 4 && rows[5] == 10000 && rows[6] == 1);
+    expect("crr_write_book", crr_write_book(nodes, contracts, rows, 6 * CRR_MAX_CONTRACTS, copy, sizeof copy, &bytes) == CRR_OK && bytes == book_len && memcmp(copy, book_file, bytes) == 0);
+    expect("crr_read_prices", crr_read_prices(constraints, price_file, price_len, prices, CRR_MAX_CONSTRAINTS, &period) == CRR_OK && period == CRR_ON_PEAK && prices[1] == 2550);
+    expect("crr_write_prices", crr_write_prices(period, constraints, prices, CRR_MAX_CONSTRAINTS, copy, sizeof copy, &bytes) == CRR_OK
+                                   && bytes == price_len && memcmp(copy, price_file, bytes) == 0);
+    expect("crr_test_book", crr_test_book(nodes, constraints, CRR_MONTHLY, period, limits, constraints, factors, nodes * constraints, book_file, book_len, &set, &count, &lowest, &excess) == CRR_OK
+                                && set == 0 && count == 0 && lowest == 0 && excess == 0);
+    expect("crr_find_mcc", crr_find_mcc(nodes, constraints, factors, nodes * constraints, prices, constraints, mcc, CRR_MAX_NODES) == CRR_OK
+                               && mcc[0] == -9000000 && mcc[1] == 0 && mcc[2] == -92000000);
+    expect("crr_settle_hour", crr_settle_hour(nodes, constraints, period, factors, nodes * constraints, prices, constraints, book_file, book_len, cents, CRR_MAX_CONTRACTS, &sum, &whole, &parts) == CRR_OK
+                                  && cents[0] == 900 && cents[1] == 0 && cents[2] == -1 && cents[3] == 0 && sum == 899 && whole == 899 && parts == 17000000);
+    expect("crr_write_report", crr_write_report(grid_file, grid_len, book_file, book_len, text, sizeof text, &bytes) == CRR_OK
+                                   && starts_with("period,process,verdict,overloaded,lowest,excess,constraints\n", bytes));
+    expect("crr_write_statement", crr_write_statement(grid_file, grid_len, book_file, book_len, price_file, price_len, text, sizeof text, &bytes) == CRR_OK
+                                      && starts_with("contract,holder,kind,cents\n0,7,OBL,900\n", bytes));
+    /* A refusal is its number alone. */
+    set = 7;
+    expect("a refusal", crr_test_book(0, constraints, CRR_MONTHLY, period, limits, constraints, factors, nodes * constraints, book_file, book_len, &set, &count, &lowest, &excess) == CRR_NODE_COUNT
+                            && set == 7);
+    printf("interface: %d passed, %d failed\n", passed, failed);
+    return failed != 0;
+}
