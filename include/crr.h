@@ -19,7 +19,7 @@
  *   MCC            10^-5 cents per MWh (marginal cost of congestion)
  *   parts          10^-8 cents, 0 to 99,999,999
  *   period         0 off-peak, 1 on-peak
- *   process        0 annual, 1 Tier LT, 2 monthly: 75, 60 and 100 percent of each
+ *   process        0 annual, 1 Tier LT, 2 monthly: 65, 60 and 100 percent of each
  *                  limit is released
  *
  * Nodes, constraints and contracts are numbered from 0.

@@ -39,7 +39,7 @@ pub fn carry(constraints: usize, period: u64, factors: &[i64], book: &[u8]) -> F
 }
 
 fn released(process: u64, limit: u64) -> i64 {
-    (limit * [75, 60, 100][process as usize] * 1000) as i64
+    (limit * [65, 60, 100][process as usize] * 1000) as i64
 }
 
 /// The test's figures, all 0 where no flow exceeds its released limit.

@@ -51,10 +51,10 @@ table =
     ∷ record { given = passing (gridP 6000) Monthly (onPeak (bookP 10000)); expected = pos 0 ∷ pos 0 ∷ [] }
     -- P5 quantity 10,001: fails at constraint 0 by 60,000
     ∷ record { given = failing (gridP 6000) Monthly (onPeak (bookP 10001)); expected = pos 1 ∷ pos 1 ∷ pos 0 ∷ pos 60000 ∷ [] }
-    -- P6 annual, quantity 10,000, limit 8,000: passes
-    ∷ record { given = passing (gridP 8000) Annual (onPeak (bookP 10000)); expected = pos 0 ∷ pos 0 ∷ [] }
-    -- P7 limit 7,999: fails by 75,000
-    ∷ record { given = failing (gridP 7999) Annual (onPeak (bookP 10000)); expected = pos 1 ∷ pos 1 ∷ pos 0 ∷ pos 75000 ∷ [] }
+    -- P6 annual, quantity 10,000, limit 8,000: fails by 80,000,000 (02, paper 2)
+    ∷ record { given = failing (gridP 8000) Annual (onPeak (bookP 10000)); expected = pos 1 ∷ pos 1 ∷ pos 0 ∷ pos 80000000 ∷ [] }
+    -- P7 limit 7,999: fails by 80,065,000 (02, paper 2)
+    ∷ record { given = failing (gridP 7999) Annual (onPeak (bookP 10000)); expected = pos 1 ∷ pos 1 ∷ pos 0 ∷ pos 80065000 ∷ [] }
     -- P8 the empty book passes, in every process and period
     ∷ record { given = empties OffPeak; expected = pos 0 ∷ pos 0 ∷ pos 0 ∷ [] }
     ∷ record { given = empties OnPeak; expected = pos 0 ∷ pos 0 ∷ pos 0 ∷ [] }

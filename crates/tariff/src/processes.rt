@@ -6,7 +6,7 @@ ghost use Rattle.tariff.specs.Units.{maxLimit};
 ghost use Rattle.tariff.specs.Processes.{percent as percentOf, processOf};
 use crate::units::Flow;
 
-// The process that awards CRRs, which fixes the share of each limit that is released (003, 36.4.1).
+// The process that awards CRRs, which fixes the share of each limit that is released.
 pub enum Process {
     Annual,
     TierLt,
@@ -14,8 +14,10 @@ pub enum Process {
 }
 
 impl Process {
-    pub const ANNUAL_PERCENT: u64 = 75;
+    // 001, 8.3, from its revision 23 on.
+    pub const ANNUAL_PERCENT: u64 = 65;
 
+    // This and the next: 003, 36.4.1.
     pub const TIER_LT_PERCENT: u64 = 60;
 
     pub const MONTHLY_PERCENT: u64 = 100;

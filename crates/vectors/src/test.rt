@@ -1,4 +1,4 @@
-// The feasibility test's vectors: P3 to P8, the edges of a limit, and the manual's flows (001, 2.1.3), each beside what is expected.
+// The feasibility test's vectors: P3 to P8, the edges of a limit and of each released share, and the manual's flows (001, 2.1.3), each beside what is expected.
 use feasibility_test::TestAnswer;
 use printing::figure;
 use printing::print;
@@ -91,8 +91,60 @@ fn p4_to_p7() {
     passes(b"P4", on_l(&[6000, 50000], 2, 1, book));
     let larger = b"\x00\x40\x40\x70\x00\x10\x27\x11";
     fails(b"P5", on_l(&[6000, 50000], 2, 1, larger), 1, 1, 0, 60000);
-    passes(b"P6", on_l(&[8000, 50000], 0, 1, book));
-    fails(b"P7", on_l(&[7999, 50000], 0, 1, book), 1, 1, 0, 75000);
+    fails(b"P6", on_l(&[8000, 50000], 0, 1, book), 1, 1, 0, 80000000);
+    fails(b"P7", on_l(&[7999, 50000], 0, 1, book), 1, 1, 0, 80065000);
+}
+
+// The annual share of 65 percent at its edges, by the first limit; Tier LT and monthly as before.
+fn shares() {
+    let book = b"\x00\x40\x40\x70\x00\x10\x27\x10";
+    passes(b"annual, limit 9,231", on_l(&[9231, 50000], 0, 1, book));
+    fails(
+        b"annual, limit 9,230",
+        on_l(&[9230, 50000], 0, 1, book),
+        1,
+        1,
+        0,
+        50000,
+    );
+    passes(b"Tier LT, limit 10,000", on_l(&[10000, 50000], 1, 1, book));
+    fails(
+        b"Tier LT, limit 9,999",
+        on_l(&[9999, 50000], 1, 1, book),
+        1,
+        1,
+        0,
+        60000,
+    );
+    passes(b"monthly, limit 6,000", on_l(&[6000, 50000], 2, 1, book));
+    passes(b"annual, off-peak", on_l(&[0, 0], 0, 0, book));
+}
+
+// Equality at a small limit, and both constraints overloaded, annual.
+fn annual_edges() {
+    let equal = b"\x00\x40\x40\x70\x00\x10\x00\x0d";
+    passes(
+        b"annual, limit 12, quantity 13",
+        on_l(&[12, 50000], 0, 1, equal),
+    );
+    let above = b"\x00\x40\x40\x70\x00\x10\x00\x0e";
+    fails(
+        b"annual, limit 12, quantity 14",
+        on_l(&[12, 50000], 0, 1, above),
+        1,
+        1,
+        0,
+        60000,
+    );
+    let both = b"\x00\x80\x40\x70\x00\x10\x03\xe8\x40\x70\x20\x10\x07\xd0";
+    fails(
+        b"annual, both overloaded",
+        on_l(&[600, 900], 0, 1, both),
+        3,
+        2,
+        0,
+        1000000,
+    );
 }
 
 // P8: the empty book, in each process, with nothing released.
@@ -113,6 +165,8 @@ pub fn go_through() {
     p3();
     p3_second();
     p4_to_p7();
+    shares();
+    annual_edges();
     p8();
     manual_flow(b"001 2.1.3, first case", 20000, 1000000000);
     manual_flow(b"001 2.1.3, second case", 49000, 2450000000);

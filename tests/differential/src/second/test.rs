@@ -5,8 +5,8 @@ use super::grid::{by_node, Grid};
 use super::settlement::{exact_total, mcc};
 use super::{cells, constraints_fail, first, limit_fails, nodes_fail, Answer};
 
-/// Percent by process: annual, Tier LT, monthly.
-const RELEASED: [i128; 3] = [75, 60, 100];
+/// Percent by process: annual (001, revision 23), Tier LT, monthly.
+const RELEASED: [i128; 3] = [65, 60, 100];
 
 pub fn released(grid: &Grid, process: u64, constraint: usize) -> i128 {
     grid.limits[constraint] * RELEASED[process as usize] * 1000
