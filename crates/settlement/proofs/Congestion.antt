@@ -3,7 +3,6 @@ use mathlib.Core.Path.{_≡_, refl, sym, ap, ap₂, subst, _∙_}
 use mathlib.Core.Bool.{Bool, true, false}
 use mathlib.Core.List.{List, _++_}
 use Prim.Native.Nat.{ℕ, _+_, _*_, _≤_, _<_}
-use native.Mathlib.Numerals.{add-one}
 use native.Mathlib.Nat.{le-trans, lt-irrefl}
 use native.Mathlib.Omega.{arith}
 use borrow.Author.Tests.{ltb-true, ltb-false}
@@ -13,7 +12,6 @@ use lib.Seq.{getD-take, getD-set-same, getD-set-other}
 use lib.IntN.{ℤ, pos, negℤ, natAbs, _+ℤ_, _-ℤ_, _*ℤ_}
 use mir.Syntax.{w64}
 use mir.Val.{toZ, ofZ}
-use Rattle.integers.specs.Sums.{sumTo}
 use Rattle.integers.proofs.Sizes.{natAbs-times}
 use Rattle.integers.proofs.Machine.{back}
 use Rattle.lists.specs.Lists.{listTo}
@@ -21,24 +19,15 @@ use Rattle.lists.proofs.Lists.{length-listTo, getD-listTo}
 use Rattle.tariff.specs.declared.contracts.Contract.{Contract}
 use Rattle.tariff.specs.declared.contracts.Period.{Period}
 use Rattle.tariff.specs.declared.units.Mcc.{Mcc}
-use Rattle.tariff.specs.Units.{Factors, factorsOf, factor, price, maxQuantity, maxFactor, maxPrice}
+use Rattle.tariff.specs.Units.{factorsOf, factor, price, maxQuantity, maxFactor, maxPrice}
 use Rattle.tariff.specs.Contracts.{counted, samePeriod}
 use Rattle.tariff.specs.Inner.{PricesInRange, maxMcc, maxSpread, maxAmount}
-use Rattle.tariff.specs.Settlement.{congestion, mcc, amount}
-use Rattle.tariff.proofs.Sizes.{counted-sized, product-sized, congestion-sized, mcc-sized}
+use Rattle.tariff.specs.Settlement.{congestion, amount}
+use Rattle.tariff.proofs.Theorems.{sum-takes-the-next, mcc-is-one-negation}
+use Rattle.tariff.proofs.Sizes.{counted-sized, congestion-sized, mcc-sized}
 use Rattle.tables.proofs.Factors.{place-in, factor-cell, factor-cell-sized}
 use Rattle.tables.proofs.Cells.{cut-sized}
 use Rattle.settlement.specs.Inner.{Hour, mccIn, MccAt, hourAmount}
-
--- ---- the sum before its negation
-
-pub congestion-start : (f : Factors) (p : List ℕ) (n : ℕ) → pos 0 ≡ congestion f p n 0
-unfolding congestion sumTo
-congestion-start f p n = refl
-
-pub congestion-more : (f : Factors) (p : List ℕ) (n k : ℕ) {s x r : ℤ} → s ≡ congestion f p n k → x ≡ factor f n k *ℤ pos (price p k) → r ≡ s +ℤ x → r ≡ congestion f p n (k + 1)
-unfolding congestion sumTo
-congestion-more f p n k a b e = e ∙ ap₂ _+ℤ_ a b ∙ rw add-one
 
 -- ---- an hour's tables
 
@@ -50,33 +39,47 @@ module _ (n k : ℕ) (fs : List ℤ) (ps : List ℕ) (h : Hour n k fs ps) where
   node-sized = mcc-sized (factorsOf n k fs) (take k ps) (h .good-factors .few) (h .good-factors .in-range) prices-in
 
   module _ (node : ℕ) (hn : node < n) where
-    -- the factor on constraint j and its price, read from their cells, and their product
+    -- the sum of the first products, not yet negated
+    abbrev sumSoFar : ℕ → ℤ
+    sumSoFar = congestion (factorsOf n k fs) (take k ps) node
+
+    sum-sized : (s : ℤ) (j : ℕ) → j ≤ k → s ≡ sumSoFar j → natAbs s ≤ maxFactor * maxPrice * j
+    sum-sized s j hj e = rw e (congestion-sized (factorsOf n k fs) (take k ps) (h .good-factors .few) (h .good-factors .in-range) prices-in node j hn hj)
+
     module _ (j : ℕ) (hj : j < k) where
       pub factor-place : node * k + j < length fs
       factor-place = omega (arith, place-in n k node j hn hj, h .good-factors .long)
 
-      factor-back : toZ w64 (ofZ w64 (getD fs (node * k + j) (pos 0))) ≡ getD fs (node * k + j) (pos 0)
+      -- the factor on constraint j, as it is read from its cell
+      abbrev factorRead : ℤ
+      factorRead = toZ w64 (ofZ w64 (getD fs (node * k + j) (pos 0)))
+
+      factor-back : factorRead ≡ getD fs (node * k + j) (pos 0)
       factor-back = back (getD fs (node * k + j) (pos 0)) (omega (arith, factor-cell-sized n k fs (h .good-factors) node j hn hj))
 
-      pub factor-small : natAbs (toZ w64 (ofZ w64 (getD fs (node * k + j) (pos 0)))) ≤ maxFactor
+      pub factor-small : natAbs factorRead ≤ maxFactor
       factor-small = rw factor-back (factor-cell-sized n k fs (h .good-factors) node j hn hj)
 
-      pub product-is : (x : ℤ) → x ≡ toZ w64 (ofZ w64 (getD fs (node * k + j) (pos 0))) *ℤ pos (getD ps j 0) → x ≡ factor (factorsOf n k fs) node j *ℤ pos (price (take k ps) j)
-      product-is x e = e ∙ ap₂ (λ (f : ℤ) (p : ℕ). f *ℤ pos p) (factor-back ∙ factor-cell n k fs (h .good-factors) node j hn hj) (sym (getD-take k ps j 0 hj))
+      -- a product x by any price fits beside the sum s before it
+      module _ (s : ℤ) (so-far : s ≡ sumSoFar j) (x : ℤ) where
+        pub sum-fits : (i : ℕ) → x ≡ factorRead *ℤ pos (getD ps i 0) → i < k → natAbs s + natAbs x ≤ maxMcc
+        sum-fits i e hi =
+            let small : natAbs x ≤ maxFactor * maxPrice = rw e (natAbs-times factorRead (pos (getD ps i 0)) factor-small (h .good-prices .sized i hi)) in
+            omega (arith, sum-sized s j (omega arith) so-far, small, h .good-factors .few)
 
-      pub product-small : (x : ℤ) → x ≡ toZ w64 (ofZ w64 (getD fs (node * k + j) (pos 0))) *ℤ pos (getD ps j 0) → natAbs x ≤ maxFactor * maxPrice
-      product-small x e = rw (product-is x e) (product-sized (factorsOf n k fs) (take k ps) (h .good-factors .few) (h .good-factors .in-range) prices-in node j hn hj)
+        -- and, by the price of constraint j, makes it the sum of one more
+        product-is : x ≡ factorRead *ℤ pos (getD ps j 0) → x ≡ factor (factorsOf n k fs) node j *ℤ pos (price (take k ps) j)
+        product-is e = e ∙ ap₂ (λ (f : ℤ) (p : ℕ). f *ℤ pos p) (factor-back ∙ factor-cell n k fs (h .good-factors) node j hn hj) (sym (getD-take k ps j 0 hj))
 
-    -- a sum so far
-    pub congestion-small : (s : ℤ) (j : ℕ) → j ≤ k → s ≡ congestion (factorsOf n k fs) (take k ps) node j → natAbs s ≤ maxMcc
-    congestion-small s j hj e =
-        rw e (omega (arith, congestion-sized (factorsOf n k fs) (take k ps) (h .good-factors .few) (h .good-factors .in-range) prices-in node j hn hj, h .good-factors .few))
+        pub sum-more : x ≡ factorRead *ℤ pos (getD ps j 0) → (r : ℤ) → r ≡ s +ℤ x → (r ≡ sumSoFar (j + 1)) × (natAbs r ≤ maxFactor * maxPrice * (j + 1))
+        sum-more e r q =
+            let is : r ≡ sumSoFar (j + 1) = q ∙ ap₂ _+ℤ_ so-far (product-is e) ∙ sym (sum-takes-the-next (factorsOf n k fs) (take k ps) node j) in
+            (is, sum-sized r (j + 1) (omega arith) is)
 
     -- one negation at the end
-    pub mcc-end : (s r : ℤ) (j : ℕ) → j ≡ k → s ≡ congestion (factorsOf n k fs) (take k ps) node j → r ≡ negℤ s → (r ≡ mccIn n k fs ps node) × (natAbs r ≤ maxMcc)
-    unfolding mcc
+    pub mcc-end : (s r : ℤ) (j : ℕ) → j ≡ k → s ≡ sumSoFar j → r ≡ negℤ s → (r ≡ mccIn n k fs ps node) × (natAbs r ≤ maxMcc)
     mcc-end s r j hj e a =
-        let same : r ≡ mccIn n k fs ps node = a ∙ ap negℤ (e ∙ ap (congestion (factorsOf n k fs) (take k ps) node) hj) in
+        let same : r ≡ mccIn n k fs ps node = a ∙ ap negℤ (e ∙ ap sumSoFar hj) ∙ sym (mcc-is-one-negation (factorsOf n k fs) (take k ps) node) in
         (same, rw same (node-sized node hn))
 
 -- ---- the MCCs of an hour's nodes in a table

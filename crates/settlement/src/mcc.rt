@@ -1,10 +1,12 @@
 // The marginal cost of congestion, node by node (002 part C).
 ghost use mathlib.Core.Path.{_≡_};
-ghost use Prim.Native.Nat.{_≤_, _<_};
-ghost use lib.ListN.{length};
+ghost use Prim.Native.Nat.{_+_, _*_, _≤_, _<_};
+ghost use lib.ListN.{length, take};
 ghost use lib.IntN.{natAbs};
 ghost use Rattle.lists.specs.Lists.{listTo};
 ghost use Rattle.lists.specs.Lent.{before, after, overwrite};
+ghost use Rattle.tariff.specs.Units.{factorsOf, maxFactor, maxPrice};
+ghost use Rattle.tariff.specs.Settlement.{congestion};
 ghost use Rattle.tariff.specs.Inner.{maxMcc};
 ghost use Rattle.settlement.specs.FindMcc.{findMccCall, FindsMcc};
 ghost use Rattle.settlement.specs.Inner.{Hour, MccTable, mccIn};
@@ -14,18 +16,36 @@ use tariff::MAX_NODES;
 use tariff::Mcc;
 use tariff::Price;
 
-// The MCC of a node: the products summed first to last, then one negation.
+// The product of constraint k added: from the sum of the first k products to that of the first k + 1, not yet negated.
+fn add_product(
+    nodes: usize,
+    constraints: usize,
+    factors: &[i64],
+    prices: &[u64],
+    node: usize,
+    k: usize,
+    sum: Mcc,
+) -> Mcc
+    requires { ⌜ Hour nodes constraints (now factors) (now prices) ⌝ }
+    requires { ⌜ sum .0 ≡ congestion (factorsOf nodes constraints (now factors)) (take constraints (now prices)) node k ⌝ }
+    requires { ⌜ (node < nodes) × (k < constraints) ⌝ }
+    ensures { λ r. ⌜ r .0 ≡ congestion (factorsOf nodes constraints (before factors)) (take constraints (before prices)) node (k + 1) ⌝ }
+    ensures { λ r. ⌜ natAbs (r .0) ≤ maxFactor * maxPrice * (k + 1) ⌝ }
+{
+    let product = Price(prices[k]).times(factors[node * constraints + k]);
+    sum.plus(product)
+}
+
+// The MCC of a node (002 part C, MCCi = -(Σ PTDFik * FSPk)): the products summed from the first constraint to the last, then one negation.
 fn node_mcc(nodes: usize, constraints: usize, factors: &[i64], prices: &[u64], node: usize) -> Mcc
     requires { ⌜ Hour nodes constraints (now factors) (now prices) ⌝ }
     requires { ⌜ node < nodes ⌝ }
     ensures { λ r. ⌜ (r .0 ≡ mccIn nodes constraints (before factors) (before prices) node) × (natAbs (r .0) ≤ maxMcc) ⌝ }
 {
-    let base = node * constraints;
     let mut sum = Mcc(0);
     let mut k = 0;
     while k < constraints {
-        let product = Price(prices[k]).times(factors[base + k]);
-        sum = sum.plus(product);
+        sum = add_product(nodes, constraints, factors, prices, node, k, sum);
         k += 1;
     }
     sum.negated()

@@ -1,21 +1,24 @@
 -- THE THEOREMS over document 01's definitions, each for every grid, book, period and process. Statements only: the proofs are in Worst.antt,
 -- WorstNumber.antt, Overloads.antt, Rules.antt and Periods.antt.
-use mathlib.Core.Path.{_≡_}
+use mathlib.Core.Path.{_≡_, refl}
 use mathlib.Core.Logic.{_↔_}
 use mathlib.Core.List.{List, [], _∷_, _++_}
-use Prim.Native.Nat.{ℕ, _<_, _≤_}
+use Prim.Native.Nat.{ℕ, _+_, _<_, _≤_}
+use native.Mathlib.Numerals.{add-one}
 use lib.Count.{ones, trailingZeros}
-use lib.IntN.{ℤ, pos}
+use lib.IntN.{ℤ, pos, negℤ, _+ℤ_, _*ℤ_}
 use lib.Signed.{_≤ℤ_, _<ℤ_}
+use Rattle.integers.specs.Sums.{sumTo}
 use Rattle.lists.specs.Lists.{Each}
 use Rattle.lists.proofs.Sets.{Lowest, set-ones, set-trailing}
 use Rattle.tariff.specs.declared.contracts.Contract.{Contract}
 use Rattle.tariff.specs.declared.contracts.Kind.the-variants.{Option}
 use Rattle.tariff.specs.declared.contracts.Period.{Period}
 use Rattle.tariff.specs.declared.processes.Process.{Process}
-use Rattle.tariff.specs.Units.{Factors, Grid, maxConstraints}
+use Rattle.tariff.specs.Units.{Factors, Grid, factor, price, maxConstraints}
 use Rattle.tariff.specs.Contracts.{ofPeriod}
 use Rattle.tariff.specs.Feasibility.{flow, Passes, excess, overloaded, overloadSet, overloadCount, lowestOverload}
+use Rattle.tariff.specs.Settlement.{congestion, mcc}
 use Rattle.tariff.specs.Shortfall.{PriceList, shortfall, oneCent, IsWorst}
 use Rattle.tariff.proofs.Worst as W
 use Rattle.tariff.proofs.Overloads as O
@@ -80,3 +83,20 @@ empty-book-passes g process period = W.empty-passes g process
 -- an option never relieves a constraint
 pub option-never-relieves : (f : Factors) (c : Contract) → c .kind ≡ Option → (k : ℕ) → pos 0 ≤ℤ flow f c k
 option-never-relieves f c e k = R.option-flow f c e k
+
+-- 002 part C, MCCi = -(Σ PTDFik * FSPk), constraint by constraint
+module _ (f : Factors) (prices : List ℕ) (node : ℕ) where
+  -- before the first constraint the sum is 0
+  pub sum-starts-at-zero : congestion f prices node 0 ≡ pos 0
+  unfolding congestion sumTo
+  sum-starts-at-zero = refl
+
+  -- with each constraint it takes that one's product, not negated
+  pub sum-takes-the-next : (k : ℕ) → congestion f prices node (k + 1) ≡ congestion f prices node k +ℤ factor f node k *ℤ pos (price prices k)
+  unfolding congestion sumTo
+  sum-takes-the-next k = rw add-one refl
+
+  -- after the last it is negated, once
+  pub mcc-is-one-negation : mcc f prices node ≡ negℤ (congestion f prices node (f .constraints))
+  unfolding mcc
+  mcc-is-one-negation = refl

@@ -1,4 +1,4 @@
-// The MCC and settlement: P1, P2 and P9 and case L by the code, the manual's direction vector, and the extremes both ways.
+// The MCC and settlement: P1, P2 and P9 and case L by the code, congestion sums constraint by constraint, the manual's direction vector, and the extremes both ways.
 use printing::figure;
 use printing::signed_figure;
 use settlement::MccAnswer;
@@ -24,6 +24,133 @@ fn p1() {
         MccAnswer::Found => three(b"P1, MCC", mcc, -9000000, 0, -92000000),
         MccAnswer::Refused(refusal) => figure(b"P1, refusal", refusal.number(), 0),
     }
+}
+
+// The MCC of one node by its first constraints.
+fn node_mcc(name: &[u8], constraints: usize, factors: &[i64], prices: &[u64], expected: i64) {
+    let mut mcc = [0i64; 1];
+    match settlement::find_mcc(1, constraints, factors, prices, &mut mcc) {
+        MccAnswer::Found => signed_figure(name, mcc[0], expected),
+        MccAnswer::Refused(refusal) => figure(name, refusal.number(), 0),
+    }
+}
+
+// By none of them, by the first, by the first two and so on: minus the sum so far (002 part C).
+fn one_by_one(name: &[u8], factors: &[i64], prices: &[u64], expected: &[i64]) {
+    let mut k = 0;
+    while k < expected.len() {
+        node_mcc(name, k, factors, prices, expected[k]);
+        k += 1;
+    }
+}
+
+fn case_l_sums() {
+    one_by_one(
+        b"L, node 0, MCC after each",
+        &[60000, -20000],
+        &[1000, 2550],
+        &[0, -60000000, -9000000],
+    );
+    one_by_one(
+        b"L, node 2, MCC after each",
+        &[-10000, 40000],
+        &[1000, 2550],
+        &[0, 10000000, -92000000],
+    );
+}
+
+fn small_sums() {
+    one_by_one(
+        b"cancelling, MCC after each",
+        &[100000, -100000],
+        &[7, 7],
+        &[0, -700000, 0],
+    );
+    one_by_one(
+        b"negative first, MCC after each",
+        &[-5, 3],
+        &[2, 3],
+        &[0, 10, 1],
+    );
+    one_by_one(
+        b"last alone, MCC after each",
+        &[0, 0, 0, 1],
+        &[9, 9, 9, 500000],
+        &[0, 0, 0, 0, -500000],
+    );
+}
+
+fn one_product() {
+    node_mcc(b"no constraints, MCC", 0, &[], &[], 0);
+    node_mcc(
+        b"001 H 2.2, MCC of the source",
+        1,
+        &[-50000],
+        &[1000],
+        50000000,
+    );
+    node_mcc(
+        b"001 H 2.2, MCC of the sink",
+        1,
+        &[-100000],
+        &[1000],
+        100000000,
+    );
+}
+
+// Every product at its end.
+fn extreme_sum(name: &[u8], constraints: usize, expected: i64) {
+    node_mcc(name, constraints, &[-100000; 64], &[500000; 64], expected);
+}
+
+fn congestion_sums() {
+    case_l_sums();
+    small_sums();
+    one_product();
+    extreme_sum(b"extremes, MCC after 1", 1, 50000000000);
+    extreme_sum(b"extremes, MCC after 63", 63, 3150000000000);
+    extreme_sum(b"extremes, MCC after 64", 64, 3200000000000);
+}
+
+// A refusal's number, 0 for none, and what the cell holds afterwards.
+fn mcc_answer(
+    name: &[u8],
+    nodes: usize,
+    constraints: usize,
+    factors: &[i64],
+    prices: &[u64],
+    number: u64,
+    cell: i64,
+) {
+    let mut mcc = [-3i64; 1];
+    match settlement::find_mcc(nodes, constraints, factors, prices, &mut mcc) {
+        MccAnswer::Found => figure(name, 0, number),
+        MccAnswer::Refused(refusal) => figure(name, refusal.number(), number),
+    }
+    signed_figure(name, mcc[0], cell);
+}
+
+// Counts, and tables too short.
+fn mcc_counts() {
+    mcc_answer(b"MCC, no nodes and 65 constraints", 0, 65, &[], &[], 2, -3);
+    mcc_answer(b"MCC, 65 constraints", 1, 65, &[], &[], 3, -3);
+    mcc_answer(b"MCC, a factor missing", 1, 1, &[], &[1], 9, -3);
+    mcc_answer(b"MCC, a cell too few", 2, 1, &[1, 1], &[1], 9, -3);
+}
+
+// Figures.
+fn mcc_figures() {
+    mcc_answer(
+        b"MCC, factor 100,001 and price 500,001",
+        1,
+        1,
+        &[100001],
+        &[500001],
+        7,
+        -3,
+    );
+    mcc_answer(b"MCC, price 500,001", 1, 1, &[1], &[500001], 15, -3);
+    mcc_answer(b"MCC, accepted", 1, 1, &[1], &[1], 0, -1);
 }
 
 // Case L's hour: cents, their sum, and the exact total.
@@ -174,6 +301,9 @@ fn amounts() {
 
 pub fn go_through() {
     p1();
+    congestion_sums();
+    mcc_counts();
+    mcc_figures();
     case_l_hour();
     amounts();
     one_contract(
