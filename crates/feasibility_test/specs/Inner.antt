@@ -31,7 +31,8 @@ pub record Ends (k : ℕ) (table : List ℤ) (c : Contract) : Type 0 where
 
 -- flows on k constraints to which a contract's can be added
 pub record Room (k : ℕ) (flows : List ℤ) : Type 0 where
-  pub wide : k ≤ length flows
+  pub few : k ≤ maxConstraints
+  pub all : length flows ≡ maxConstraints
   pub flows-sized : (j : ℕ) → j < k → natAbs (getD flows j (pos 0)) ≤ maxFlow * maxContracts
 
 -- flows on k constraints after a contract's were added

@@ -76,24 +76,23 @@ impl Flows {
         requires { ⌜ Carries (factorsOf nodes constraints (now factors)) (ofPeriod period (listTo from (contractAt (now book)))) self ⌝ }
         ensures { λ r. ⌜ Carries (factorsOf nodes constraints (before factors)) (ofPeriod period (listTo upto (contractAt (before book)))) r ⌝ }
     {
-        let mut flows = self.flows;
-        let mut count = self.count;
+        let mut carried = self;
         let mut i = from;
         while i < upto {
             let c = books::contract_at(book, i);
             let own = c.period;
             if own.same(period) {
-                add_flow(&mut flows, c, constraints, factors);
-                count += 1;
+                add_flow(&mut carried.flows, c, constraints, factors);
+                carried.count += 1;
             }
             i += 1;
         }
-        Flows { flows, count }
+        carried
     }
 }
 
 // Adds a contract's flow, as it counts, on every constraint.
-fn add_flow(flows: &mut [i64], c: Contract, constraints: usize, factors: &[i64])
+fn add_flow(flows: &mut [i64; MAX_CONSTRAINTS], c: Contract, constraints: usize, factors: &[i64])
     requires { ⌜ Ends constraints (now factors) c × Room constraints (now flows) ⌝ }
     ensures { λ r. ⌜ Adds constraints (before factors) c (before flows) (after flows) ⌝ }
 {

@@ -6,7 +6,7 @@ use lib.ListN.{length, getD, length-set}
 use lib.Dec.{lit<}
 use borrow.Author.Needs.{needs}
 use lib.IntN.{ℤ, pos, natAbs, _+ℤ_}
-use Rattle.tariff.specs.Units.{maxContracts}
+use Rattle.tariff.specs.Units.{maxConstraints, maxContracts}
 use Rattle.tariff.specs.Inner.{maxFlow}
 use Rattle.feasibility_test.proofs.Flowing.{part, cell-done, cell-rest, kept-sized, rows-kept, part-is, part-small, sum-is, added}
 use Rattle.feasibility_test.proofs.add_flow.Statement.{statement}
@@ -41,11 +41,12 @@ small c =
     search (part-small, c .counted-flow .ensures, r .0, r .1, s .pre .0 .quantity-sized)
 
 -- the cell is there
+near : (c : tie.After-counted-flow Inv-loop μ-loop) → c .before .before .before .before .loop .k < maxConstraints
+near c = let a = c .before .before .before .loop-test .taken in omega (arith, c .before .before .before .before .before .before .before .before .pre .1 .few)
+
 inside : (c : tie.After-counted-flow Inv-loop μ-loop) → c .before .before .before .before .loop .k < length (c .before .before .before .before .loop .flows)
 inside c =
-    let s = c .before .before .before .before .before .before .before .before in
-    let a = c .before .before .before .loop-test .taken in
-    omega (arith, s .pre .1 .wide, c .before .before .before .before .loop .inv .1)
+    omega (arith, near c, c .before .before .before .before .before .before .before .before .pre .1 .all, c .before .before .before .before .loop .inv .1)
 
 -- and has its old flow still
 old : (c : tie.After-counted-flow Inv-loop μ-loop) → natAbs (getD (c .before .before .before .before .loop .flows) (c .before .before .before .before .loop .k) (pos 0)) ≤ maxFlow * maxContracts
@@ -101,12 +102,11 @@ add-flow-spec =
     (λ c. search needs)
     counted-flow-requires
     (λ c. search needs)
-    inside
+    near
     plus-requires
     (λ c. search needs)
-    (λ c. inside (c .before .before .before))
+    (λ c. near (c .before .before .before))
     (λ c. search needs)
     (λ c. search needs)
     loop-again
-    (λ c. c .before .loop .inv .1)
     returns)
