@@ -1,4 +1,4 @@
-//! Links the proved library, which `rt staticlib crr` leaves under the repository's target folder, with each of its functions at the start of a cache line:
+//! Links the proved library, which `./library` leaves under the repository's target folder, with each of its functions at the start of a cache line:
 //! a loop of few instructions takes up to twice as long when it crosses one, and where the linker puts a function is chance. The run script asks the same for the plain side.
 use std::env;
 use std::fs;

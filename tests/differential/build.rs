@@ -1,4 +1,4 @@
-//! Links the proved library, which `rt staticlib crr` leaves under the repository's target folder.
+//! Links the proved library, which `./library` leaves under the repository's target folder.
 use std::env;
 use std::path::Path;
 

@@ -61,7 +61,7 @@ fn store_row(book: &mut [u64], at: usize, c: Contract)
     book[at + 2] = c.holder;
     book[at + 3] = c.source as u64;
     book[at + 4] = c.sink as u64;
-    book[at + 5] = quantity.0;
+    book[at + 5] = quantity.cell();
 }
 
 // Stores the file's contracts into the first cells.
@@ -126,7 +126,12 @@ fn check_row(nodes: usize, cells: &[u64], i: usize) -> Checked
     if MAX_HOLDER < cells[at + 2] {
         return Checked::Refused(Refusal::HolderRange);
     }
-    books::check_contract(nodes, row_from(cells, at))
+    books::check_numbers(
+        nodes,
+        cells[at + 3] as usize,
+        cells[at + 4] as usize,
+        cells[at + 5],
+    )
 }
 
 // The checks of the first `contracts` rows, one after the other.

@@ -35,10 +35,10 @@ file-append xs ys a b ea eb fit =
 -- ---- one contract, and the header
 
 -- six bytes of a contract, from one number
-pub contract-number : (c : Contract) (k t v : ℕ) → k ≡ kindBit (c .kind) → t ≡ periodBit (c .period)
-    → v ≡ (((k * 2 + t) * 1024 + c .holder) * 65536 + (c .source * 256 + c .sink)) * 1048576 + c .quantity .0 → contractBytes c ≡ digits 8 6 v
+pub contract-number : (c : Contract) (k t q v : ℕ) → k ≡ kindBit (c .kind) → t ≡ periodBit (c .period) → q ≡ c .quantity .0
+    → v ≡ (((k * 2 + t) * 1024 + c .holder) * 65536 + (c .source * 256 + c .sink)) * 1048576 + q → contractBytes c ≡ digits 8 6 v
 unfolding fileOf contractFields
-contract-number c k t v ek et e = ap (digits 8 6) (rw (e, ek, et) (omega arith))
+contract-number c k t q v ek et eq e = ap (digits 8 6) (rw (e, ek, et, eq) (omega arith))
 
 pub length-contract : (c : Contract) → length (contractBytes c) ≡ 6
 unfolding fileOf contractFields

@@ -10,7 +10,7 @@ ghost use Rattle.tariff.specs.Units.{maxContracts};
 ghost use Rattle.layouts.specs.BookFile.{kindBit, periodBit, endBits, bookBytes, contractCountIn, contractAt};
 ghost use Rattle.layouts.specs.Inner.{ContractFits};
 ghost use Rattle.books.specs.BookChecks.{checksTo, contractChecks, bookChecks};
-ghost use Rattle.books.specs.Inner.{headerBytes, contractBytes};
+ghost use Rattle.books.specs.Inner.{headerBytes, contractBytes, contractOf, numberChecks};
 use layouts::BOOK_HEADER_BYTES;
 use layouts::CONTRACT_BYTES;
 use tariff::Checked;
@@ -29,12 +29,20 @@ pub fn contract_count(file: &[u8]) -> usize
     bits::field(file, 0, 10) as usize
 }
 
-// Contract i of a book's bytes: six bytes at once.
+// The 48 bits of contract i of a book's bytes as one number: six bytes at once.
+fn bits_at(file: &[u8], i: usize) -> u64
+    requires { ⌜ (i < 1024) × (bookBytes i + 6 ≤ length (now file)) ⌝ }
+    ensures { λ r. ⌜ contractAt (before file) i ≡ contractOf r ⌝ }
+{
+    bits::window6(file, BOOK_HEADER_BYTES + CONTRACT_BYTES * i)
+}
+
+// Contract i of a book's bytes.
 pub fn contract_at(file: &[u8], i: usize) -> Contract
     requires { ⌜ (i < 1024) × (bookBytes i + 6 ≤ length (now file)) ⌝ }
     ensures { λ r. ⌜ r ≡ contractAt (before file) i ⌝ }
 {
-    let v = bits::window6(file, BOOK_HEADER_BYTES + CONTRACT_BYTES * i);
+    let v = bits_at(file, i);
     let kind = Kind::from_number(bits::part(v, 47, 1));
     let period = Period::from_number(bits::part(v, 46, 1));
     let holder = bits::part(v, 36, 10);
@@ -90,7 +98,7 @@ fn contract_number(c: Contract) -> u64
     let terms = kind_bit(kind) * 2 + period_bit(period);
     let held = terms * (1u64 << 10) + c.holder;
     let ends = (c.source as u64) * (1u64 << 8) + (c.sink as u64);
-    (held * (1u64 << 16) + ends) * (1u64 << 20) + quantity.0
+    (held * (1u64 << 16) + ends) * (1u64 << 20) + quantity.cell()
 }
 
 // Stores contract i of a book: six bytes at once.
@@ -103,21 +111,20 @@ pub fn store_contract(file: &mut [u8], i: usize, c: Contract)
     bits::store6(file, BOOK_HEADER_BYTES + CONTRACT_BYTES * i, v);
 }
 
-// A contract's own checks: 11, 12, 13.
-pub fn check_contract(nodes: usize, c: Contract) -> Checked
-    ensures { λ r. ⌜ r ≡ first (contractChecks nodes c) ⌝ }
+// A contract's own checks, on its numbers: 11, 12, 13. None has its unit before it has passed.
+pub fn check_numbers(nodes: usize, source: usize, sink: usize, quantity: u64) -> Checked
+    ensures { λ r. ⌜ r ≡ first (numberChecks nodes source sink quantity) ⌝ }
 {
-    if nodes <= c.source {
+    if nodes <= source {
         return Checked::Refused(Refusal::NodeNumber);
     }
-    if nodes <= c.sink {
+    if nodes <= sink {
         return Checked::Refused(Refusal::NodeNumber);
     }
-    if c.source == c.sink {
+    if source == sink {
         return Checked::Refused(Refusal::SameEnds);
     }
-    let quantity = c.quantity;
-    if quantity.out_of_range() {
+    if tariff::quantity_bad(quantity) {
         return Checked::Refused(Refusal::QuantityRange);
     }
     Checked::Passed
@@ -128,7 +135,13 @@ fn check_at(nodes: usize, file: &[u8], i: usize) -> Checked
     requires { ⌜ (i < 1024) × (bookBytes i + 6 ≤ length (now file)) ⌝ }
     ensures { λ r. ⌜ r ≡ first (contractChecks nodes (contractAt (before file) i)) ⌝ }
 {
-    check_contract(nodes, contract_at(file, i))
+    let v = bits_at(file, i);
+    check_numbers(
+        nodes,
+        bits::part(v, 28, 8) as usize,
+        bits::part(v, 20, 8) as usize,
+        bits::part(v, 0, 20),
+    )
 }
 
 // The checks of a book's contracts, one after the other.

@@ -5,7 +5,13 @@ ghost use Rattle.book_file.specs.WriteBook.{writeBookCall, WritesBookForC};
 use book_file::BookAnswer;
 
 // Reads a book's file for a grid of `nodes` nodes into a table of six cells a contract, and gives how many contracts it has.
-pub fn read_book(nodes: usize, file: &[u8], book: &mut [u64], contracts: &mut usize) -> u64
+#[no_mangle]
+pub extern "C" fn crr_read_book(
+    nodes: usize,
+    file: &[u8],
+    book: &mut [u64],
+    contracts: &mut usize,
+) -> u64
     ensures { λ r. ⌜ ReadsBookForC (readBookCall nodes (before file) (before book)) r (after book) contracts ⌝ }
 {
     match book_file::read_book(nodes, file, book) {
@@ -18,7 +24,8 @@ pub fn read_book(nodes: usize, file: &[u8], book: &mut [u64], contracts: &mut us
 }
 
 // Writes the first `contracts` rows of a table as a book's file for a grid of `nodes` nodes, and gives its length.
-pub fn write_book(
+#[no_mangle]
+pub extern "C" fn crr_write_book(
     nodes: usize,
     contracts: usize,
     book: &[u64],

@@ -5,7 +5,8 @@ ghost use Rattle.grid_file.specs.WriteGrid.{writeGridCall, WritesGridForC};
 use grid_file::GridAnswer;
 
 // Reads a grid's file into the first cells of its tables, and gives its counts.
-pub fn read_grid(
+#[no_mangle]
+pub extern "C" fn crr_read_grid(
     file: &[u8],
     limits: &mut [u64],
     factors: &mut [i64],
@@ -28,7 +29,8 @@ pub fn read_grid(
 }
 
 // Writes a grid's file from the first cells of its tables, and gives its length.
-pub fn write_grid(
+#[no_mangle]
+pub extern "C" fn crr_write_grid(
     nodes: usize,
     constraints: usize,
     limits: &[u64],

@@ -6,7 +6,8 @@ use settlement::MccAnswer;
 use settlement::SettleAnswer;
 
 // Finds the MCC of all nodes, one cell each.
-pub fn find_mcc(
+#[no_mangle]
+pub extern "C" fn crr_find_mcc(
     nodes: usize,
     constraints: usize,
     factors: &[i64],
@@ -22,7 +23,8 @@ pub fn find_mcc(
 }
 
 // Settles an hour of a period: one cell of cents for each contract, and gives their sum and the exact total as whole cents and parts.
-pub fn settle_hour(
+#[no_mangle]
+pub extern "C" fn crr_settle_hour(
     nodes: usize,
     constraints: usize,
     period: u64,

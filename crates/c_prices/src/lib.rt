@@ -5,7 +5,13 @@ ghost use Rattle.price_file.specs.WritePrices.{writePricesCall, WritesPricesFor
 use price_file::PriceAnswer;
 
 // Reads a price file of `constraints` constraints into the first cells of `prices`, and gives its period.
-pub fn read_prices(constraints: usize, file: &[u8], prices: &mut [u64], period: &mut u64) -> u64
+#[no_mangle]
+pub extern "C" fn crr_read_prices(
+    constraints: usize,
+    file: &[u8],
+    prices: &mut [u64],
+    period: &mut u64,
+) -> u64
     ensures { λ r. ⌜ ReadsPricesForC (readPricesCall constraints (before file) (before prices)) r (after prices) period ⌝ }
 {
     match price_file::read_prices(constraints, file, prices) {
@@ -18,7 +24,8 @@ pub fn read_prices(constraints: usize, file: &[u8], prices: &mut [u64], period: 
 }
 
 // Writes the first `constraints` prices as a file of a period, and gives its length.
-pub fn write_prices(
+#[no_mangle]
+pub extern "C" fn crr_write_prices(
     period: u64,
     constraints: usize,
     prices: &[u64],

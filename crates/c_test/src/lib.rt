@@ -4,7 +4,8 @@ ghost use Rattle.feasibility_test.specs.TestBook.{testCall, TestsBookForC};
 use feasibility_test::TestAnswer;
 
 // Tests a book's bytes against grid tables for a process and a period, and gives the test's figures: on a pass all are 0, and only then is the set.
-pub fn test_book(
+#[no_mangle]
+pub extern "C" fn crr_test_book(
     nodes: usize,
     constraints: usize,
     process: u64,

@@ -4,7 +4,13 @@ ghost use Rattle.feasibility_report.specs.WriteReport.{reportCall, WritesReport
 ghost use Rattle.statement_text.specs.WriteStatement.{statementCall, WritesStatementForC};
 
 // Writes the feasibility report of a grid's file and a book's file into the first bytes of `text`, and gives its length.
-pub fn write_report(grid_file: &[u8], book_file: &[u8], text: &mut [u8], bytes: &mut usize) -> u64
+#[no_mangle]
+pub extern "C" fn crr_write_report(
+    grid_file: &[u8],
+    book_file: &[u8],
+    text: &mut [u8],
+    bytes: &mut usize,
+) -> u64
     ensures { λ r. ⌜ WritesReportForC (reportCall (before «grid_file») (before «book_file») (before text)) r (after text) bytes ⌝ }
 {
     let answer = feasibility_report::write_report(grid_file, book_file, text);
@@ -12,7 +18,8 @@ pub fn write_report(grid_file: &[u8], book_file: &[u8], text: &mut [u8], bytes: 
 }
 
 // Writes the hour statement of a grid's, a book's and a price file into the first bytes of `text`, and gives its length.
-pub fn write_statement(
+#[no_mangle]
+pub extern "C" fn crr_write_statement(
     grid_file: &[u8],
     book_file: &[u8],
     price_file: &[u8],

@@ -5,14 +5,15 @@ ghost use lib.ListN.{length, getD, take};
 ghost use Rattle.bits.specs.Bits.{number, fields};
 ghost use Rattle.bits.specs.Inner.{written, place, Ready, GoesOn};
 ghost use Rattle.lists.specs.Lists.{some, above};
-ghost use Rattle.lists.specs.Lent.{overwrite};
+ghost use Rattle.lists.specs.Lent.{before, after, overwrite};
+ghost use Rattle.runs.specs.Inner.{maxFileBytes};
 use bits::Pen;
 
 // Whether one of `count` fields of `width` bits, from bit `offset` on, is above `most`.
 pub fn field_above(s: &[u8], offset: usize, width: usize, count: usize, most: u64) -> bool
     requires { ⌜ offset + width * count ≤ 8 * length (now s) ⌝ }
-    requires { ⌜ (width ≤ 32) × (length (now s) ≤ 1000000) ⌝ }
-    ensures { λ r. ⌜ r ≡ some (above most) (fields (now (s .entry)) offset width count) ⌝ }
+    requires { ⌜ (width ≤ 32) × (length (now s) ≤ maxFileBytes) ⌝ }
+    ensures { λ r. ⌜ r ≡ some (above most) (fields (before s) offset width count) ⌝ }
 {
     let mut at = offset;
     let mut i = 0;
@@ -29,9 +30,9 @@ pub fn field_above(s: &[u8], offset: usize, width: usize, count: usize, most: u6
 // Reads `count` fields of `width` bits, from bit `offset` on, into the first cells of `out`.
 pub fn read_run(s: &[u8], offset: usize, width: usize, count: usize, out: &mut [u64])
     requires { ⌜ offset + width * count ≤ 8 * length (now s) ⌝ }
-    requires { ⌜ (width ≤ 32) × (length (now s) ≤ 1000000) ⌝ }
+    requires { ⌜ (width ≤ 32) × (length (now s) ≤ maxFileBytes) ⌝ }
     requires { ⌜ count ≤ length (now out) ⌝ }
-    ensures { λ r. ⌜ now (out .exit) ≡ overwrite (fields (now (s .entry)) offset width count) (now (out .entry)) ⌝ }
+    ensures { λ r. ⌜ after out ≡ overwrite (fields (before s) offset width count) (before out) ⌝ }
 {
     let mut at = offset;
     let mut i = 0;
@@ -47,9 +48,9 @@ pub fn write_run(buf: &mut [u8], from: Pen, cells: &[u64], count: usize, width: 
     requires { ⌜ Ready from ⌝ }
     requires { ⌜ (width ≤ 32) × (count ≤ length (now cells)) × ((k : ℕ) → k < count → getD (now cells) k 0 < 2 ^ width) ⌝ }
     requires { ⌜ place from + width * count ≤ 8 * length (now buf) ⌝ }
-    ensures { λ r. ⌜ written (now (buf .exit)) r ≡ written (now (buf .entry)) from * 2 ^ (width * count) + number width (take count (now (cells .entry))) ⌝ }
+    ensures { λ r. ⌜ written (after buf) r ≡ written (before buf) from * 2 ^ (width * count) + number width (take count (before cells)) ⌝ }
     ensures { λ r. ⌜ (place r ≡ place from + width * count) × Ready r ⌝ }
-    ensures { λ r. ⌜ GoesOn (now (buf .entry)) from (now (buf .exit)) r ⌝ }
+    ensures { λ r. ⌜ GoesOn (before buf) from (after buf) r ⌝ }
 {
     let mut pen = from;
     let mut i = 0;

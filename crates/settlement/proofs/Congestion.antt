@@ -1,31 +1,34 @@
--- The MCC of a node, product by product; a table of MCCs, and a contract's amount by it.
-use mathlib.Core.Path.{_≡_, refl, sym, ap, ap₂, _∙_}
+-- The MCC of a node, product by product; the MCCs in a table, and a contract's amount by two of them.
+use mathlib.Core.Path.{_≡_, refl, sym, ap, ap₂, subst, _∙_}
 use mathlib.Core.Bool.{Bool, true, false}
 use mathlib.Core.List.{List, _++_}
 use Prim.Native.Nat.{ℕ, _+_, _*_, _≤_, _<_}
 use native.Mathlib.Numerals.{add-one}
-use native.Mathlib.Nat.{le-trans}
+use native.Mathlib.Nat.{le-trans, lt-irrefl}
 use native.Mathlib.Omega.{arith}
-use lib.ListN.{length, getD, take, length-append, List·getD-append}
-use lib.Seq.{getD-take}
+use borrow.Author.Tests.{ltb-true, ltb-false}
+use lib.Dec.{ltb}
+use lib.ListN.{length, getD, set, take, List·getD-append}
+use lib.Seq.{getD-take, getD-set-same, getD-set-other}
 use lib.IntN.{ℤ, pos, negℤ, natAbs, _+ℤ_, _-ℤ_, _*ℤ_}
 use mir.Syntax.{w64}
 use mir.Val.{toZ, ofZ}
 use Rattle.integers.specs.Sums.{sumTo}
-use Rattle.integers.proofs.Sizes.{natAbs-sub, natAbs-times}
+use Rattle.integers.proofs.Sizes.{natAbs-times}
 use Rattle.integers.proofs.Machine.{back}
 use Rattle.lists.specs.Lists.{listTo}
 use Rattle.lists.proofs.Lists.{length-listTo, getD-listTo}
 use Rattle.tariff.specs.declared.contracts.Contract.{Contract}
 use Rattle.tariff.specs.declared.contracts.Period.{Period}
-use Rattle.tariff.specs.Units.{Factors, factorsOf, factor, price, maxFactor, maxPrice}
+use Rattle.tariff.specs.declared.units.Mcc.{Mcc}
+use Rattle.tariff.specs.Units.{Factors, factorsOf, factor, price, maxQuantity, maxFactor, maxPrice}
 use Rattle.tariff.specs.Contracts.{counted, samePeriod}
-use Rattle.tariff.specs.Inner.{PricesInRange, InRange, maxMcc, maxSpread, maxAmount}
+use Rattle.tariff.specs.Inner.{PricesInRange, maxMcc, maxSpread, maxAmount}
 use Rattle.tariff.specs.Settlement.{congestion, mcc, amount}
 use Rattle.tariff.proofs.Sizes.{counted-sized, product-sized, congestion-sized, mcc-sized}
 use Rattle.tables.proofs.Factors.{place-in, factor-cell, factor-cell-sized}
 use Rattle.tables.proofs.Cells.{cut-sized}
-use Rattle.settlement.specs.Inner.{Hour, mccIn, MccTable, amountBy, hourAmount}
+use Rattle.settlement.specs.Inner.{Hour, mccIn, MccAt, hourAmount}
 
 -- ---- the sum before its negation
 
@@ -76,59 +79,39 @@ module _ (n k : ℕ) (fs : List ℤ) (ps : List ℕ) (h : Hour n k fs ps) where
         let same : r ≡ mccIn n k fs ps node = a ∙ ap negℤ (e ∙ ap (congestion (factorsOf n k fs) (take k ps) node) hj) in
         (same, rw same (node-sized node hn))
 
--- ---- a table of MCCs
+-- ---- the MCCs of an hour's nodes in a table
 
-module _ (n : ℕ) (f : ℕ → ℤ) (rest : List ℤ) where
-  pub front-at : (i : ℕ) → i < n → getD (listTo n f ++ rest) i (pos 0) ≡ f i
-  front-at i h = List·getD-append (listTo n f) rest (pos 0) i (rw (length-listTo n f) h) ∙ getD-listTo n f i (pos 0) h
+pub front-at : (n : ℕ) (f : ℕ → ℤ) (rest : List ℤ) (i : ℕ) → i < n → getD (listTo n f ++ rest) i (pos 0) ≡ f i
+front-at n f rest i h = List·getD-append (listTo n f) rest (pos 0) i (rw (length-listTo n f) h) ∙ getD-listTo n f i (pos 0) h
 
-  front-length : n ≤ length (listTo n f ++ rest)
-  front-length = rw (length-append, length-listTo n f) (omega arith)
-
-module _ (n k : ℕ) (fs : List ℤ) (ps : List ℕ) (h : Hour n k fs ps) (mccs rest : List ℤ) (e : mccs ≡ listTo n (mccIn n k fs ps) ++ rest) where
-  mcc-at : (i : ℕ) → i < n → getD mccs i (pos 0) ≡ mccIn n k fs ps i
-  mcc-at i hi = rw e (front-at n (mccIn n k fs ps) rest i hi)
-
-  pub mcc-table : MccTable n mccs
-  mcc-table = record { cells = rw e (front-length n (mccIn n k fs ps) rest); sized = λ i hi. rw (mcc-at i hi) (node-sized n k fs ps h i hi) }
-
-  -- the amount by the table is the contract's
-  pub amount-by : (c : Contract) → InRange n c → amountBy mccs c ≡ amount (factorsOf n k fs) (take k ps) c
-  unfolding amountBy amount
-  amount-by c r = rw (mcc-at (c .sink) (r .sink-below), mcc-at (c .source) (r .source-below))
+-- one more is stored
+pub mcc-stored : (n k : ℕ) (fs : List ℤ) (ps : List ℕ) (mccs : List Mcc) (j : ℕ) (x d : Mcc) → j < length mccs → MccAt n k fs ps j x
+    → ((i : ℕ) → i < j → MccAt n k fs ps i (getD mccs i d)) → (i : ℕ) → i < j + 1 → MccAt n k fs ps i (getD (set mccs j x) i d)
+mcc-stored n k fs ps mccs j x d long new old i h = by (ltb i j) refl
+  where
+    by : (b : Bool) → ltb i j ≡ b → MccAt n k fs ps i (getD (set mccs j x) i d)
+    by true e = let b = ltb-true i j e in rw (getD-set-other mccs j i x d (λ q. lt-irrefl i (subst (λ (m : ℕ). i < m) (sym q) b))) (old i b)
+    by false e = let q : i ≡ j = omega (arith, ltb-false i j e) in rw q (rw (getD-set-same mccs j x d long) new)
 
 -- ---- on the way to an amount
 
-module _ (n : ℕ) (mccs : List ℤ) (t : MccTable n mccs) (c : Contract) (r : InRange n c) where
-  -- a cell is read back
-  mcc-back : (i : ℕ) → i < n → toZ w64 (ofZ w64 (getD mccs i (pos 0))) ≡ getD mccs i (pos 0)
-  mcc-back i h = back (getD mccs i (pos 0)) (omega (arith, t .sized i h))
+module _ (c : Contract) (few : c .quantity .0 ≤ maxQuantity) (d : ℤ) (small : natAbs d ≤ maxSpread) where
+  pub product-fits : (a : ℤ) → a ≡ d *ℤ pos (c .quantity .0) → natAbs a ≤ maxAmount
+  product-fits a q = rw q (natAbs-times d (pos (c .quantity .0)) small few)
 
-  pub ends-small : natAbs (toZ w64 (ofZ w64 (getD mccs (c .sink) (pos 0)))) + natAbs (toZ w64 (ofZ w64 (getD mccs (c .source) (pos 0)))) ≤ maxSpread
-  ends-small =
-      rw (mcc-back (c .sink) (r .sink-below), mcc-back (c .source) (r .source-below)) (omega (arith, t .sized (c .sink) (r .sink-below), t .sized (c .source) (r .source-below)))
-
-  module _ (d : ℤ) (spread : d ≡ toZ w64 (ofZ w64 (getD mccs (c .sink) (pos 0))) -ℤ toZ w64 (ofZ w64 (getD mccs (c .source) (pos 0)))) where
-    pub spread-small : natAbs d ≤ maxSpread
-    spread-small =
-        rw spread (le-trans (natAbs-sub (toZ w64 (ofZ w64 (getD mccs (c .sink) (pos 0)))) (toZ w64 (ofZ w64 (getD mccs (c .source) (pos 0))))) ends-small)
-
-    pub product-fits : (a : ℤ) → a ≡ d *ℤ pos (c .quantity .0) → natAbs a ≤ maxAmount
-    product-fits a q = rw q (natAbs-times d (pos (c .quantity .0)) spread-small (r .quantity-sized))
-
-    pub amount-end : (a v : ℤ) → a ≡ d *ℤ pos (c .quantity .0) → v ≡ counted (c .kind) a → (v ≡ amountBy mccs c) × (natAbs v ≤ maxAmount)
-    unfolding amountBy
-    amount-end a v q w =
-        let is = spread ∙ ap₂ _-ℤ_ (mcc-back (c .sink) (r .sink-below)) (mcc-back (c .source) (r .source-below)) in
-        (w ∙ ap (counted (c .kind)) (q ∙ ap (λ (x : ℤ). x *ℤ pos (c .quantity .0)) is), rw w (le-trans (counted-sized (c .kind) a) (product-fits a q)))
+  pub amount-end : (sink source a v : ℤ) → d ≡ sink -ℤ source → a ≡ d *ℤ pos (c .quantity .0) → v ≡ counted (c .kind) a
+      → (v ≡ counted (c .kind) ((sink -ℤ source) *ℤ pos (c .quantity .0))) × (natAbs v ≤ maxAmount)
+  amount-end sink source a v spread q w =
+      (w ∙ ap (counted (c .kind)) (q ∙ ap (λ (x : ℤ). x *ℤ pos (c .quantity .0)) spread), rw w (le-trans (counted-sized (c .kind) a) (product-fits a q)))
 
 -- ---- by the period
 
-module _ (mccs : List ℤ) (t : Period) (c : Contract) where
-  pub amount-same : (b : Bool) → b ≡ samePeriod (c .period) t → b ≡ true → hourAmount mccs t c ≡ amountBy mccs c
-  unfolding hourAmount
-  amount-same b e h = rw (sym e ∙ h)
+module _ (n k : ℕ) (fs : List ℤ) (ps : List ℕ) (t : Period) (c : Contract) where
+  pub amount-same : (b : Bool) → b ≡ samePeriod (c .period) t → b ≡ true → (sink source : Mcc) → MccAt n k fs ps (c .sink) sink → MccAt n k fs ps (c .source) source
+      → counted (c .kind) ((sink .0 -ℤ source .0) *ℤ pos (c .quantity .0)) ≡ hourAmount (factorsOf n k fs) (take k ps) t c
+  unfolding hourAmount amount
+  amount-same b e h sink source x y = rw (sym e ∙ h, ← x, ← y)
 
-  pub amount-other : (b : Bool) → b ≡ samePeriod (c .period) t → b ≡ false → hourAmount mccs t c ≡ pos 0
+  pub amount-other : (b : Bool) → b ≡ samePeriod (c .period) t → b ≡ false → pos 0 ≡ hourAmount (factorsOf n k fs) (take k ps) t c
   unfolding hourAmount
   amount-other b e h = rw (sym e ∙ h)

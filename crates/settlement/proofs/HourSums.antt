@@ -33,8 +33,8 @@ use Rattle.books.proofs.Accepted.{book-accepted}
 use Rattle.settlement.specs.declared.Totals.{Totals}
 use Rattle.settlement.specs.declared.SettleAnswer.the-variants.{Settled}
 use Rattle.settlement.specs.SettleHour.{centsOf, centsSum, hourTotal}
-use Rattle.settlement.specs.Inner.{Hour, mccIn, hourAmount, exactOf, Bounded, SettlesBy, Settles}
-use Rattle.settlement.proofs.Congestion.{prices-in, front-at, amount-by}
+use Rattle.settlement.specs.Inner.{Hour, hourAmount, exactOf, Bounded, SettlesFirst, Settles}
+use Rattle.settlement.proofs.Congestion.{prices-in, front-at}
 
 -- ---- a machine sum of two numbers that are kept in an i64
 
@@ -116,7 +116,7 @@ exact-of S W s w P p total e q =
     let part : P ≡ p = cc in
     rw (← whole, ← part) e
 
--- ---- an hour's figures, by a table of MCCs
+-- ---- an hour's figures
 
 module _ (n k : ℕ) (fs : List ℤ) (ps : List ℕ) (h : Hour n k fs ps) (t : Period) where
   cents-small : (c : Contract) → InRange n c → natAbs (centsOf (factorsOf n k fs) (take k ps) t c) ≤ maxCents
@@ -130,41 +130,33 @@ module _ (n k : ℕ) (fs : List ℤ) (ps : List ℕ) (h : Hour n k fs ps) (t : P
     cell-small entry exit e i b =
         rw (e, map-listTo m f (centsOf (factorsOf n k fs) (take k ps) t), front-at m (λ i. centsOf (factorsOf n k fs) (take k ps) t (f i)) _ i b) (cents-small (f i) (ok i b))
 
-    module _ (mccs rest : List ℤ) (e : mccs ≡ listTo n (mccIn n k fs ps) ++ rest) where
-      by-table : (i : ℕ) → i < m → hourAmount mccs t (f i) ≡ cond (samePeriod (f i .period) t) (amount (factorsOf n k fs) (take k ps) (f i)) (pos 0)
-      unfolding hourAmount
-      by-table i b = ap (λ (x : ℤ). cond (samePeriod (f i .period) t) x (pos 0)) (amount-by n k fs ps h mccs rest e (f i) (ok i b))
+    cents-hour : (i : ℕ) → cents (hourAmount (factorsOf n k fs) (take k ps) t (f i)) ≡ cond (samePeriod (f i .period) t) (cents (amount (factorsOf n k fs) (take k ps) (f i))) (pos 0)
+    unfolding hourAmount
+    cents-hour i = cents-cond (samePeriod (f i .period) t) (amount (factorsOf n k fs) (take k ps) (f i))
 
-      cents-by-table : (i : ℕ) → i < m → cents (hourAmount mccs t (f i)) ≡ cond (samePeriod (f i .period) t) (cents (amount (factorsOf n k fs) (take k ps) (f i))) (pos 0)
-      cents-by-table i b = ap cents (by-table i b) ∙ cents-cond (samePeriod (f i .period) t) (amount (factorsOf n k fs) (take k ps) (f i))
+    cells-are : listTo m (λ i. cents (hourAmount (factorsOf n k fs) (take k ps) t (f i))) ≡ map (centsOf (factorsOf n k fs) (take k ps) t) (listTo m f)
+    unfolding centsOf
+    cells-are = listTo-cong m _ _ (λ i b. cents-hour i) ∙ sym (map-listTo m f (centsOf (factorsOf n k fs) (take k ps) t))
 
-      cells-are : listTo m (λ i. cents (hourAmount mccs t (f i))) ≡ map (centsOf (factorsOf n k fs) (take k ps) t) (listTo m f)
-      unfolding centsOf
-      cells-are = listTo-cong m _ _ cents-by-table ∙ sym (map-listTo m f (centsOf (factorsOf n k fs) (take k ps) t))
+    sum-is : centsSum (factorsOf n k fs) (take k ps) t (listTo m f) ≡ sumTo m (λ i. cents (hourAmount (factorsOf n k fs) (take k ps) t (f i)))
+    unfolding centsSum
+    sum-is = period-sum t m f (λ c. cents (amount (factorsOf n k fs) (take k ps) c)) _ (λ i b. cents-hour i)
 
-      cells-settled : (entry exit : List ℤ) → exit ≡ overwrite (listTo m (λ i. cents (hourAmount mccs t (f i)))) entry
-          → exit ≡ overwrite (map (centsOf (factorsOf n k fs) (take k ps) t) (listTo m f)) entry
-      cells-settled entry exit x = x ∙ ap (λ (xs : List ℤ). overwrite xs entry) cells-are
+    total-is : hourTotal (factorsOf n k fs) (take k ps) t (listTo m f) ≡ sumTo m (λ i. hourAmount (factorsOf n k fs) (take k ps) t (f i))
+    unfolding hourTotal exactTotal hourAmount
+    total-is = period-sum t m f (amount (factorsOf n k fs) (take k ps)) _ (λ i b. refl)
 
-      sum-is : centsSum (factorsOf n k fs) (take k ps) t (listTo m f) ≡ sumTo m (λ i. cents (hourAmount mccs t (f i)))
-      unfolding centsSum
-      sum-is = period-sum t m f (λ c. cents (amount (factorsOf n k fs) (take k ps) c)) _ cents-by-table
-
-      total-is : hourTotal (factorsOf n k fs) (take k ps) t (listTo m f) ≡ sumTo m (λ i. hourAmount mccs t (f i))
-      unfolding hourTotal exactTotal
-      total-is = period-sum t m f (amount (factorsOf n k fs) (take k ps)) _ by-table
-
-  -- what the contracts of an accepted book settle to by the table, they settle to by the hour's tables
-  pub settled : (s : List ℕ) → first (bookChecks n s) ≡ Passed → (mccs rest : List ℤ) → mccs ≡ listTo n (mccIn n k fs ps) ++ rest
-      → (m : ℕ) → m ≡ contractCountIn s → (entry exit : List ℤ) (r : Totals) → SettlesBy mccs t m (contractAt s) entry r exit → Settles n k t fs ps s entry r exit
-  settled s passed mccs rest e m count entry exit r by =
+  -- what the first contracts of an accepted book settle to, all of them being the first, the book does
+  pub settled : (s : List ℕ) → first (bookChecks n s) ≡ Passed → (m : ℕ) → m ≡ contractCountIn s → (entry exit : List ℤ) (r : Totals)
+      → SettlesFirst (factorsOf n k fs) (take k ps) t m (contractAt s) entry r exit → Settles n k t fs ps s entry r exit
+  settled s passed m count entry exit r by =
       let each = book-accepted n s passed .each in
       let b = rw count at by in
-      let are = cells-settled (contractCountIn s) (contractAt s) each mccs rest e entry exit (b .cells) in
+      let are = b .cells ∙ ap (λ (xs : List ℤ). overwrite xs entry) (cells-are (contractCountIn s) (contractAt s) each) in
       record {
         cells = are;
-        sum = b .sum ∙ sym (sum-is (contractCountIn s) (contractAt s) each mccs rest e);
-        exact = b .exact ∙ sym (total-is (contractCountIn s) (contractAt s) each mccs rest e);
+        sum = b .sum ∙ sym (sum-is (contractCountIn s) (contractAt s) each);
+        exact = b .exact ∙ sym (total-is (contractCountIn s) (contractAt s) each);
         bounded = b .bounded;
         cells-sized = cell-small (contractCountIn s) (contractAt s) each entry exit are;
       }

@@ -1,4 +1,4 @@
--- What the inner functions of settling say: an hour's tables, an amount by a table of MCCs, the running totals, and what contracts settle to.
+-- What the inner functions of settling say: an hour's tables and MCCs, the running totals, and what contracts settle to.
 use mathlib.Core.Path.{_≡_}
 use mathlib.Core.Bool.{cond}
 use mathlib.Core.List.{List, map}
@@ -10,10 +10,11 @@ use Rattle.lists.specs.Lists.{listTo}
 use Rattle.lists.specs.Lent.{overwrite}
 use Rattle.tariff.specs.declared.contracts.Contract.{Contract}
 use Rattle.tariff.specs.declared.contracts.Period.{Period}
-use Rattle.tariff.specs.Units.{factorsOf, maxPrice, perCent}
-use Rattle.tariff.specs.Contracts.{counted, samePeriod}
-use Rattle.tariff.specs.Inner.{maxMcc, maxCents}
-use Rattle.tariff.specs.Settlement.{mcc, cents}
+use Rattle.tariff.specs.declared.units.Mcc.{Mcc}
+use Rattle.tariff.specs.Units.{Factors, factorsOf, maxPrice, perCent}
+use Rattle.tariff.specs.Contracts.{samePeriod}
+use Rattle.tariff.specs.Inner.{maxCents}
+use Rattle.tariff.specs.Settlement.{mcc, amount, cents}
 use Rattle.layouts.specs.BookFile.{contractCountIn, bookIn}
 use Rattle.tables.specs.Inner.{GoodFactors, GoodCells}
 use Rattle.settlement.specs.declared.Totals.{Totals}
@@ -28,20 +29,16 @@ pub record Hour (n k : ℕ) (factors : List ℤ) (prices : List ℕ) : Type 0 wh
 abbrev pub mccIn : ℕ → ℕ → List ℤ → List ℕ → ℕ → ℤ
 mccIn n k factors prices = mcc (factorsOf n k factors) (take k prices)
 
--- ---- by a table of MCCs
+abbrev pub MccAt : ℕ → ℕ → List ℤ → List ℕ → ℕ → Mcc → Type 0
+MccAt n k factors prices node m = m .0 ≡ mccIn n k factors prices node
 
--- one with an MCC for each of n nodes
-pub record MccTable (n : ℕ) (mccs : List ℤ) : Type 0 where
-  pub cells : n ≤ length mccs
-  pub sized : (i : ℕ) → i < n → natAbs (getD mccs i (pos 0)) ≤ maxMcc
+-- the MCC of each node, in a table
+pub record MccTable (n k : ℕ) (factors : List ℤ) (prices : List ℕ) (mccs : List Mcc) : Type 0 where
+  pub each : (i : ℕ) → i < n → MccAt n k factors prices i (getD mccs i (record { 0 = pos 0 }))
 
--- the exact amount of a contract
-unfoldable pub amountBy : List ℤ → Contract → ℤ
-amountBy mccs c = counted (c .kind) ((getD mccs (c .sink) (pos 0) -ℤ getD mccs (c .source) (pos 0)) *ℤ pos (c .quantity .0))
-
--- what it adds to an hour of the period: nothing for the other period's
-unfoldable pub hourAmount : List ℤ → Period → Contract → ℤ
-hourAmount mccs t c = cond (samePeriod (c .period) t) (amountBy mccs c) (pos 0)
+-- what a contract adds to an hour of the period: nothing for the other period's
+unfoldable pub hourAmount : Factors → List ℕ → Period → Contract → ℤ
+hourAmount f p t c = cond (samePeriod (c .period) t) (amount f p c) (pos 0)
 
 -- ---- totals
 
@@ -63,11 +60,11 @@ pub record Added (t : Totals) (amount : ℤ) (r : Totals) : Type 0 where
 
 -- ---- what is settled, with the place for the cents at entry and at exit
 
--- the first m of the contracts f, by a table of MCCs
-pub record SettlesBy (mccs : List ℤ) (t : Period) (m : ℕ) (f : ℕ → Contract) (entry : List ℤ) (r : Totals) (exit : List ℤ) : Type 0 where
-  pub cells : exit ≡ overwrite (listTo m (λ i. cents (hourAmount mccs t (f i)))) entry
-  pub sum : r .sum ≡ sumTo m (λ i. cents (hourAmount mccs t (f i)))
-  pub exact : exactOf r ≡ sumTo m (λ i. hourAmount mccs t (f i))
+-- the first m of the contracts f
+pub record SettlesFirst (g : Factors) (p : List ℕ) (t : Period) (m : ℕ) (f : ℕ → Contract) (entry : List ℤ) (r : Totals) (exit : List ℤ) : Type 0 where
+  pub cells : exit ≡ overwrite (listTo m (λ i. cents (hourAmount g p t (f i)))) entry
+  pub sum : r .sum ≡ sumTo m (λ i. cents (hourAmount g p t (f i)))
+  pub exact : exactOf r ≡ sumTo m (λ i. hourAmount g p t (f i))
   pub bounded : Bounded m r
 
 -- a book, by an hour's tables

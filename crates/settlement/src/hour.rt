@@ -2,20 +2,21 @@
 ghost use mathlib.Core.Path.{_≡_};
 ghost use mathlib.Core.List.{List};
 ghost use Prim.Native.Nat.{ℕ, _+_, _≤_, _<_};
-ghost use lib.ListN.{length};
-ghost use lib.IntN.{ℤ, natAbs};
+ghost use lib.ListN.{length, take};
+ghost use lib.IntN.{ℤ, pos, natAbs, _-ℤ_, _*ℤ_};
 ghost use Rattle.lists.specs.Lent.{before, after};
 ghost use Rattle.tariff.specs.declared.refusals.Checked.the-variants.{Passed};
-ghost use Rattle.tariff.specs.Units.{maxContracts};
+ghost use Rattle.tariff.specs.Units.{factorsOf, maxContracts, maxQuantity};
+ghost use Rattle.tariff.specs.Contracts.{counted};
 ghost use Rattle.tariff.specs.Refusals.{first};
-ghost use Rattle.tariff.specs.Inner.{InRange, maxAmount};
+ghost use Rattle.tariff.specs.Inner.{InRange, maxMcc, maxAmount};
 ghost use Rattle.layouts.specs.BookFile.{bookBytes, contractCountIn, contractAt};
 ghost use Rattle.books.specs.BookChecks.{bookChecks};
 ghost use Rattle.settlement.specs.SettleHour.{hourCall, settleChecked, SettlesHour};
-ghost use Rattle.settlement.specs.Inner.{Hour, MccTable, amountBy, hourAmount, SettlesBy, Settles};
+ghost use Rattle.settlement.specs.Inner.{Hour, MccAt, MccTable, hourAmount, SettlesFirst, Settles};
 use crate::SettleAnswer;
 use crate::Totals;
-use crate::mcc::fill_mcc;
+use crate::mcc::all_mccs;
 use tariff::Amount;
 use tariff::Checked;
 use tariff::Contract;
@@ -24,30 +25,35 @@ use tariff::Mcc;
 use tariff::Period;
 use tariff::Refusal;
 
-// The exact amount of a contract (003, 36.2.1 and 36.2.2): sink minus source, by a table of MCCs of `nodes` nodes.
-fn amount_of(nodes: usize, mccs: &[i64], c: Contract) -> Amount
-    requires { ⌜ MccTable nodes (now mccs) × InRange nodes c ⌝ }
-    ensures { λ r. ⌜ (r .0 ≡ amountBy (before mccs) c) × (natAbs (r .0) ≤ maxAmount) ⌝ }
+// The exact amount of a contract (003, 36.2.1 and 36.2.2), by the MCCs of its sink and of its source.
+fn amount_of(c: Contract, sink: Mcc, source: Mcc) -> Amount
+    requires { ⌜ (natAbs (sink .0) ≤ maxMcc) × (natAbs (source .0) ≤ maxMcc) × (c .quantity .0 ≤ maxQuantity) ⌝ }
+    ensures { λ r. ⌜ (r .0 ≡ counted (c .kind) ((sink .0 -ℤ source .0) *ℤ pos (c .quantity .0))) × (natAbs (r .0) ≤ maxAmount) ⌝ }
 {
-    let sink = c.sink;
-    let source = c.source;
     let quantity = c.quantity;
     let kind = c.kind;
-    let spread = Mcc(mccs[sink]).minus(Mcc(mccs[source]));
-    spread.times(quantity).counted(kind)
+    sink.minus(source).times(quantity).counted(kind)
 }
 
-// What contract i of a book adds to an hour of the period: nothing for the other period's.
-fn hour_amount(nodes: usize, mccs: &[i64], period: Period, book: &[u8], i: usize) -> Amount
-    requires { ⌜ MccTable nodes (now mccs) × InRange nodes (contractAt (now book) i) ⌝ }
-    requires { ⌜ (i < maxContracts) × (bookBytes i + 6 ≤ length (now book)) ⌝ }
-    ensures { λ r. ⌜ (r .0 ≡ hourAmount (before mccs) period (contractAt (before book) i)) × (natAbs (r .0) ≤ maxAmount) ⌝ }
+// What a contract adds to an hour of the period: nothing for the other period's.
+fn hour_amount(
+    nodes: usize,
+    constraints: usize,
+    factors: &[i64],
+    prices: &[u64],
+    period: Period,
+    c: Contract,
+    sink: Mcc,
+    source: Mcc,
+) -> Amount
+    requires { ⌜ Hour nodes constraints (now factors) (now prices) × InRange nodes c ⌝ }
+    requires { ⌜ MccAt nodes constraints (now factors) (now prices) (c .sink) sink × MccAt nodes constraints (now factors) (now prices) (c .source) source ⌝ }
+    ensures { λ r. ⌜ (r .0 ≡ hourAmount (factorsOf nodes constraints (before factors)) (take constraints (before prices)) period c) × (natAbs (r .0) ≤ maxAmount) ⌝ }
 {
-    let c = books::contract_at(book, i);
     let own = c.period;
     let counts = own.same(period);
     if counts {
-        amount_of(nodes, mccs, c)
+        amount_of(c, sink, source)
     } else {
         Amount(0)
     }
@@ -56,15 +62,20 @@ fn hour_amount(nodes: usize, mccs: &[i64], period: Period, book: &[u8], i: usize
 // Settles the first `count` contracts, each into its own cell.
 fn settle_contracts(
     nodes: usize,
-    mccs: &[i64],
+    constraints: usize,
+    factors: &[i64],
+    prices: &[u64],
+    mccs: [Mcc; MAX_NODES],
     period: Period,
     book: &[u8],
     count: usize,
     cents: &mut [i64],
 ) -> Totals
-    requires { ⌜ MccTable nodes (now mccs) × ((i : ℕ) → i < count → InRange nodes (contractAt (now book) i)) ⌝ }
+    requires { ⌜ Hour nodes constraints (now factors) (now prices) × MccTable nodes constraints (now factors) (now prices) mccs ⌝ }
+    requires { ⌜ ((i : ℕ) → i < count → InRange nodes (contractAt (now book) i)) ⌝ }
     requires { ⌜ (count ≤ maxContracts) × (bookBytes count ≤ length (now book)) × (count ≤ length (now cents)) ⌝ }
-    ensures { λ r. ⌜ SettlesBy (before mccs) period count (contractAt (before book)) (before cents) r (after cents) ⌝ }
+    ensures { λ r. ⌜ SettlesFirst (factorsOf nodes constraints (before factors)) (take constraints (before prices)) period count (contractAt (before book))
+        (before cents) r (after cents) ⌝ }
 {
     let mut totals = Totals {
         sum: 0,
@@ -73,7 +84,19 @@ fn settle_contracts(
     };
     let mut i = 0;
     while i < count {
-        let amount = hour_amount(nodes, mccs, period, book, i);
+        let c = books::contract_at(book, i);
+        let sink = c.sink;
+        let source = c.source;
+        let amount = hour_amount(
+            nodes,
+            constraints,
+            factors,
+            prices,
+            period,
+            c,
+            mccs[sink],
+            mccs[source],
+        );
         cents[i] = amount.cents();
         totals = totals.plus(amount);
         i += 1;
@@ -95,10 +118,19 @@ pub fn settle(
     requires { ⌜ (first (bookChecks nodes (now book)) ≡ Passed) × (contractCountIn (now book) ≤ length (now cents)) ⌝ }
     ensures { λ r. ⌜ Settles nodes constraints period (before factors) (before prices) (before book) (before cents) r (after cents) ⌝ }
 {
-    let mut mccs = [0i64; MAX_NODES];
-    fill_mcc(nodes, constraints, factors, prices, &mut mccs);
+    let mccs = all_mccs(nodes, constraints, factors, prices);
     let count = books::contract_count(book);
-    settle_contracts(nodes, &mccs, period, book, count, cents)
+    settle_contracts(
+        nodes,
+        constraints,
+        factors,
+        prices,
+        mccs,
+        period,
+        book,
+        count,
+        cents,
+    )
 }
 
 // The checks of settling an hour, with `cells` cells for the cents: the tables', the book's own, 9.

@@ -7,9 +7,10 @@ ghost use Rattle.lists.specs.Lists.{listTo};
 ghost use Rattle.lists.specs.Lent.{before, after, overwrite};
 ghost use Rattle.tariff.specs.Inner.{maxMcc};
 ghost use Rattle.settlement.specs.FindMcc.{findMccCall, FindsMcc};
-ghost use Rattle.settlement.specs.Inner.{Hour, mccIn};
+ghost use Rattle.settlement.specs.Inner.{Hour, MccTable, mccIn};
 use crate::MccAnswer;
 use tariff::Checked;
+use tariff::MAX_NODES;
 use tariff::Mcc;
 use tariff::Price;
 
@@ -41,6 +42,25 @@ pub fn fill_mcc(nodes: usize, constraints: usize, factors: &[i64], prices: &[u64
         out[node] = node_mcc(nodes, constraints, factors, prices, node).cell();
         node += 1;
     }
+}
+
+// The MCC of each node, afresh for an hour; those behind the nodes are not looked at.
+pub fn all_mccs(
+    nodes: usize,
+    constraints: usize,
+    factors: &[i64],
+    prices: &[u64],
+) -> [Mcc; MAX_NODES]
+    requires { ⌜ Hour nodes constraints (now factors) (now prices) ⌝ }
+    ensures { λ r. ⌜ MccTable nodes constraints (before factors) (before prices) r ⌝ }
+{
+    let mut mccs = [Mcc(0); MAX_NODES];
+    let mut node = 0;
+    while node < nodes {
+        mccs[node] = node_mcc(nodes, constraints, factors, prices, node);
+        node += 1;
+    }
+    mccs
 }
 
 // Finds the MCC of all nodes, one cell each.

@@ -11,6 +11,7 @@ pub use processes::Process;
 pub use refusals::Checked;
 pub use refusals::Refusal;
 pub use refusals::nodes_bad;
+pub use refusals::quantity_bad;
 pub use units::Amount;
 pub use units::Flow;
 pub use units::Mcc;

@@ -1,8 +1,9 @@
 // What input is turned down for ("When input is turned down"), by meaning and by the paper's number.
 ghost use mathlib.Core.Path.{_≡_};
 ghost use Rattle.tariff.specs.Refusals.{numberOf};
-ghost use Rattle.tariff.specs.Checks.{nodeCount};
+ghost use Rattle.tariff.specs.Checks.{nodeCount, quantityRange};
 use crate::MAX_NODES;
+use crate::MAX_QUANTITY;
 
 // Why input is turned down ("When input is turned down"): one case for each of the paper's numbers.
 pub enum Refusal {
@@ -67,4 +68,14 @@ pub fn nodes_bad(nodes: usize) -> bool
         return true;
     }
     MAX_NODES < nodes
+}
+
+// 13: 0 or too large. A number is looked at before it becomes a quantity.
+pub fn quantity_bad(number: u64) -> bool
+    ensures { λ r. ⌜ r ≡ quantityRange number .fails ⌝ }
+{
+    if number == 0 {
+        return true;
+    }
+    MAX_QUANTITY < number
 }

@@ -1,15 +1,13 @@
-// Units as tuple structs. Sums keep their unit: a quantity, a price or an MCC is opened only here, in its own sums and in the product rules.
+// Units as tuple structs. Sums keep their unit: a quantity, a price or an MCC is opened only here, in its own sums, in the product rules, and where it goes into a cell.
 ghost use mathlib.Core.Path.{_≡_};
 ghost use Prim.Native.Nat.{_+_, _^_, _≤_, _<_};
 ghost use lib.IntN.{pos, natAbs, negℤ, _+ℤ_, _-ℤ_, _*ℤ_};
 ghost use lib.Signed.{ltZ};
 ghost use Rattle.integers.specs.Division.{roundUp};
 ghost use Rattle.tariff.specs.Units.{maxFactor, maxQuantity, maxPrice, perCent};
-ghost use Rattle.tariff.specs.Checks.{quantityRange};
 ghost use Rattle.tariff.specs.Contracts.{counted as countedAs};
 ghost use Rattle.tariff.specs.Settlement.{cents as centsOf, wholeCents, parts as partsOf};
 ghost use Rattle.tariff.specs.Inner.{maxSpread, maxAmount, maxCents};
-use crate::MAX_QUANTITY;
 use crate::PER_CENT;
 use crate::contracts::Kind;
 
@@ -20,21 +18,11 @@ const LAST_PART: u64 = PER_CENT - 1;
 pub struct Quantity(pub u64);
 
 impl Quantity {
-    pub fn plus(self, other: Quantity) -> Quantity
-        requires { ⌜ self .0 + other .0 < 2 ^ 64 ⌝ }
-        ensures { λ r. ⌜ r .0 ≡ self .0 + other .0 ⌝ }
+    // As a cell of a table or a field of a file.
+    pub fn cell(self) -> u64
+        ensures { λ r. ⌜ r ≡ self .0 ⌝ }
     {
-        Quantity(self.0 + other.0)
-    }
-
-    // 13: 0 or too large.
-    pub fn out_of_range(self) -> bool
-        ensures { λ r. ⌜ r ≡ quantityRange (self .0) .fails ⌝ }
-    {
-        if self.0 == 0 {
-            return true;
-        }
-        MAX_QUANTITY < self.0
+        self.0
     }
 
     // The product rule of flows: this quantity from source to sink, by their shift factors on one constraint.
@@ -75,13 +63,6 @@ impl Quantity {
 pub struct Price(pub u64);
 
 impl Price {
-    pub fn plus(self, other: Price) -> Price
-        requires { ⌜ self .0 + other .0 < 2 ^ 64 ⌝ }
-        ensures { λ r. ⌜ r .0 ≡ self .0 + other .0 ⌝ }
-    {
-        Price(self.0 + other.0)
-    }
-
     // The product rule of congestion (002 part C): shift factor × shadow price.
     pub fn times(self, factor: i64) -> Mcc
         requires { ⌜ (natAbs factor ≤ maxFactor) × (self .0 ≤ maxPrice) ⌝ }

@@ -1,8 +1,8 @@
 -- `check_row`.
-use mathlib.Core.Path.{ap, _∙_}
+use mathlib.Core.Path.{_∙_}
 use borrow.Author.Tests.{lt-ltb, le-ltb}
-use Rattle.tariff.specs.declared.contracts.Contract.{Contract}
 use Rattle.tariff.specs.Refusals.{first}
+use Rattle.layouts.specs.BookTable.{rowFrom}
 use Rattle.books.specs.BookChecks.{contractChecks}
 use Rattle.book_file.specs.WriteBook.{rowChecks}
 use borrow.Author.Needs.{needs}
@@ -10,11 +10,10 @@ use Rattle.book_file.proofs.check_row.Statement.{statement}
 use Rattle.book_file.proofs.check_row.Tie as tie
 
 returns-4 : tie.Need-returns-4
-unfolding first rowChecks
+unfolding first rowChecks contractChecks rowFrom
 returns-4 c =
-    let e = c .before .before in
-    let a = e .before .before .before .before .before .before .before .args in
-    c .check-contract .ensures ∙ ap (λ (x : Contract). first (contractChecks (a .nodes) x)) (c .before .row-from .ensures)
+    let e = c .before .before .before .before in
+    c .check-numbers .ensures
     ∙ rw (le-ltb _ _ (e .before .before .before .before .if1 .left), le-ltb _ _ (e .before .before .if2 .left), le-ltb _ _ (e .if3 .left))
 
 pub check-row-spec : {M : Type 1} → statement M
@@ -25,4 +24,5 @@ check-row-spec =
     (λ c. search needs) (λ c. search needs) (λ c. search needs) (λ c. rw (le-ltb _ _ (c .before .before .if1 .left), lt-ltb _ _ (c .if2 .taken)))
     (λ c. search needs) (λ c. search needs) (λ c. search needs)
     (λ c. rw (le-ltb _ _ (c .before .before .before .before .if1 .left), le-ltb _ _ (c .before .before .if2 .left), lt-ltb _ _ (c .if3 .taken)))
-    (λ c κs. search needs) (λ c κs. search needs) returns-4)
+    (λ c. search needs) (λ c. search needs) (λ c. search needs) (λ c. search needs) (λ c. search needs) (λ c. search needs)
+    (λ c. search needs) (λ c. search needs) (λ c. search needs) (λ c κs. search needs) returns-4)

@@ -11,15 +11,14 @@ use Rattle.book_file.proofs.store_row.Tie as tie
 returns : tie.Need-returns
 unfolding cellsOf
 returns c =
-    let s = c .before .before .before .before in
-    let at = s .args .at in
-    let l = s .args .book .now in
-    six-sets l at _ _ _ _ _ _ (s .pre) ∙ rw (c .before .kind-bit .ensures .0, c .period-bit .ensures .0)
+    let p = c .before in
+    let s = p .before .before .before .before in
+    six-sets (s .args .book .now) (s .args .at) _ _ _ _ _ _ (s .pre) ∙ rw (p .before .kind-bit .ensures .0, p .period-bit .ensures .0, c .cell .ensures)
 
 pub store-row-spec : {M : Type 1} → statement M
 store-row-spec =
     tie.close (tie.spec
     (λ c κs. search needs) (λ c. search needs) (λ c. search needs) (λ c κs. search needs) (λ c. search needs) (λ c. search needs)
     (λ c. simp length-set (omega arith)) (λ c. search needs) (λ c. search needs) (λ c. simp length-set (omega arith)) (λ c. search needs) (λ c. search needs)
-    (λ c. simp length-set (omega arith)) (λ c. search needs) (λ c. search needs) (λ c. simp length-set (omega arith)) (λ c. search needs) (λ c. search needs)
-    (λ c. simp length-set (omega arith)) (λ c. search needs) returns)
+    (λ c. simp length-set (omega arith)) (λ c. search needs) (λ c. search needs) (λ c. simp length-set (omega arith)) (λ c κs. search needs) (λ c. search needs)
+    (λ c. search needs) (λ c. simp length-set (omega arith)) (λ c. search needs) returns)

@@ -1,7 +1,6 @@
 -- `contract_at`.
 use mathlib.Core.Path.{sym, ap, _∙_}
 use Rattle.tariff.specs.Contracts.{kindOf, periodOf}
-use Rattle.layouts.proofs.ContractNumber.{contract-at-number}
 use borrow.Author.Needs.{needs}
 use Rattle.books.proofs.contract_at.Statement.{statement}
 use Rattle.books.proofs.contract_at.Tie as tie
@@ -9,9 +8,6 @@ use Rattle.books.proofs.contract_at.Tie as tie
 returns : tie.Need-returns
 returns c =
     let p4 = c .before .before .before .before in
-    let w = p4 .before .before .before .before in
-    let a = w .before .before .args in
-    let number = contract-at-number (a .file .now) (a .i) (w .window6 .result) (λ i. w .before .shared-slice-known .given i .fits) (w .before .before .pre .1) (w .window6 .ensures) in
     (λ t. record {
       kind = (p4 .before .before .from-number .ensures ∙ ap kindOf (p4 .before .before .before .part .ensures .0)) t;
       period = (p4 .from-number2 .ensures ∙ ap periodOf (p4 .before .part2 .ensures .0)) t;
@@ -20,10 +16,10 @@ returns c =
       sink = c .before .part5 .ensures .0 t;
       quantity = record { 0 = c .part6 .ensures .0 t };
     })
-    ∙ sym number
+    ∙ sym (p4 .before .before .before .before .bits-at .ensures)
 
 pub contract-at-spec : {M : Type 1} → statement M
 contract-at-spec =
     tie.close (tie.spec
-    (λ c. search needs) (λ c. search needs) (λ c κs. search needs) (λ c κs. search needs) (λ c κs. search needs) (λ c κs. search needs) (λ c κs. search needs)
-    (λ c κs. search needs) (λ c κs. search needs) (λ c κs. search needs) (λ c κs. search needs) returns)
+    (λ c κs. search needs) (λ c κs. search needs) (λ c κs. search needs) (λ c κs. search needs) (λ c κs. search needs) (λ c κs. search needs) (λ c κs. search needs)
+    (λ c κs. search needs) (λ c κs. search needs) returns)

@@ -1,40 +1,33 @@
--- `settle`: the table of MCCs is the hour's, and each contract is in range.
+-- `settle`: the MCCs are the hour's, and each contract is in range.
 use native.Mathlib.Omega.{arith}
 use Rattle.books.proofs.Accepted.{book-accepted}
-use Rattle.settlement.proofs.Congestion.{mcc-table}
 use Rattle.settlement.proofs.HourSums.{settled}
 use borrow.Author.Needs.{needs}
 use Rattle.settlement.proofs.hour.settle.Statement.{statement}
 use Rattle.settlement.proofs.hour.settle.Tie as tie
 
-fill-mcc-requires : tie.Need-fill-mcc-requires
-fill-mcc-requires c κs = let h = c .before .before .before .pre .0 in (h, h .good-factors .nodes-few)
-
 contract-count-requires : tie.Need-contract-count-requires
 contract-count-requires c κs =
-    let s = c .before .before .before .before .before in
+    let s = c .before .before .before in
     omega (arith, book-accepted (s .args .nodes) (s .args .book .now) (s .pre .1 .0) .size)
 
 settle-contracts-requires : tie.Need-settle-contracts-requires
 settle-contracts-requires c κs =
-    let s = c .before .before .before .before .before .before .before .before in
+    let s = c .before .before .before .before .before in
     let a = s .args in
     let o = book-accepted (a .nodes) (a .book .now) (s .pre .1 .0) in
-    let n = c .before .before .contract-count .ensures .0 in (
-      (mcc-table (a .nodes) (a .constraints) (a .factors .now) (a .prices .now) (s .pre .0) _ _ (c .before .before .before .before .fill-mcc .ensures), rw n (o .each)),
-      (omega (arith, o .few, n), omega (arith, o .size, n), omega (arith, s .pre .1 .1, n)),
+    let n = c .before .contract-count .ensures .0 in (
+      (s .pre .0, c .before .before .all-mccs .ensures),
+      (rw n (o .each), (omega (arith, o .few, n), omega (arith, o .size, n), omega (arith, s .pre .1 .1, n))),
     )
 
 returns : tie.Need-returns
 returns c =
-    let s = c .before .before .before .before .before .before .before .before .before .before in
+    let s = c .before .before .before .before .before .before .before in
     let a = s .args in
-    let m = c .before .before .before .before .before .before .fill-mcc in
-    let n = c .before .before .before .before .contract-count in
+    let n = c .before .before .before .contract-count in
     let by = c .before .settle-contracts .ensures in
-    settled (a .nodes) (a .constraints) (a .factors .now) (a .prices .now) (s .pre .0) (a .period) (a .book .now) (s .pre .1 .0) _ _ (m .ensures) (n .result) (n .ensures .0) _ _ _ by
+    settled (a .nodes) (a .constraints) (a .factors .now) (a .prices .now) (s .pre .0) (a .period) (a .book .now) (s .pre .1 .0) (n .result) (n .ensures .0) _ _ _ by
 
 pub settle-spec : {M : Type 1} → statement M
-settle-spec =
-    tie.close (tie.spec
-    (λ c. search needs) fill-mcc-requires contract-count-requires (λ c. search needs) settle-contracts-requires (λ c. search needs) returns)
+settle-spec = tie.close (tie.spec (λ c κs. search needs) contract-count-requires settle-contracts-requires (λ c. search needs) returns)
