@@ -1,5 +1,5 @@
 -- Laws of flows that are carried: a cell more of one contract's flows, and a contract more.
-use mathlib.Core.Path.{_≡_, refl, sym, ap, ap₂, _∙_}
+use mathlib.Core.Path.{_≡_, refl, sym, ap, _∙_, subst₂}
 use mathlib.Core.Logic.{⊎-elim}
 use mathlib.Core.Bool.{true, false}
 use mathlib.Core.List.{List, [], _∷_, _++_}
@@ -36,7 +36,7 @@ use Rattle.tables.proofs.Factors.{place-in}
 use Rattle.books.specs.BookChecks.{bookChecks}
 use Rattle.books.proofs.Accepted.{book-accepted}
 use Rattle.feasibility_test.specs.declared.Flows.{Flows}
-use Rattle.feasibility_test.specs.Inner.{Carries, Ends, Judgeable}
+use Rattle.feasibility_test.specs.Inner.{Carries, Adds, Ends, Judgeable}
 
 -- the flow on constraint j of a contract whose rows of factors begin at source and sink, as it counts
 unfoldable pub part : List ℤ → ℕ → ℕ → Quantity → Kind → ℕ → ℤ
@@ -99,15 +99,21 @@ module _ (n k : ℕ) (fs : List ℤ) (c : Contract) (h : InRange n c) where
   unfolding flow part
   own j b = rw (cell (c .source) j (h .source-below) b, cell (c .sink) j (h .sink-below) b)
 
-  pub step-carries : (cs : List Contract) (f : Flows) (cells : List ℤ)
-      → ((j : ℕ) → j < k → getD cells j (pos 0) ≡ getD (f .flows) j (pos 0) +ℤ part fs (c .source * k) (c .sink * k) (c .quantity) (c .kind) j)
-      → Carries (factorsOf n k fs) cs f → Carries (factorsOf n k fs) (cs ++ c ∷ []) (record { flows = cells; count = f .count + 1 })
-  unfolding totalFlow
-  step-carries cs f cells done carried =
-      record {
-        flows-are = λ j b. done j b ∙ ap₂ _+ℤ_ (carried .flows-are j b) (own j b) ∙ sym (sumOver-more cs c (λ c. flow (factorsOf n k fs) c j));
-        count-is = rw length-append (omega (arith, carried .count-is));
-      }
+  -- every cell has the contract's flow
+  pub added : (old new : List ℤ) → ((j : ℕ) → j < k → getD new j (pos 0) ≡ getD old j (pos 0) +ℤ part fs (c .source * k) (c .sink * k) (c .quantity) (c .kind) j)
+      → (j : ℕ) → j < k → getD new j (pos 0) ≡ getD old j (pos 0) +ℤ flow (factorsOf n k fs) c j
+  added old new done j b = done j b ∙ ap (λ (z : ℤ). getD old j (pos 0) +ℤ z) (own j b)
+
+-- after one contract more, whose flows were added
+pub step-carries : (f : Factors) (c : Contract) (cs : List Contract) (old new : List ℤ) (count : ℕ)
+    → ((j : ℕ) → j < f .constraints → getD new j (pos 0) ≡ getD old j (pos 0) +ℤ flow f c j)
+    → Carries f cs (record { flows = old; count = count }) → Carries f (cs ++ c ∷ []) (record { flows = new; count = count + 1 })
+unfolding totalFlow
+step-carries f c cs old new count done carried =
+    record {
+      flows-are = λ j b. done j b ∙ ap (λ (z : ℤ). z +ℤ flow f c j) (carried .flows-are j b) ∙ sym (sumOver-more cs c (λ c. flow f c j));
+      count-is = rw length-append (omega (arith, carried .count-is));
+    }
 
 -- ---- no contract yet
 
@@ -128,14 +134,20 @@ module _ (f : Factors) (i : ℕ) (t : Period) (at : ℕ → Contract) (carried :
     pub flow-most : FactorsInRange f → (j : ℕ) → j < f .constraints → natAbs (getD (carried .flows) j (pos 0)) ≤ maxFlow * carried .count
     flow-most fr j b = rw (h .flows-are j b, h .count-is) (totalFlow-sized f fr (ofPeriod t (listTo i at)) j (within .0) b)
 
-  -- contract i is of the period and counted, or is of the other
-  pub carry-same : (c : Contract) → c ≡ at i → samePeriod (c .period) t ≡ true → Carries f (ofPeriod t (listTo i at) ++ c ∷ []) carried
-      → Carries f (ofPeriod t (listTo (i + 1) at)) carried
-  carry-same c e b h = rw (listTo-more i at, ← e, ofPeriod-same t (listTo i at) c b) h
+-- contract i is of the period and counted, or is of the other: what is carried then
+module _ (n k : ℕ) (fs : List ℤ) (i : ℕ) (t : Period) (at : ℕ → Contract) (c : Contract) (e : c ≡ at i) (old flows : List ℤ) (many count : ℕ)
+    (h : Carries (factorsOf n k fs) (ofPeriod t (listTo i at)) (record { flows = old; count = many })) where
+  pub carry-same : samePeriod (c .period) t ≡ true → InRange n c → (new : List ℤ) → Adds k fs c old new → flows ≡ new → count ≡ many + 1
+      → Carries (factorsOf n k fs) (ofPeriod t (listTo (i + 1) at)) (record { flows = flows; count = count })
+  carry-same b own new adds p q =
+      rw (listTo-more i at, ← e, ofPeriod-same t (listTo i at) c b)
+      (subst₂ (λ (x : List ℤ) (y : ℕ). Carries (factorsOf n k fs) (ofPeriod t (listTo i at) ++ c ∷ []) (record { flows = x; count = y })) (sym p) (sym q)
+      (step-carries (factorsOf n k fs) c (ofPeriod t (listTo i at)) old new many (adds .flows-added n own) h))
 
-  pub carry-other : (c : Contract) → c ≡ at i → samePeriod (c .period) t ≡ false → Carries f (ofPeriod t (listTo i at)) carried
-      → Carries f (ofPeriod t (listTo (i + 1) at)) carried
-  carry-other c e b h = rw (listTo-more i at, ← e, ofPeriod-other t (listTo i at) c b) h
+  pub carry-other : samePeriod (c .period) t ≡ false → flows ≡ old → count ≡ many → Carries (factorsOf n k fs) (ofPeriod t (listTo (i + 1) at)) (record { flows = flows; count = count })
+  carry-other b p q =
+      rw (listTo-more i at, ← e, ofPeriod-other t (listTo i at) c b)
+      (subst₂ (λ (x : List ℤ) (y : ℕ). Carries (factorsOf n k fs) (ofPeriod t (listTo i at)) (record { flows = x; count = y })) (sym p) (sym q) h)
 
 -- ---- a book that the checks accept: a thousand flows at most
 

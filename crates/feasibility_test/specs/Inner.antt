@@ -3,13 +3,13 @@ use mathlib.Core.Path.{_≡_}
 use mathlib.Core.List.{List}
 use Prim.Native.Nat.{ℕ, _+_, _*_, _^_, _≤_, _<_}
 use lib.ListN.{length, getD}
-use lib.IntN.{ℤ, pos, natAbs}
+use lib.IntN.{ℤ, pos, natAbs, _+ℤ_}
 use Rattle.tariff.specs.declared.contracts.Contract.{Contract}
 use Rattle.tariff.specs.declared.processes.Process.{Process}
-use Rattle.tariff.specs.Units.{Factors, Grid, maxConstraints, maxContracts, maxFactor, maxQuantity, maxLimit}
+use Rattle.tariff.specs.Units.{Factors, Grid, factorsOf, maxConstraints, maxContracts, maxFactor, maxQuantity, maxLimit}
 use Rattle.tariff.specs.Refusals.{given}
-use Rattle.tariff.specs.Feasibility.{totalFlow}
-use Rattle.tariff.specs.Inner.{maxFlow}
+use Rattle.tariff.specs.Feasibility.{flow, totalFlow}
+use Rattle.tariff.specs.Inner.{InRange, maxFlow}
 use Rattle.tables.specs.Inner.{GoodCells}
 use Rattle.feasibility_test.specs.declared.Flows.{Flows}
 use Rattle.feasibility_test.specs.declared.TestAnswer.{TestAnswer}
@@ -30,9 +30,15 @@ pub record Ends (k : ℕ) (table : List ℤ) (c : Contract) : Type 0 where
   pub quantity-sized : c .quantity .0 ≤ maxQuantity
 
 -- flows on k constraints to which a contract's can be added
-pub record Room (k : ℕ) (carried : Flows) : Type 0 where
-  pub count-below : carried .count < maxContracts
-  pub flows-sized : (j : ℕ) → j < k → natAbs (getD (carried .flows) j (pos 0)) ≤ maxFlow * carried .count
+pub record Room (k : ℕ) (flows : List ℤ) : Type 0 where
+  pub few : k ≤ maxConstraints
+  pub all : length flows ≡ maxConstraints
+  pub flows-sized : (j : ℕ) → j < k → natAbs (getD flows j (pos 0)) ≤ maxFlow * maxContracts
+
+-- flows on k constraints after a contract's were added
+pub record Adds (k : ℕ) (table : List ℤ) (c : Contract) (old new : List ℤ) : Type 0 where
+  pub length-kept : length new ≡ length old
+  pub flows-added : (n : ℕ) → InRange n c → (j : ℕ) → j < k → getD new j (pos 0) ≡ getD old j (pos 0) +ℤ flow (factorsOf n k table) c j
 
 -- limits and flows that a verdict can be given on
 pub record Judgeable (k : ℕ) (limits : List ℕ) (carried : Flows) : Type 0 where

@@ -1,25 +1,25 @@
 // The simultaneous feasibility test of a book's bytes against grid tables.
 ghost use mathlib.Core.Path.{_≡_};
-ghost use mathlib.Core.List.{List, [], _∷_, _++_};
-ghost use Prim.Native.Nat.{ℕ, _*_, _≤_};
+ghost use mathlib.Core.List.{List, []};
+ghost use Prim.Native.Nat.{ℕ, _*_, _≤_, _<_};
 ghost use lib.ListN.{getD};
 ghost use lib.IntN.{ℤ, pos};
 ghost use lib.Signed.{ltZ};
 ghost use Rattle.lists.specs.Sets.{setOf};
-ghost use Rattle.lists.specs.Lent.{before};
+ghost use Rattle.lists.specs.Lent.{before, after};
+ghost use Rattle.lists.specs.Lists.{listTo};
 ghost use Rattle.tariff.specs.declared.refusals.Checked.the-variants.{Passed};
 ghost use Rattle.tariff.specs.declared.contracts.Contract.{Contract};
 ghost use Rattle.tariff.specs.declared.contracts.Period.{Period};
 ghost use Rattle.tariff.specs.Refusals.{first};
 ghost use Rattle.tariff.specs.Units.{Factors, factorsOf, gridOf, maxConstraints};
-ghost use Rattle.tariff.specs.Inner.{InRange};
 ghost use Rattle.tariff.specs.Contracts.{ofPeriod};
 ghost use Rattle.tariff.specs.Processes.{percent};
-ghost use Rattle.layouts.specs.BookFile.{bookIn};
+ghost use Rattle.layouts.specs.BookFile.{bookIn, contractCountIn, contractAt};
 ghost use Rattle.tables.specs.Inner.{GoodFactors};
 ghost use Rattle.books.specs.BookChecks.{bookChecks};
 ghost use Rattle.feasibility_test.specs.TestBook.{testCall, testChecked, TestsBook};
-ghost use Rattle.feasibility_test.specs.Inner.{Carries, Ends, Room, Judgeable, Judges};
+ghost use Rattle.feasibility_test.specs.Inner.{Carries, Adds, Ends, Room, Judgeable, Judges};
 use tariff::Checked;
 use tariff::Contract;
 use tariff::Flow;
@@ -27,6 +27,9 @@ use tariff::MAX_CONSTRAINTS;
 use tariff::Period;
 use tariff::Process;
 use tariff::Refusal;
+
+// How many contracts a step takes in: it copies the 64 flows in and out, which takes as long as adding a contract's on ten constraints.
+const STEP: usize = 16;
 
 // The flow on all constraints, carried together with the number of contracts counted.
 pub struct Flows {
@@ -57,31 +60,63 @@ impl Flows {
         }
     }
 
-    // One contract more: its flow, as it counts, on every constraint.
-    fn step(self, c: Contract, constraints: usize, factors: &[i64]) -> Flows
-        requires { ⌜ Ends constraints (now factors) c × Room constraints self ⌝ }
-        ensures { λ r. ⌜ ((n : ℕ) (cs : List Contract) → InRange n c → Carries (factorsOf n constraints (before factors)) cs self
-            → Carries (factorsOf n constraints (before factors)) (cs ++ c ∷ []) r) ⌝ }
+    // One step: the contracts from number `from` up to `upto`, those of the other period left out.
+    fn step(
+        self,
+        nodes: usize,
+        constraints: usize,
+        factors: &[i64],
+        period: Period,
+        book: &[u8],
+        from: usize,
+        upto: usize,
+    ) -> Flows
+        requires { ⌜ GoodFactors nodes constraints (now factors) × (first (bookChecks nodes (now book)) ≡ Passed) ⌝ }
+        requires { ⌜ (from ≤ upto) × (upto ≤ contractCountIn (now book)) ⌝ }
+        requires { ⌜ Carries (factorsOf nodes constraints (now factors)) (ofPeriod period (listTo from (contractAt (now book)))) self ⌝ }
+        ensures { λ r. ⌜ Carries (factorsOf nodes constraints (before factors)) (ofPeriod period (listTo upto (contractAt (before book)))) r ⌝ }
     {
-        let mut flows = self.flows;
-        let source = c.source * constraints;
-        let sink = c.sink * constraints;
-        let quantity = c.quantity;
-        let kind = c.kind;
-        let mut k = 0;
-        while k < constraints {
-            let flow = quantity.counted_flow(kind, factors[source + k], factors[sink + k]);
-            let before = Flow(flows[k]);
-            let after = before.plus(flow);
-            let total = after.0;
-            flows[k] = total;
-            k += 1;
+        let mut carried = self;
+        let mut i = from;
+        while i < upto {
+            let c = books::contract_at(book, i);
+            let own = c.period;
+            if own.same(period) {
+                add_flow(&mut carried.flows, c, constraints, factors);
+                carried.count += 1;
+            }
+            i += 1;
         }
-        Flows {
-            flows,
-            count: self.count + 1,
-        }
+        carried
     }
+}
+
+// Adds a contract's flow, as it counts, on every constraint.
+fn add_flow(flows: &mut [i64; MAX_CONSTRAINTS], c: Contract, constraints: usize, factors: &[i64])
+    requires { ⌜ Ends constraints (now factors) c × Room constraints (now flows) ⌝ }
+    ensures { λ r. ⌜ Adds constraints (before factors) c (before flows) (after flows) ⌝ }
+{
+    let source = c.source * constraints;
+    let sink = c.sink * constraints;
+    let quantity = c.quantity;
+    let kind = c.kind;
+    let mut k = 0;
+    while k < constraints {
+        let flow = quantity.counted_flow(kind, factors[source + k], factors[sink + k]);
+        let before = Flow(flows[k]);
+        let after = before.plus(flow);
+        let total = after.0;
+        flows[k] = total;
+        k += 1;
+    }
+}
+
+// Where the step from contract i ends.
+fn step_end(i: usize, count: usize) -> usize
+    requires { ⌜ i < count ⌝ }
+    ensures { λ r. ⌜ (i < r) × (r ≤ count) ⌝ }
+{
+    if count - i < STEP { count } else { i + STEP }
 }
 
 // The flows of a book's contracts of one period, those of the other period left out.
@@ -99,12 +134,9 @@ pub fn carry(
     let mut flows = Flows::none();
     let mut i = 0;
     while i < count {
-        let c = books::contract_at(book, i);
-        let own = c.period;
-        if own.same(period) {
-            flows = flows.step(c, constraints, factors);
-        }
-        i += 1;
+        let end = step_end(i, count);
+        flows = flows.step(nodes, constraints, factors, period, book, i, end);
+        i = end;
     }
     flows
 }

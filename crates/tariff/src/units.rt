@@ -1,4 +1,4 @@
-// Units as tuple structs. Sums keep their unit: a quantity, a price or an MCC is opened only here, in its own sums, in the product rules, and where it goes into a cell.
+// Units as tuple structs. Sums keep their unit: a quantity, a price or an MCC is opened only here: in its own sums, in the product rules, and to go into a cell.
 ghost use mathlib.Core.Path.{_≡_};
 ghost use Prim.Native.Nat.{_+_, _^_, _≤_, _<_};
 ghost use lib.IntN.{pos, natAbs, negℤ, _+ℤ_, _-ℤ_, _*ℤ_};

@@ -1,81 +1,113 @@
--- `Flows::step`: the cells below k have the contract's flow, the others are as they were.
-use mathlib.Core.Path.{_≡_, refl, sym, _∙_}
-use Prim.Native.Nat.{ℕ, _+_, _-_, _*_, _≤_, _<_}
+-- `Flows::step`: the contracts below i are carried.
+use mathlib.Core.Path.{_≡_, sym, ap, _∙_, subst}
+use mathlib.Core.Logic.{⊎-elim}
+use Prim.Native.Nat.{ℕ, _-_, _*_, _≤_, _<_}
+use native.Mathlib.Nat.{le-refl}
 use native.Mathlib.Omega.{arith}
-use lib.ListN.{length, getD, length-set, length-map}
-use lib.Dec.{lit<}
-use borrow.Author.Needs.{needs}
-use lib.IntN.{ℤ, pos, natAbs, _+ℤ_}
-use Rattle.tariff.specs.Units.{maxConstraints, maxContracts}
-use Rattle.tariff.specs.Inner.{maxFlow}
-use Rattle.feasibility_test.proofs.Flowing.{part, cell-done, cell-rest, kept-sized, rows-kept, part-is, part-small, sum-is, step-carries}
+use lib.ListN.{length, getD, length-map}
+use lib.IntN.{ℤ, pos, natAbs}
+use borrow.Author.Needs.{needs, zero≤}
+use Rattle.lists.specs.Lists.{listTo}
+use Rattle.tariff.specs.Units.{factorsOf, maxConstraints, maxContracts}
+use Rattle.tariff.specs.Contracts.{ofPeriod}
+use Rattle.tariff.specs.Inner.{InRange, maxFlow}
+use Rattle.layouts.specs.BookFile.{contractAt}
+use Rattle.books.proofs.Accepted.{Accepted, book-accepted}
+use Rattle.feasibility_test.specs.declared.Flows.{Flows}
+use Rattle.feasibility_test.specs.Inner.{Carries}
+use Rattle.feasibility_test.proofs.Checking.{ends-of}
+use Rattle.feasibility_test.proofs.Flowing.{count-most, flow-most, carry-same, carry-other}
 use Rattle.feasibility_test.proofs.Flows.step.Statement.{statement}
 use Rattle.feasibility_test.proofs.Flows.step.Tie as tie
 
 abbrev Inv-loop : tie.InvT-loop
-Inv-loop self constraints factors flows₀ source sink quantity kind k₀ flows k =
-    (k ≤ constraints) × (length flows ≡ maxConstraints)
-    × ((j : ℕ) → j < k → getD flows j (pos 0) ≡ getD flows₀ j (pos 0) +ℤ part factors source sink quantity kind j)
-    × ((j : ℕ) → k ≤ j → getD flows j (pos 0) ≡ getD flows₀ j (pos 0))
+Inv-loop nodes constraints factors period book from upto carried₀ i₀ carried i =
+    (i ≤ upto) × (length (carried .flows) ≡ maxConstraints)
+    × Carries (factorsOf nodes constraints factors) (ofPeriod period (listTo i (contractAt book))) carried
 
 abbrev μ-loop : tie.MeasureT-loop
-μ-loop self constraints factors flows₀ source sink quantity kind k₀ flows k = constraints - k
+μ-loop nodes constraints factors period book from upto carried₀ i₀ carried i = upto - i
 
 full : (c : tie.Start Inv-loop μ-loop) → length (c .args .self .flows) ≡ maxConstraints
 full c = sym (length-map (c .args .self .flows) (λ (z : ℤ). z)) ∙ c .good .0 .1 .1 .0 .1 .0 .1
 
 loop-holds : tie.Need-loop-holds Inv-loop μ-loop
-loop-holds c = (omega arith, full (c .before .before .before .before), (λ j h. absurd (omega arith)), (λ j h. refl))
+loop-holds c = let s = c .before in (s .pre .1 .0 .0, full s, s .pre .1 .1)
 
-counted-flow-requires : tie.Need-counted-flow-requires Inv-loop μ-loop
-counted-flow-requires c κs =
-    let s = c .before .before .before .before .before .before .before .before in
-    let k = c .before .before .before .loop .k in
-    let a : k < s .args .constraints = c .before .before .loop-test .taken in
-    let r = rows-kept (s .args .constraints) (s .args .factors .now) (s .args .c) (s .pre .0) k a in
-    (omega (arith, r), omega (arith, r), s .pre .0 .quantity-sized)
+ok : (c : tie.Start Inv-loop μ-loop) → Accepted (c .args .nodes) (c .args .book .now)
+ok c = book-accepted (c .args .nodes) (c .args .book .now) (c .pre .0 .1)
 
-small : (c : tie.After-counted-flow Inv-loop μ-loop) → natAbs (c .counted-flow .result .0) ≤ maxFlow
-small c =
-    let s = c .before .before .before .before .before .before .before .before .before in
-    let k = c .before .before .before .before .loop .k in
-    let a : k < s .args .constraints = c .before .before .before .loop-test .taken in
-    let r = rows-kept (s .args .constraints) (s .args .factors .now) (s .args .c) (s .pre .0) k a in
-    search (part-small, c .counted-flow .ensures, r .0, r .1, s .pre .0 .quantity-sized)
+contract-at-requires : tie.Need-contract-at-requires Inv-loop μ-loop
+contract-at-requires c κs =
+    let s = c .before .before .before in
+    let a = ok s in
+    (omega (arith, a .few, s .pre .1 .0 .1), omega (arith, a .size, s .pre .1 .0 .1))
 
--- the cell has its old flow still
-old : (c : tie.After-counted-flow Inv-loop μ-loop) → natAbs (getD (c .before .before .before .before .loop .flows) (c .before .before .before .before .loop .k) (pos 0)) ≤ maxFlow * maxContracts
-old c =
-    let s = c .before .before .before .before .before .before .before .before .before in
-    let l = c .before .before .before .before .loop in
-    rw (l .inv .3 (l .k) (omega arith)) (omega (arith, s .pre .1 .count-below, s .pre .1 .flows-sized (l .k) (c .before .before .before .loop-test .taken)))
+-- the contracts up to the one that is read are in range
+up-to : (c : tie.After-contract-at Inv-loop μ-loop) (j : ℕ) → j ≤ c .before .before .loop .i
+    → InRange (c .before .before .before .before .args .nodes) (contractAt (c .before .before .before .before .args .book .now) j)
+up-to c j h = let s = c .before .before .before .before in ok s .each j (omega (arith, s .pre .1 .0 .1))
 
-plus-requires : tie.Need-plus-requires Inv-loop μ-loop
-plus-requires c κs =
+own : (c : tie.After-contract-at Inv-loop μ-loop) → InRange (c .before .before .before .before .args .nodes) (c .contract-at .result)
+own c = rw (c .contract-at .ensures) (search (up-to c, le-refl, zero≤))
+
+-- what is carried there: a flow for each contract counted, and no more contracts than were read
+room : (c : tie.After-contract-at Inv-loop μ-loop) → let s = c .before .before .before .before in let l = c .before .before .loop in
+    (l .carried .count < maxContracts) × ((j : ℕ) → j < s .args .constraints → natAbs (getD (l .carried .flows) j (pos 0)) ≤ maxFlow * maxContracts)
+room c =
+    let s = c .before .before .before .before in
+    let l = c .before .before .loop in
+    let f = factorsOf (s .args .nodes) (s .args .constraints) (s .args .factors .now) in
+    let at = contractAt (s .args .book .now) in
+    let each : (j : ℕ) → j < l .i → InRange (s .args .nodes) (at j) = λ j h. up-to c j (omega arith) in
+    let most = count-most f (l .i) (s .args .period) at (l .carried) each (l .inv .2) in
+    let sized = flow-most f (l .i) (s .args .period) at (l .carried) each (l .inv .2) (s .pre .0 .0 .in-range) in
+    (omega (arith, ok s .few, s .pre .1 .0 .1), λ j h. omega (arith, ok s .few, s .pre .1 .0 .1, sized j h))
+
+add-flow-requires : tie.Need-add-flow-requires Inv-loop μ-loop
+add-flow-requires c κs =
+    let s = c .before .before .before .before .before .before .before in
     let l = c .before .before .before .before .before .loop in
-    omega (arith, small (c .before), kept-sized (getD (l .flows) (l .k) (pos 0)) (maxFlow * maxContracts) (lit< tt) (old (c .before)))
+    let r = c .before .before .before in (
+      ends-of (s .args .nodes) (s .args .constraints) (s .args .factors .now) _ (s .pre .0 .0) (own r),
+      record { few = s .pre .0 .0 .few; all = l .inv .1; flows-sized = room r .1 },
+    )
+
+add-carried : tie.Need-add-carried Inv-loop μ-loop
+add-carried c = record { fits = omega (arith, room (c .before .before .before .before) .0) }
+
+flows-of : {a b : Flows} → a ≡ b → a .flows ≡ b .flows
+flows-of = ap (λ (x : Flows). x .flows)
+
+count-of : {a b : Flows} → a ≡ b → a .count ≡ b .count
+count-of = ap (λ (x : Flows). x .count)
 
 loop-again : tie.Need-loop-again Inv-loop μ-loop
 loop-again c =
-    let s = c .before .before .before .before .before .before .before .before .before .before .before .before in
-    let l = c .before .before .before .before .before .before .before .loop in
-    let p = c .before .before .before in
-    let a : l .k < s .args .constraints = c .before .before .before .before .before .before .loop-test .taken in
-    let f = part (s .args .factors .now) (s .args .c .source * s .args .constraints) (s .args .c .sink * s .args .constraints) (s .args .c .quantity) (s .args .c .kind) in
-    let e = part-is (s .args .constraints) (s .args .factors .now) (s .args .c) (s .pre .0) (l .k) a _ (p .counted-flow .ensures) in
-    let more = sum-is (getD (l .flows) (l .k) (pos 0)) (p .counted-flow .result .0) (c .before .plus .result .0) (f (l .k)) (old p) (small p) (c .before .plus .ensures) e in (
+    let s = c .before .before .before .before .before .before in
+    let l = c .before .before .before .before .loop in
+    let r = c .before .before .contract-at in
+    let n = s .args .nodes in
+    let k = s .args .constraints in
+    let fs = s .args .factors .now in
+    let at = contractAt (s .args .book .now) in
+    let more = carry-same n k fs (l .i) (s .args .period) at (r .result) (r .ensures) (l .carried .flows) (c .if1 .carried .flows) (l .carried .count) (c .if1 .carried .count) (l .inv .2) in
+    let same = carry-other n k fs (l .i) (s .args .period) at (r .result) (r .ensures) (l .carried .flows) (c .if1 .carried .flows) (l .carried .count) (c .if1 .carried .count) (l .inv .2) in (
       omega arith,
-      length-set (l .flows) (l .k) _ ∙ l .inv .1,
-      cell-done (s .args .self .flows) (l .flows) f (l .k) (l .inv .2) (l .inv .3) _ (omega arith) more,
-      cell-rest (s .args .self .flows) (l .flows) f (l .k) (l .inv .2) (l .inv .3) _,
+      ⊎-elim (λ w. ap length (flows-of (w .3)) ∙ w .2 .ensures .length-kept ∙ l .inv .1) (λ w. ap length (flows-of (w .1)) ∙ l .inv .1) (c .if1 .came),
+      ⊎-elim
+          (λ w. more (sym (c .before .same .ensures) ∙ w .0 .taken) (own (c .before .before)) _ (w .2 .ensures) (flows-of (w .3)) (count-of (w .3)))
+          (λ w. same (sym (c .before .same .ensures) ∙ w .0 .left) (flows-of (w .1)) (count-of (w .1)))
+          (c .if1 .came),
     )
 
 returns : tie.Need-returns Inv-loop μ-loop
-returns c n cs own carried =
-    let s = c .before .before .before .before .before .before .before in
-    let l = c .before .before .loop in
-    let last : s .args .constraints ≤ l .k = c .before .loop-test .left in
-    step-carries n (s .args .constraints) (s .args .factors .now) (s .args .c) own cs (s .args .self) (l .flows) (λ j h. l .inv .2 j (omega arith)) carried
+returns c =
+    let s = c .before .before .before in
+    let l = c .before .loop in
+    let f = factorsOf (s .args .nodes) (s .args .constraints) (s .args .factors .now) in
+    let last : l .i ≡ s .args .upto = omega arith in
+    subst (λ (x : ℕ). Carries f (ofPeriod (s .args .period) (listTo x (contractAt (s .args .book .now)))) (l .carried)) last (l .inv .2)
 
 pub step-spec : {M : Type 1} → statement M
 step-spec =
@@ -83,23 +115,12 @@ step-spec =
     (tie.spec
     Inv-loop
     μ-loop
-    (λ c. search needs)
-    (λ c. search needs)
     loop-holds
-    (λ c. search needs)
-    (λ c. search needs)
-    (λ c. search needs)
-    (λ c. search needs)
-    (λ c. search needs)
-    (λ c. search needs)
-    counted-flow-requires
-    (λ c. search needs)
-    (λ c. search needs)
-    plus-requires
-    (λ c. search needs)
-    (λ c. search needs)
+    contract-at-requires
+    (λ c κs. search needs)
+    add-flow-requires
+    add-carried
     (λ c. search needs)
     (λ c. search needs)
     loop-again
-    (λ c. search needs)
     returns)
