@@ -36,6 +36,8 @@
  *             holder (0 to 1,023), source, sink, quantity
  *   mcc       one cell for each node
  *   cents     one cell for each contract
+ *   priced    one cell for each contract, a set of constraints: bit k is
+ *             constraint k
  *
  *
  * ANSWERS. Every function returns 0, or the number of the refusal (below). Its
@@ -85,7 +87,7 @@ extern "C" {
 #define CRR_MAX_PRICE_BYTES 153
 
 /* What crr_write_statement and crr_write_report ask for, whatever they write. */
-#define CRR_STATEMENT_BYTES 26078
+#define CRR_STATEMENT_BYTES 29085
 #define CRR_REPORT_BYTES 2048
 
 /* Periods and processes. */
@@ -242,23 +244,27 @@ uint64_t crr_find_mcc(size_t nodes, size_t constraints,
 /*
  * Settles an hour of a period, for the contracts of a book's file. A contract's
  * exact amount is (MCC of sink - MCC of source) * quantity; an option's is 0 when
- * that is negative. Positive is paid, negative charged.
+ * that is negative. Positive is paid, negative charged. The constraints that
+ * priced it are those where price * (factor of source - factor of sink) is not 0.
  *
  * On success writes one cell for each contract to the first cells of cents: its
- * amount to the nearest cent, a half away from zero; 0 for the other period's
- * contracts. Writes to *sum the cells added, and the exact total of the period's
- * contracts, summed before rounding, as *whole cents, rounded down, and *parts.
- * A total of -83,000,000 is -1 whole cents and 17,000,000 parts.
+ * amount to the nearest cent, a half away from zero; and one to the first cells
+ * of priced: the set of the constraints that priced it, whether or not an option
+ * is paid. Both are 0 for the other period's contracts. Writes to *sum the cells
+ * of cents added, and the exact total of the period's contracts, summed before
+ * rounding, as *whole cents, rounded down, and *parts. A total of -83,000,000 is
+ * -1 whole cents and 17,000,000 parts.
  *
  * Refusals, in this order: 2, 3, 17, 9 (factors, prices), 7, 15, then the book's
- * own: 1, 10, 4, 5, and contract by contract 11, 12, 13; last 9 if the cents
- * don't fit.
+ * own: 1, 10, 4, 5, and contract by contract 11, 12, 13; last 9 if the cents or
+ * the sets don't fit.
  */
 uint64_t crr_settle_hour(size_t nodes, size_t constraints, uint64_t period,
                          const int64_t *factors, size_t factors_len,
                          const uint64_t *prices, size_t prices_len,
                          const uint8_t *book, size_t book_len,
                          int64_t *cents, size_t cents_len,
+                         uint64_t *priced, size_t priced_len,
                          int64_t *sum, int64_t *whole, uint64_t *parts);
 
 /*
@@ -278,10 +284,12 @@ uint64_t crr_write_report(const uint8_t *grid_file, size_t grid_file_len,
                           size_t *bytes);
 
 /*
- * Writes the hour statement on a grid's file, a book's file and a price file: a
- * heading, a line for each contract of the hour's period, the sum and the exact
- * total, or the one line `refused,grid,N`, `refused,book,N` or `refused,prices,N`.
- * ASCII, each line ended by one line feed, no 0 byte at the end.
+ * Writes the hour statement on a grid's file, a book's file and a price file: the
+ * heading `contract,holder,kind,cents,priced`, a line of these five for each
+ * contract of the hour's period, the sum and the exact total, or the one line
+ * `refused,grid,N`, `refused,book,N` or `refused,prices,N`. The field `priced` is
+ * how many constraints priced the contract. ASCII, each line ended by one line
+ * feed, no 0 byte at the end.
  *
  * On success writes the statement to the first bytes of text, and its length to
  * *bytes.

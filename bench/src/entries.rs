@@ -196,11 +196,13 @@ fn settle_hour(inputs: &Inputs) -> Result<Times, String> {
     let Size { nodes, constraints, contracts } = inputs.size;
     let (factors, prices, book) = (&inputs.factors, &inputs.prices, &inputs.book_file);
     let (mut cents, mut plain_cents) = (vec![0; contracts], vec![0; contracts]);
+    let (mut priced, mut plain_priced) = (vec![0; contracts], vec![0; contracts]);
     let Totals { mut sum, mut whole, mut parts } = Totals::default();
-    let proved = library::settle_hour(nodes, constraints, 1, factors, prices, book, &mut cents, &mut sum, &mut whole, &mut parts);
-    let plain = plain::settle_hour(nodes, constraints, 1, factors, prices, book, &mut plain_cents);
+    let proved =
+        library::settle_hour(nodes, constraints, 1, factors, prices, book, &mut cents, &mut priced, &mut sum, &mut whole, &mut parts);
+    let plain = plain::settle_hour(nodes, constraints, 1, factors, prices, book, &mut plain_cents, &mut plain_priced);
     agree(&(proved, Ok(Totals { sum, whole, parts })), &(0, plain))?;
-    agree(&cents, &plain_cents)?;
+    agree(&(&cents, &priced), &(&plain_cents, &plain_priced))?;
     Ok(side_by_side(
         &mut || {
             black_box(library::settle_hour(
@@ -211,13 +213,15 @@ fn settle_hour(inputs: &Inputs) -> Result<Times, String> {
                 prices,
                 book,
                 &mut cents,
+                &mut priced,
                 &mut sum,
                 &mut whole,
                 &mut parts,
             ));
         },
         &mut || {
-            let _ = black_box(plain::settle_hour(nodes, constraints, 1, black_box(factors), prices, book, &mut plain_cents));
+            let cells = (&mut plain_cents, &mut plain_priced);
+            let _ = black_box(plain::settle_hour(nodes, constraints, 1, black_box(factors), prices, book, cells.0, cells.1));
         },
     ))
 }
@@ -241,7 +245,7 @@ fn write_report(inputs: &Inputs) -> Result<Times, String> {
 
 fn write_statement(inputs: &Inputs) -> Result<Times, String> {
     let (grid, book, prices) = (&inputs.grid_file, &inputs.book_file, &inputs.price_file);
-    let (mut text, mut plain_text, mut bytes) = (vec![0; 26_078], vec![0; 26_078], 0);
+    let (mut text, mut plain_text, mut bytes) = (vec![0; 29_085], vec![0; 29_085], 0);
     let proved = library::write_statement(grid, book, prices, &mut text, &mut bytes);
     let plain = plain::write_statement(grid, book, prices, &mut plain_text);
     agree(&(proved, Ok(bytes)), &(0, plain))?;

@@ -4,7 +4,7 @@
 #include "crr.h"
 
 static uint8_t grid[CRR_MAX_GRID_BYTES + 1], book[CRR_MAX_BOOK_BYTES + 1], price_file[CRR_MAX_PRICE_BYTES + 1];
-static uint64_t limits[CRR_MAX_CONSTRAINTS], prices[CRR_MAX_CONSTRAINTS];
+static uint64_t limits[CRR_MAX_CONSTRAINTS], prices[CRR_MAX_CONSTRAINTS], priced[CRR_MAX_CONTRACTS];
 static int64_t factors[CRR_MAX_NODES * CRR_MAX_CONSTRAINTS], cents[CRR_MAX_CONTRACTS];
 
 static size_t load(const char *name, uint8_t *bytes, size_t room) {
@@ -35,7 +35,8 @@ int main(void) {
     if (set == 0) printf("pass\n");
     else printf("fail: %zu overloaded, constraint %zu by %" PRId64 "\n", count, lowest, excess);
     if (refused("hour", crr_settle_hour(nodes, constraints, period, factors, nodes * constraints, prices, constraints,
-                                        book, book_len, cents, CRR_MAX_CONTRACTS, &sum, &whole, &parts))) return 1;
+                                        book, book_len, cents, CRR_MAX_CONTRACTS, priced, CRR_MAX_CONTRACTS,
+                                        &sum, &whole, &parts))) return 1;
     printf("sum %" PRId64 ", exact %" PRId64 " cents and %" PRIu64 " parts\n", sum, whole, parts);
     return 0;
 }

@@ -15,7 +15,7 @@ extern "C" {
     fn crr_settle_hour(
         nodes: usize, constraints: usize, period: u64, factors: *const i64, factors_len: usize, prices: *const u64,
         prices_len: usize, book: *const u8, book_len: usize, cents: *mut i64, cents_len: usize,
-        sum: &mut i64, whole: &mut i64, parts: &mut u64,
+        priced: *mut u64, priced_len: usize, sum: &mut i64, whole: &mut i64, parts: &mut u64,
     ) -> u64;
 }
 
@@ -29,7 +29,8 @@ fn accepted(what: &str, number: u64) {
 fn main() {
     let load = |name| std::fs::read(name).unwrap_or_default();
     let (grid, book, price_file) = (load("grid.bin"), load("book.bin"), load("prices.bin"));
-    let (mut limits, mut prices, mut factors, mut cents) = ([0u64; 64], [0u64; 64], [0i64; 12800], [0i64; 1000]);
+    let (mut limits, mut prices, mut factors) = ([0u64; 64], [0u64; 64], [0i64; 12800]);
+    let (mut cents, mut priced) = ([0i64; 1000], [0u64; 1000]);
     let (mut nodes, mut constraints, mut period) = (0, 0, 0);
     let (mut set, mut count, mut lowest, mut excess) = (0, 0, 0, 0);
     let (mut sum, mut whole, mut parts) = (0, 0, 0);
@@ -48,7 +49,8 @@ fn main() {
         ));
         accepted("hour", crr_settle_hour(
             nodes, constraints, period, factors.as_ptr(), factors.len(), prices.as_ptr(), prices.len(),
-            book.as_ptr(), book.len(), cents.as_mut_ptr(), cents.len(), &mut sum, &mut whole, &mut parts,
+            book.as_ptr(), book.len(), cents.as_mut_ptr(), cents.len(), priced.as_mut_ptr(), priced.len(),
+            &mut sum, &mut whole, &mut parts,
         ));
     }
     if set == 0 {

@@ -9,7 +9,7 @@
 
 static uint8_t grid_file[CRR_MAX_GRID_BYTES], book_file[CRR_MAX_BOOK_BYTES], price_file[CRR_MAX_PRICE_BYTES];
 static uint8_t copy[CRR_MAX_GRID_BYTES], text[CRR_STATEMENT_BYTES];
-static uint64_t limits[CRR_MAX_CONSTRAINTS], prices[CRR_MAX_CONSTRAINTS], rows[6 * CRR_MAX_CONTRACTS];
+static uint64_t limits[CRR_MAX_CONSTRAINTS], prices[CRR_MAX_CONSTRAINTS], rows[6 * CRR_MAX_CONTRACTS], priced[CRR_MAX_CONTRACTS];
 static int64_t factors[CRR_MAX_NODES * CRR_MAX_CONSTRAINTS], mcc[CRR_MAX_NODES], cents[CRR_MAX_CONTRACTS];
 static int passed, failed;
 
@@ -54,12 +54,16 @@ int main(void) {
                                 && set == 0 && count == 0 && lowest == 0 && excess == 0);
     expect("crr_find_mcc", crr_find_mcc(nodes, constraints, factors, nodes * constraints, prices, constraints, mcc, CRR_MAX_NODES) == CRR_OK
                                && mcc[0] == -9000000 && mcc[1] == 0 && mcc[2] == -92000000);
-    expect("crr_settle_hour", crr_settle_hour(nodes, constraints, period, factors, nodes * constraints, prices, constraints, book_file, book_len, cents, CRR_MAX_CONTRACTS, &sum, &whole, &parts) == CRR_OK
-                                  && cents[0] == 900 && cents[1] == 0 && cents[2] == -1 && cents[3] == 0 && sum == 899 && whole == 899 && parts == 17000000);
+    cents[3] = cents[4] = 7;
+    priced[3] = priced[4] = 7;
+    expect("crr_settle_hour", crr_settle_hour(nodes, constraints, period, factors, nodes * constraints, prices, constraints, book_file, book_len,
+                                              cents, CRR_MAX_CONTRACTS, priced, CRR_MAX_CONTRACTS, &sum, &whole, &parts) == CRR_OK
+                                  && cents[0] == 900 && cents[1] == 0 && cents[2] == -1 && cents[3] == 0 && cents[4] == 7 && sum == 899 && whole == 899 && parts == 17000000
+                                  && priced[0] == 3 && priced[1] == 3 && priced[2] == 3 && priced[3] == 0 && priced[4] == 7);
     expect("crr_write_report", crr_write_report(grid_file, grid_len, book_file, book_len, text, sizeof text, &bytes) == CRR_OK
                                    && starts_with("period,process,verdict,overloaded,lowest,excess,constraints\n", bytes));
     expect("crr_write_statement", crr_write_statement(grid_file, grid_len, book_file, book_len, price_file, price_len, text, sizeof text, &bytes) == CRR_OK
-                                      && starts_with("contract,holder,kind,cents\n0,7,OBL,900\n", bytes));
+                                      && starts_with("contract,holder,kind,cents,priced\n0,7,OBL,900,2\n1,8,OPT,0,2\n", bytes));
     /* A refusal is its number alone. */
     set = 7;
     expect("a refusal", crr_test_book(0, constraints, CRR_MONTHLY, period, limits, constraints, factors, nodes * constraints, book_file, book_len, &set, &count, &lowest, &excess) == CRR_NODE_COUNT

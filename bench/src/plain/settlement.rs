@@ -45,6 +45,22 @@ fn rounded(amount: i64) -> i64 {
     (amount + amount.signum() * (CENT / 2)) / CENT
 }
 
+/// A set of constraints: bit k is constraint k.
+fn set_of(cells: impl DoubleEndedIterator<Item = bool>) -> u64 {
+    cells.rev().fold(0, |set, cell| set << 1 | u64::from(cell))
+}
+
+fn differing(from: &[i64], to: &[i64]) -> u64 {
+    set_of(from.iter().zip(to).map(|(from, to)| from != to))
+}
+
+/// The constraints on which source and sink have different factors, eight at once.
+fn spread(constraints: usize, factors: &[i64], c: Contract) -> u64 {
+    let (source, last_source) = factors[c.source * constraints..][..constraints].as_chunks::<8>();
+    let (sink, last_sink) = factors[c.sink * constraints..][..constraints].as_chunks::<8>();
+    source.iter().zip(sink).rev().fold(differing(last_source, last_sink), |set, (from, to)| set << 8 | differing(from, to))
+}
+
 #[inline(never)]
 #[allow(clippy::too_many_arguments)]
 pub fn settle_hour(
@@ -55,6 +71,7 @@ pub fn settle_hour(
     prices: &[u64],
     book: &[u8],
     cents: &mut [i64],
+    priced: &mut [u64],
 ) -> Result<Totals, Refusal> {
     check_nodes(nodes)?;
     check_constraints(constraints)?;
@@ -65,12 +82,19 @@ pub fn settle_hour(
     check_prices(prices)?;
     let count = check_book(nodes, book)?;
     let cents = cents.get_mut(..count).ok_or(SHORT_TABLE)?;
+    let priced = priced.get_mut(..count).ok_or(SHORT_TABLE)?;
     let mut mcc = [0; MAX_NODES];
     fill_mcc(constraints, factors, prices, &mut mcc[..nodes]);
+    let moving = set_of(prices.iter().map(|&price| price != 0));
     let (mut sum, mut exact) = (0, 0i128);
-    for (cell, c) in cents.iter_mut().zip(contracts(book)) {
-        let amount = if c.period == period { amount(&mcc, c) } else { 0 };
+    for ((cell, set), c) in cents.iter_mut().zip(priced).zip(contracts(book)) {
+        if c.period != period {
+            (*cell, *set) = (0, 0);
+            continue;
+        }
+        let amount = amount(&mcc, c);
         *cell = rounded(amount);
+        *set = moving & spread(constraints, factors, c);
         sum += *cell;
         exact += i128::from(amount);
     }

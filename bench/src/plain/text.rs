@@ -3,7 +3,7 @@ use super::test::{carry, verdict, Overload};
 use super::*;
 
 const REPORT_BYTES: usize = 2048;
-const STATEMENT_BYTES: usize = 26_078;
+const STATEMENT_BYTES: usize = 29_085;
 
 /// Text put into a lent buffer that has room for the longest.
 struct Page<'a> {
@@ -115,16 +115,18 @@ pub fn write_statement(grid_file: &[u8], book_file: &[u8], price_file: &[u8], te
         Ok(period) => period,
         Err(refusal) => return Ok(page.refused(b"prices", refusal)),
     };
-    let mut cents = [0; MAX_CONTRACTS];
-    let totals = settle_hour(nodes, constraints, period, &factors, &prices, book_file, &mut cents)?;
-    page.put(b"contract,holder,kind,cents\n");
-    for (i, (c, &cents)) in contracts(book_file).zip(&cents).enumerate() {
+    let (mut cents, mut priced) = ([0; MAX_CONTRACTS], [0; MAX_CONTRACTS]);
+    let totals = settle_hour(nodes, constraints, period, &factors, &prices, book_file, &mut cents, &mut priced)?;
+    page.put(b"contract,holder,kind,cents,priced\n");
+    for (i, ((c, &cents), &set)) in contracts(book_file).zip(&cents).zip(&priced).enumerate() {
         if c.period == period {
             page.put_number(i as u64);
             page.put(b",");
             page.put_number(c.holder);
             page.put(if c.option { b",OPT," } else { b",OBL," });
             page.put_signed(cents);
+            page.put(b",");
+            page.put_number(u64::from(set.count_ones()));
             page.put(b"\n");
         }
     }

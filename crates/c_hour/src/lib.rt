@@ -22,7 +22,8 @@ pub extern "C" fn crr_find_mcc(
     }
 }
 
-// Settles an hour of a period: one cell of cents for each contract, and gives their sum and the exact total as whole cents and parts.
+// Settles an hour of a period: a cell of cents and a cell of the constraints that priced it for each contract, and gives the sum of the
+// cents and the exact total as whole cents and parts.
 #[no_mangle]
 pub extern "C" fn crr_settle_hour(
     nodes: usize,
@@ -32,13 +33,23 @@ pub extern "C" fn crr_settle_hour(
     prices: &[u64],
     book: &[u8],
     cents: &mut [i64],
+    priced: &mut [u64],
     sum: &mut i64,
     whole: &mut i64,
     part: &mut u64,
 ) -> u64
-    ensures { λ r. ⌜ SettlesForC (hourCall nodes constraints period (before factors) (before prices) (before book) (before cents)) r (after cents) sum whole part ⌝ }
+    ensures { λ r. ⌜ SettlesForC (hourCall nodes constraints period (before factors) (before prices) (before book)) r cents priced sum whole part ⌝ }
 {
-    match settlement::settle_hour(nodes, constraints, period, factors, prices, book, cents) {
+    match settlement::settle_hour(
+        nodes,
+        constraints,
+        period,
+        factors,
+        prices,
+        book,
+        cents,
+        priced,
+    ) {
         SettleAnswer::Refused(refusal) => refusal.number(),
         SettleAnswer::Settled {
             sum: added,

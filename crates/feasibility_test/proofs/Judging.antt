@@ -1,14 +1,13 @@
 -- Laws of the test's answer: the overload set bit by bit, and what its figures are.
 use mathlib.Core.Path.{_≡_, refl, sym, ap, ap₂, _∙_}
-use mathlib.Core.Bool.{Bool, true, false}
+use mathlib.Core.Bool.{Bool}
 use mathlib.Core.List.{List, [], _∷_}
-use Prim.Native.Nat.{ℕ, _+_, _*_, _%_, _^_, _≤_, _<_}
-use native.Mathlib.Numerals.{add-one}
+use Prim.Native.Nat.{ℕ, _*_, _^_, _≤_, _<_}
 use native.Mathlib.Omega.{arith}
-use native.Mathlib.Nat.{mul-le-mul, mod-eq-of-lt, pos-of-ne-zero}
+use native.Mathlib.Nat.{mul-le-mul, pos-of-ne-zero}
 use borrow.Author.Tests.{ne-eqb}
 use lib.Count.{ones, trailingZeros}
-use lib.Pow.{pow-lt, pow-mono}
+use lib.Pow.{pow-mono}
 use lib.ListN.{getD}
 use lib.Seq.{getD-take}
 use lib.IntN.{ℤ, pos, natAbs, _-ℤ_}
@@ -39,25 +38,6 @@ use Rattle.feasibility_test.specs.Inner.{Carries, Judges}
 -- whether the flow in cell k exceeds the released limit k
 abbrev pub over : List ℕ → Process → List ℤ → ℕ → Bool
 over limits process cells k = ltZ (pos (getD limits k 0 * percent process * 1000)) (getD cells k (pos 0))
-
--- one bit more
-pub set-more : (k : ℕ) (f : ℕ → Bool) → f k ≡ true → setOf (k + 1) f ≡ setOf k f + 2 ^ k
-unfolding setOf
-set-more k f e = rw (add-one, e)
-
-pub set-skip : (k : ℕ) (f : ℕ → Bool) → f k ≡ false → setOf (k + 1) f ≡ setOf k f
-unfolding setOf
-set-skip k f e = rw (add-one, e) (omega arith)
-
--- the machine's bit k, added to bits below it
-bit-is : (k : ℕ) → k < maxConstraints → 1 * 2 ^ k % 18446744073709551616 ≡ 2 ^ k
-bit-is k h = mod-eq-of-lt {n = 1 * 2 ^ k} (omega (arith, pow-lt h)) ∙ omega arith
-
-pub bit-fits : (s k : ℕ) (f : ℕ → Bool) → k < maxConstraints → s ≡ setOf k f → s + 1 * 2 ^ k % 18446744073709551616 < 2 ^ 64
-bit-fits s k f h e = let p : 2 ^ k ≤ 2 ^ 63 = pow-mono {i = k} {j = 63} (omega arith) in omega (arith, bit-is k h, set-lt k f)
-
-pub bit-set : (s t k : ℕ) (f : ℕ → Bool) → k < maxConstraints → s ≡ setOf k f → t ≡ s + 1 * 2 ^ k % 18446744073709551616 → f k ≡ true → t ≡ setOf (k + 1) f
-bit-set s t k f h e u b = u ∙ omega (arith, bit-is k h, set-more k f b)
 
 pub released-small : (z : ℤ) (l : ℕ) (process : Process) → l ≤ maxLimit → z ≡ pos (l * percent process * 1000) → natAbs z ≤ maxReleased
 released-small z l process h e = rw e (omega (arith, mul-le-mul h (percent-sized process)))

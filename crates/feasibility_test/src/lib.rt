@@ -141,21 +141,20 @@ pub fn carry(
     flows
 }
 
-// The set of overloaded constraints: bit k is set where the flow on constraint k exceeds its released limit.
+// The set of overloaded constraints, from its highest bit down: bit k is set where the flow on constraint k exceeds its released limit.
 fn overload_set(constraints: usize, process: Process, limits: &[u64], flows: Flows) -> u64
     requires { ⌜ Judgeable constraints (now limits) flows ⌝ }
     ensures { λ r. ⌜ r ≡ setOf constraints (λ (k : ℕ). ltZ (pos (getD (before limits) k 0 * percent process * 1000)) (getD (flows .flows) k (pos 0))) ⌝ }
 {
     let cells = flows.flows;
     let mut set = 0u64;
-    let mut k = 0;
-    while k < constraints {
+    let mut k = constraints;
+    while 0 < k {
+        k -= 1;
         let flow = Flow(cells[k]);
         let released = process.released(limits[k]);
-        if flow.exceeds(released) {
-            set += 1u64 << k;
-        }
-        k += 1;
+        let bit = flow.exceeds(released) as u64;
+        set = set * 2 + bit;
     }
     set
 }

@@ -1,12 +1,14 @@
 -- Laws of sets as numbers: their bits, their count of ones, their trailing zeros.
 use mathlib.Core.Path.{_≡_, refl, sym, ap, ap₂, _∙_}
 use mathlib.Core.Logic.{_↔_}
-use mathlib.Core.Bool.{Bool, true, false, cond}
-use Prim.Native.Nat.{ℕ, zero, suc, _+_, _*_, _/_, _%_, _^_, _≤_, _<_}
-use native.Mathlib.Nat.{pow-suc}
+use mathlib.Core.Bool.{Bool, true, false, cond, _&&_}
+use Prim.Native.Nat.{ℕ, zero, suc, _+_, _*_, _-_, _/_, _%_, _^_, _≤_, _<_, min}
+use native.Mathlib.Nat.{pow-suc, sub-self}
 use native.Mathlib.Omega.{arith}
 use lib.Arith.{digits-div, digits-mod}
-use lib.Pow.{pow-pos, shr-shr}
+use mir.Val.{boolByte}
+use lib.Bits.{bitAnd, and-step}
+use lib.Pow.{pow-pos, pow-add, pow-mono, shr-shr}
 use lib.Count.{ones, ones-cat, trailingZeros}
 use Rattle.lists.specs.Sets.{setOf, countOf, lowestOf}
 
@@ -46,6 +48,67 @@ set-shift (suc n) f = ap (λ (x : ℕ). x + cond (f (suc n)) (2 ^ suc n) 0) (set
     top : (b : Bool) → setOf n (λ k. f (suc k)) * 2 + bit (f 0) + cond b (2 ^ suc n) 0 ≡ (setOf n (λ k. f (suc k)) + cond b (2 ^ n) 0) * 2 + bit (f 0)
     top true = rw pow-suc (omega arith)
     top false = omega arith
+
+-- ---- sets made from the top down
+
+-- a set in two parts
+pub set-parts : (n m : ℕ) (f : ℕ → Bool) → setOf (n + m) f ≡ setOf m (λ j. f (n + j)) * 2 ^ n + setOf n f
+unfolding setOf
+set-parts n zero f = ap (λ (x : ℕ). setOf x f) {x = n + 0} {y = n} (omega arith) ∙ omega arith
+set-parts n (suc m) f = ap (λ (x : ℕ). setOf x f) {x = n + suc m} {y = suc (n + m)} (omega arith) ∙ ap (λ (x : ℕ). x + cond (f (n + m)) (2 ^ (n + m)) 0) (set-parts n m f) ∙ top (f (n + m))
+  where
+    top : (b : Bool) → setOf m (λ j. f (n + j)) * 2 ^ n + setOf n f + cond b (2 ^ (n + m)) 0 ≡ (setOf m (λ j. f (n + j)) + cond b (2 ^ m) 0) * 2 ^ n + setOf n f
+    top true = rw (pow-add 2 n m) (omega arith)
+    top false = omega arith
+
+pub set-start : (w : ℕ) (f : ℕ → Bool) → 0 ≡ setOf (w - w) (λ j. f (w + j))
+unfolding setOf
+set-start w f = rw (sub-self w)
+
+-- one bit, as the machine makes it of a truth value
+pub set-one : (b : Bool) (f : ℕ → Bool) (i : ℕ) → b ≡ f i → boolByte b ≡ setOf 1 (λ j. f (i + j))
+unfolding setOf
+set-one b f i e = rw e (ap boolByte (ap f {x = i} {y = i + 0} (omega arith)) ∙ by (f (i + 0)))
+  where
+    by : (b : Bool) → boolByte b ≡ 0 + cond b (2 ^ 0) 0
+    by true = refl
+    by false = refl
+
+-- n numbers below k, from i on, of w numbers
+module _ (n w k i : ℕ) (f : ℕ → Bool) (s x : ℕ) (below : i + n ≡ k) (inside : k ≤ w) (known : s ≡ setOf (w - k) (λ j. f (k + j))) (new : x ≡ setOf n (λ j. f (i + j))) where
+  pub set-turn : s * 2 ^ n + x ≡ setOf (w - i) (λ j. f (i + j))
+  set-turn =
+      let rest = set-cong (w - k) (λ j. f (k + j)) (λ j. f (i + (n + j))) (λ j h. ap f (omega arith)) in
+      let all : n + (w - k) ≡ w - i = omega arith in
+      ap₂ (λ (a b : ℕ). a * 2 ^ n + b) (known ∙ rest) new ∙ sym (set-parts n (w - k) (λ j. f (i + j))) ∙ ap (λ (m : ℕ). setOf m (λ j. f (i + j))) all
+
+  pub set-fits : w ≤ 64 → s * 2 ^ n + x < 2 ^ 64
+  set-fits few = let p : 2 ^ (w - i) ≤ 2 ^ 64 = pow-mono {i = w - i} {j = 64} (omega arith) in omega (arith, set-turn, set-lt (w - i) (λ j. f (i + j)))
+
+pub set-end : (w k s : ℕ) (f : ℕ → Bool) → k ≡ 0 → s ≡ setOf (w - k) (λ j. f (k + j)) → s ≡ setOf w f
+set-end w k s f z e = e ∙ rw z (ap (λ (m : ℕ). setOf m (λ j. f (0 + j))) {x = w - 0} {y = w} (omega arith) ∙ set-cong w (λ j. f (0 + j)) f (λ j h. ap f (omega arith)))
+
+-- what is in both
+pub set-both : (n : ℕ) (f g : ℕ → Bool) → bitAnd (setOf n f) (setOf n g) ≡ setOf n (λ k. f k && g k)
+unfolding setOf bit
+set-both zero f g = refl
+set-both (suc n) f g =
+    rw (set-shift n f, set-shift n g, set-shift n (λ k. f k && g k)) (
+    and-step (setOf n (λ k. f (suc k)) * 2 + bit (f 0)) (setOf n (λ k. g (suc k)) * 2 + bit (g 0))
+    ∙ rw (
+      digits-div (setOf n (λ k. f (suc k))) (bit-small (f 0)),
+      digits-div (setOf n (λ k. g (suc k))) (bit-small (g 0)),
+      digits-mod (setOf n (λ k. f (suc k))) (bit-small (f 0)),
+      digits-mod (setOf n (λ k. g (suc k))) (bit-small (g 0)),
+      set-both n (λ k. f (suc k)) (λ k. g (suc k)),
+    )
+    (ap (λ (x : ℕ). setOf n (λ k. f (suc k) && g (suc k)) * 2 + x) (least (f 0) (g 0))))
+  where
+    least : (a b : Bool) → min (bit a) (bit b) ≡ bit (a && b)
+    least true true = refl
+    least true false = refl
+    least false true = refl
+    least false false = refl
 
 -- bit k of the set is set exactly where f k holds
 pub set-bit : (n : ℕ) (f : ℕ → Bool) (k : ℕ) → k < n → setOf n f / 2 ^ k % 2 ≡ cond (f k) 1 0

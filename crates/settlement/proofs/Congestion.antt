@@ -19,7 +19,7 @@ use Rattle.lists.proofs.Lists.{length-listTo, getD-listTo}
 use Rattle.tariff.specs.declared.contracts.Contract.{Contract}
 use Rattle.tariff.specs.declared.contracts.Period.{Period}
 use Rattle.tariff.specs.declared.units.Mcc.{Mcc}
-use Rattle.tariff.specs.Units.{factorsOf, factor, price, maxQuantity, maxFactor, maxPrice}
+use Rattle.tariff.specs.Units.{Factors, factorsOf, factor, price, maxQuantity, maxFactor, maxPrice}
 use Rattle.tariff.specs.Contracts.{counted, samePeriod}
 use Rattle.tariff.specs.Inner.{PricesInRange, maxMcc, maxSpread, maxAmount}
 use Rattle.tariff.specs.Settlement.{congestion, amount}
@@ -27,7 +27,9 @@ use Rattle.tariff.proofs.Theorems.{sum-takes-the-next, mcc-is-one-negation}
 use Rattle.tariff.proofs.Sizes.{counted-sized, congestion-sized, mcc-sized}
 use Rattle.tables.proofs.Factors.{place-in, factor-cell, factor-cell-sized}
 use Rattle.tables.proofs.Cells.{cut-sized}
-use Rattle.settlement.specs.Inner.{Hour, mccIn, MccAt, hourAmount}
+use Rattle.settlement.specs.SettleHour.{pricedOf}
+use Rattle.settlement.specs.declared.PricedAmount.{PricedAmount}
+use Rattle.settlement.specs.Inner.{Hour, mccIn, MccAt, hourAmount, AmountOf, HourAmount}
 
 -- ---- an hour's tables
 
@@ -84,8 +86,8 @@ module _ (n k : ℕ) (fs : List ℤ) (ps : List ℕ) (h : Hour n k fs ps) where
 
 -- ---- the MCCs of an hour's nodes in a table
 
-pub front-at : (n : ℕ) (f : ℕ → ℤ) (rest : List ℤ) (i : ℕ) → i < n → getD (listTo n f ++ rest) i (pos 0) ≡ f i
-front-at n f rest i h = List·getD-append (listTo n f) rest (pos 0) i (rw (length-listTo n f) h) ∙ getD-listTo n f i (pos 0) h
+pub front-at : {A : Type 0} (n : ℕ) (f : ℕ → A) (rest : List A) (d : A) (i : ℕ) → i < n → getD (listTo n f ++ rest) i d ≡ f i
+front-at n f rest d i h = List·getD-append (listTo n f) rest d i (rw (length-listTo n f) h) ∙ getD-listTo n f i d h
 
 -- one more is stored
 pub mcc-stored : (n k : ℕ) (fs : List ℤ) (ps : List ℕ) (mccs : List Mcc) (j : ℕ) (x d : Mcc) → j < length mccs → MccAt n k fs ps j x
@@ -102,19 +104,21 @@ module _ (c : Contract) (few : c .quantity .0 ≤ maxQuantity) (d : ℤ) (small 
   pub product-fits : (a : ℤ) → a ≡ d *ℤ pos (c .quantity .0) → natAbs a ≤ maxAmount
   product-fits a q = rw q (natAbs-times d (pos (c .quantity .0)) small few)
 
-  pub amount-end : (sink source a v : ℤ) → d ≡ sink -ℤ source → a ≡ d *ℤ pos (c .quantity .0) → v ≡ counted (c .kind) a
-      → (v ≡ counted (c .kind) ((sink -ℤ source) *ℤ pos (c .quantity .0))) × (natAbs v ≤ maxAmount)
-  amount-end sink source a v spread q w =
-      (w ∙ ap (counted (c .kind)) (q ∙ ap (λ (x : ℤ). x *ℤ pos (c .quantity .0)) spread), rw w (le-trans (counted-sized (c .kind) a) (product-fits a q)))
+  pub counted-fits : (a v : ℤ) → a ≡ d *ℤ pos (c .quantity .0) → v ≡ counted (c .kind) a → natAbs v ≤ maxAmount
+  counted-fits a v q w = rw w (le-trans (counted-sized (c .kind) a) (product-fits a q))
+
+pub amount-end : (n k : ℕ) (fs : List ℤ) (ps : List ℕ) (c : Contract) (sink source : Mcc) → MccAt n k fs ps (c .sink) sink → MccAt n k fs ps (c .source) source
+    → (d a v : ℤ) → d ≡ sink .0 -ℤ source .0 → a ≡ d *ℤ pos (c .quantity .0) → v ≡ counted (c .kind) a → v ≡ amount (factorsOf n k fs) (take k ps) c
+unfolding amount
+amount-end n k fs ps c sink source x y d a v spread q w = w ∙ ap (counted (c .kind)) (q ∙ ap (λ (z : ℤ). z *ℤ pos (c .quantity .0)) (spread ∙ ap₂ _-ℤ_ x y))
 
 -- ---- by the period
 
-module _ (n k : ℕ) (fs : List ℤ) (ps : List ℕ) (t : Period) (c : Contract) where
-  pub amount-same : (b : Bool) → b ≡ samePeriod (c .period) t → b ≡ true → (sink source : Mcc) → MccAt n k fs ps (c .sink) sink → MccAt n k fs ps (c .source) source
-      → counted (c .kind) ((sink .0 -ℤ source .0) *ℤ pos (c .quantity .0)) ≡ hourAmount (factorsOf n k fs) (take k ps) t c
-  unfolding hourAmount amount
-  amount-same b e h sink source x y = rw (sym e ∙ h, ← x, ← y)
+module _ (f : Factors) (p : List ℕ) (t : Period) (c : Contract) (b : Bool) (e : b ≡ samePeriod (c .period) t) (r : PricedAmount) where
+  pub counts : b ≡ true → AmountOf f p c r → HourAmount f p t c r
+  unfolding hourAmount pricedOf
+  counts h o = record { amount-is = o .amount-is ∙ rw (sym e ∙ h); amount-sized = o .amount-sized; priced-is = o .priced-is ∙ rw (sym e ∙ h) }
 
-  pub amount-other : (b : Bool) → b ≡ samePeriod (c .period) t → b ≡ false → pos 0 ≡ hourAmount (factorsOf n k fs) (take k ps) t c
-  unfolding hourAmount
-  amount-other b e h = rw (sym e ∙ h)
+  pub counts-not : b ≡ false → r .amount .0 ≡ pos 0 → r .priced ≡ 0 → HourAmount f p t c r
+  unfolding hourAmount pricedOf
+  counts-not h a s = record { amount-is = a ∙ rw (sym e ∙ h); amount-sized = rw a (omega arith); priced-is = s ∙ rw (sym e ∙ h) }

@@ -5,6 +5,7 @@ use mathlib.Core.List.{List, [], _∷_, _++_, map}
 use Prim.Native.Nat.{ℕ, zero, suc, _+_, _*_, _-_, _^_, _≤_, _<_}
 use native.Mathlib.Numerals.{add-one}
 use native.Mathlib.Omega.{arith}
+use lib.Count.{ones}
 use lib.ListN.{getD, take}
 use lib.IntN.{ℤ, pos, natAbs, _+ℤ_, _*ℤ_, +ℤ-idr}
 use mir.Syntax.{w64}
@@ -20,7 +21,7 @@ use Rattle.lists.proofs.Lists.{listTo-cong, map-listTo}
 use Rattle.tariff.specs.declared.contracts.Contract.{Contract}
 use Rattle.tariff.specs.declared.contracts.Period.{Period}
 use Rattle.tariff.specs.declared.refusals.Checked.the-variants.{Passed}
-use Rattle.tariff.specs.Units.{Factors, factorsOf, perCent}
+use Rattle.tariff.specs.Units.{Factors, factorsOf, maxConstraints, perCent}
 use Rattle.tariff.specs.Contracts.{samePeriod, ofPeriod}
 use Rattle.tariff.specs.Refusals.{first}
 use Rattle.tariff.specs.Inner.{InRange, maxCents}
@@ -32,9 +33,10 @@ use Rattle.books.specs.BookChecks.{bookChecks}
 use Rattle.books.proofs.Accepted.{book-accepted}
 use Rattle.settlement.specs.declared.Totals.{Totals}
 use Rattle.settlement.specs.declared.SettleAnswer.the-variants.{Settled}
-use Rattle.settlement.specs.SettleHour.{centsOf, centsSum, hourTotal}
+use Rattle.settlement.specs.SettleHour.{centsOf, pricedOf, centsSum, hourTotal}
 use Rattle.settlement.specs.Inner.{Hour, hourAmount, exactOf, Bounded, SettlesFirst, Settles}
 use Rattle.settlement.proofs.Congestion.{prices-in, front-at}
+use Rattle.settlement.proofs.Pricing.{priced-few}
 
 -- ---- a machine sum of two numbers that are kept in an i64
 
@@ -125,10 +127,16 @@ module _ (n k : ℕ) (fs : List ℤ) (ps : List ℕ) (h : Hour n k fs ps) (t : P
       let sized = amount-sized (factorsOf n k fs) (take k ps) (h .good-factors .few) (h .good-factors .in-range) (prices-in n k fs ps h) c r in
       cond-sized (samePeriod (c .period) t) _ maxCents (cents-sized (amount (factorsOf n k fs) (take k ps) c) maxCents sized)
 
-  module _ (m : ℕ) (f : ℕ → Contract) (ok : (i : ℕ) → i < m → InRange n (f i)) where
-    cell-small : (entry exit : List ℤ) → exit ≡ overwrite (map (centsOf (factorsOf n k fs) (take k ps) t) (listTo m f)) entry → (i : ℕ) → i < m → natAbs (getD exit i (pos 0)) ≤ maxCents
-    cell-small entry exit e i b =
-        rw (e, map-listTo m f (centsOf (factorsOf n k fs) (take k ps) t), front-at m (λ i. centsOf (factorsOf n k fs) (take k ps) t (f i)) _ i b) (cents-small (f i) (ok i b))
+  module _ (m : ℕ) (f : ℕ → Contract) where
+    cell-small : ((i : ℕ) → i < m → InRange n (f i)) → (entry exit : List ℤ) → exit ≡ overwrite (map (centsOf (factorsOf n k fs) (take k ps) t) (listTo m f)) entry
+        → (i : ℕ) → i < m → natAbs (getD exit i (pos 0)) ≤ maxCents
+    cell-small ok entry exit e i b =
+        rw (e, map-listTo m f (centsOf (factorsOf n k fs) (take k ps) t), front-at m (λ i. centsOf (factorsOf n k fs) (take k ps) t (f i)) _ (pos 0) i b) (cents-small (f i) (ok i b))
+
+    set-small : (entry exit : List ℕ) → exit ≡ overwrite (map (pricedOf (factorsOf n k fs) (take k ps) t) (listTo m f)) entry → (i : ℕ) → i < m → ones (getD exit i 0) ≤ maxConstraints
+    set-small entry exit e i b =
+        rw (e, map-listTo m f (pricedOf (factorsOf n k fs) (take k ps) t), front-at m (λ i. pricedOf (factorsOf n k fs) (take k ps) t (f i)) _ 0 i b)
+        (priced-few (factorsOf n k fs) (take k ps) t (f i) (h .good-factors .few))
 
     cents-hour : (i : ℕ) → cents (hourAmount (factorsOf n k fs) (take k ps) t (f i)) ≡ cond (samePeriod (f i .period) t) (cents (amount (factorsOf n k fs) (take k ps) (f i))) (pos 0)
     unfolding hourAmount
@@ -147,16 +155,19 @@ module _ (n k : ℕ) (fs : List ℤ) (ps : List ℕ) (h : Hour n k fs ps) (t : P
     total-is = period-sum t m f (amount (factorsOf n k fs) (take k ps)) _ (λ i b. refl)
 
   -- what the first contracts of an accepted book settle to, all of them being the first, the book does
-  pub settled : (s : List ℕ) → first (bookChecks n s) ≡ Passed → (m : ℕ) → m ≡ contractCountIn s → (entry exit : List ℤ) (r : Totals)
-      → SettlesFirst (factorsOf n k fs) (take k ps) t m (contractAt s) entry r exit → Settles n k t fs ps s entry r exit
-  settled s passed m count entry exit r by =
+  pub settled : (s : List ℕ) → first (bookChecks n s) ≡ Passed → (m : ℕ) → m ≡ contractCountIn s → (entry exit : List ℤ) (sets handed : List ℕ) (r : Totals)
+      → SettlesFirst (factorsOf n k fs) (take k ps) t m (contractAt s) entry exit sets handed r → Settles n k t fs ps s entry exit sets handed r
+  settled s passed m count entry exit sets handed r by =
       let each = book-accepted n s passed .each in
       let b = rw count at by in
-      let are = b .cells ∙ ap (λ (xs : List ℤ). overwrite xs entry) (cells-are (contractCountIn s) (contractAt s) each) in
+      let are = b .cells ∙ ap (λ (xs : List ℤ). overwrite xs entry) (cells-are (contractCountIn s) (contractAt s)) in
+      let on = b .priced ∙ ap (λ (xs : List ℕ). overwrite xs sets) (sym (map-listTo (contractCountIn s) (contractAt s) (pricedOf (factorsOf n k fs) (take k ps) t))) in
       record {
         cells = are;
-        sum = b .sum ∙ sym (sum-is (contractCountIn s) (contractAt s) each);
-        exact = b .exact ∙ sym (total-is (contractCountIn s) (contractAt s) each);
+        priced = on;
+        sum = b .sum ∙ sym (sum-is (contractCountIn s) (contractAt s));
+        exact = b .exact ∙ sym (total-is (contractCountIn s) (contractAt s));
         bounded = b .bounded;
         cells-sized = cell-small (contractCountIn s) (contractAt s) each entry exit are;
+        priced-sized = set-small (contractCountIn s) (contractAt s) sets handed on;
       }

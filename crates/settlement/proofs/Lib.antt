@@ -1,3 +1,4 @@
 pub mod Passing
 pub mod Congestion
 pub mod HourSums
+pub mod Pricing

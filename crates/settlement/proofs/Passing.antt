@@ -1,4 +1,4 @@
--- The checks of finding the MCC and of settling an hour: those of an hour's tables, the book's own, then the place for the cents.
+-- The checks of finding the MCC and of settling an hour: those of an hour's tables, the book's own, then the places for the cents and for the sets.
 use mathlib.Core.Path.{_≡_, refl, sym, ap, _∙_}
 use mathlib.Core.List.{List, [], _∷_, _++_}
 use Prim.Native.Nat.{ℕ, _≤_, _<_}
@@ -18,7 +18,7 @@ use Rattle.tables.specs.Inner.{hourTableChecks}
 use Rattle.tables.proofs.Passing.{HourTables, hour-tables}
 use Rattle.books.specs.BookChecks.{bookChecks}
 use Rattle.settlement.specs.FindMcc.{FindMccCall, findMccChecks, findMccChecked}
-use Rattle.settlement.specs.SettleHour.{HourCall, settleChecks, settleChecked}
+use Rattle.settlement.specs.SettleHour.{HourCall, settleChecks}
 use Rattle.settlement.specs.Inner.{Hour}
 
 -- the tables of an hour that no check refuses
@@ -40,47 +40,58 @@ module _ (q : HourCall) where
   abbrev pub bookChecked : Checked
   bookChecked = first (bookChecks (q .nodes) (q .book))
 
-  abbrev roomCheck : List Check
-  roomCheck = shortTable (length (q .place)) (contractCountIn (q .book)) ∷ []
+  module _ (cells sets : ℕ) where
+    abbrev pub found : Checked
+    found = first (settleChecks q cells sets)
 
-  in-parts : settleChecked q ≡ first (hourTableChecks (q .nodes) (q .constraints) (q .period) (q .factors) (q .prices) (q .nodes) ++ (bookChecks (q .nodes) (q .book) ++ roomCheck))
-  unfolding first settleChecks hourTableChecks
-  in-parts = rw (le-ltb (q .nodes) (q .nodes) (omega arith))
+    abbrev roomChecks : List Check
+    roomChecks = shortTable cells (contractCountIn (q .book)) ∷ shortTable sets (contractCountIn (q .book)) ∷ []
 
-  one-by-one : settleChecked q ≡ decided tableChecked Refused (decided bookChecked Refused (first roomCheck))
-  one-by-one =
-      in-parts
-      ∙ first-append (hourTableChecks (q .nodes) (q .constraints) (q .period) (q .factors) (q .prices) (q .nodes)) (bookChecks (q .nodes) (q .book) ++ roomCheck)
-      ∙ ap (λ (x : Checked). decided tableChecked Refused x) (first-append (bookChecks (q .nodes) (q .book)) roomCheck)
+    in-parts : found ≡ first (hourTableChecks (q .nodes) (q .constraints) (q .period) (q .factors) (q .prices) (q .nodes) ++ (bookChecks (q .nodes) (q .book) ++ roomChecks))
+    unfolding first settleChecks hourTableChecks
+    in-parts = rw (le-ltb (q .nodes) (q .nodes) (omega arith))
 
-  pub tables-refuse : (r : Refusal) → tableChecked ≡ Refused r → Refused r ≡ settleChecked q
-  tables-refuse r e = sym (one-by-one ∙ rw e)
+    one-by-one : found ≡ decided tableChecked Refused (decided bookChecked Refused (first roomChecks))
+    one-by-one =
+        in-parts
+        ∙ first-append (hourTableChecks (q .nodes) (q .constraints) (q .period) (q .factors) (q .prices) (q .nodes)) (bookChecks (q .nodes) (q .book) ++ roomChecks)
+        ∙ ap (λ (x : Checked). decided tableChecked Refused x) (first-append (bookChecks (q .nodes) (q .book)) roomChecks)
 
-  module _ (tables : tableChecked ≡ Passed) where
-    pub book-refuses : (r : Refusal) → bookChecked ≡ Refused r → Refused r ≡ settleChecked q
-    book-refuses r e = sym (one-by-one ∙ rw (tables, e))
+    pub tables-refuse : (r : Refusal) → tableChecked ≡ Refused r → Refused r ≡ found
+    tables-refuse r e = sym (one-by-one ∙ rw e)
 
-    module _ (own : bookChecked ≡ Passed) (m : ℕ) (count : m ≡ contractCountIn (q .book)) where
-      pub no-room : length (q .place) < m → Refused ShortTable ≡ settleChecked q
-      unfolding first
-      no-room h = sym (one-by-one ∙ rw (tables, own, ← count, lt-ltb (length (q .place)) m h))
+    module _ (tables : tableChecked ≡ Passed) where
+      pub book-refuses : (r : Refusal) → bookChecked ≡ Refused r → Refused r ≡ found
+      book-refuses r e = sym (one-by-one ∙ rw (tables, e))
 
-      pub all-fits : m ≤ length (q .place) → Passed ≡ settleChecked q
-      unfolding first
-      all-fits h = sym (one-by-one ∙ rw (tables, own, ← count, le-ltb (length (q .place)) m h))
+      module _ (own : bookChecked ≡ Passed) (m : ℕ) (count : m ≡ contractCountIn (q .book)) where
+        pub no-room : cells < m → Refused ShortTable ≡ found
+        unfolding first
+        no-room h = sym (one-by-one ∙ rw (tables, own, ← count, lt-ltb cells m h))
 
-  -- what holds where none refuses
-  pub record Ready : Type 0 where
-    pub hour : Hour (q .nodes) (q .constraints) (q .factors) (q .prices)
-    pub own : bookChecked ≡ Passed
-    pub room : contractCountIn (q .book) ≤ length (q .place)
+        pub no-set-room : m ≤ cells → sets < m → Refused ShortTable ≡ found
+        unfolding first
+        no-set-room h g = sym (one-by-one ∙ rw (tables, own, ← count, le-ltb cells m h, lt-ltb sets m g))
 
-  pub settle-ready : settleChecked q ≡ Passed → Ready
-  settle-ready e =
-      let all = passed-append (hourTableChecks (q .nodes) (q .constraints) (q .period) (q .factors) (q .prices) (q .nodes)) (bookChecks (q .nodes) (q .book) ++ roomCheck) (sym in-parts ∙ e) in
-      let rest = passed-append (bookChecks (q .nodes) (q .book)) roomCheck (all .1) in
-      record {
-        hour = hour-of (hour-tables (q .nodes) (q .constraints) (q .period) (q .factors) (q .prices) (q .nodes) (all .0));
-        own = rest .0;
-        room = ltb-false (length (q .place)) (contractCountIn (q .book)) (passed-cons _ _ (rest .1) .0);
-      }
+        pub all-fits : m ≤ cells → m ≤ sets → Passed ≡ found
+        unfolding first
+        all-fits h g = sym (one-by-one ∙ rw (tables, own, ← count, le-ltb cells m h, le-ltb sets m g))
+
+    -- what holds where none refuses
+    pub record Ready : Type 0 where
+      pub hour : Hour (q .nodes) (q .constraints) (q .factors) (q .prices)
+      pub own : bookChecked ≡ Passed
+      pub room : contractCountIn (q .book) ≤ cells
+      pub set-room : contractCountIn (q .book) ≤ sets
+
+    pub settle-ready : found ≡ Passed → Ready
+    settle-ready e =
+        let all = passed-append (hourTableChecks (q .nodes) (q .constraints) (q .period) (q .factors) (q .prices) (q .nodes)) (bookChecks (q .nodes) (q .book) ++ roomChecks) (sym in-parts ∙ e) in
+        let rest = passed-append (bookChecks (q .nodes) (q .book)) roomChecks (all .1) in
+        let rooms = passed-cons _ _ (rest .1) in
+        record {
+          hour = hour-of (hour-tables (q .nodes) (q .constraints) (q .period) (q .factors) (q .prices) (q .nodes) (all .0));
+          own = rest .0;
+          room = ltb-false cells (contractCountIn (q .book)) (rooms .0);
+          set-room = ltb-false sets (contractCountIn (q .book)) (passed-cons _ _ (rooms .1) .0);
+        }

@@ -1,24 +1,28 @@
--- What the inner functions of settling say: an hour's tables and MCCs, the running totals, and what contracts settle to.
+-- What the inner functions of settling say: an hour's tables and MCCs, the constraints that priced a contract, the running totals, and what contracts settle to.
 use mathlib.Core.Path.{_≡_}
-use mathlib.Core.Bool.{cond}
+use mathlib.Core.Bool.{Bool, cond}
 use mathlib.Core.List.{List, map}
 use Prim.Native.Nat.{ℕ, _+_, _*_, _≤_, _<_}
 use lib.ListN.{length, getD, take}
+use lib.Count.{ones}
+use lib.Dec.{ltb}
 use lib.IntN.{ℤ, pos, natAbs, _+ℤ_, _-ℤ_, _*ℤ_}
-use Rattle.integers.specs.Sums.{sumTo}
+use Rattle.integers.specs.Sums.{nonzero, sumTo}
 use Rattle.lists.specs.Lists.{listTo}
+use Rattle.lists.specs.Sets.{setOf}
 use Rattle.lists.specs.Lent.{overwrite}
 use Rattle.tariff.specs.declared.contracts.Contract.{Contract}
 use Rattle.tariff.specs.declared.contracts.Period.{Period}
 use Rattle.tariff.specs.declared.units.Mcc.{Mcc}
-use Rattle.tariff.specs.Units.{Factors, factorsOf, maxPrice, perCent}
+use Rattle.tariff.specs.Units.{Factors, factorsOf, maxFactor, maxPrice, maxConstraints, perCent}
 use Rattle.tariff.specs.Contracts.{samePeriod}
-use Rattle.tariff.specs.Inner.{maxCents}
-use Rattle.tariff.specs.Settlement.{mcc, amount, cents}
+use Rattle.tariff.specs.Inner.{maxAmount, maxCents}
+use Rattle.tariff.specs.Settlement.{mcc, amount, pricedSet, cents}
 use Rattle.layouts.specs.BookFile.{contractCountIn, bookIn}
 use Rattle.tables.specs.Inner.{GoodFactors, GoodCells}
+use Rattle.settlement.specs.declared.PricedAmount.{PricedAmount}
 use Rattle.settlement.specs.declared.Totals.{Totals}
-use Rattle.settlement.specs.SettleHour.{centsOf, centsSum, hourTotal}
+use Rattle.settlement.specs.SettleHour.{centsOf, pricedOf, centsSum, hourTotal}
 
 -- the tables of an hour
 pub record Hour (n k : ℕ) (factors : List ℤ) (prices : List ℕ) : Type 0 where
@@ -40,6 +44,32 @@ pub record MccTable (n k : ℕ) (factors : List ℤ) (prices : List ℕ) (mccs :
 unfoldable pub hourAmount : Factors → List ℕ → Period → Contract → ℤ
 hourAmount f p t c = cond (samePeriod (c .period) t) (amount f p c) (pos 0)
 
+-- ---- which constraints priced a contract
+
+-- n cells from a on, each a factor in range
+pub record Row (fs : List ℤ) (a n : ℕ) : Type 0 where
+  pub long : a + n ≤ length fs
+  pub sized : (j : ℕ) → j < n → natAbs (getD fs (a + j) (pos 0)) ≤ maxFactor
+
+-- whether the factors behind a and behind b differ at j
+abbrev pub differAt : List ℤ → ℕ → ℕ → ℕ → Bool
+differAt fs a b j = nonzero (getD fs (a + j) (pos 0) -ℤ getD fs (b + j) (pos 0))
+
+-- the constraints whose price isn't 0
+abbrev pub postedIn : ℕ → List ℕ → ℕ
+postedIn k prices = setOf k (λ j. ltb 0 (getD prices j 0))
+
+-- a contract's amount with what priced it, and what of both counts in an hour of the period
+pub record AmountOf (f : Factors) (p : List ℕ) (c : Contract) (r : PricedAmount) : Type 0 where
+  pub amount-is : r .amount .0 ≡ amount f p c
+  pub amount-sized : natAbs (r .amount .0) ≤ maxAmount
+  pub priced-is : r .priced ≡ pricedSet f p c
+
+pub record HourAmount (f : Factors) (p : List ℕ) (t : Period) (c : Contract) (r : PricedAmount) : Type 0 where
+  pub amount-is : r .amount .0 ≡ hourAmount f p t c
+  pub amount-sized : natAbs (r .amount .0) ≤ maxAmount
+  pub priced-is : r .priced ≡ pricedOf f p t c
+
 -- ---- totals
 
 -- the exact total that whole cents and parts make
@@ -58,20 +88,24 @@ pub record Added (t : Totals) (amount : ℤ) (r : Totals) : Type 0 where
   pub exact : exactOf r ≡ exactOf t +ℤ amount
   pub bounded : (m : ℕ) → Bounded m t → Bounded (m + 1) r
 
--- ---- what is settled, with the place for the cents at entry and at exit
+-- ---- what is settled, with the place for the cents at entry and at exit, and that for the sets
 
 -- the first m of the contracts f
-pub record SettlesFirst (g : Factors) (p : List ℕ) (t : Period) (m : ℕ) (f : ℕ → Contract) (entry : List ℤ) (r : Totals) (exit : List ℤ) : Type 0 where
-  pub cells : exit ≡ overwrite (listTo m (λ i. cents (hourAmount g p t (f i)))) entry
-  pub sum : r .sum ≡ sumTo m (λ i. cents (hourAmount g p t (f i)))
-  pub exact : exactOf r ≡ sumTo m (λ i. hourAmount g p t (f i))
-  pub bounded : Bounded m r
+module _ (g : Factors) (p : List ℕ) (t : Period) (m : ℕ) (f : ℕ → Contract) where
+  pub record SettlesFirst (entry exit : List ℤ) (sets handed : List ℕ) (r : Totals) : Type 0 where
+    pub cells : exit ≡ overwrite (listTo m (λ i. cents (hourAmount g p t (f i)))) entry
+    pub priced : handed ≡ overwrite (listTo m (λ i. pricedOf g p t (f i))) sets
+    pub sum : r .sum ≡ sumTo m (λ i. cents (hourAmount g p t (f i)))
+    pub exact : exactOf r ≡ sumTo m (λ i. hourAmount g p t (f i))
+    pub bounded : Bounded m r
 
 -- a book, by an hour's tables
 module _ (n k : ℕ) (t : Period) (factors : List ℤ) (prices : List ℕ) (book : List ℕ) where
-  pub record Settles (entry : List ℤ) (r : Totals) (exit : List ℤ) : Type 0 where
+  pub record Settles (entry exit : List ℤ) (sets handed : List ℕ) (r : Totals) : Type 0 where
     pub cells : exit ≡ overwrite (map (centsOf (factorsOf n k factors) (take k prices) t) (bookIn book)) entry
+    pub priced : handed ≡ overwrite (map (pricedOf (factorsOf n k factors) (take k prices) t) (bookIn book)) sets
     pub sum : r .sum ≡ centsSum (factorsOf n k factors) (take k prices) t (bookIn book)
     pub exact : exactOf r ≡ hourTotal (factorsOf n k factors) (take k prices) t (bookIn book)
     pub bounded : Bounded (contractCountIn book) r
     pub cells-sized : (i : ℕ) → i < contractCountIn book → natAbs (getD exit i (pos 0)) ≤ maxCents
+    pub priced-sized : (i : ℕ) → i < contractCountIn book → ones (getD handed i 0) ≤ maxConstraints

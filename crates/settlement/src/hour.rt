@@ -1,22 +1,22 @@
-// Settling an hour: each contract's amount by a table of MCCs, its cents, and the totals.
+// Settling an hour: each contract's amount by a table of MCCs, what priced it, its cents, and the totals.
 ghost use mathlib.Core.Path.{_≡_};
-ghost use mathlib.Core.List.{List};
 ghost use Prim.Native.Nat.{ℕ, _+_, _≤_, _<_};
 ghost use lib.ListN.{length, take};
-ghost use lib.IntN.{ℤ, pos, natAbs, _-ℤ_, _*ℤ_};
 ghost use Rattle.lists.specs.Lent.{before, after};
 ghost use Rattle.tariff.specs.declared.refusals.Checked.the-variants.{Passed};
-ghost use Rattle.tariff.specs.Units.{factorsOf, maxContracts, maxQuantity};
-ghost use Rattle.tariff.specs.Contracts.{counted};
+ghost use Rattle.tariff.specs.Units.{factorsOf, maxContracts};
 ghost use Rattle.tariff.specs.Refusals.{first};
-ghost use Rattle.tariff.specs.Inner.{InRange, maxMcc, maxAmount};
+ghost use Rattle.tariff.specs.Inner.{InRange};
 ghost use Rattle.layouts.specs.BookFile.{bookBytes, contractCountIn, contractAt};
 ghost use Rattle.books.specs.BookChecks.{bookChecks};
-ghost use Rattle.settlement.specs.SettleHour.{hourCall, settleChecked, SettlesHour};
-ghost use Rattle.settlement.specs.Inner.{Hour, MccAt, MccTable, hourAmount, SettlesFirst, Settles};
+ghost use Rattle.settlement.specs.SettleHour.{hourCall, settleChecks, SettlesHour};
+ghost use Rattle.settlement.specs.Inner.{Hour, MccAt, MccTable, postedIn, AmountOf, HourAmount, SettlesFirst, Settles};
+use crate::PricedAmount;
 use crate::SettleAnswer;
 use crate::Totals;
 use crate::mcc::all_mccs;
+use crate::priced::posted_set;
+use crate::priced::priced_set;
 use tariff::Amount;
 use tariff::Checked;
 use tariff::Contract;
@@ -25,17 +25,29 @@ use tariff::Mcc;
 use tariff::Period;
 use tariff::Refusal;
 
-// The exact amount of a contract (003, 36.2.1 and 36.2.2), by the MCCs of its sink and of its source.
-fn amount_of(c: Contract, sink: Mcc, source: Mcc) -> Amount
-    requires { ⌜ (natAbs (sink .0) ≤ maxMcc) × (natAbs (source .0) ≤ maxMcc) × (c .quantity .0 ≤ maxQuantity) ⌝ }
-    ensures { λ r. ⌜ (r .0 ≡ counted (c .kind) ((sink .0 -ℤ source .0) *ℤ pos (c .quantity .0))) × (natAbs (r .0) ≤ maxAmount) ⌝ }
+// The exact amount of a contract (003, 36.2.1 and 36.2.2), by the MCCs of its sink and of its source, with the constraints that priced it.
+fn amount_of(
+    nodes: usize,
+    constraints: usize,
+    factors: &[i64],
+    prices: &[u64],
+    c: Contract,
+    posted: u64,
+    sink: Mcc,
+    source: Mcc,
+) -> PricedAmount
+    requires { ⌜ Hour nodes constraints (now factors) (now prices) × InRange nodes c × (posted ≡ postedIn constraints (now prices)) ⌝ }
+    requires { ⌜ MccAt nodes constraints (now factors) (now prices) (c .sink) sink × MccAt nodes constraints (now factors) (now prices) (c .source) source ⌝ }
+    ensures { λ r. ⌜ AmountOf (factorsOf nodes constraints (before factors)) (take constraints (before prices)) c r ⌝ }
 {
     let quantity = c.quantity;
     let kind = c.kind;
-    sink.minus(source).times(quantity).counted(kind)
+    let amount = sink.minus(source).times(quantity).counted(kind);
+    let priced = priced_set(nodes, constraints, factors, prices, posted, c);
+    PricedAmount { amount, priced }
 }
 
-// What a contract adds to an hour of the period: nothing for the other period's.
+// What a contract adds to an hour of the period, and what priced it, by the MCCs of its two ends: nothing for the other period's.
 fn hour_amount(
     nodes: usize,
     constraints: usize,
@@ -43,23 +55,27 @@ fn hour_amount(
     prices: &[u64],
     period: Period,
     c: Contract,
-    sink: Mcc,
-    source: Mcc,
-) -> Amount
-    requires { ⌜ Hour nodes constraints (now factors) (now prices) × InRange nodes c ⌝ }
-    requires { ⌜ MccAt nodes constraints (now factors) (now prices) (c .sink) sink × MccAt nodes constraints (now factors) (now prices) (c .source) source ⌝ }
-    ensures { λ r. ⌜ (r .0 ≡ hourAmount (factorsOf nodes constraints (before factors)) (take constraints (before prices)) period c) × (natAbs (r .0) ≤ maxAmount) ⌝ }
+    posted: u64,
+    to: Mcc,
+    from: Mcc,
+) -> PricedAmount
+    requires { ⌜ Hour nodes constraints (now factors) (now prices) × InRange nodes c × (posted ≡ postedIn constraints (now prices)) ⌝ }
+    requires { ⌜ MccAt nodes constraints (now factors) (now prices) (c .sink) to × MccAt nodes constraints (now factors) (now prices) (c .source) from ⌝ }
+    ensures { λ r. ⌜ HourAmount (factorsOf nodes constraints (before factors)) (take constraints (before prices)) period c r ⌝ }
 {
     let own = c.period;
     let counts = own.same(period);
     if counts {
-        amount_of(c, sink, source)
+        amount_of(nodes, constraints, factors, prices, c, posted, to, from)
     } else {
-        Amount(0)
+        PricedAmount {
+            amount: Amount(0),
+            priced: 0,
+        }
     }
 }
 
-// Settles the first `count` contracts, each into its own cell.
+// Settles the first `count` contracts, each into its own cells.
 fn settle_contracts(
     nodes: usize,
     constraints: usize,
@@ -70,13 +86,15 @@ fn settle_contracts(
     book: &[u8],
     count: usize,
     cents: &mut [i64],
+    priced: &mut [u64],
 ) -> Totals
     requires { ⌜ Hour nodes constraints (now factors) (now prices) × MccTable nodes constraints (now factors) (now prices) mccs ⌝ }
     requires { ⌜ ((i : ℕ) → i < count → InRange nodes (contractAt (now book) i)) ⌝ }
-    requires { ⌜ (count ≤ maxContracts) × (bookBytes count ≤ length (now book)) × (count ≤ length (now cents)) ⌝ }
+    requires { ⌜ (count ≤ maxContracts) × (bookBytes count ≤ length (now book)) × (count ≤ length (now cents)) × (count ≤ length (now priced)) ⌝ }
     ensures { λ r. ⌜ SettlesFirst (factorsOf nodes constraints (before factors)) (take constraints (before prices)) period count (contractAt (before book))
-        (before cents) r (after cents) ⌝ }
+        (before cents) (after cents) (before priced) (after priced) r ⌝ }
 {
+    let posted = posted_set(constraints, prices);
     let mut totals = Totals {
         sum: 0,
         whole: 0,
@@ -87,17 +105,20 @@ fn settle_contracts(
         let c = books::contract_at(book, i);
         let sink = c.sink;
         let source = c.source;
-        let amount = hour_amount(
+        let settled = hour_amount(
             nodes,
             constraints,
             factors,
             prices,
             period,
             c,
+            posted,
             mccs[sink],
             mccs[source],
         );
+        let amount = settled.amount;
         cents[i] = amount.cents();
+        priced[i] = settled.priced;
         totals = totals.plus(amount);
         i += 1;
     }
@@ -113,10 +134,12 @@ pub fn settle(
     prices: &[u64],
     book: &[u8],
     cents: &mut [i64],
+    priced: &mut [u64],
 ) -> Totals
-    requires { ⌜ Hour nodes constraints (now factors) (now prices) ⌝ }
-    requires { ⌜ (first (bookChecks nodes (now book)) ≡ Passed) × (contractCountIn (now book) ≤ length (now cents)) ⌝ }
-    ensures { λ r. ⌜ Settles nodes constraints period (before factors) (before prices) (before book) (before cents) r (after cents) ⌝ }
+    requires { ⌜ Hour nodes constraints (now factors) (now prices) × (first (bookChecks nodes (now book)) ≡ Passed) ⌝ }
+    requires { ⌜ (contractCountIn (now book) ≤ length (now cents)) × (contractCountIn (now book) ≤ length (now priced)) ⌝ }
+    ensures { λ r. ⌜ Settles nodes constraints period (before factors) (before prices) (before book)
+        (before cents) (after cents) (before priced) (after priced) r ⌝ }
 {
     let mccs = all_mccs(nodes, constraints, factors, prices);
     let count = books::contract_count(book);
@@ -130,10 +153,11 @@ pub fn settle(
         book,
         count,
         cents,
+        priced,
     )
 }
 
-// The checks of settling an hour, with `cells` cells for the cents: the tables', the book's own, 9.
+// The checks of settling an hour, with `cells` cells for the cents and `sets` for the sets: the tables', the book's own, 9.
 fn check_settle(
     nodes: usize,
     constraints: usize,
@@ -142,9 +166,9 @@ fn check_settle(
     prices: &[u64],
     book: &[u8],
     cells: usize,
+    sets: usize,
 ) -> Checked
-    ensures { λ r. ⌜ ((place : List ℤ) → length place ≡ cells
-        → r ≡ settleChecked (hourCall nodes constraints period (before factors) (before prices) (before book) place)) ⌝ }
+    ensures { λ r. ⌜ r ≡ first (settleChecks (hourCall nodes constraints period (before factors) (before prices) (before book)) cells sets) ⌝ }
 {
     // No answer of a cell a node is given: as many cells as nodes suffice.
     let hour = tables::check_hour_tables(nodes, constraints, period, factors, prices, nodes);
@@ -155,13 +179,17 @@ fn check_settle(
     if let Checked::Refused(refusal) = own {
         return Checked::Refused(refusal);
     }
-    if cells < books::contract_count(book) {
+    let count = books::contract_count(book);
+    if cells < count {
+        return Checked::Refused(Refusal::ShortTable);
+    }
+    if sets < count {
         return Checked::Refused(Refusal::ShortTable);
     }
     Checked::Passed
 }
 
-// Settles an hour of a period: one cell of cents for each contract, the other period's 0.
+// Settles an hour of a period: a cell of cents and a cell of the constraints that priced it for each contract, the other period's 0.
 pub fn settle_hour(
     nodes: usize,
     constraints: usize,
@@ -170,8 +198,9 @@ pub fn settle_hour(
     prices: &[u64],
     book: &[u8],
     cents: &mut [i64],
+    priced: &mut [u64],
 ) -> SettleAnswer
-    ensures { λ r. ⌜ SettlesHour (hourCall nodes constraints period (before factors) (before prices) (before book) (before cents)) r (after cents) ⌝ }
+    ensures { λ r. ⌜ SettlesHour (hourCall nodes constraints period (before factors) (before prices) (before book)) r cents priced ⌝ }
 {
     match check_settle(
         nodes,
@@ -181,11 +210,21 @@ pub fn settle_hour(
         prices,
         book,
         cents.len(),
+        priced.len(),
     ) {
         Checked::Refused(refusal) => SettleAnswer::Refused(refusal),
         Checked::Passed => {
             let hour = Period::from_number(period);
-            let totals = settle(nodes, constraints, hour, factors, prices, book, cents);
+            let totals = settle(
+                nodes,
+                constraints,
+                hour,
+                factors,
+                prices,
+                book,
+                cents,
+                priced,
+            );
             SettleAnswer::Settled {
                 sum: totals.sum,
                 whole: totals.whole,

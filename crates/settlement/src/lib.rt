@@ -7,6 +7,7 @@ ghost use Rattle.settlement.specs.Inner.{Bounded, Added};
 
 mod hour;
 mod mcc;
+mod priced;
 
 pub use hour::settle;
 pub use hour::settle_hour;
@@ -25,6 +26,12 @@ pub enum MccAnswer {
 pub enum SettleAnswer {
     Settled { sum: i64, whole: i64, parts: u64 },
     Refused(Refusal),
+}
+
+// A contract's amount, with the set of constraints that priced it: bit k for constraint k.
+pub struct PricedAmount {
+    pub amount: Amount,
+    pub priced: u64,
 }
 
 // The totals of the contracts settled so far.

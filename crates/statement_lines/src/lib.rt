@@ -2,13 +2,14 @@
 ghost use mathlib.Core.Path.{_≡_};
 ghost use mathlib.Core.List.{_++_};
 ghost use Prim.Native.Nat.{ℕ, _+_, _*_, _≤_, _<_};
+ghost use lib.Count.{ones};
 ghost use lib.ListN.{length, getD};
 ghost use lib.IntN.{pos, natAbs};
 ghost use Rattle.lists.specs.Lent.{before, after};
 ghost use Rattle.text.specs.Ascii.{ascii};
-ghost use Rattle.text.specs.Decimal.{decimal};
+ghost use Rattle.text.specs.Decimal.{decimal, decimalZ};
 ghost use Rattle.text.specs.Inner.{Put};
-ghost use Rattle.tariff.specs.Units.{maxContracts, maxHolder, perCent};
+ghost use Rattle.tariff.specs.Units.{maxConstraints, maxContracts, maxHolder, perCent};
 ghost use Rattle.tariff.specs.Inner.{maxCents};
 ghost use Rattle.layouts.specs.BookFile.{bookBytes, contractAt};
 ghost use Rattle.statement_lines.specs.Lines.{heading, kindWord, contractLine, lineOf, sumLine, exactLine, longestLine, longestSum, longestExact};
@@ -20,10 +21,10 @@ use tariff::MAX_CONTRACTS;
 use tariff::Period;
 
 // The first line.
-const HEADING: [u8; 27] = *b"contract,holder,kind,cents\n";
+const HEADING: [u8; 34] = *b"contract,holder,kind,cents,priced\n";
 
 // The longest lines of a contract, of the sum and of the exact total, and with the heading the longest statement.
-const LONGEST_LINE: usize = (*b"999,1023,OBL,-64000000000\n").len();
+const LONGEST_LINE: usize = (*b"999,1023,OBL,-64000000000,64\n").len();
 
 const LONGEST_SUM: usize = (*b"sum,-64000000000000\n").len();
 
@@ -58,29 +59,57 @@ fn put_kind(buf: &mut [u8], at: usize, kind: Kind) -> usize
     }
 }
 
+// A contract's cents and how many constraints priced it, at the line's end.
+fn put_figures(buf: &mut [u8], at: usize, cents: i64, priced: u64) -> usize
+    requires { ⌜ (natAbs cents ≤ maxCents) × (priced ≤ maxConstraints) × (at + 16 ≤ length (now buf)) ⌝ }
+    ensures { λ r. ⌜ Put (before buf) at (decimalZ cents ++ ascii "," ++ decimal priced ++ ascii "\n") (after buf) r ⌝ }
+    ensures { λ r. ⌜ r ≤ at + 16 ⌝ }
+{
+    let figure = text::put_signed(buf, at, cents);
+    let comma = text::put_char(buf, figure, b',');
+    let size = text::put_decimal(buf, comma, priced);
+    text::put_char(buf, size, b'\n')
+}
+
 // The line of one contract.
-fn put_contract(buf: &mut [u8], at: usize, number: u64, c: Contract, cents: i64) -> usize
-    requires { ⌜ (number < maxContracts) × (c .holder ≤ maxHolder) × (natAbs cents ≤ maxCents) × (at + longestLine ≤ length (now buf)) ⌝ }
-    ensures { λ r. ⌜ Put (before buf) at (contractLine number c cents) (after buf) r ⌝ }
+fn put_contract(
+    buf: &mut [u8],
+    at: usize,
+    number: u64,
+    c: Contract,
+    cents: i64,
+    priced: u64,
+) -> usize
+    requires { ⌜ (number < maxContracts) × (c .holder ≤ maxHolder) × (natAbs cents ≤ maxCents) × (priced ≤ maxConstraints) ⌝ }
+    requires { ⌜ at + longestLine ≤ length (now buf) ⌝ }
+    ensures { λ r. ⌜ Put (before buf) at (contractLine number c cents priced) (after buf) r ⌝ }
     ensures { λ r. ⌜ r ≤ at + longestLine ⌝ }
 {
     let holder = c.holder;
     let kind = c.kind;
     let numbers = put_numbers(buf, at, number, holder);
     let word = put_kind(buf, numbers, kind);
-    let figure = text::put_signed(buf, word, cents);
-    text::put_char(buf, figure, b'\n')
+    put_figures(buf, word, cents, priced)
 }
 
 // The line of a contract of the period; nothing for the other period's.
-fn put_own(buf: &mut [u8], at: usize, period: Period, number: u64, c: Contract, cents: i64) -> usize
-    requires { ⌜ (number < maxContracts) × (c .holder ≤ maxHolder) × (natAbs cents ≤ maxCents) × (at + longestLine ≤ length (now buf)) ⌝ }
-    ensures { λ r. ⌜ Put (before buf) at (lineOf period number c cents) (after buf) r ⌝ }
+fn put_own(
+    buf: &mut [u8],
+    at: usize,
+    period: Period,
+    number: u64,
+    c: Contract,
+    cents: i64,
+    priced: u64,
+) -> usize
+    requires { ⌜ (number < maxContracts) × (c .holder ≤ maxHolder) × (natAbs cents ≤ maxCents) × (priced ≤ maxConstraints) ⌝ }
+    requires { ⌜ at + longestLine ≤ length (now buf) ⌝ }
+    ensures { λ r. ⌜ Put (before buf) at (lineOf period number c cents priced) (after buf) r ⌝ }
     ensures { λ r. ⌜ r ≤ at + longestLine ⌝ }
 {
     let own = c.period;
     if own.same(period) {
-        put_contract(buf, at, number, c, cents)
+        put_contract(buf, at, number, c, cents, priced)
     } else {
         at
     }
@@ -94,17 +123,21 @@ fn put_contracts(
     book: &[u8],
     count: usize,
     cents: &[i64],
+    priced: &[u64],
 ) -> usize
-    requires { ⌜ (count ≤ maxContracts) × (bookBytes count ≤ length (now book)) × (count ≤ length (now cents)) ⌝ }
-    requires { ⌜ ((i : ℕ) → i < count → natAbs (getD (now cents) i (pos 0)) ≤ maxCents) × (at + longestLine * count ≤ length (now buf)) ⌝ }
-    ensures { λ r. ⌜ Put (before buf) at (linesTo period (contractAt (before book)) (before cents) count) (after buf) r ⌝ }
+    requires { ⌜ (count ≤ maxContracts) × (bookBytes count ≤ length (now book)) × (count ≤ length (now cents)) × (count ≤ length (now priced)) ⌝ }
+    requires { ⌜ ((i : ℕ) → i < count → natAbs (getD (now cents) i (pos 0)) ≤ maxCents) × ((i : ℕ) → i < count → ones (getD (now priced) i 0) ≤ maxConstraints) ⌝ }
+    requires { ⌜ at + longestLine * count ≤ length (now buf) ⌝ }
+    ensures { λ r. ⌜ Put (before buf) at (linesTo period (contractAt (before book)) (before cents) (before priced) count) (after buf) r ⌝ }
     ensures { λ r. ⌜ r ≤ at + longestLine * count ⌝ }
 {
     let mut next = at;
     let mut i = 0;
     while i < count {
         let c = books::contract_at(book, i);
-        next = put_own(buf, next, period, i as u64, c, cents[i]);
+        let set = priced[i];
+        let size = u64::count_ones(set) as u64;
+        next = put_own(buf, next, period, i as u64, c, cents[i], size);
         i += 1;
     }
     next
@@ -141,14 +174,15 @@ pub fn put_lines(
     book: &[u8],
     count: usize,
     cents: &[i64],
+    priced: &[u64],
     totals: Totals,
 ) -> usize
-    requires { ⌜ (count ≤ maxContracts) × (bookBytes count ≤ length (now book)) × (count ≤ length (now cents)) × Sized count (now cents) totals ⌝ }
-    requires { ⌜ length heading + longestLine * count + longestSum + longestExact ≤ length (now buf) ⌝ }
-    ensures { λ r. ⌜ Put (before buf) 0 (settledLines period (contractAt (before book)) (before cents) count totals) (after buf) r ⌝ }
+    requires { ⌜ (count ≤ maxContracts) × (bookBytes count ≤ length (now book)) × (count ≤ length (now cents)) × (count ≤ length (now priced)) ⌝ }
+    requires { ⌜ Sized count (now cents) (now priced) totals × (length heading + longestLine * count + longestSum + longestExact ≤ length (now buf)) ⌝ }
+    ensures { λ r. ⌜ Put (before buf) 0 (settledLines period (contractAt (before book)) (before cents) (before priced) count totals) (after buf) r ⌝ }
 {
     let first = text::put_text(buf, 0, &HEADING);
-    let second = put_contracts(buf, first, period, book, count, cents);
+    let second = put_contracts(buf, first, period, book, count, cents, priced);
     let third = put_sum(buf, second, totals.sum);
     put_exact(buf, third, totals.whole, totals.parts)
 }

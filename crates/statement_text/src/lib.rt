@@ -41,6 +41,7 @@ fn put_settled(
         (lines (factorsOf nodes constraints (before factors)) (take constraints (before prices)) period (bookIn (before book))) (after buf) r ⌝ }
 {
     let mut cents = [0i64; MAX_CONTRACTS];
+    let mut priced = [0u64; MAX_CONTRACTS];
     let totals = settlement::settle(
         nodes,
         constraints,
@@ -49,9 +50,10 @@ fn put_settled(
         prices,
         book,
         &mut cents,
+        &mut priced,
     );
     let count = books::contract_count(book);
-    statement_lines::put_lines(buf, period, book, count, &cents, totals)
+    statement_lines::put_lines(buf, period, book, count, &cents, &priced, totals)
 }
 
 // The statement of a grid and a book that are accepted.

@@ -1,5 +1,6 @@
 pub mod Worst
 pub mod Overloads
+pub mod Priced
 pub mod Theorems
 pub mod Kept
 pub mod Sizes

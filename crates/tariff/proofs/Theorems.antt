@@ -1,7 +1,8 @@
--- THE THEOREMS over document 01's definitions, each for every grid, book, period and process. Statements only: the proofs are in Worst.antt,
--- WorstNumber.antt, Overloads.antt, Rules.antt and Periods.antt.
+-- THE THEOREMS over the definitions, each for every grid, book, period and process. Statements only: the proofs are in Worst.antt,
+-- WorstNumber.antt, Overloads.antt, Rules.antt, Periods.antt and Priced.antt.
 use mathlib.Core.Path.{_≡_, refl}
-use mathlib.Core.Logic.{_↔_}
+use mathlib.Core.Logic.{_↔_, _≢_}
+use mathlib.Core.Bool.{true, cond}
 use mathlib.Core.List.{List, [], _∷_, _++_}
 use Prim.Native.Nat.{ℕ, _+_, _<_, _≤_}
 use native.Mathlib.Numerals.{add-one}
@@ -16,15 +17,16 @@ use Rattle.tariff.specs.declared.contracts.Kind.the-variants.{Option}
 use Rattle.tariff.specs.declared.contracts.Period.{Period}
 use Rattle.tariff.specs.declared.processes.Process.{Process}
 use Rattle.tariff.specs.Units.{Factors, Grid, factor, price, maxConstraints}
-use Rattle.tariff.specs.Contracts.{ofPeriod}
+use Rattle.tariff.specs.Contracts.{counted, ofPeriod}
 use Rattle.tariff.specs.Feasibility.{flow, Passes, excess, overloaded, overloadSet, overloadCount, lowestOverload}
-use Rattle.tariff.specs.Settlement.{congestion, mcc}
+use Rattle.tariff.specs.Settlement.{congestion, mcc, amount, spreadAt, pricedAt, pricedSet, pricedCount}
 use Rattle.tariff.specs.Shortfall.{PriceList, shortfall, oneCent, IsWorst}
 use Rattle.tariff.proofs.Worst as W
 use Rattle.tariff.proofs.Overloads as O
 use Rattle.tariff.proofs.Rules as R
 use Rattle.tariff.proofs.Periods as P
 use Rattle.tariff.proofs.WorstNumber as N
+use Rattle.tariff.proofs.Priced as C
 
 module _ (g : Grid) (process : Process) (period : Period) (book : List Contract) where
   abbrev tested : List Contract
@@ -100,3 +102,22 @@ module _ (f : Factors) (prices : List ℕ) (node : ℕ) where
   pub mcc-is-one-negation : mcc f prices node ≡ negℤ (congestion f prices node (f .constraints))
   unfolding mcc
   mcc-is-one-negation = refl
+
+-- Paper 8: what priced a contract, for every grid's factors and every price list
+module _ (f : Factors) (p : List ℕ) (c : Contract) where
+  -- the size of the set is its count of ones
+  pub priced-size-is-ones : ones (pricedSet f p c) ≡ pricedCount f p c
+  unfolding pricedSet pricedCount
+  priced-size-is-ones = set-ones (f .constraints) (pricedAt f p c)
+
+  -- a constraint is in it exactly where its price isn't 0 and the two factors differ
+  pub priced-where : (k : ℕ) → (pricedAt f p c k ≡ true) ↔ ((price p k ≢ 0) × (factor f (c .source) k ≢ factor f (c .sink) k))
+  priced-where = C.priced-where f p c
+
+  -- the amount is that of the constraints in it: the others moved nothing
+  pub amount-is-of-the-priced : amount f p c ≡ counted (c .kind) (sumTo (f .constraints) (λ k. cond (pricedAt f p c k) (spreadAt f p c k) (pos 0)) *ℤ pos (c .quantity .0))
+  amount-is-of-the-priced = C.amount-priced f p c
+
+  -- where it is empty the amount is 0
+  pub unpriced-amount-zero : pricedSet f p c ≡ 0 → amount f p c ≡ pos 0
+  unpriced-amount-zero = C.amount-unpriced f p c

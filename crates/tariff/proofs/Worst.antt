@@ -42,7 +42,7 @@ convex Option zero x w = ≤ℤ-refl (pos 0)
 convex Option (suc n) x w = convex-step (sumTo n (λ k. x k *ℤ pos (w k))) (sumTo n (λ k. max0 (x k) *ℤ pos (w k))) (x n) (w n) (convex Option n x w)
 
 -- ---- one price at 1
-counted-zero : (d : Kind) → counted d (pos 0) ≡ pos 0
+pub counted-zero : (d : Kind) → counted d (pos 0) ≡ pos 0
 counted-zero Obligation = refl
 counted-zero Option = refl
 

@@ -1,6 +1,7 @@
 // Units as tuple structs. Sums keep their unit: a quantity, a price or an MCC is opened only here: in its own sums, in the product rules, and to go into a cell.
 ghost use mathlib.Core.Path.{_≡_};
 ghost use Prim.Native.Nat.{_+_, _^_, _≤_, _<_};
+ghost use lib.Dec.{ltb};
 ghost use lib.IntN.{pos, natAbs, negℤ, _+ℤ_, _-ℤ_, _*ℤ_};
 ghost use lib.Signed.{ltZ};
 ghost use Rattle.integers.specs.Division.{roundUp};
@@ -63,6 +64,13 @@ impl Quantity {
 pub struct Price(pub u64);
 
 impl Price {
+    // Where the product rule of what priced a contract begins (02, paper 8): a product by a price of 0 is 0.
+    pub fn posted(self) -> bool
+        ensures { λ r. ⌜ r ≡ ltb 0 (self .0) ⌝ }
+    {
+        0 < self.0
+    }
+
     // The product rule of congestion (002 part C): shift factor × shadow price.
     pub fn times(self, factor: i64) -> Mcc
         requires { ⌜ (natAbs factor ≤ maxFactor) × (self .0 ≤ maxPrice) ⌝ }

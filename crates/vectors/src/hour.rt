@@ -153,11 +153,12 @@ fn mcc_figures() {
     mcc_answer(b"MCC, accepted", 1, 1, &[1], &[1], 0, -1);
 }
 
-// Case L's hour: cents, their sum, and the exact total.
+// Case L's hour: cents, what priced each contract, the cents' sum, and the exact total.
 fn case_l_hour() {
     let book =
         b"\x01\x00\x40\x70\x00\x10\x27\x10\xc0\x80\x00\x20\x01\xf4\x40\x70\x00\x20\x00\x01\x00\x90\x00\x10\x00\x05";
     let mut cents = [0i64; 4];
+    let mut priced = [0u64; 4];
     match settlement::settle_hour(
         3,
         2,
@@ -166,12 +167,17 @@ fn case_l_hour() {
         &[1000, 2550],
         book,
         &mut cents,
+        &mut priced,
     ) {
         SettleAnswer::Settled { sum, whole, parts } => {
             signed_figure(b"L, cents of contract 0", cents[0], 900);
             signed_figure(b"L, cents of contract 1", cents[1], 0);
             signed_figure(b"L, cents of contract 2", cents[2], -1);
             signed_figure(b"L, cents of contract 3", cents[3], 0);
+            figure(b"8.1, set of contract 0", priced[0], 3);
+            figure(b"8.1, set of contract 1", priced[1], 3);
+            figure(b"8.1, set of contract 2", priced[2], 3);
+            figure(b"8.1, set of contract 3", priced[3], 0);
             signed_figure(b"L, sum", sum, 899);
             signed_figure(b"L, whole cents", whole, 899);
             figure(b"L, parts", parts, 17000000);
@@ -194,7 +200,17 @@ fn one_contract(
     let mut file = [0u8; 8];
     book_file::write_book(2, 1, &[0, 1, 0, 0, 1, quantity], &mut file);
     let mut cents = [0i64; 1];
-    match settlement::settle_hour(2, 1, 1, &[source, sink], &[price], &file, &mut cents) {
+    let mut priced = [0u64; 1];
+    match settlement::settle_hour(
+        2,
+        1,
+        1,
+        &[source, sink],
+        &[price],
+        &file,
+        &mut cents,
+        &mut priced,
+    ) {
         SettleAnswer::Settled {
             sum: _,
             whole,
@@ -237,16 +253,27 @@ fn end_factors() -> [i64; 12800] {
     factors
 }
 
-// 200 nodes, 64 constraints, 1,000 contracts, every figure at its end: the exact total passes 2^63.
+// 200 nodes, 64 constraints, 1,000 contracts, every figure at its end: the exact total passes 2^63, and all 64 priced each contract.
 fn extreme(name: &[u8], source: u64, sink: u64, cents_expected: i64, sum_expected: i64) {
     let mut file = [0u8; 6002];
     let cells = equal_rows(source, sink);
     book_file::write_book(200, 1000, &cells, &mut file);
     let factors = end_factors();
     let mut cents = [0i64; 1000];
-    match settlement::settle_hour(200, 64, 1, &factors, &[500000; 64], &file, &mut cents) {
+    let mut priced = [0u64; 1000];
+    match settlement::settle_hour(
+        200,
+        64,
+        1,
+        &factors,
+        &[500000; 64],
+        &file,
+        &mut cents,
+        &mut priced,
+    ) {
         SettleAnswer::Settled { sum, whole, parts } => {
             signed_figure(name, cents[999], cents_expected);
+            figure(name, priced[999], 18446744073709551615);
             signed_figure(name, sum, sum_expected);
             signed_figure(name, whole, sum_expected);
             figure(name, parts, 0);

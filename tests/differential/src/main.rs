@@ -27,22 +27,35 @@ const BOOK: &[u64] = &[1, 4, 5, 10, 11, 12, 13];
 const GRID: &[u64] = &[1, 2, 3, 4, 5, 6, 7, 8];
 const PRICES: &[u64] = &[1, 5, 8, 14, 15];
 
-/// Each entry, with the refusals that the scope document lists for it.
+/// Each entry, with the refusals that the scope document lists for it, and the cases that the change requests name.
 const ENTRIES: [Entry; 11] = [
-    Entry { name: "read_grid", refusals: &[1, 2, 3, 4, 5, 6, 7, 8, 9], files: &[], round: rounds::grid::read },
-    Entry { name: "write_grid", refusals: &[2, 3, 6, 7, 9], files: &[], round: rounds::grid::write },
-    Entry { name: "read_book", refusals: &[1, 2, 4, 5, 9, 10, 11, 12, 13], files: &[], round: rounds::book::read },
-    Entry { name: "write_book", refusals: &[2, 9, 10, 11, 12, 13, 17, 18], files: &[], round: rounds::book::write },
-    Entry { name: "read_prices", refusals: &[1, 3, 5, 8, 9, 14, 15], files: &[], round: rounds::prices::read },
-    Entry { name: "write_prices", refusals: &[3, 9, 15, 17], files: &[], round: rounds::prices::write },
-    Entry { name: "test_book", refusals: &[1, 2, 3, 4, 5, 6, 7, 9, 10, 11, 12, 13, 16, 17], files: &[], round: rounds::test::round },
-    Entry { name: "find_mcc", refusals: &[2, 3, 7, 9, 15], files: &[], round: rounds::settlement::mcc },
-    Entry { name: "settle_hour", refusals: &[1, 2, 3, 4, 5, 7, 9, 10, 11, 12, 13, 15, 17], files: &[], round: rounds::settlement::hour },
-    Entry { name: "write_report", refusals: &[9], files: &[("grid", GRID), ("book", BOOK)], round: rounds::text::report },
+    Entry { name: "read_grid", refusals: &[1, 2, 3, 4, 5, 6, 7, 8, 9], files: &[], cases: &[], round: rounds::grid::read },
+    Entry { name: "write_grid", refusals: &[2, 3, 6, 7, 9], files: &[], cases: &[], round: rounds::grid::write },
+    Entry { name: "read_book", refusals: &[1, 2, 4, 5, 9, 10, 11, 12, 13], files: &[], cases: &[], round: rounds::book::read },
+    Entry { name: "write_book", refusals: &[2, 9, 10, 11, 12, 13, 17, 18], files: &[], cases: &[], round: rounds::book::write },
+    Entry { name: "read_prices", refusals: &[1, 3, 5, 8, 9, 14, 15], files: &[], cases: &[], round: rounds::prices::read },
+    Entry { name: "write_prices", refusals: &[3, 9, 15, 17], files: &[], cases: &[], round: rounds::prices::write },
+    Entry {
+        name: "test_book",
+        refusals: &[1, 2, 3, 4, 5, 6, 7, 9, 10, 11, 12, 13, 16, 17],
+        files: &[],
+        cases: &[],
+        round: rounds::test::round,
+    },
+    Entry { name: "find_mcc", refusals: &[2, 3, 7, 9, 15], files: &[], cases: &[], round: rounds::settlement::mcc },
+    Entry {
+        name: "settle_hour",
+        refusals: &[1, 2, 3, 4, 5, 7, 9, 10, 11, 12, 13, 15, 17],
+        files: &[],
+        cases: &rounds::priced::CASES,
+        round: rounds::settlement::hour,
+    },
+    Entry { name: "write_report", refusals: &[9], files: &[("grid", GRID), ("book", BOOK)], cases: &[], round: rounds::text::report },
     Entry {
         name: "write_statement",
         refusals: &[9],
         files: &[("grid", GRID), ("book", BOOK), ("prices", PRICES)],
+        cases: &rounds::priced::CASES,
         round: rounds::text::statement,
     },
 ];

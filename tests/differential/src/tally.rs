@@ -6,11 +6,12 @@ use std::collections::BTreeMap;
 
 const SHOWN: u64 = 10;
 
-/// An entry, the refusals that it must have drawn, and the files that its text must have named as refused.
+/// An entry, the refusals that it must have drawn, the files that its text must have named as refused, and the cases that its inputs must have shown.
 pub struct Entry {
     pub name: &'static str,
     pub refusals: &'static [u64],
     pub files: &'static [(&'static str, &'static [u64])],
+    pub cases: &'static [&'static str],
     pub round: fn(&mut Round),
 }
 
@@ -20,15 +21,17 @@ pub struct Tally {
     pub failed: u64,
     pub refusals: BTreeMap<u64, u64>,
     pub files: BTreeMap<Refused, u64>,
+    pub cases: BTreeMap<&'static str, u64>,
 }
 
 impl Tally {
-    /// The refusals that should have been drawn and were not.
+    /// The refusals and cases that should have been drawn and were not.
     pub fn missing(&self, entry: &Entry) -> Vec<String> {
         let answers = entry.refusals.iter().filter(|number| !self.refusals.contains_key(number)).map(u64::to_string);
         let named = entry.files.iter().flat_map(|&(file, numbers)| numbers.iter().map(move |&number| (file, number)));
         let lines = named.filter(|refused| !self.files.contains_key(refused)).map(|(file, number)| format!("{file} {number}"));
-        answers.chain(lines).collect()
+        let cases = entry.cases.iter().filter(|case| !self.cases.contains_key(*case)).map(|case| case.to_string());
+        answers.chain(lines).chain(cases).collect()
     }
 
     pub fn print(&self, entry: &Entry) {
@@ -38,6 +41,10 @@ impl Tally {
             let of_file = self.files.iter().filter(|((name, _), _)| *name == file);
             let counts: Vec<String> = of_file.map(|((_, number), count)| format!("{number}:{count}")).collect();
             println!("{:<16} | {:>7} | {:>6} | {}", format!("  refused,{file}"), "", "", counts.join(" "));
+        }
+        if !entry.cases.is_empty() {
+            let counts: Vec<String> = self.cases.iter().map(|(case, count)| format!("{case}: {count}")).collect();
+            println!("{:<16} | {:>7} | {:>6} | {}", "  contracts", "", "", counts.join(", "));
         }
     }
 }
@@ -81,6 +88,13 @@ impl<'a> Round<'a> {
     pub fn named(&mut self, refused: Option<Refused>) {
         if let Some(refused) = refused {
             *self.tally.files.entry(refused).or_default() += 1;
+        }
+    }
+
+    /// Counts the cases that an input shows.
+    pub fn shown(&mut self, cases: &[&'static str]) {
+        for case in cases {
+            *self.tally.cases.entry(case).or_default() += 1;
         }
     }
 }

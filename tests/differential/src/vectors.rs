@@ -1,10 +1,11 @@
-//! The scope document's checked values, asked of the second implementation, so that it is not trusted on its own word.
+//! The checked values of the scope document and of the change requests, asked of the second implementation, so that it is not trusted on its own word.
 
 use crate::second::book::{self, Contract};
 use crate::second::grid::{self, Grid};
 use crate::second::prices;
-use crate::second::settlement::{amount, cents, hour, mcc};
+use crate::second::settlement::{amount, cents, hour, mcc, settle, Asked};
 use crate::second::test::{figures, flow, of_period};
+use crate::second::{set_of, text};
 
 fn contract(kind: i128, period: i128, ends: (i128, i128), quantity: i128, holder: i128) -> Contract {
     Contract { kind, period, holder, source: ends.0, sink: ends.1, quantity }
@@ -47,6 +48,57 @@ fn settlement_values() -> [bool; 6] {
     ]
 }
 
+/// The cents and the set of one on-peak contract.
+fn priced_alone(factors: &[&[i128]], prices: &[i128], contract: Contract) -> (i128, i128) {
+    let factors: Vec<Vec<i128>> = factors.iter().map(|row| row.to_vec()).collect();
+    let (nodes, constraints) = (factors.len() as i128, prices.len() as i128);
+    let hour = hour(&Grid { nodes, constraints, limits: Vec::new(), factors }, prices, 1, &[contract]);
+    (hour.cents[0], set_of(&hour.priced[0]))
+}
+
+/// Sets on case L's grid, whatever is paid; equal factors; all 64 constraints.
+fn priced_values() -> [bool; 11] {
+    let factors: &[&[i128]] = &[&[60_000, -20_000], &[0, 0], &[-10_000, 40_000]];
+    let (full, other) = (contract(0, 1, (0, 1), 10_000, 7), contract(0, 0, (0, 1), 5, 9));
+    let thousand = |kind: i128| contract(kind, 1, (0, 1), 1_000, 7);
+    let (most, least) = ([100_000; 64], [-100_000; 64]);
+    let (grid, book, list) = case_l();
+    let sets: Vec<i128> = hour(&grid, &list, 1, &book).priced.iter().map(|own| set_of(own)).collect();
+    [
+        sets == [3, 3, 3, 0],
+        priced_alone(factors, &[0, 2_550], full) == (-5_100, 2),
+        priced_alone(factors, &[0, 0], full) == (0, 0),
+        priced_alone(factors, &list, contract(1, 1, (0, 2), 500, 8)) == (0, 3),
+        priced_alone(factors, &list, contract(1, 1, (2, 0), 500, 8)) == (415, 3),
+        priced_alone(factors, &[1_000, 3_000], thousand(0)) == (0, 3),
+        priced_alone(factors, &[1_000, 3_000], thousand(1)) == (0, 3),
+        priced_alone(factors, &[1, 0], contract(0, 1, (0, 1), 1, 7)) == (0, 1),
+        priced_alone(factors, &list, other) == (0, 0),
+        priced_alone(&[&[5, 7], &[5, -7]], &[9, 9], contract(0, 1, (0, 1), 1_000_000, 0)) == (1, 2),
+        priced_alone(&[&most, &least], &[500_000; 64], contract(0, 1, (0, 1), 1_000_000, 1_023)) == (64_000_000_000, u64::MAX.into()),
+    ]
+}
+
+/// The last 9, for cents and for sets, and the statement's.
+fn room_values() -> [bool; 6] {
+    let (grid, contracts, list) = case_l();
+    let factors: Vec<i64> = grid.factor_cells().iter().map(|&factor| factor as i64).collect();
+    let book = book::file_of(&contracts);
+    let asked = Asked { nodes: 3, constraints: 2, period: 1, factors: &factors, prices: &[1_000, 2_550], book: &book };
+    let answer = |room: usize, priced_room: usize| settle(&asked, room, priced_room).map_or_else(|number| number, |_| 0);
+    let files = (grid::file_of(&grid), prices::file_of(1, &list));
+    let statement = |room: usize| text::statement(&files.0, &book, &files.1, room).map(|page| page.text);
+    let page = "contract,holder,kind,cents,priced\n0,7,OBL,900,2\n1,8,OPT,0,2\n2,7,OBL,-1,2\nsum,899\nexact,899,17000000\n";
+    [
+        (answer(4, 3), answer(3, 4)) == (9, 9),
+        answer(3, 3) == 9,
+        answer(4, 4) == 0,
+        answer(6, 5) == 0,
+        statement(29_085) == Ok(page.to_string()),
+        statement(29_084) == Err(9),
+    ]
+}
+
 fn test_values() -> [bool; 7] {
     let (grid, book, _) = case_l();
     let on_peak = of_period(&book, 1);
@@ -75,8 +127,8 @@ fn file_values() -> [bool; 5] {
 
 /// Prints how many hold; how many do not.
 pub fn check() -> usize {
-    let all = [&settlement_values()[..], &test_values(), &file_values()].concat();
+    let all = [&settlement_values()[..], &priced_values(), &room_values(), &test_values(), &file_values()].concat();
     let wrong = all.iter().filter(|holds| !**holds).count();
-    println!("second implementation on the paper's checked values: {} hold, {wrong} do not", all.len() - wrong);
+    println!("second implementation on the papers' checked values: {} hold, {wrong} do not", all.len() - wrong);
     wrong
 }

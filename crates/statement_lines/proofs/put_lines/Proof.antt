@@ -13,7 +13,7 @@ use Rattle.statement_lines.proofs.put_lines.Tie as tie
 
 -- the totals are within their bounds
 most : (s : tie.Start) → (natAbs (s .args .totals .sum) ≤ maxTotal) × (natAbs (s .args .totals .whole) ≤ maxTotal)
-most s = let b = s .pre .0 .3 .bounded in (omega (arith, s .pre .0 .0, b .sum-sized), omega (arith, s .pre .0 .0, b .whole-sized))
+most s = let b = s .pre .1 .0 .bounded in (omega (arith, s .pre .0 .0, b .sum-sized), omega (arith, s .pre .0 .0, b .whole-sized))
 
 -- so they are as they are kept in an i64
 kept-most : (s : tie.Start) → (natAbs (toZ w64 (ofZ w64 (s .args .totals .sum))) ≤ maxTotal) × (natAbs (toZ w64 (ofZ w64 (s .args .totals .whole))) ≤ maxTotal)
@@ -21,19 +21,19 @@ kept-most s = (kept-total (s .args .totals .sum) (most s .0), kept-total (s .arg
 
 put-contracts-requires : tie.Need-put-contracts-requires
 put-contracts-requires c κs =
-    let s = c .before .before .before .before .before .before .before .before in
-    let p = s .pre .0 in
-    ((p .0, p .1, p .2), (p .3 .cells-sized, omega (arith, s .pre .1)))
+    let s = c .before .before .before .before .before .before .before .before .before in
+    let sized = s .pre .1 .0 in
+    (s .pre .0, ((sized .cells-sized, sized .sets-sized), omega (arith, s .pre .1 .1)))
 
 put-sum-requires : tie.Need-put-sum-requires
 put-sum-requires c κs =
-    let s = c .before .before .before .before .before .before .before .before .before .before .before .before .before in
-    (omega (arith, kept-most s), omega (arith, s .pre .1))
+    let s = c .before .before .before .before .before .before .before .before .before .before .before .before .before .before in
+    (omega (arith, kept-most s), omega (arith, s .pre .1 .1))
 
 put-exact-requires : tie.Need-put-exact-requires
 put-exact-requires c κs =
-    let s = c .before .before .before .before .before .before .before .before .before .before .before .before .before .before .before .before .before .before in
-    (omega (arith, kept-most s), s .pre .0 .3 .bounded .parts-small, omega (arith, s .pre .1))
+    let s = c .before .before .before .before .before .before .before .before .before .before .before .before .before .before .before .before .before .before .before in
+    (omega (arith, kept-most s), s .pre .1 .0 .bounded .parts-small, omega (arith, s .pre .1 .1))
 
 returns : tie.Need-returns
 unfolding settledLines
@@ -42,7 +42,7 @@ returns c =
     let p3 = c .before .before .before .before .before .before .before .put-sum in
     let p2 = c .before .before .before .before .before .before .before .before .before .before .before .before .put-contracts in
     let p1 = c .before .before .before .before .before .before .before .before .before .before .before .before .before .before .before .before .put-text in
-    let s = c .before .before .before .before .before .before .before .before .before .before .before .before .before .before .before .before .before .before .before .before .before in
+    let s = c .before .before .before .before .before .before .before .before .before .before .before .before .before .before .before .before .before .before .before .before .before .before in
     let r = s .args .totals in
     p1 .ensures then p2 .ensures .0 then rw (kept (r .sum) (most s .0)) at (p3 .ensures .0) then rw (kept (r .whole) (most s .1)) at (p4 .ensures .0)
 

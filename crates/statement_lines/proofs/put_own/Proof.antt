@@ -1,6 +1,7 @@
 -- `put_own`.
 use mathlib.Core.Path.{sym, ap, _∙_}
 use native.Mathlib.Omega.{arith}
+use lib.IntN.{ℤ}
 use Rattle.text.proofs.Putting.{put-none, put-same}
 use Rattle.statement_lines.specs.Lines.{contractLine}
 use Rattle.statement_lines.proofs.Figures.{kept, own-line, no-line}
@@ -14,14 +15,14 @@ returns c =
     let i = c .before .before .before .before in
     let s = i .before .before .before in
     let a = s .args in
-    let own = own-line (a .period) (a .number) (a .c) (a .cents) (i .before .same .result) (i .before .same .ensures) (i .if1 .taken) in
-    (put-same (own ∙ ap (contractLine (a .number) (a .c)) (sym (kept (a .cents) (omega (arith, s .pre .2))))) (p .ensures .0), p .ensures .1)
+    let own = own-line (a .period) (a .number) (a .c) (a .cents) (a .priced) (i .before .same .result) (i .before .same .ensures) (i .if1 .taken) in
+    (put-same (own ∙ ap (λ (z : ℤ). contractLine (a .number) (a .c) z (a .priced)) (sym (kept (a .cents) (omega (arith, s .pre .0 .2))))) (p .ensures .0), p .ensures .1)
 
 returns-2 : tie.Need-returns-2
 returns-2 c =
     let s = c .before .before .before in
     let a = s .args in
-    (put-same (no-line (a .period) (a .number) (a .c) (a .cents) (c .before .same .result) (c .before .same .ensures) (c .if1 .left)) (put-none (omega (arith, s .pre .3))), omega arith)
+    (put-same (no-line (a .period) (a .number) (a .c) (a .cents) (a .priced) (c .before .same .result) (c .before .same .ensures) (c .if1 .left)) (put-none (omega (arith, s .pre .1))), omega arith)
 
 pub put-own-spec : {M : Type 1} → statement M
 put-own-spec =

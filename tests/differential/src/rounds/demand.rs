@@ -54,10 +54,12 @@ impl Case {
     fn settled_shortfall(&self, prices: &[i128]) -> Answer<i128> {
         let cells: Vec<u64> = prices.iter().map(|&price| price as u64).collect();
         let (factors, file) = (self.factors(), book::file_of(&self.book));
-        let (nodes, constraints, mut cents) = (self.grid.nodes as usize, cells.len(), vec![0; self.book.len()]);
+        let (nodes, constraints) = (self.grid.nodes as usize, cells.len());
+        let (mut cents, mut priced) = (vec![0; self.book.len()], vec![0; self.book.len()]);
         let (mut sum, mut whole, mut parts) = (0, 0, 0);
+        let own = (&mut cents, &mut priced);
         let lent = (&mut sum, &mut whole, &mut parts);
-        let answer = library::settle_hour(nodes, constraints, self.period, &factors, &cells, &file, &mut cents, lent.0, lent.1, lent.2);
+        let answer = library::settle_hour(nodes, constraints, self.period, &factors, &cells, &file, own.0, own.1, lent.0, lent.1, lent.2);
         first(&[(answer != 0, answer)])?;
         Ok(i128::from(whole) * 100_000_000 + i128::from(parts) - rent(&self.grid, self.process, prices))
     }

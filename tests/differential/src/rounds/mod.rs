@@ -3,6 +3,7 @@
 pub mod book;
 pub mod demand;
 pub mod grid;
+pub mod priced;
 pub mod prices;
 pub mod settlement;
 pub mod test;

@@ -1,11 +1,15 @@
 //! Finding the MCC and settling hours.
 
+use super::priced::{cases, Priced};
 use super::*;
 use crate::draw::{self, Size};
 use crate::lent::Lent;
 use crate::library;
 use crate::second::book::{self, Contract};
+use crate::second::grid::Grid;
+use crate::second::set_of;
 use crate::second::settlement::{find_mcc, settle, Asked};
+use crate::second::test::of_period;
 use crate::tally::Round;
 
 #[derive(Clone)]
@@ -16,7 +20,9 @@ struct Tables {
     factors: Vec<i64>,
     prices: Vec<u64>,
     book: Vec<u8>,
+    /// Cells for the MCC or the cents, and for the sets.
     room: usize,
+    priced_room: usize,
 }
 
 impl Tables {
@@ -38,24 +44,33 @@ fn mcc_call(round: &mut Round, asked: &Tables) {
 }
 
 fn settle_call(round: &mut Round, asked: &Tables) {
-    let second = settle(&asked.asked(), asked.room);
-    let Tables { nodes, constraints, period, factors, prices, book, room } = asked;
+    let second = settle(&asked.asked(), asked.room, asked.priced_room);
+    let Tables { nodes, constraints, period, factors, prices, book, room, priced_room } = asked;
     let mut cents = Lent::<i64>::new(&mut round.draw, "cents", *room);
+    let mut priced = Lent::<u64>::new(&mut round.draw, "priced", *priced_room);
     let mut sum = Lent::<i64>::new(&mut round.draw, "sum", 1);
     let mut whole = Lent::<i64>::new(&mut round.draw, "whole", 1);
     let mut parts = Lent::<u64>::new(&mut round.draw, "parts", 1);
-    let (own, lent) = (cents.slice(), (sum.figure(), whole.figure(), parts.figure()));
-    let proved = library::settle_hour(*nodes, *constraints, *period, factors, prices, book, own, lent.0, lent.1, lent.2);
-    let (number, written, figures) = match second {
-        Ok(hour) => (0, hour.cents, [vec![hour.sum], vec![hour.whole], vec![hour.parts]]),
-        Err(number) => (number, Vec::new(), Default::default()),
+    let (own, lent) = ((cents.slice(), priced.slice()), (sum.figure(), whole.figure(), parts.figure()));
+    let proved = library::settle_hour(*nodes, *constraints, *period, factors, prices, book, own.0, own.1, lent.0, lent.1, lent.2);
+    let (number, written, sets, figures) = match second {
+        Ok(hour) => {
+            let sets = hour.priced.iter().map(|own| set_of(own)).collect();
+            (0, hour.cents, sets, [vec![hour.sum], vec![hour.whole], vec![hour.parts]])
+        }
+        Err(number) => (number, Vec::new(), Vec::new(), Default::default()),
     };
-    let differences =
-        [cents.difference(&written), sum.difference(&figures[0]), whole.difference(&figures[1]), parts.difference(&figures[2])];
+    let differences = [
+        cents.difference(&written),
+        priced.difference(&sets),
+        sum.difference(&figures[0]),
+        whole.difference(&figures[1]),
+        parts.difference(&figures[2]),
+    ];
     round.compare(proved, number, &differences);
 }
 
-/// One thing wrong; the last two are for settling alone.
+/// One thing wrong; the last three are for settling alone.
 fn wrong(draw: &mut Draw, asked: &mut Tables, size: Size, book: &[Contract], kinds: u64) {
     let cells = asked.factors.len().min(asked.nodes.saturating_mul(asked.constraints));
     match draw.below(kinds) {
@@ -67,17 +82,23 @@ fn wrong(draw: &mut Draw, asked: &mut Tables, size: Size, book: &[Contract], kin
         5 => spoil(draw, &mut asked.prices, asked.constraints, &WRONG_PRICES),
         6 => asked.room = short(asked.room),
         7 => asked.period = draw.pick(&WRONG_PERIODS),
+        8 => asked.priced_room = short(asked.priced_room),
         _ => asked.book = super::book::out_of_range(draw, book, size.nodes),
     }
+}
+
+/// The tables of a grid and its prices, a book's file, and so many cells for each answer.
+fn tables_of(draw: &mut Draw, grid: &Grid, list: &[i128], book: &[Contract], room: usize) -> Tables {
+    let factors = table(draw, &grid.factor_cells(), |factor| factor as i64, i64::MAX);
+    let prices = table(draw, list, |price| price as u64, u64::MAX);
+    let (nodes, constraints) = (grid.nodes as usize, grid.constraints as usize);
+    Tables { nodes, constraints, period: draw.below(2), factors, prices, book: book::file_of(book), room, priced_room: room }
 }
 
 fn tables(draw: &mut Draw, size: Size, book: &[Contract], room: usize) -> Tables {
     let grid = draw::grid(draw, size);
     let list = draw::prices(draw, size.constraints);
-    let factors = table(draw, &grid.factor_cells(), |factor| factor as i64, i64::MAX);
-    let prices = table(draw, &list, |price| price as u64, u64::MAX);
-    let (nodes, constraints) = (size.nodes as usize, size.constraints as usize);
-    Tables { nodes, constraints, period: draw.below(2), factors, prices, book: book::file_of(book), room }
+    tables_of(draw, &grid, &list, book, room)
 }
 
 pub fn mcc(round: &mut Round) {
@@ -95,6 +116,22 @@ pub fn mcc(round: &mut Round) {
     }
 }
 
+/// An hour drawn for its sets, with too few, just enough and more cells for cents and for sets.
+fn priced_hour(round: &mut Round) {
+    let Priced { grid, prices, book } = Priced::new(&mut round.draw);
+    let count = book.len();
+    let valid = tables_of(&mut round.draw, &grid, &prices, &book, count);
+    for room in [0, short(count), count, count + 1, count + 4] {
+        for priced_room in [0, short(count), count, count + 1, count + 3] {
+            settle_call(round, &Tables { room, priced_room, ..valid.clone() });
+        }
+    }
+    for period in 0..2 {
+        round.shown(&cases(&grid, &prices, &of_period(&book, period)));
+        settle_call(round, &Tables { period, ..valid.clone() });
+    }
+}
+
 pub fn hour(round: &mut Round) {
     let size = draw::size(&mut round.draw, round.number);
     let book = draw::book(&mut round.draw, size);
@@ -107,10 +144,11 @@ pub fn hour(round: &mut Round) {
     for _ in 0..25 {
         let mut asked = valid.clone();
         for _ in 0..round.draw.within(1, 3) {
-            wrong(&mut round.draw, &mut asked, size, &book, 9);
+            wrong(&mut round.draw, &mut asked, size, &book, 10);
         }
         settle_call(round, &asked);
     }
+    priced_hour(round);
     let mut files = damaged(&mut round.draw, &valid.book, 16);
     files.extend(super::book::too_many(&mut round.draw));
     let few = if valid.book.len() > 100 { 40 } else { valid.book.len() };

@@ -1,9 +1,11 @@
 //! The texts of the report and the statement.
 
+use super::priced::{cases, Priced};
 use super::*;
 use crate::draw::{self, Size};
 use crate::lent::Lent;
 use crate::library;
+use crate::second::test::of_period;
 use crate::second::text::{self, Text};
 use crate::second::{book, grid, prices, Answer};
 use crate::tally::Round;
@@ -124,6 +126,11 @@ pub fn statement(round: &mut Round) {
         let (grid, book) = files(&mut round.draw, size);
         let prices = price_file(&mut round.draw, size);
         statement_call(round, &grid, &book, &prices, room);
+    }
+    for period in 0..2 {
+        let Priced { grid, prices, book } = Priced::new(&mut round.draw);
+        round.shown(&cases(&grid, &prices, &of_period(&book, period)));
+        statement_call(round, &grid::file_of(&grid), &book::file_of(&book), &prices::file_of(period as i128, &prices), room);
     }
     for wrong in wrong_prices(&mut round.draw, size) {
         statement_call(round, &grid, &book, &wrong, room);

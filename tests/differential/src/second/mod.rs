@@ -39,6 +39,11 @@ pub fn price_fails(price: i128) -> bool {
     price > 500_000
 }
 
+/// A set of constraints as a number: 2^k for each.
+pub fn set_of(constraints: &[usize]) -> i128 {
+    constraints.iter().map(|&k| 2i128.pow(k as u32)).sum()
+}
+
 /// The first `count` cells of a table, or 9 where it is too short.
 pub fn cells<T: Copy + Into<i128>>(table: &[T], count: i128) -> Answer<Vec<i128>> {
     if (table.len() as i128) < count {

@@ -17,6 +17,17 @@ pub fn amount(mcc: &[i128], contract: &Contract) -> i128 {
     contract.counted((mcc[contract.sink as usize] - mcc[contract.source as usize]) * contract.quantity)
 }
 
+/// A constraint's share of a contract's price: price × (source factor - sink factor).
+pub fn share(grid: &Grid, prices: &[i128], contract: &Contract, constraint: usize) -> i128 {
+    let factor = |node: i128| grid.factors[node as usize][constraint];
+    prices[constraint] * (factor(contract.source) - factor(contract.sink))
+}
+
+/// The constraints whose share isn't 0, whatever the contract is paid.
+pub fn priced(grid: &Grid, prices: &[i128], contract: &Contract) -> Vec<usize> {
+    (0..prices.len()).filter(|&k| share(grid, prices, contract, k) != 0).collect()
+}
+
 /// To the nearest cent, a half away from zero.
 pub fn cents(amount: i128) -> i128 {
     let size = (amount.abs() + CENT / 2) / CENT;
@@ -36,9 +47,10 @@ pub fn whole_and_parts(total: i128) -> (i128, i128) {
     (total.div_euclid(CENT), total.rem_euclid(CENT))
 }
 
-/// An hour settled: cents of each contract of the book, 0 for the other period's; sum, whole cents and parts.
+/// An hour settled: of each contract of the book its cents and the constraints that priced it, 0 and none for the other period's; sum, whole cents and parts.
 pub struct Hour {
     pub cents: Vec<i128>,
+    pub priced: Vec<Vec<usize>>,
     pub sum: i128,
     pub whole: i128,
     pub parts: i128,
@@ -49,8 +61,9 @@ pub fn hour(grid: &Grid, prices: &[i128], period: i128, book: &[Contract]) -> Ho
     let own: Vec<Contract> = book.iter().filter(|contract| contract.period == period).copied().collect();
     let cell = |contract: &Contract| if contract.period == period { cents(amount(&mcc, contract)) } else { 0 };
     let cents: Vec<i128> = book.iter().map(cell).collect();
+    let set = |contract: &Contract| if contract.period == period { priced(grid, prices, contract) } else { Vec::new() };
     let (whole, parts) = whole_and_parts(exact_total(&mcc, &own));
-    Hour { sum: cents.iter().sum(), cents, whole, parts }
+    Hour { sum: cents.iter().sum(), cents, priced: book.iter().map(set).collect(), whole, parts }
 }
 
 pub struct Asked<'a> {
@@ -83,11 +96,11 @@ pub fn find_mcc(asked: &Asked, room: usize) -> Answer<Vec<i128>> {
     Ok(mcc(&grid, &prices))
 }
 
-pub fn settle(asked: &Asked, room: usize) -> Answer<Hour> {
+pub fn settle(asked: &Asked, cents_room: usize, priced_room: usize) -> Answer<Hour> {
     first(&[(nodes_fail(asked.nodes as i128), 2), (constraints_fail(asked.constraints as i128), 3), (asked.period > 1, 17)])?;
     let (table, prices) = tables(asked)?;
     let grid = in_range(asked, &table, &prices)?;
     let book = parse(asked.nodes as i128, asked.book)?;
-    first(&[(room < book.len(), 9)])?;
+    first(&[(cents_room < book.len(), 9), (priced_room < book.len(), 9)])?;
     Ok(hour(&grid, &prices, asked.period as i128, &book))
 }

@@ -3,7 +3,7 @@
 use super::book::{parse, Contract};
 use super::grid::{by_node, Grid};
 use super::settlement::{exact_total, mcc};
-use super::{cells, constraints_fail, first, limit_fails, nodes_fail, Answer};
+use super::{cells, constraints_fail, first, limit_fails, nodes_fail, set_of, Answer};
 
 /// Percent by process: annual (001, revision 23), Tier LT, monthly.
 const RELEASED: [i128; 3] = [65, 60, 100];
@@ -36,10 +36,7 @@ pub fn figures(grid: &Grid, process: u64, contracts: &[Contract]) -> [i128; 4] {
     let over = overloaded(grid, process, contracts);
     match over.first() {
         None => [0; 4],
-        Some(&lowest) => {
-            let set = over.iter().map(|&k| 2i128.pow(k as u32)).sum();
-            [set, over.len() as i128, lowest as i128, excess(grid, process, contracts, lowest)]
-        }
+        Some(&lowest) => [set_of(&over), over.len() as i128, lowest as i128, excess(grid, process, contracts, lowest)],
     }
 }
 

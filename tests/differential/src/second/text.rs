@@ -8,7 +8,7 @@ use super::test::{excess, of_period, overloaded};
 use super::Answer;
 
 pub const REPORT_BYTES: usize = 2048;
-pub const STATEMENT_BYTES: usize = 26_078;
+pub const STATEMENT_BYTES: usize = 29_085;
 
 /// A file that was refused, and its number.
 pub type Refused = (&'static str, u64);
@@ -60,9 +60,9 @@ pub fn report(grid_file: &[u8], book_file: &[u8], room: usize) -> Answer<Text> {
     Ok(rendered(report_text(grid_file, book_file)))
 }
 
-fn contract_line(number: usize, contract: &Contract, cents: i128) -> String {
+fn contract_line(number: usize, contract: &Contract, cents: i128, priced: usize) -> String {
     let kind = if contract.kind == 1 { "OPT" } else { "OBL" };
-    format!("{number},{},{kind},{cents}\n", contract.holder)
+    format!("{number},{},{kind},{cents},{priced}\n", contract.holder)
 }
 
 fn statement_text(grid_file: &[u8], book_file: &[u8], price_file: &[u8]) -> Result<String, Refused> {
@@ -71,9 +71,9 @@ fn statement_text(grid_file: &[u8], book_file: &[u8], price_file: &[u8]) -> Resu
     let read = prices::read(grid.constraints as usize, price_file, 64);
     let (period, prices) = read.map_err(|number| ("prices", number))?;
     let hour = hour(&grid, &prices, period, &book);
-    let mut text = String::from("contract,holder,kind,cents\n");
+    let mut text = String::from("contract,holder,kind,cents,priced\n");
     for (number, contract) in book.iter().enumerate().filter(|(_, contract)| contract.period == period) {
-        text += &contract_line(number, contract, hour.cents[number]);
+        text += &contract_line(number, contract, hour.cents[number], hour.priced[number].len());
     }
     text += &format!("sum,{}\nexact,{},{}\n", hour.sum, hour.whole, hour.parts);
     Ok(text)

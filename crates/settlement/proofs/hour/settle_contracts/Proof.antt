@@ -1,4 +1,4 @@
--- `settle_contracts`: the cells passed hold the cents of the contracts passed, and the totals are theirs.
+-- `settle_contracts`: the cells passed hold the cents and the sets of the contracts passed, and the totals are theirs.
 use mathlib.Core.Path.{_≡_, refl, sym, ap, _∙_}
 use Prim.Native.Nat.{ℕ, _-_, _≤_, _<_}
 use native.Mathlib.Omega.{arith}
@@ -14,33 +14,44 @@ use mathlib.Core.List.{List}
 use Rattle.integers.specs.Sums.{sumTo}
 use Rattle.tariff.specs.declared.contracts.Period.{Period}
 use Rattle.tariff.specs.Units.{factorsOf, maxContracts}
-use Rattle.tariff.specs.Settlement.{cents as centsOf}
 use Rattle.tariff.specs.Inner.{InRange}
+use Rattle.tariff.specs.Settlement.{cents as centsOf}
 use Rattle.layouts.specs.BookFile.{contractAt}
+use Rattle.settlement.specs.SettleHour.{pricedOf}
 use Rattle.settlement.specs.Inner.{hourAmount, exactOf, Bounded}
 use Rattle.settlement.proofs.HourSums.{sum-start, sum-more, bounded-most}
 use Rattle.settlement.proofs.hour.settle_contracts.Statement.{statement}
 use Rattle.settlement.proofs.hour.settle_contracts.Tie as tie
 
--- what contract i adds, and its cents
+-- what contract i adds, its cents, and what priced it
 abbrev amountAt : ℕ → ℕ → List ℤ → List ℕ → Period → List ℕ → ℕ → ℤ
 amountAt n k fs ps t s i = hourAmount (factorsOf n k fs) (take k ps) t (contractAt s i)
 
 abbrev centsAt : ℕ → ℕ → List ℤ → List ℕ → Period → List ℕ → ℕ → ℤ
 centsAt n k fs ps t s i = centsOf (amountAt n k fs ps t s i)
 
+abbrev setAt : ℕ → ℕ → List ℤ → List ℕ → Period → List ℕ → ℕ → ℕ
+setAt n k fs ps t s i = pricedOf (factorsOf n k fs) (take k ps) t (contractAt s i)
+
 abbrev Inv-loop : tie.InvT-loop
-Inv-loop nodes constraints factors prices period book count cents₀ mccs totals₀ i₀ cents totals i =
+Inv-loop nodes constraints factors prices period book count cents₀ priced₀ mccs posted totals₀ i₀ cents priced totals i =
     (i ≤ count) × (length cents ≡ length cents₀) × (take i cents ≡ take i (listTo count (centsAt nodes constraints factors prices period book))) × (drop i cents ≡ drop i cents₀)
+    × (length priced ≡ length priced₀) × (take i priced ≡ take i (listTo count (setAt nodes constraints factors prices period book))) × (drop i priced ≡ drop i priced₀)
     × (totals .sum ≡ sumTo i (centsAt nodes constraints factors prices period book)) × (exactOf totals ≡ sumTo i (amountAt nodes constraints factors prices period book)) × Bounded i totals
 
 abbrev μ-loop : tie.MeasureT-loop
-μ-loop nodes constraints factors prices period book count cents₀ mccs totals₀ i₀ cents totals i = count - i
+μ-loop nodes constraints factors prices period book count cents₀ priced₀ mccs posted totals₀ i₀ cents priced totals i = count - i
+
+posted-set-requires : tie.Need-posted-set-requires Inv-loop μ-loop
+posted-set-requires c κs = let h = c .before .before .before .pre .0 .0 in (h .good-factors .few, h .good-prices .long)
 
 loop-holds : tie.Need-loop-holds Inv-loop μ-loop
 loop-holds c =
-    let a = c .before .before .args in (
+    let a = c .before .before .before .before .args in (
       omega arith,
+      refl,
+      refl,
+      refl,
       refl,
       refl,
       refl,
@@ -50,17 +61,18 @@ loop-holds c =
     )
 
 -- contract i is read, and is in range
-contract-is : (c : tie.After-contract-at Inv-loop μ-loop) → c .contract-at .result ≡ contractAt (c .before .before .before .before .before .args .book .now) (c .before .before .loop .i)
+contract-is : (c : tie.After-contract-at Inv-loop μ-loop)
+    → c .contract-at .result ≡ contractAt (c .before .before .before .before .before .before .before .args .book .now) (c .before .before .loop .i)
 contract-is c = c .contract-at .ensures
 
-in-range : (c : tie.After-contract-at Inv-loop μ-loop) → InRange (c .before .before .before .before .before .args .nodes) (c .contract-at .result)
-in-range c = rw (contract-is c) (c .before .before .before .before .before .pre .1 .0 (c .before .before .loop .i) (omega arith))
+in-range : (c : tie.After-contract-at Inv-loop μ-loop) → InRange (c .before .before .before .before .before .before .before .args .nodes) (c .contract-at .result)
+in-range c = rw (contract-is c) (c .before .before .before .before .before .before .before .pre .1 .0 (c .before .before .loop .i) (omega arith))
 
 sink-inside : (c : tie.After-contract-at Inv-loop μ-loop) → c .contract-at .result .sink < 200
-sink-inside c = omega (arith, in-range c .sink-below, c .before .before .before .before .before .pre .0 .0 .good-factors .nodes-few)
+sink-inside c = omega (arith, in-range c .sink-below, c .before .before .before .before .before .before .before .pre .0 .0 .good-factors .nodes-few)
 
 source-inside : (c : tie.After-contract-at Inv-loop μ-loop) → c .contract-at .result .source < 200
-source-inside c = omega (arith, in-range c .source-below, c .before .before .before .before .before .pre .0 .0 .good-factors .nodes-few)
+source-inside c = omega (arith, in-range c .source-below, c .before .before .before .before .before .before .before .pre .0 .0 .good-factors .nodes-few)
 
 mul-hour-amount : tie.Need-mul-hour-amount Inv-loop μ-loop
 mul-hour-amount c = omega (arith, sink-inside c)
@@ -70,62 +82,79 @@ mul-hour-amount-2 c = omega (arith, source-inside (c .before))
 
 hour-amount-requires : tie.Need-hour-amount-requires Inv-loop μ-loop
 hour-amount-requires c κs =
-    let s = c .before .before .before .before .before .before .before in
+    let s = c .before .before .before .before .before .before .before .before .before in
     let x = c .before .before .contract-at .result in
     let r = in-range (c .before .before) in
     let each = s .pre .0 .1 .each in
-    ((s .pre .0 .0, r), (each (x .sink) (r .sink-below), each (x .source) (r .source-below)))
+    ((s .pre .0 .0, r, c .before .before .before .before .before .posted-set .ensures), (each (x .sink) (r .sink-below), each (x .source) (r .source-below)))
 
-cents-requires : tie.Need-cents-requires Inv-loop μ-loop
-cents-requires c κs = c .hour-amount .ensures .1
+-- both places have a cell i
+cents-inside : (c : tie.After-cents Inv-loop μ-loop)
+    → c .before .before .before .before .before .before .before .loop .i < length (c .before .before .before .before .before .before .before .loop .cents)
+cents-inside c =
+    let s = c .before .before .before .before .before .before .before .before .before .before .before .before in
+    omega (arith, c .before .before .before .before .before .before .before .loop .inv .1, s .pre .1 .1 .2)
 
-mul-t18 : tie.Need-mul-t18 Inv-loop μ-loop
-mul-t18 c = omega (arith, c .before .before .before .before .before .before .before .before .before .pre .1 .1 .0)
+sets-inside : (c : tie.After-cents Inv-loop μ-loop)
+    → c .before .before .before .before .before .before .before .loop .i < length (c .before .before .before .before .before .before .before .loop .priced)
+sets-inside c =
+    let s = c .before .before .before .before .before .before .before .before .before .before .before .before in
+    omega (arith, c .before .before .before .before .before .before .before .loop .inv .4, s .pre .1 .1 .3)
 
-slice-set-from-cents : tie.Need-slice-set-from-cents Inv-loop μ-loop
-slice-set-from-cents c = omega (arith, c .before .before .before .before .before .before .loop .inv .1, c .before .before .before .before .before .before .before .before .before .pre .1 .1 .2)
+small : (c : tie.After-cents Inv-loop μ-loop) → c .before .before .before .before .before .before .before .loop .i < 1000
+small c = omega (arith, c .before .before .before .before .before .before .before .before .before .before .before .before .pre .1 .1 .0)
 
 plus-requires : tie.Need-plus-requires Inv-loop μ-loop
 plus-requires c κs =
-    let l = c .before .before .before .before .before .before .loop in
-    (c .before .hour-amount .ensures .1, bounded-most (l .i) maxContracts (l .totals) (omega arith) (l .inv .6))
+    let l = c .before .before .before .before .before .before .before .loop in
+    (c .before .before .hour-amount .ensures .amount-sized, bounded-most (l .i) maxContracts (l .totals) (omega (arith, small c)) (l .inv .9))
 
 loop-again : tie.Need-loop-again Inv-loop μ-loop
 loop-again c =
-    let s = c .before .before .before .before .before .before .before .before .before .before in
+    let s = c .before .before .before .before .before .before .before .before .before .before .before .before .before in
     let a = s .args in
-    let l = c .before .before .before .before .before .before .before .loop in
+    let l = c .before .before .before .before .before .before .before .before .loop in
     let p = c .plus .ensures in
     let A = amountAt (a .nodes) (a .constraints) (a .factors .now) (a .prices .now) (a .period) (a .book .now) in
     let F = centsAt (a .nodes) (a .constraints) (a .factors .now) (a .prices .now) (a .period) (a .book .now) in
+    let G = setAt (a .nodes) (a .constraints) (a .factors .now) (a .prices .now) (a .period) (a .book .now) in
     let h : l .i < a .count = omega arith in
-    let amount = c .before .before .hour-amount .ensures .0
-    ∙ ap (hourAmount (factorsOf (a .nodes) (a .constraints) (a .factors .now)) (take (a .constraints) (a .prices .now)) (a .period)) (contract-is (c .before .before .before .before .before)) in
+    let o = c .before .before .before .hour-amount .ensures in
+    let is = contract-is (c .before .before .before .before .before .before) in
+    let f = factorsOf (a .nodes) (a .constraints) (a .factors .now) in
+    let amount = o .amount-is ∙ ap (hourAmount f (take (a .constraints) (a .prices .now)) (a .period)) is in
+    let set = o .priced-is ∙ ap (pricedOf f (take (a .constraints) (a .prices .now)) (a .period)) is ∙ sym (getD-listTo (a .count) G (l .i) 0 h) in
     let v = toZ-ofZ {w = w64} (record { sfits = c .before .cents .ok }) ∙ c .before .cents .ensures .0 ∙ ap centsOf amount ∙ sym (getD-listTo (a .count) F (l .i) (pos 0) h) in (
       omega arith,
-      simp length-set (omega arith),
-      fill-turn (listTo (a .count) F) (l .cents) (l .i) (l .inv .2) _ (pos 0) (omega (arith, l .inv .1, s .pre .1 .1 .2)) (rw (length-listTo (a .count) F) h) v,
+      simp length-set (l .inv .1),
+      fill-turn (listTo (a .count) F) (l .cents) (l .i) (l .inv .2) _ (pos 0) (cents-inside (c .before)) (rw (length-listTo (a .count) F) h) v,
       rest-turn (l .cents) (a .cents .now) (l .i) _ (l .inv .3),
-      sum-more (l .i) F (l .inv .4) (ap centsOf amount) (p .sum),
-      sum-more (l .i) A (l .inv .5) amount (p .exact),
-      p .bounded (l .i) (l .inv .6),
+      simp length-set (l .inv .4),
+      fill-turn (listTo (a .count) G) (l .priced) (l .i) (l .inv .5) _ 0 (sets-inside (c .before)) (rw (length-listTo (a .count) G) h) set,
+      rest-turn (l .priced) (a .priced .now) (l .i) _ (l .inv .6),
+      sum-more (l .i) F (l .inv .7) (ap centsOf amount) (p .sum),
+      sum-more (l .i) A (l .inv .8) amount (p .exact),
+      p .bounded (l .i) (l .inv .9),
     )
 
 returns : tie.Need-returns Inv-loop μ-loop
 returns c =
-    let a = c .before .before .before .before .args in
+    let a = c .before .before .before .before .before .before .args in
     let l = c .before .loop in
     let F = centsAt (a .nodes) (a .constraints) (a .factors .now) (a .prices .now) (a .period) (a .book .now) in
+    let G = setAt (a .nodes) (a .constraints) (a .factors .now) (a .prices .now) (a .period) (a .book .now) in
     let last : l .i ≡ a .count = omega arith in
     record {
       cells = fill-front (listTo (a .count) F) (l .cents) (a .cents .now) (l .i) (l .inv .2) (l .inv .3) (rw (length-listTo (a .count) F) last);
-      sum = rw last at (l .inv .4);
-      exact = rw last at (l .inv .5);
-      bounded = rw last at (l .inv .6);
+      priced = fill-front (listTo (a .count) G) (l .priced) (a .priced .now) (l .i) (l .inv .5) (l .inv .6) (rw (length-listTo (a .count) G) last);
+      sum = rw last at (l .inv .7);
+      exact = rw last at (l .inv .8);
+      bounded = rw last at (l .inv .9);
     }
 
 pub settle-contracts-spec : {M : Type 1} → statement M
 settle-contracts-spec =
     tie.close (tie.spec
-    Inv-loop μ-loop loop-holds (λ c κs. omega arith) mul-hour-amount sink-inside mul-hour-amount-2 (λ c. source-inside (c .before)) hour-amount-requires cents-requires
-    mul-t18 slice-set-from-cents plus-requires (λ c. search needs) (λ c. omega arith) loop-again (λ c. search needs) returns)
+    Inv-loop μ-loop posted-set-requires loop-holds (λ c κs. omega arith) mul-hour-amount sink-inside mul-hour-amount-2 (λ c. source-inside (c .before)) hour-amount-requires
+    (λ c κs. c .before .hour-amount .ensures .amount-sized) (λ c. omega (arith, small c)) cents-inside (λ c. omega (arith, small c)) sets-inside plus-requires
+    (λ c. omega (arith, small (c .before))) (λ c. omega arith) loop-again (λ c. search needs) (λ c. search needs) returns)
