@@ -87,26 +87,6 @@ returns c =
 
 pub add-flow-spec : {M : Type 1} → statement M
 add-flow-spec =
-    tie.close
-    (tie.spec
-    Inv-loop
-    μ-loop
-    (λ c. search needs)
-    (λ c. search needs)
-    loop-holds
-    (λ c. search needs)
-    (λ c. search needs)
-    (λ c. search needs)
-    (λ c. search needs)
-    (λ c. search needs)
-    (λ c. search needs)
-    counted-flow-requires
-    (λ c. search needs)
-    near
-    plus-requires
-    (λ c. search needs)
-    (λ c. near (c .before .before .before))
-    (λ c. search needs)
-    (λ c. search needs)
-    loop-again
-    returns)
+    tie.close (tie.spec
+    Inv-loop μ-loop (λ c. search needs) (λ c. search needs) loop-holds (λ c. search needs) (λ c. search needs) (λ c. search needs) (λ c. search needs) (λ c. search needs) (λ c. search needs)
+    counted-flow-requires (λ c. search needs) near plus-requires (λ c. search needs) (λ c. near (c .before .before .before)) (λ c. search needs) (λ c. search needs) loop-again returns)

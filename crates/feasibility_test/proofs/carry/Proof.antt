@@ -51,15 +51,5 @@ returns c =
 
 pub carry-spec : {M : Type 1} → statement M
 carry-spec =
-    tie.close
-    (tie.spec
-    Inv-loop
-    μ-loop
-    contract-count-requires
-    (λ c κs. search needs)
-    loop-holds
-    (λ c κs. search needs)
-    step-requires
-    loop-less
-    loop-again
-    returns)
+    tie.close (tie.spec
+    Inv-loop μ-loop contract-count-requires (λ c κs. search needs) loop-holds (λ c κs. search needs) step-requires loop-less loop-again returns)

@@ -57,14 +57,5 @@ returns-2 c =
 
 pub test-book-spec : {M : Type 1} → statement M
 test-book-spec =
-    tie.close
-    (tie.spec
-    (λ c κs. search needs)
-    (λ c. search needs)
-    returns
-    (λ c. search needs)
-    (λ c κs. search needs)
-    carry-requires
-    from-number-requires-2
-    verdict-requires
-    returns-2)
+    tie.close (tie.spec
+    (λ c κs. search needs) (λ c. search needs) returns (λ c. search needs) (λ c κs. search needs) carry-requires from-number-requires-2 verdict-requires returns-2)

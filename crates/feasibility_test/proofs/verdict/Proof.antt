@@ -74,16 +74,5 @@ returns-2 c n fs t cs carried =
 
 pub verdict-spec : {M : Type 1} → statement M
 verdict-spec =
-    tie.close
-    (tie.spec
-    (λ c κs. search needs)
-    returns
-    cast-count
-    cast-lowest
-    mul-t14
-    array-copy-out-t17
-    mul-released
-    shared-slice-read-released
-    released-requires
-    minus-requires
-    returns-2)
+    tie.close (tie.spec
+    (λ c κs. search needs) returns cast-count cast-lowest mul-t14 array-copy-out-t17 mul-released shared-slice-read-released released-requires minus-requires returns-2)

@@ -17,11 +17,5 @@ slice-aggregate-print c =
 
 pub print-number-spec : {M : Type 1} → statement M
 print-number-spec =
-    tie.close
-    (tie.spec
-    (λ c. search needs)
-    put-decimal-requires
-    (λ c. search needs)
-    slice-aggregate-print
-    (λ c κs. search needs)
-    (λ c. search needs))
+    tie.close (tie.spec
+    (λ c. search needs) put-decimal-requires (λ c. search needs) slice-aggregate-print (λ c κs. search needs) (λ c. search needs))

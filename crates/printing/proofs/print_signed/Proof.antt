@@ -32,14 +32,6 @@ slice-aggregate-print-2 c =
 
 pub print-signed-spec : {M : Type 1} → statement M
 print-signed-spec =
-    tie.close
-    (tie.spec
-    (λ c. search needs)
-    (λ c κs. search needs)
-    (λ c. search needs)
-    (λ c. search needs)
-    put-signed-requires
-    (λ c. search needs)
-    slice-aggregate-print-2
-    (λ c κs. search needs)
+    tie.close (tie.spec
+    (λ c. search needs) (λ c κs. search needs) (λ c. search needs) (λ c. search needs) put-signed-requires (λ c. search needs) slice-aggregate-print-2 (λ c κs. search needs)
     (λ c. search needs))

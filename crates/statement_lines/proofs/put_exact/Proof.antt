@@ -43,13 +43,5 @@ returns c =
 
 pub put-exact-spec : {M : Type 1} → statement M
 put-exact-spec =
-    tie.close
-    (tie.spec
-    (λ c. search needs)
-    (λ c κs. search needs)
-    put-signed-requires
-    put-char-requires
-    put-decimal-requires
-    put-char-requires-2
-    (λ c. search needs)
-    returns)
+    tie.close (tie.spec
+    (λ c. search needs) (λ c κs. search needs) put-signed-requires put-char-requires put-decimal-requires put-char-requires-2 (λ c. search needs) returns)

@@ -48,12 +48,5 @@ returns c =
 
 pub put-lines-spec : {M : Type 1} → statement M
 put-lines-spec =
-    tie.close
-    (tie.spec
-    (λ c. search needs)
-    (λ c κs. search needs)
-    put-contracts-requires
-    put-sum-requires
-    put-exact-requires
-    (λ c. search needs)
-    returns)
+    tie.close (tie.spec
+    (λ c. search needs) (λ c κs. search needs) put-contracts-requires put-sum-requires put-exact-requires (λ c. search needs) returns)

@@ -28,11 +28,5 @@ returns c =
 
 pub put-sum-spec : {M : Type 1} → statement M
 put-sum-spec =
-    tie.close
-    (tie.spec
-    (λ c. search needs)
-    (λ c κs. search needs)
-    put-signed-requires
-    put-char-requires
-    (λ c. search needs)
-    returns)
+    tie.close (tie.spec
+    (λ c. search needs) (λ c κs. search needs) put-signed-requires put-char-requires (λ c. search needs) returns)

@@ -27,13 +27,5 @@ returns c =
 
 pub put-counts-spec : {M : Type 1} → statement M
 put-counts-spec =
-    tie.close
-    (tie.spec
-    (λ c. search needs)
-    (λ c κs. search needs)
-    put-decimal-requires
-    (λ c κs. search needs)
-    put-decimal-requires-2
-    (λ c κs. search needs)
-    (λ c. search needs)
-    returns)
+    tie.close (tie.spec
+    (λ c. search needs) (λ c κs. search needs) put-decimal-requires (λ c κs. search needs) put-decimal-requires-2 (λ c κs. search needs) (λ c. search needs) returns)

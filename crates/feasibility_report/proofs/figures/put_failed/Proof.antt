@@ -31,11 +31,5 @@ returns c =
 
 pub put-failed-spec : {M : Type 1} → statement M
 put-failed-spec =
-    tie.close
-    (tie.spec
-    (λ c κs. search needs)
-    put-signed-requires
-    (λ c κs. search needs)
-    (λ c κs. search needs)
-    (λ c. search needs)
-    returns)
+    tie.close (tie.spec
+    (λ c κs. search needs) put-signed-requires (λ c κs. search needs) (λ c κs. search needs) (λ c. search needs) returns)

@@ -25,16 +25,6 @@ returns-3 c = (rw (c .enum-told2 .given .1) (put-none (omega arith)), omega arit
 
 pub put-figures-spec : {M : Type 1} → statement M
 put-figures-spec =
-    tie.close
-    (tie.spec
-    (λ c. search needs)
-    (λ c. search needs)
-    (λ c κs. search needs)
-    (λ c. search needs)
-    put-failed-requires
-    (λ c. search needs)
-    (λ c. search needs)
-    returns
-    (λ c. search needs)
-    returns-2
+    tie.close (tie.spec
+    (λ c. search needs) (λ c. search needs) (λ c κs. search needs) (λ c. search needs) put-failed-requires (λ c. search needs) (λ c. search needs) returns (λ c. search needs) returns-2
     returns-3)

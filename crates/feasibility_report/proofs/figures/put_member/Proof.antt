@@ -46,14 +46,5 @@ returns-3 c =
 
 pub put-member-spec : {M : Type 1} → statement M
 put-member-spec =
-    tie.close
-    (tie.spec
-    (λ c. search needs)
-    returns
-    put-decimal-requires
-    (λ c. search needs)
-    returns-2
-    (λ c κs. search needs)
-    put-decimal-requires-2
-    (λ c. search needs)
-    returns-3)
+    tie.close (tie.spec
+    (λ c. search needs) returns put-decimal-requires (λ c. search needs) returns-2 (λ c κs. search needs) put-decimal-requires-2 (λ c. search needs) returns-3)

@@ -55,12 +55,5 @@ returns c =
 
 pub put-line-spec : {M : Type 1} → statement M
 put-line-spec =
-    tie.close
-    (tie.spec
-    verdict-requires
-    (λ c κs. search needs)
-    (λ c κs. search needs)
-    put-figures-requires
-    (λ c κs. search needs)
-    (λ c. search needs)
-    returns)
+    tie.close (tie.spec
+    verdict-requires (λ c κs. search needs) (λ c κs. search needs) put-figures-requires (λ c κs. search needs) (λ c. search needs) returns)

@@ -111,16 +111,5 @@ returns c =
 
 pub step-spec : {M : Type 1} → statement M
 step-spec =
-    tie.close
-    (tie.spec
-    Inv-loop
-    μ-loop
-    loop-holds
-    contract-at-requires
-    (λ c κs. search needs)
-    add-flow-requires
-    add-carried
-    (λ c. search needs)
-    (λ c. search needs)
-    loop-again
-    returns)
+    tie.close (tie.spec
+    Inv-loop μ-loop loop-holds contract-at-requires (λ c κs. search needs) add-flow-requires add-carried (λ c. search needs) (λ c. search needs) loop-again returns)

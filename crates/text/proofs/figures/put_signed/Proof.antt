@@ -80,15 +80,5 @@ returns-2 c =
 
 pub put-signed-spec : {M : Type 1} → statement M
 put-signed-spec =
-    tie.close
-    (tie.spec
-    put-char-requires
-    sub-put-decimal
-    cast-put-decimal
-    put-decimal-requires
-    cast-put-decimal-2
-    put-decimal-requires-2
-    (λ c. search needs)
-    returns
-    (λ c. search needs)
-    returns-2)
+    tie.close (tie.spec
+    put-char-requires sub-put-decimal cast-put-decimal put-decimal-requires cast-put-decimal-2 put-decimal-requires-2 (λ c. search needs) returns (λ c. search needs) returns-2)

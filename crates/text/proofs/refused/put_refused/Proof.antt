@@ -39,14 +39,5 @@ returns c =
 
 pub put-refused-spec : {M : Type 1} → statement M
 put-refused-spec =
-    tie.close
-    (tie.spec
-    (λ c. search needs)
-    (λ c κs. search needs)
-    (λ c κs. search needs)
-    (λ c κs. search needs)
-    (λ c κs. search needs)
-    put-decimal-requires
-    put-char-requires-2
-    (λ c. search needs)
-    returns)
+    tie.close (tie.spec
+    (λ c. search needs) (λ c κs. search needs) (λ c κs. search needs) (λ c κs. search needs) (λ c κs. search needs) put-decimal-requires put-char-requires-2 (λ c. search needs) returns)
