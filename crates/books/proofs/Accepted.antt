@@ -25,11 +25,10 @@ contract-in-range n c e =
     let p = passed-cons _ _ e in
     let ends = neither (leb n (c .source)) (leb n (c .sink)) (p .0) in
     let q = passed-cons _ _ (p .1) in
-    let r = passed-cons _ _ (q .1) in
     record {
       source-below = leb-false n (c .source) (ends .0);
       sink-below = leb-false n (c .sink) (ends .1);
-      quantity-sized = ltb-false maxQuantity (c .quantity .0) (neither (eqb (c .quantity .0) 0) (ltb maxQuantity (c .quantity .0)) (r .0) .1);
+      quantity-sized = ltb-false maxQuantity (c .quantity .0) (neither (eqb (c .quantity .0) 0) (ltb maxQuantity (c .quantity .0)) (q .0) .1);
     }
 
 pub record Accepted (n : ℕ) (s : List ℕ) : Type 0 where

@@ -2,3 +2,4 @@ pub mod Checking
 pub mod Accepted
 pub mod Bytes
 pub mod Making
+pub mod Former
