@@ -1,12 +1,14 @@
 -- Today's checks of a book beside those of before: the same without 12.
-use mathlib.Core.Path.{_≡_, refl, ap, ap₂, _∙_}
+use mathlib.Core.Path.{_≡_, refl, sym, ap, ap₂, _∙_}
 use mathlib.Core.List.{List, [], _∷_, _++_, map, map-append}
 use Prim.Native.Nat.{ℕ, zero, suc}
 use Rattle.tariff.specs.declared.contracts.Contract.{Contract}
 use Rattle.tariff.specs.Refusals.{Check}
-use Rattle.tariff.specs.Former.{FormerCheck}
-use Rattle.tariff.proofs.Former.{byNumber, without, without-append}
-use Rattle.layouts.specs.BookFile.{contractCountIn, contractAt}
+use Rattle.tariff.specs.Former.{FormerCheck, byNumber, without}
+use Rattle.tariff.proofs.Former.{without-append}
+use Rattle.tariff.specs.Checks.{contractCount}
+use Rattle.layouts.specs.Files.{shortFile, spareBits, fileLength}
+use Rattle.layouts.specs.BookFile.{bookBytes, contractCountIn, bookSpareIn, contractAt}
 use Rattle.books.specs.BookChecks.{checksTo, contractChecks, bookChecks}
 use Rattle.books.specs.Former.{formerContractChecks, formerBookChecks}
 
@@ -24,4 +26,7 @@ contract-as-before n c = refl
 
 pub book-as-before : (n : ℕ) (s : List ℕ) → map byNumber (bookChecks n s) ≡ without 12 (formerBookChecks n s)
 unfolding bookChecks formerBookChecks without
-book-as-before n s = ?
+book-as-before n s =
+    ap (λ (l : List FormerCheck). byNumber (shortFile s 2) ∷ byNumber (contractCount (contractCountIn s)) ∷ byNumber (spareBits (bookSpareIn s))
+    ∷ byNumber (fileLength s (bookBytes (contractCountIn s))) ∷ l)
+    (former-to 12 (contractCountIn s) (λ i. contractChecks n (contractAt s i)) _ (λ i. contract-as-before n (contractAt s i)))

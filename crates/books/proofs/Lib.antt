@@ -3,3 +3,4 @@ pub mod Accepted
 pub mod Bytes
 pub mod Making
 pub mod Former
+pub mod Theorems

@@ -6,18 +6,11 @@ use mathlib.Core.List.{List, [], _∷_, _++_, map}
 use Prim.Native.Nat.{ℕ}
 use borrow.Author.Tests.{eqb-true}
 use lib.Dec.{eqb}
-use Rattle.tariff.specs.declared.refusals.Checked.the-variants.{Refused}
+use Rattle.tariff.specs.declared.refusals.Checked.{Checked}
+use Rattle.tariff.specs.declared.refusals.Checked.the-variants.{Passed, Refused}
 use Rattle.tariff.specs.Refusals.{Check, first, numberOf, numberAfter}
-use Rattle.tariff.specs.Former.{FormerCheck, formerly, formerFirst}
-
--- a check by its number alone
-abbrev pub byNumber : Check → FormerCheck
-byNumber c = formerly (c .fails) (numberOf (c .refusal))
-
--- the checks that are not numbered r, in their order
-unfoldable pub without : ℕ → List FormerCheck → List FormerCheck
-without r [] = []
-without r (c ∷ cs) = cond (eqb (c .number) r) (without r cs) (c ∷ without r cs)
+use Rattle.tariff.specs.Former.{FormerCheck, formerFirst, byNumber, without}
+use Rattle.tariff.proofs.Answers.{numbered}
 
 pub without-append : (r : ℕ) (xs ys : List FormerCheck) → without r (xs ++ ys) ≡ without r xs ++ without r ys
 unfolding without
@@ -44,7 +37,7 @@ first-number (c ∷ cs) = by (c .fails) (first-number cs)
 pub not-missed : (r : ℕ) (cs : List FormerCheck) → formerFirst cs ≢ r → formerFirst (without r cs) ≡ formerFirst cs
 unfolding formerFirst without
 not-missed r [] h = refl
-not-missed r (c ∷ cs) h = by (eqb (c .number) r) refl
+not-missed r (c ∷ cs) h = by (not-missed r cs) (eqb (c .number) r) refl
   where
     dropped : (f : Bool) → c .number ≡ r → cond f (c .number) (formerFirst cs) ≢ r → (formerFirst cs ≢ r → formerFirst (without r cs) ≡ formerFirst cs)
         → formerFirst (without r cs) ≡ cond f (c .number) (formerFirst cs)
@@ -56,6 +49,12 @@ not-missed r (c ∷ cs) h = by (eqb (c .number) r) refl
     kept true first rest = refl
     kept false first rest = rest first
 
-    by : (b : Bool) → eqb (c .number) r ≡ b → formerFirst (cond b (without r cs) (c ∷ without r cs)) ≡ formerFirst (c ∷ cs)
-    by true e = dropped (c .fails) (eqb-true (c .number) r e) h (not-missed r cs)
-    by false e = kept (c .fails) h (not-missed r cs)
+    by : (formerFirst cs ≢ r → formerFirst (without r cs) ≡ formerFirst cs) → (b : Bool) → eqb (c .number) r ≡ b
+        → formerFirst (cond b (without r cs) (c ∷ without r cs)) ≡ formerFirst (c ∷ cs)
+    by rest true e = dropped (c .fails) (eqb-true (c .number) r e) h rest
+    by rest false e = kept (c .fails) h rest
+
+-- no number: no refusal
+pub unnumbered : (checked : Checked) → numberAfter checked ≡ 0 → checked ≡ Passed
+unnumbered Passed e = refl
+unnumbered (Refused r) e = absurd (numbered r e)
