@@ -22,6 +22,10 @@ shortFile s header = record { fails = ltb (length s) header; refusal = ShortFile
 abbrev pub spareBits : ℕ → Check
 spareBits spare = record { fails = not (eqb spare 0); refusal = SpareBits }
 
+-- 4, of a file that has two forms: "spare bits other than the two patterns", so other than the pattern of the form found
+abbrev pub spareOther : ℕ → ℕ → Check
+spareOther pattern spare = record { fails = not (eqb spare pattern); refusal = SpareBits }
+
 -- 5: length differs from what the counts fix
 abbrev pub fileLength : List ℕ → ℕ → Check
 fileLength s size = record { fails = not (eqb (length s) size); refusal = FileLength }

@@ -1,8 +1,11 @@
-// Document 01's three files: values to bytes and bytes to values, as definitions and laws. The code here is what their writers share.
+// Document 01's three files, in both forms: values to bytes and bytes to values, as definitions and laws. The code here is what readers and writers share.
+mod forms;
+
 ghost use mathlib.Core.Path.{_≡_};
 ghost use Rattle.lists.specs.Lent.{before, after};
 ghost use Rattle.layouts.specs.Writing.{writeOutcome};
 ghost use Rattle.layouts.specs.Inner.{lengthAfter};
+pub use forms::Form;
 use tariff::Refusal;
 
 // The bytes of the largest files.
@@ -12,8 +15,10 @@ pub const MAX_BOOK_BYTES: usize = 6002;
 
 pub const MAX_PRICE_BYTES: usize = 153;
 
-// Bits of a grid's header, of a limit, of a factor, of a price file's header and of a price.
+// Bits of a narrow grid's header, of a wide one's, of a limit, of a factor, of a price file's header and of a price.
 pub const GRID_HEADER_BITS: usize = 16;
+
+pub const WIDE_GRID_HEADER_BITS: usize = 32;
 
 pub const LIMIT_WIDTH: usize = 27;
 

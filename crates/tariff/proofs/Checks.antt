@@ -10,7 +10,7 @@ use Rattle.tariff.specs.declared.refusals.Checked.{Checked}
 use Rattle.tariff.specs.declared.refusals.Checked.the-variants.{Passed, Refused}
 use Rattle.tariff.specs.Units.{maxNodes}
 use Rattle.tariff.specs.Refusals.{Check, first, decided}
-use Rattle.tariff.specs.Checks.{nodeCount}
+use Rattle.tariff.specs.Checks.{nodesOutside, nodeCount}
 
 -- ---- the first check
 
@@ -62,8 +62,11 @@ passed-append (c ∷ cs) ys e = by (c .fails) refl (passed-append cs ys) e
 -- ---- the node count
 
 -- one that the check accepts
+pub nodes-within : (most n : ℕ) → nodesOutside most n .fails ≡ false → n ≤ most
+nodes-within most n e = ltb-false most n (neither (eqb n 0) (ltb most n) e .1)
+
 pub nodes-few-of : (n : ℕ) → nodeCount n .fails ≡ false → n ≤ maxNodes
-nodes-few-of n e = ltb-false maxNodes n (neither (eqb n 0) (ltb maxNodes n) e .1)
+nodes-few-of = nodes-within maxNodes
 
 -- ---- what a test in code says of a condition
 
