@@ -11,7 +11,7 @@ use tariff::Refusal;
 // The bytes of the largest files.
 pub const MAX_GRID_BYTES: usize = 29018;
 
-pub const MAX_BOOK_BYTES: usize = 6002;
+pub const MAX_BOOK_BYTES: usize = 7002;
 
 pub const MAX_PRICE_BYTES: usize = 153;
 
@@ -28,10 +28,14 @@ pub const PRICE_HEADER_BITS: usize = 8;
 
 pub const PRICE_WIDTH: usize = 19;
 
-// Bytes of a book's header and of a contract, and a contract's cells in a table.
+// Bytes of a book's header, of a narrow contract and of a wide one, what a narrow contract's ends are below, and a contract's cells in a table.
 pub const BOOK_HEADER_BYTES: usize = 2;
 
 pub const CONTRACT_BYTES: usize = 6;
+
+pub const WIDE_CONTRACT_BYTES: usize = 7;
+
+pub const NARROW_ENDS: usize = 256;
 
 pub const CONTRACT_CELLS: usize = 6;
 
