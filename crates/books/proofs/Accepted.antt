@@ -13,7 +13,8 @@ use Rattle.tariff.specs.Refusals.{first}
 use Rattle.tariff.specs.Units.{maxQuantity, maxContracts}
 use Rattle.lists.proofs.Search.{neither}
 use Rattle.tariff.proofs.Checks.{passed-cons, same-of}
-use Rattle.layouts.specs.BookFile.{bookBytes, contractCountIn, bookSpareIn, contractAt, bookIn}
+use Rattle.layouts.specs.Forms.{sparePattern}
+use Rattle.layouts.specs.BookFile.{bookBytes, contractCountIn, bookSpareIn, bookFormIn, contractAt, bookIn}
 use Rattle.lists.proofs.Lists.{each-listTo}
 use Rattle.books.specs.BookChecks.{contractChecks, bookChecks}
 use Rattle.books.proofs.Checking.{checks-each}
@@ -33,8 +34,8 @@ contract-in-range n c e =
 
 pub record Accepted (n : ℕ) (s : List ℕ) : Type 0 where
   pub few : contractCountIn s ≤ maxContracts
-  pub spare : bookSpareIn s ≡ 0
-  pub size : length s ≡ bookBytes (contractCountIn s)
+  pub spare : bookSpareIn s ≡ sparePattern (bookFormIn s)
+  pub size : length s ≡ bookBytes (bookFormIn s) (contractCountIn s)
   pub each : (i : ℕ) → i < contractCountIn s → InRange n (contractAt s i)
 
 pub book-accepted : (n : ℕ) (s : List ℕ) → first (bookChecks n s) ≡ Passed → Accepted n s
@@ -46,8 +47,8 @@ book-accepted n s e =
     let d = passed-cons _ _ (c .1) in
     record {
       few = ltb-false maxContracts (contractCountIn s) (b .0);
-      spare = same-of (bookSpareIn s) 0 (c .0);
-      size = same-of (length s) (bookBytes (contractCountIn s)) (d .0);
+      spare = same-of (bookSpareIn s) (sparePattern (bookFormIn s)) (c .0);
+      size = same-of (length s) (bookBytes (bookFormIn s) (contractCountIn s)) (d .0);
       each = λ i h. contract-in-range n (contractAt s i) (checks-each (λ j. contractChecks n (contractAt s j)) (contractCountIn s) (d .1) i h);
     }
 
