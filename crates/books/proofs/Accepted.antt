@@ -1,8 +1,8 @@
 -- What is known of a book that its own checks accept.
-use mathlib.Core.Path.{_≡_}
+use mathlib.Core.Path.{_≡_, _∙_}
 use mathlib.Core.List.{List}
 use Prim.Native.Nat.{ℕ, _≤_, _<_}
-use borrow.Author.Tests.{ltb-false, leb-false}
+use borrow.Author.Tests.{ltb-false, leb-false, lt-leb}
 use lib.Dec.{leb, ltb, eqb}
 use lib.ListN.{length}
 use Rattle.lists.specs.Lists.{Each}
@@ -12,7 +12,7 @@ use Rattle.tariff.specs.Inner.{InRange}
 use Rattle.tariff.specs.Refusals.{first}
 use Rattle.tariff.specs.Units.{maxQuantity, maxContracts}
 use Rattle.lists.proofs.Search.{neither}
-use Rattle.tariff.proofs.Checks.{passed-cons, same-of}
+use Rattle.tariff.proofs.Checks.{first-passes, passed-cons, same-of}
 use Rattle.layouts.specs.Forms.{sparePattern}
 use Rattle.layouts.specs.BookFile.{bookBytes, contractCountIn, bookSpareIn, bookFormIn, contractAt, bookIn}
 use Rattle.lists.proofs.Lists.{each-listTo}
@@ -31,6 +31,11 @@ contract-in-range n c e =
       sink-below = leb-false n (c .sink) (ends .1);
       quantity-sized = ltb-false maxQuantity (c .quantity .0) (neither (eqb (c .quantity .0) 0) (ltb maxQuantity (c .quantity .0)) (q .0) .1);
     }
+
+-- of the node count a contract's checks ask no more than that its ends are below it
+pub checks-below : (m n : ℕ) (c : Contract) → c .source < n → c .sink < n → first (contractChecks m c) ≡ Passed → first (contractChecks n c) ≡ Passed
+unfolding contractChecks
+checks-below m n c hs ht e = first-passes _ _ (rw (lt-leb n (c .source) hs) (lt-leb n (c .sink) ht)) ∙ passed-cons _ _ e .1
 
 pub record Accepted (n : ℕ) (s : List ℕ) : Type 0 where
   pub few : contractCountIn s ≤ maxContracts

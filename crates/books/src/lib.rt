@@ -148,8 +148,16 @@ pub fn store_contract(file: &mut [u8], form: Form, i: usize, c: Contract)
     ensures { λ r. ⌜ after file ≡ take (bookBytes form i) (before file) ++ contractBytes form c ++ drop (bookBytes form i + recordBytes form) (before file) ⌝ }
 {
     match form {
-        Form::Narrow => bits::store6(file, BOOK_HEADER_BYTES + CONTRACT_BYTES * i, narrow_number(c)),
-        Form::Wide => bits::store7(file, BOOK_HEADER_BYTES + WIDE_CONTRACT_BYTES * i, wide_number(c)),
+        Form::Narrow => bits::store6(
+            file,
+            BOOK_HEADER_BYTES + CONTRACT_BYTES * i,
+            narrow_number(c),
+        ),
+        Form::Wide => bits::store7(
+            file,
+            BOOK_HEADER_BYTES + WIDE_CONTRACT_BYTES * i,
+            wide_number(c),
+        ),
     }
 }
 

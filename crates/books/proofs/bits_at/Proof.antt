@@ -1,5 +1,7 @@
 -- `bits_at`: six bytes or seven, by one law.
-use mathlib.Core.Path.{_∙_}
+use Prim.Native.Nat.{_+_, _*_, _≤_}
+use native.Mathlib.Omega.{arith}
+use lib.ListN.{length}
 use Rattle.layouts.specs.declared.forms.Form.the-variants.{Narrow, Wide}
 use Rattle.layouts.proofs.ContractNumber.{contract-in-number}
 use borrow.Author.Needs.{needs}
@@ -7,10 +9,16 @@ use Rattle.books.proofs.bits_at.Statement.{statement}
 use Rattle.books.proofs.bits_at.Tie as tie
 
 window6-requires : tie.Need-window6-requires
-window6-requires c κs = rw (c .enum-told .given .1) at (c .before .before .before .pre .1)
+window6-requires c κs =
+    let s = c .before .before .before in
+    let room : 2 + 6 * s .args .i + 6 ≤ length (s .args .file .now) = rw (c .enum-told .given .1) at (s .pre .1) in
+    omega arith
 
 window7-requires : tie.Need-window7-requires
-window7-requires c κs = rw (c .enum-told2 .given .1) at (c .before .before .before .pre .1)
+window7-requires c κs =
+    let s = c .before .before .before in
+    let room : 2 + 7 * s .args .i + 7 ≤ length (s .args .file .now) = rw (c .enum-told2 .given .1) at (s .pre .1) in
+    omega arith
 
 returns : tie.Need-returns
 returns c =
