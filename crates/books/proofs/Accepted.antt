@@ -1,7 +1,8 @@
 -- What is known of a book that its own checks accept.
 use mathlib.Core.Path.{_≡_, _∙_}
 use mathlib.Core.List.{List}
-use Prim.Native.Nat.{ℕ, _≤_, _<_}
+use Prim.Native.Nat.{ℕ, _+_, _≤_, _<_}
+use native.Mathlib.Omega.{arith}
 use borrow.Author.Tests.{ltb-false, leb-false, lt-leb}
 use lib.Dec.{leb, ltb, eqb}
 use lib.ListN.{length}
@@ -13,8 +14,10 @@ use Rattle.tariff.specs.Refusals.{first}
 use Rattle.tariff.specs.Units.{maxQuantity, maxContracts}
 use Rattle.lists.proofs.Search.{neither}
 use Rattle.tariff.proofs.Checks.{first-passes, passed-cons, same-of}
-use Rattle.layouts.specs.Forms.{sparePattern}
+use Rattle.layouts.specs.declared.forms.Form.{Form}
+use Rattle.layouts.specs.Forms.{recordBytes, sparePattern}
 use Rattle.layouts.specs.BookFile.{bookBytes, contractCountIn, bookSpareIn, bookFormIn, contractAt, bookIn}
+use Rattle.layouts.proofs.BookFile.{record-room}
 use Rattle.lists.proofs.Lists.{each-listTo}
 use Rattle.books.specs.BookChecks.{contractChecks, bookChecks}
 use Rattle.books.proofs.Checking.{checks-each}
@@ -56,6 +59,10 @@ book-accepted n s e =
       size = same-of (length s) (bookBytes (bookFormIn s) (contractCountIn s)) (d .0);
       each = λ i h. contract-in-range n (contractAt s i) (checks-each (λ j. contractChecks n (contractAt s j)) (contractCountIn s) (d .1) i h);
     }
+
+-- in the form found contract i has its bytes
+pub accepted-room : (n : ℕ) (s : List ℕ) → Accepted n s → (f : Form) → f ≡ bookFormIn s → (i : ℕ) → i < contractCountIn s → (i < 1024) × (bookBytes f i + recordBytes f ≤ length s)
+accepted-room n s a f form i h = (omega (arith, a .few), rw form (record-room (bookFormIn s) i (contractCountIn s) (length s) h (omega (arith, a .size))))
 
 pub all-in-range : (n : ℕ) (s : List ℕ) → Accepted n s → Each (InRange n) (bookIn s)
 all-in-range n s a = each-listTo (InRange n) (contractCountIn s) (contractAt s) (a .each)
