@@ -135,7 +135,13 @@ fn write_moved(book: &[u8], count: usize, ends: &[u16], file: &mut [u8])
 }
 
 // Applies pairs of old and new node numbers to a book for a grid of `nodes` nodes.
-pub fn remap_book(nodes: usize, book: &[u8], old: &[u64], new: &[u64], file: &mut [u8]) -> WriteAnswer
+pub fn remap_book(
+    nodes: usize,
+    book: &[u8],
+    old: &[u64],
+    new: &[u64],
+    file: &mut [u8],
+) -> WriteAnswer
     ensures { λ r. ⌜ RemapsBook (remapBookCall nodes (before book) (before old) (before new) (before file)) r (after file) ⌝ }
 {
     match check_remap(nodes, book, old, new, file.len()) {

@@ -58,7 +58,7 @@ loop-again c =
       omega arith,
       simp length-set (l .inv .1),
       pair-stored (s .args .nodes) (s .args .old .now) (s .args .new .now) (l .ends) (l .i - 1) (omega arith) (omega (arith, s .pre .pairs))
-      (omega (arith, old-below c, s .pre .few, l .inv .1)) (new-below c) (rw next (l .inv .2)),
+          (omega (arith, old-below c, s .pre .few, l .inv .1)) (new-below c) (rw next (l .inv .2)),
     )
 
 returns : tie.Need-returns Inv-loop μ-loop

@@ -26,9 +26,10 @@ write-moved-requires c κs =
     let e = c .before .before .before .before in
     let q = call e in
     let own = book-accepted (q .nodes) (q .book) (ok e .accepted) in
-    let count = c .before .before .contract-count .ensures .0 in
-    ((omega (arith, count, own .few), omega (arith, count, own .size), omega (arith, count, ok e .room)),
-    rw count (movable q (ok e) (c .before .before .before .moved-ends .result) (c .before .before .before .moved-ends .ensures)))
+    let count = c .before .before .contract-count .ensures .0 in (
+      (omega (arith, count, own .few), omega (arith, count, own .size), omega (arith, count, ok e .room)),
+      rw count (movable q (ok e) (c .before .before .before .moved-ends .result) (c .before .before .before .moved-ends .ensures)),
+    )
 
 returns : tie.Need-returns
 returns c =

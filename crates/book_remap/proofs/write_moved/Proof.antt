@@ -43,9 +43,10 @@ moved-contract-requires c κs =
 store-contract-requires : tie.Need-store-contract-requires Inv-loop μ-loop
 store-contract-requires c κs =
     let l = c .before .before .before .loop in
-    let s = c .before .before .before .before .before .before .before .before .before .before .before in
-    ((omega arith, omega (arith, s .pre .0, l .inv .1, c .before .before .before .before .before .before .store-header .kept .0)),
-    rw (c .moved-contract .ensures) (s .pre .1 (l .i) (omega arith) .fits))
+    let s = c .before .before .before .before .before .before .before .before .before .before .before in (
+      (omega arith, omega (arith, s .pre .0, l .inv .1, c .before .before .before .before .before .before .store-header .kept .0)),
+      rw (c .moved-contract .ensures) (s .pre .1 (l .i) (omega arith) .fits),
+    )
 
 loop-again : tie.Need-loop-again Inv-loop μ-loop
 loop-again c =
