@@ -1,5 +1,5 @@
-//! A second implementation of the scope document and the change requests: integers of 128 bits, files as words of '0' and '1', and nothing taken from the proved code.
-//! Each operation gives what is written, or the number of the refusal.
+//! A second implementation of the scope document and the change requests: integers of 128 bits, files as words of '0' and '1', and nothing taken from the
+//! proved code. Each operation gives what is written, or the number of the refusal.
 
 pub mod book;
 pub mod grid;
