@@ -107,15 +107,15 @@ fn moved_contract(book: &[u8], i: usize, ends: &[u16]) -> Contract
     let c = books::contract_at(book, i);
     let kind = c.kind;
     let period = c.period;
-    let source = end_at(ends, c.source);
-    let sink = end_at(ends, c.sink);
+    let from = end_at(ends, c.source);
+    let to = end_at(ends, c.sink);
     let quantity = c.quantity;
     Contract {
         kind,
         period,
         holder: c.holder,
-        source,
-        sink,
+        source: from,
+        sink: to,
         quantity,
     }
 }

@@ -26,29 +26,30 @@ loop-holds c =
     let a = c .before .before .before .args in
     (omega arith, c .every-node .ensures .size, λ e h. c .every-node .ensures .each e h ∙ sym (no-pairs (a .old .now) (a .new .now) e))
 
--- what is known of pair i
-old-below : (c : tie.After-shared-slice-known4 Inv-loop μ-loop) → let s = c .before .before .before .before .before .before .before in
-    getD (s .args .old .now) (c .before .before .before .loop .i - 1) 0 < s .args .nodes
-old-below c = let s = c .before .before .before .before .before .before .before in s .pre .old-below (c .before .before .before .loop .i - 1) (omega arith)
+-- both numbers of pair i are nodes
+abbrev pairAt : (c : tie.After-shared-slice-known4 Inv-loop μ-loop) → ℕ
+pairAt c = c .before .before .before .loop .i - 1
 
-new-below : (c : tie.After-shared-slice-known4 Inv-loop μ-loop) → let s = c .before .before .before .before .before .before .before in
-    getD (s .args .new .now) (c .before .before .before .loop .i - 1) 0 < s .args .nodes
-new-below c = let s = c .before .before .before .before .before .before .before in s .pre .new-below (c .before .before .before .loop .i - 1) (omega (arith, s .pre .pairs))
+pair-below : (c : tie.After-shared-slice-known4 Inv-loop μ-loop) → let s = c .before .before .before .before .before .before .before in
+    (getD (s .args .old .now) (pairAt c) 0 < s .args .nodes) × (getD (s .args .new .now) (pairAt c) 0 < s .args .nodes) × (s .args .nodes ≤ maxNodes)
+pair-below c =
+    let p = c .before .before .before .before .before .before .before .pre in
+    (p .old-below (pairAt c) (omega arith), p .new-below (pairAt c) (omega (arith, p .pairs)), p .few)
 
 shared-slice-read-to : tie.Need-shared-slice-read-to Inv-loop μ-loop
 shared-slice-read-to c = omega (arith, c .before .before .before .before .before .before .before .pre .pairs)
 
 mul-ends : tie.Need-mul-ends Inv-loop μ-loop
-mul-ends c = record { fits = omega (arith, new-below c, c .before .before .before .before .before .before .before .pre .few) }
+mul-ends c = record { fits = omega (arith, pair-below c) }
 
 array-read-ends : tie.Need-array-read-ends Inv-loop μ-loop
-array-read-ends c = omega (arith, new-below c, c .before .before .before .before .before .before .before .pre .few)
+array-read-ends c = omega (arith, pair-below c)
 
 mul-ends-2 : tie.Need-mul-ends-2 Inv-loop μ-loop
-mul-ends-2 c = record { fits = omega (arith, old-below c, c .before .before .before .before .before .before .before .pre .few) }
+mul-ends-2 c = record { fits = omega (arith, pair-below c) }
 
 array-write-ends : tie.Need-array-write-ends Inv-loop μ-loop
-array-write-ends c = omega (arith, old-below c, c .before .before .before .before .before .before .before .pre .few)
+array-write-ends c = omega (arith, pair-below c)
 
 loop-again : tie.Need-loop-again Inv-loop μ-loop
 loop-again c =
@@ -58,7 +59,7 @@ loop-again c =
       omega arith,
       simp length-set (l .inv .1),
       pair-stored (s .args .nodes) (s .args .old .now) (s .args .new .now) (l .ends) (l .i - 1) (omega arith) (omega (arith, s .pre .pairs))
-          (omega (arith, old-below c, s .pre .few, l .inv .1)) (new-below c) (rw next (l .inv .2)),
+          (omega (arith, pair-below c, l .inv .1)) (pair-below c .1) (rw next (l .inv .2)),
     )
 
 returns : tie.Need-returns Inv-loop μ-loop
