@@ -46,6 +46,13 @@ pub record Accepted (n : ℕ) (s : List ℕ) : Type 0 where
   pub size : length s ≡ bookBytes (bookFormIn s) (contractCountIn s)
   pub each : (i : ℕ) → i < contractCountIn s → InRange n (contractAt s i)
 
+-- each contract of it passes its own
+pub contracts-pass : (n : ℕ) (s : List ℕ) → first (bookChecks n s) ≡ Passed → (i : ℕ) → i < contractCountIn s → first (contractChecks n (contractAt s i)) ≡ Passed
+unfolding bookChecks
+contracts-pass n s e =
+    let own = passed-cons _ _ (passed-cons _ _ (passed-cons _ _ (passed-cons _ _ e .1) .1) .1) .1 in
+    checks-each (λ j. contractChecks n (contractAt s j)) (contractCountIn s) own
+
 pub book-accepted : (n : ℕ) (s : List ℕ) → first (bookChecks n s) ≡ Passed → Accepted n s
 unfolding bookChecks
 book-accepted n s e =
@@ -57,7 +64,7 @@ book-accepted n s e =
       few = ltb-false maxContracts (contractCountIn s) (b .0);
       spare = same-of (bookSpareIn s) (sparePattern (bookFormIn s)) (c .0);
       size = same-of (length s) (bookBytes (bookFormIn s) (contractCountIn s)) (d .0);
-      each = λ i h. contract-in-range n (contractAt s i) (checks-each (λ j. contractChecks n (contractAt s j)) (contractCountIn s) (d .1) i h);
+      each = λ i h. contract-in-range n (contractAt s i) (contracts-pass n s e i h);
     }
 
 -- in the form found contract i has its bytes

@@ -230,3 +230,7 @@ end-below Wide n x h fit = h
 pub end-fits : (f : Form) (n x : ℕ) → n ≤ maxNodes → x < endsBelow f n → x < 2 ^ endWidth f
 end-fits Narrow n x few h = omega arith
 end-fits Wide n x few h = omega arith
+
+pub ends-some : (f : Form) (n : ℕ) → 0 < n → 0 < endsBelow f n
+ends-some Narrow n h = omega arith
+ends-some Wide n h = h
