@@ -183,8 +183,8 @@ pub fn put_lines(
     requires { ⌜ Sized count (now cents) (now priced) totals × (length heading + longestLine * count + longestSum + longestExact ≤ length (now buf)) ⌝ }
     ensures { λ r. ⌜ Put (before buf) 0 (settledLines period (contractAt (before book)) (before cents) (before priced) count totals) (after buf) r ⌝ }
 {
-    let first = text::put_text(buf, 0, &HEADING);
     let form = books::book_form(book);
+    let first = text::put_text(buf, 0, &HEADING);
     let second = put_contracts(buf, first, period, book, form, count, cents, priced);
     let third = put_sum(buf, second, totals.sum);
     put_exact(buf, third, totals.whole, totals.parts)

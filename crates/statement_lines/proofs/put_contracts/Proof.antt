@@ -31,7 +31,7 @@ cast-size c = omega (arith, c .before .before .before .before .before .before .b
 
 contract-at-requires : tie.Need-contract-at-requires Inv-loop μ-loop
 contract-at-requires c κs =
-    let s = c .before .before .before .before in
+    let s = c .before .before .before .before .before in
     (omega (arith, s .pre .0 .0), record-room (s .args .form) (c .before .loop .i) (s .args .count) _ (omega arith) (s .pre .0 .1))
 
 put-own-requires : tie.Need-put-own-requires Inv-loop μ-loop
