@@ -1,5 +1,6 @@
 pub mod Factors
 pub mod Passing
+pub mod Sizing
 pub mod Filling
 pub mod RoundTrip
 pub mod Taken

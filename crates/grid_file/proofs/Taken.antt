@@ -3,7 +3,7 @@ use mathlib.Core.Path.{_≡_, _∙_}
 use mathlib.Core.List.{List, [], _∷_}
 use Prim.Native.Nat.{ℕ, _*_, _≤_}
 use native.Mathlib.Omega.{arith}
-use borrow.Author.Tests.{ltb-false, le-ltb}
+use borrow.Author.Tests.{le-ltb}
 use lib.ListN.{length, take}
 use lib.IntN.{ℤ, pos}
 use lib.Seq.{take-all}
@@ -13,15 +13,18 @@ use Rattle.tariff.specs.declared.refusals.Checked.the-variants.{Passed}
 use Rattle.tariff.specs.Units.{gridOf, maxNodes, maxConstraints, maxLimit}
 use Rattle.tariff.specs.Refusals.{first}
 use Rattle.tariff.specs.Checks.{shortTable}
-use Rattle.tariff.proofs.Checks.{passed-cons, passed-append, first-passes, last-passes, nodes-few-of, first-room}
+use Rattle.tariff.proofs.Checks.{passed-cons, passed-append, first-passes, last-passes, first-room}
 use Rattle.tariff.proofs.Answers.{given-told}
-use Rattle.layouts.specs.GridFile.{nodesIn, constraintsIn, limitsIn, factorsIn, gridIn, gridHeaderBits}
+use Rattle.layouts.specs.declared.forms.Form.{Form}
+use Rattle.layouts.specs.Forms.{formNumber}
+use Rattle.layouts.specs.GridFile.{gridFormIn, headerIn, nodesIn, constraintsIn, limitsIn, factorsIn, gridIn}
 use Rattle.layouts.proofs.GridFile.{length-limits, length-factors}
 use Rattle.tables.specs.Inner.{GoodFactors, GoodCells}
 use Rattle.tables.proofs.Cells.{good-cells}
 use Rattle.tables.proofs.Factors.{count-fits, factors-in-range}
 use Rattle.grid_file.specs.declared.GridAnswer.the-variants.{Read}
-use Rattle.grid_file.specs.ReadGrid.{readGridCall, gridFileChecks, readGridChecks, readGridChecked, gridCounts, ReadsGrid}
+use Rattle.grid_file.specs.ReadGrid.{readGridCall, gridSizeChecks, gridFigureChecks, gridFileChecks, readGridChecks, readGridChecked, gridValues, ReadsGrid}
+use Rattle.grid_file.proofs.Passing.{sized}
 
 -- ---- read
 
@@ -39,42 +42,42 @@ module _ (s : List ℕ) (ls₀ : List ℕ) (fs₀ : List ℤ) where
   K = constraintsIn s
 
   front-limits : take K (overwrite (limitsIn s) ls₀) ≡ limitsIn s
-  front-limits = front-is (limitsIn s) ls₀ K (length-limits s gridHeaderBits N K)
+  front-limits = front-is (limitsIn s) ls₀ K (length-limits s (headerIn s) N K)
 
   front-factors : take (N * K) (overwrite (factorsIn s) fs₀) ≡ factorsIn s
-  front-factors = front-is (factorsIn s) fs₀ (N * K) (length-factors s gridHeaderBits N K)
+  front-factors = front-is (factorsIn s) fs₀ (N * K) (length-factors s (headerIn s) N K)
 
   taken-by : first (gridFileChecks s) ≡ Passed → GridTaken s N K (overwrite (limitsIn s) ls₀) (overwrite (factorsIn s) fs₀)
-  unfolding gridFileChecks
+  unfolding gridFileChecks gridFigureChecks
   taken-by e =
-      let two = passed-cons _ _ (passed-cons _ _ e .1) in
-      let three = passed-cons _ _ (two .1) in
-      let six = passed-cons _ _ (passed-cons _ _ (passed-cons _ _ (three .1) .1) .1) in
+      let both = passed-append (gridSizeChecks s) _ e in
+      let good = sized s (both .0) .counted .good in
+      let six = passed-cons _ _ (both .1) in
       let seven = passed-cons _ _ (six .1) in
-      let long : N * K ≤ length (overwrite (factorsIn s) fs₀) = front-room (factorsIn s) fs₀ (N * K) (length-factors s gridHeaderBits N K) in
+      let long : N * K ≤ length (overwrite (factorsIn s) fs₀) = front-room (factorsIn s) fs₀ (N * K) (length-factors s (headerIn s) N K) in
       record {
         passes = e;
         grid-is = rw (
           front-limits,
           front-factors,
-          take-all K (limitsIn s) (omega (arith, length-limits s gridHeaderBits N K)),
-          take-all (N * K) (factorsIn s) (omega (arith, length-factors s gridHeaderBits N K)),
+          take-all K (limitsIn s) (omega (arith, length-limits s (headerIn s) N K)),
+          take-all (N * K) (factorsIn s) (omega (arith, length-factors s (headerIn s) N K)),
         );
-        good-limits = good-cells maxLimit K (overwrite (limitsIn s) ls₀) (front-room (limitsIn s) ls₀ K (length-limits s gridHeaderBits N K)) (rw front-limits (six .0));
+        good-limits = good-cells maxLimit K (overwrite (limitsIn s) ls₀) (front-room (limitsIn s) ls₀ K (length-limits s (headerIn s) N K)) (rw front-limits (six .0));
         good-factors = record {
-          nodes-few = nodes-few-of N (two .0);
-          few = ltb-false maxConstraints K (three .0);
+          nodes-few = good .nodes-few;
+          few = good .few;
           long = long;
           in-range = factors-in-range N K (overwrite (factorsIn s) fs₀) long (rw front-factors (seven .0));
         };
       }
 
-  pub grid-taken : (n k : ℕ) (ls : List ℕ) (fs : List ℤ) → ReadsGrid (readGridCall s ls₀ fs₀) (Read n k) ls fs → GridTaken s n k ls fs
+  pub grid-taken : (n k : ℕ) (f : Form) (ls : List ℕ) (fs : List ℤ) → ReadsGrid (readGridCall s ls₀ fs₀) (Read n k f) ls fs → GridTaken s n k ls fs
   unfolding readGridChecks
-  grid-taken n k ls fs h =
+  grid-taken n k f ls fs h =
       let q = readGridCall s ls₀ fs₀ in
-      let told = given-told (readGridChecked q) (gridCounts q) (pos n ∷ pos k ∷ []) (h .counts-given) in
-      let same : pos n ∷ pos k ∷ [] ≡ pos N ∷ pos K ∷ [] = told .1 in
+      let told = given-told (readGridChecked q) (gridValues q) (pos n ∷ pos k ∷ pos (formNumber f) ∷ []) (h .values-given) in
+      let same : pos n ∷ pos k ∷ pos (formNumber f) ∷ [] ≡ pos N ∷ pos K ∷ pos (formNumber (gridFormIn s)) ∷ [] = told .1 in
       let nodes : n ≡ N = cc in
       let constraints : k ≡ K = cc in
       let limits : ls ≡ overwrite (limitsIn s) ls₀ = rw (told .0) at (h .limits-read) in

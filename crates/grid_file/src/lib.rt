@@ -3,12 +3,18 @@ mod reading;
 mod sizes;
 mod writing;
 
+use layouts::Form;
+pub use reading::check_size;
 pub use reading::read_grid;
 use tariff::Refusal;
 pub use writing::write_grid;
 
-// What reading a grid gives: its counts, or the refusal.
+// What reading a grid gives: its counts and the form of its file, or the refusal.
 pub enum GridAnswer {
-    Read { nodes: usize, constraints: usize },
+    Read {
+        nodes: usize,
+        constraints: usize,
+        form: Form,
+    },
     Refused(Refusal),
 }

@@ -1,6 +1,6 @@
 // The two forms of a grid's and a book's file (document 02, request 9): narrow, document 01's, and wide.
 ghost use mathlib.Core.Path.{_≡_};
-ghost use Rattle.layouts.specs.Forms.{formNumber, formOf, mostNodes, gridHeaderBits, gridSpare};
+ghost use Rattle.layouts.specs.Forms.{formNumber, formOf, mostNodes, gridHeaderBits, gridHeaderBytes, gridSpare};
 use crate::GRID_HEADER_BITS;
 use crate::WIDE_GRID_HEADER_BITS;
 use tariff::MAX_NARROW_NODES;
@@ -49,6 +49,15 @@ impl Form {
         match self {
             Form::Narrow => GRID_HEADER_BITS,
             Form::Wide => WIDE_GRID_HEADER_BITS,
+        }
+    }
+
+    pub fn grid_header_bytes(self) -> usize
+        ensures { λ r. ⌜ r ≡ gridHeaderBytes self ⌝ }
+    {
+        match self {
+            Form::Narrow => 2,
+            Form::Wide => 4,
         }
     }
 
