@@ -4,3 +4,5 @@ pub mod Sizing
 pub mod Filling
 pub mod RoundTrip
 pub mod Taken
+pub mod BothForms
+pub mod Theorems

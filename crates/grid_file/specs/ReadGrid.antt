@@ -47,7 +47,14 @@ gridFigureChecks file = limitRange (limitsIn file) ∷ factorRange (factorsIn fi
 unfoldable pub gridFileChecks : List ℕ → List Check
 gridFileChecks file = gridSizeChecks file ++ gridFigureChecks file
 
--- the same of a file of at most so many bytes: "a longer one draws 5 if no earlier check does"
+-- "The program takes grids up to 32 KiB", which have at most so many factors (`fits-the-program`)
+abbrev pub programBytes : ℕ
+programBytes = 32768
+
+abbrev pub programFactors : ℕ
+programFactors = 14561
+
+-- the file's own of a file of at most so many bytes: "a longer one draws 5 if no earlier check does"
 unfoldable pub cappedChecks : ℕ → List ℕ → List Check
 cappedChecks most file = gridSizeChecks file ++ fileTooLong file most ∷ gridFigureChecks file
 
