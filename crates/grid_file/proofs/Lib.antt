@@ -3,6 +3,6 @@ pub mod Passing
 pub mod Sizing
 pub mod Filling
 pub mod RoundTrip
-pub mod Taken
 pub mod BothForms
+pub mod Taken
 pub mod Theorems

@@ -70,14 +70,28 @@ module _ (q : ReadGridCall) where
   abbrev pub readGridChecked : Checked
   readGridChecked = first readGridChecks
 
+  -- the same of a file of at most so many bytes
+  unfoldable pub withinChecks : ℕ → List Check
+  withinChecks most =
+      cappedChecks most (q .file)
+      ++ shortTable (length (q .limits)) (constraintsIn (q .file))
+      ∷ shortTable (length (q .factors)) (nodesIn (q .file) * constraintsIn (q .file))
+      ∷ []
+
   abbrev pub gridValues : List ℤ
   gridValues = pos (nodesIn (q .file)) ∷ pos (constraintsIn (q .file)) ∷ pos (formNumber (gridFormIn (q .file))) ∷ []
 
--- the promise: the answer, and the tables at exit
-pub record ReadsGrid (q : ReadGridCall) (answer : GridAnswer) (limits : List ℕ) (factors : List ℤ) : Type 0 where
-  pub values-given : gridOutcome answer ≡ answered (readGridChecked q) (gridValues q)
-  pub limits-read : limits ≡ cellsAfter (readGridChecked q) (limitsIn (q .file)) (q .limits)
-  pub factors-read : factors ≡ cellsAfter (readGridChecked q) (factorsIn (q .file)) (q .factors)
+-- the promise, by what the checks found: the answer, and the tables at exit
+pub record ReadsBy (checked : Checked) (q : ReadGridCall) (answer : GridAnswer) (limits : List ℕ) (factors : List ℤ) : Type 0 where
+  pub values-given : gridOutcome answer ≡ answered checked (gridValues q)
+  pub limits-read : limits ≡ cellsAfter checked (limitsIn (q .file)) (q .limits)
+  pub factors-read : factors ≡ cellsAfter checked (factorsIn (q .file)) (q .factors)
+
+abbrev pub ReadsGrid : ReadGridCall → GridAnswer → List ℕ → List ℤ → Type 0
+ReadsGrid q = ReadsBy (readGridChecked q) q
+
+abbrev pub ReadsWithin : ℕ → ReadGridCall → GridAnswer → List ℕ → List ℤ → Type 0
+ReadsWithin most q = ReadsBy (first (withinChecks q most)) q
 
 -- the same for C: the refusal's number, and the counts and the form's number in lent figures
 pub record ReadsGridForC (q : ReadGridCall) (number : ℕ) (limits : List ℕ) (factors : List ℤ) (nodes constraints form : Lent ℕ) : Type 0 where
