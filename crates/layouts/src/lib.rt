@@ -9,7 +9,7 @@ pub use forms::Form;
 use tariff::Refusal;
 
 // The bytes of the largest files.
-pub const MAX_GRID_BYTES: usize = 29018;
+pub const MAX_GRID_BYTES: usize = 576220;
 
 pub const MAX_BOOK_BYTES: usize = 7002;
 
