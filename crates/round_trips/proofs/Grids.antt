@@ -29,7 +29,7 @@ use Rattle.grid_file.proofs.RoundTrip.{ReadBack, read-then-written, written-the
 use Rattle.round_trips.proofs.Exits.{IsWritten, writes-passed, writes-told}
 
 -- a form is told by its number
-same-form : (f g : Form) → formNumber f ≡ formNumber g → f ≡ g
+pub same-form : (f g : Form) → formNumber f ≡ formNumber g → f ≡ g
 same-form f g e = sym (form-of-number f) ∙ ap formOf e ∙ form-of-number g
 
 -- ---- read, then written

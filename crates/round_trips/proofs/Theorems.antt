@@ -34,8 +34,8 @@ pub grid-read-then-written : (s : List ℕ) (ls₀ : List ℕ) (fs₀ : List ℤ
 grid-read-then-written = grid-rewritten
 
 pub book-read-then-written : (n : ℕ) (s entry : List ℕ) → Bytes s
-    → (m : ℕ) (table : List ℕ) → ReadsBook (readBookCall n s entry) (book.Read m) table → (place : List ℕ) → length s ≤ length place
-    → (answer : WriteAnswer) (exit : List ℕ) → WritesBook (writeBookCall n m table place) answer exit → IsWritten s place answer exit
+    → (m : ℕ) (f : Form) (table : List ℕ) → ReadsBook (readBookCall n s entry) (book.Read m f) table → (place : List ℕ) → length s ≤ length place
+    → (answer : WriteAnswer) (exit : List ℕ) → WritesBook (writeBookCall f n m table place) answer exit → IsWritten s place answer exit
 book-read-then-written = book-rewritten
 
 pub prices-read-then-written : (k : ℕ) (s entry : List ℕ) → Bytes s
@@ -51,9 +51,9 @@ pub grid-written-then-read : (f : Form) (n k : ℕ) (limits : List ℕ) (factors
     → (answer : GridAnswer) (ls : List ℕ) (fs : List ℤ) → ReadsGrid (readGridCall (take size exit) ls₀ fs₀) answer ls fs → GridIs f n k limits factors ls₀ fs₀ answer ls fs
 grid-written-then-read = grid-reread
 
-pub book-written-then-read : (n m : ℕ) (rows place : List ℕ) (size : ℕ) (exit : List ℕ)
-    → WritesBook (writeBookCall n m rows place) (Written size) exit → (entry : List ℕ) → contractCells * m ≤ length entry
-    → (answer : BookAnswer) (table : List ℕ) → ReadsBook (readBookCall n (take size exit) entry) answer table → BookIs m rows entry answer table
+pub book-written-then-read : (f : Form) (n m : ℕ) (rows place : List ℕ) (size : ℕ) (exit : List ℕ)
+    → WritesBook (writeBookCall f n m rows place) (Written size) exit → (entry : List ℕ) → contractCells * m ≤ length entry
+    → (answer : BookAnswer) (table : List ℕ) → ReadsBook (readBookCall n (take size exit) entry) answer table → BookIs f m rows entry answer table
 book-written-then-read = book-reread
 
 pub prices-written-then-read : (t k : ℕ) (table place : List ℕ) (size : ℕ) (exit : List ℕ)
