@@ -11,6 +11,7 @@ use Rattle.tariff.specs.Units.{Grid}
 use Rattle.tariff.specs.Contracts.{ofPeriod}
 use Rattle.tariff.specs.Settlement.{mcc, amount, cents}
 use Rattle.tariff.specs.Feasibility.{totalFlow, excess, overloadSet, overloadCount, lowestOverload}
+use Rattle.layouts.specs.declared.forms.Form.the-variants.{Narrow}
 use Rattle.layouts.specs.BookFile.{bookFile}
 use Rattle.layouts.specs.PriceFile.{priceFile}
 use Rattle.checked_values.specs.Cases.{minus, factorsL, gridL, pricesL, bookL, gridP, bookP}
