@@ -16,7 +16,7 @@ use Rattle.bits.proofs.Numbers.{Below}
 use Rattle.bits.proofs.Fields.{field-lt}
 use Rattle.bits.proofs.Files.{total-append, fit-append, length-file, below-file, written-holds, holds-written, holds-append}
 use Rattle.tariff.specs.declared.contracts.Contract.{Contract}
-use Rattle.tariff.specs.Units.{maxNodes}
+use Rattle.tariff.specs.Units.{maxNodes, maxContracts}
 use Rattle.layouts.specs.declared.forms.Form.{Form}
 use Rattle.layouts.specs.declared.forms.Form.the-variants.{Narrow, Wide}
 use Rattle.layouts.specs.Forms.{endWidth, recordBytes, sparePattern, endsBelow}
@@ -215,6 +215,11 @@ record-room Wide i m size h room = omega arith
 pub book-bytes-least : (f : Form) (m size : ℕ) → bookBytes f m ≤ size → 2 ≤ size
 book-bytes-least Narrow m size h = omega arith
 book-bytes-least Wide m size h = omega arith
+
+-- the longest book has 7,002 bytes
+pub book-bytes-most : (f : Form) (m : ℕ) → m ≤ maxContracts → bookBytes f m ≤ 7002
+book-bytes-most Narrow m h = omega arith
+book-bytes-most Wide m h = omega arith
 
 -- ---- ends: "a narrow book's writer refuses an end above 255"
 

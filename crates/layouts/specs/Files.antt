@@ -30,6 +30,10 @@ spareOther pattern spare = record { fails = not (eqb spare pattern); refusal = S
 abbrev pub fileLength : List ℕ → ℕ → Check
 fileLength s size = record { fails = not (eqb (length s) size); refusal = FileLength }
 
+-- 5, of a file that may not have more bytes than so many
+abbrev pub fileTooLong : List ℕ → ℕ → Check
+fileTooLong s most = record { fails = ltb most (length s); refusal = FileLength }
+
 -- 8: a padding bit set
 abbrev pub padding : ℕ → Check
 padding pad = record { fails = not (eqb pad 0); refusal = Padding }

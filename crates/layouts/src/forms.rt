@@ -2,7 +2,7 @@
 ghost use mathlib.Core.Path.{_≡_};
 ghost use Prim.Native.Nat.{_≤_};
 ghost use Rattle.tariff.specs.Units.{maxContracts};
-ghost use Rattle.layouts.specs.Forms.{formNumber, formOf, mostNodes, gridHeaderBits, gridSpare, endWidth, sparePattern, endsBelow};
+ghost use Rattle.layouts.specs.Forms.{formNumber, formOf, mostNodes, gridHeaderBits, gridHeaderBytes, gridSpare, endWidth, sparePattern, endsBelow};
 ghost use Rattle.layouts.specs.BookFile.{bookBytes};
 use crate::BOOK_HEADER_BYTES;
 use crate::CONTRACT_BYTES;
@@ -56,6 +56,15 @@ impl Form {
         match self {
             Form::Narrow => GRID_HEADER_BITS,
             Form::Wide => WIDE_GRID_HEADER_BITS,
+        }
+    }
+
+    pub fn grid_header_bytes(self) -> usize
+        ensures { λ r. ⌜ r ≡ gridHeaderBytes self ⌝ }
+    {
+        match self {
+            Form::Narrow => 2,
+            Form::Wide => 4,
         }
     }
 

@@ -9,11 +9,16 @@ pub use forms::Form;
 use tariff::Refusal;
 
 // The bytes of the largest files.
-pub const MAX_GRID_BYTES: usize = 29018;
+pub const MAX_GRID_BYTES: usize = 576220;
 
 pub const MAX_BOOK_BYTES: usize = 7002;
 
 pub const MAX_PRICE_BYTES: usize = 153;
+
+// The program takes a grid's file of at most so many bytes, and then it has at most so many factors.
+pub const PROGRAM_GRID_BYTES: usize = 32768;
+
+pub const PROGRAM_FACTORS: usize = 14561;
 
 // Bits of a narrow grid's header, of a wide one's, of a limit, of a factor, of a price file's header and of a price.
 pub const GRID_HEADER_BITS: usize = 16;

@@ -14,6 +14,7 @@ fn grid_refusal(file: &[u8]) -> u64 {
         GridAnswer::Read {
             nodes: _,
             constraints: _,
+            form: _,
         } => 0,
         GridAnswer::Refused(refusal) => refusal.number(),
     }
@@ -80,13 +81,18 @@ fn case_l_grid() {
     let mut limits = [0u64; 2];
     let mut factors = [0i64; 6];
     match grid_file::read_grid(file, &mut limits, &mut factors) {
-        GridAnswer::Read { nodes, constraints } => {
+        GridAnswer::Read {
+            nodes,
+            constraints,
+            form,
+        } => {
             figure(b"L, nodes", nodes as u64, 3);
             figure(b"L, constraints", constraints as u64, 2);
             figure(b"L, limit 0", limits[0], 100000);
             figure(b"L, limit 1", limits[1], 50000);
             let mut again = [0u8; 23];
             let n = written(grid_file::write_grid(
+                form,
                 nodes,
                 constraints,
                 &limits,
