@@ -15,7 +15,7 @@ unfolding listChecks
 returns c = sym (first-refuses _ _ (sym (c .before .listed-outside .ensures) ∙ c .if1 .taken))
 
 listed-outside-requires-2 : tie.Need-listed-outside-requires-2
-listed-outside-requires-2 c κs = let s = c .before .before .before .before .before in rw (c .ends-below .ensures) (ends-some _ (s .args .nodes) (s .pre))
+listed-outside-requires-2 c κs = let s = c .before .before .before .before .before in rw (c .ends-below .ensures) (ends-some (s .args .form) (s .args .nodes) (s .pre))
 
 returns-2 : tie.Need-returns-2
 unfolding listChecks
