@@ -2,9 +2,11 @@
 use mathlib.Core.Path.{_≡_, refl, sym, ap₂, _∙_}
 use mathlib.Core.Logic.{⊎-elim}
 use mathlib.Core.List.{List, _++_}
-use Prim.Native.Nat.{ℕ, zero, suc, _+_, _<_, _≤_}
+use mathlib.Core.Bool.{Bool, true, false, _||_}
+use Prim.Native.Nat.{ℕ, zero, suc, _+_, _<_, _≤_, max}
 use lib.ListN.{length}
-use borrow.Author.Tests.{lt-ltb, le-ltb, eq-eqb, ne-eqb}
+use borrow.Author.Tests.{lt-ltb, le-ltb, eq-eqb, ne-eqb, le-leb, lt-leb, leb-false}
+use lib.Dec.{leb}
 use native.Mathlib.Nat.{eq-or-lt-of-le}
 use native.Mathlib.Numerals.{add-one}
 use native.Mathlib.Omega.{arith}
@@ -63,6 +65,17 @@ pub checks-same : (m : ℕ) (f g : ℕ → List Check) → ((i : ℕ) → i < m 
 unfolding checksTo
 checks-same zero f g h = refl
 checks-same (suc m) f g h = ap₂ (λ (xs ys : List Check). xs ++ ys) (checks-same m f g (λ i b. h i (omega arith))) (h m (omega arith))
+
+-- two ends by the larger of them
+pub end-refused : (n a b : ℕ) → n ≤ max a b → (leb n a || leb n b) ≡ true
+end-refused n a b h = by (leb n a) refl
+  where
+    by : (x : Bool) → leb n a ≡ x → (x || leb n b) ≡ true
+    by true e = refl
+    by false e = le-leb n b (omega (arith, leb-false n a e))
+
+pub ends-passed : (n a b : ℕ) → max a b < n → (leb n a || leb n b) ≡ false
+ends-passed n a b h = rw (lt-leb n a (omega arith)) (lt-leb n b (omega arith))
 
 -- ---- the book's own checks, one after the other; m is the count read, f the form, x the spare bits and p the form's
 module _ (n : ℕ) (s : List ℕ) where

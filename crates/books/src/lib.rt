@@ -1,7 +1,7 @@
 // A book's bytes: its contracts read and stored one by one, and the checks that every operation on a book has.
 ghost use mathlib.Core.Path.{_≡_};
 ghost use mathlib.Core.List.{_++_};
-ghost use Prim.Native.Nat.{_+_, _≤_, _<_};
+ghost use Prim.Native.Nat.{_+_, _≤_, _<_, max};
 ghost use lib.ListN.{length, take, drop};
 ghost use Rattle.lists.specs.Lent.{before, after, overwrite};
 ghost use Rattle.bits.specs.Bits.{digits};
@@ -161,14 +161,18 @@ pub fn store_contract(file: &mut [u8], form: Form, i: usize, c: Contract)
     }
 }
 
+// The larger of two node numbers: one comparison with the node count holds both ends.
+fn larger(a: usize, b: usize) -> usize
+    ensures { λ r. ⌜ r ≡ max a b ⌝ }
+{
+    if a < b { b } else { a }
+}
+
 // A contract's own checks, on its numbers: 11, 13. None has its unit before it has passed.
 pub fn check_numbers(nodes: usize, source: usize, sink: usize, quantity: u64) -> Checked
     ensures { λ r. ⌜ r ≡ first (numberChecks nodes source sink quantity) ⌝ }
 {
-    if nodes <= source {
-        return Checked::Refused(Refusal::NodeNumber);
-    }
-    if nodes <= sink {
+    if nodes <= larger(source, sink) {
         return Checked::Refused(Refusal::NodeNumber);
     }
     if tariff::quantity_bad(quantity) {

@@ -21,13 +21,14 @@ use Rattle.tariff.specs.Units.{Grid, maxConstraints, maxContracts}
 use Rattle.tariff.specs.Refusals.{Check, first, decided}
 use Rattle.tariff.specs.Checks.{nodesOutside, constraintCount, contractCount}
 use Rattle.tariff.proofs.Checks.{first-append, first-passes, first-refuses, passed-cons, differs}
-use Rattle.layouts.specs.Files.{shortFile, spareBits, spareOther, fileLength, fileTooLong}
+use Rattle.layouts.specs.Files.{shortFile, spareOther, fileLength, fileTooLong}
 use Rattle.layouts.specs.declared.forms.Form.{Form}
 use Rattle.layouts.specs.declared.forms.Form.the-variants.{Narrow, Wide}
-use Rattle.layouts.specs.Forms.{gridHeaderBytes, gridSpare, mostNodes}
+use Rattle.layouts.specs.Forms.{gridHeaderBytes, gridSpare, mostNodes, sparePattern}
 use Rattle.layouts.specs.GridFile.{gridBytes, gridFormIn, nodesOf, nodesIn, constraintsIn, gridSpareIn, gridIn}
 use Rattle.layouts.proofs.FormLaws.{header-most}
-use Rattle.layouts.specs.BookFile.{bookBytes, contractCountIn, bookSpareIn}
+use Rattle.layouts.specs.BookFile.{bookBytes, contractCountIn, bookSpareIn, bookFormIn}
+use Rattle.layouts.proofs.BookFile.{book-bytes-most}
 use Rattle.layouts.specs.PriceFile.{priceBytes, priceCount}
 use Rattle.grid_file.specs.ReadGrid.{gridSizeChecks, gridFigureChecks, cappedChecks, programBytes}
 use Rattle.books.specs.BookChecks.{bookChecks}
@@ -41,7 +42,7 @@ abbrev pub gridCut : ℕ
 gridCut = programBytes + 1
 
 abbrev pub bookCut : ℕ
-bookCut = 6002 + 1
+bookCut = 7002 + 1
 
 abbrev pub priceCut : ℕ
 priceCut = 153 + 1
@@ -150,19 +151,21 @@ module _ (s : List ℕ) (m : ℕ) (b : Bytes s) where
           (refused (first (headChecks s)) _ _ _)
 
   pub cut-book : bookCut ≤ m → (n : ℕ) (text : List Contract → List ℕ) → withBook n (take m s) text ≡ withBook n s text
-  unfolding withBook bookChecks
+  unfolding withBook bookChecks bookFormIn
   cut-book most n text = cut-or-whole s m (λ x. withBook n x text) cut
     where
       head : List Check
-      head = shortFile s 2 ∷ contractCount (contractCountIn s) ∷ spareBits (bookSpareIn s) ∷ []
+      head = shortFile s 2 ∷ contractCount (contractCountIn s) ∷ spareOther (sparePattern (bookFormIn s)) (bookSpareIn s) ∷ []
 
-      size : first head ≡ Passed → bookBytes (contractCountIn s) < m
-      size e = omega (arith, ltb-false maxContracts (contractCountIn s) (passed-cons _ _ (passed-cons _ _ e .1) .0))
+      size : first head ≡ Passed → bookBytes (bookFormIn s) (contractCountIn s) < m
+      size e =
+          let few : contractCountIn s ≤ maxContracts = ltb-false maxContracts (contractCountIn s) (passed-cons _ _ (passed-cons _ _ e .1) .0) in
+          omega (arith, book-bytes-most (bookFormIn s) (contractCountIn s) few)
 
       cut : m ≤ length s → withBook n (take m s) text ≡ withBook n s text
       cut long =
           rw (short-cut s m 2 long (omega arith), field-cut s m 0 10 b long (omega arith), field-cut s m 10 6 b long (omega arith))
-          (too-long head (bookBytes (contractCountIn s)) m s size long _ _ _ _ _)
+          (too-long head (bookBytes (bookFormIn s) (contractCountIn s)) m s size long _ _ _ _ _)
 
   pub cut-prices : priceCut ≤ m → (k : ℕ) (text : Period → List ℕ → List ℕ) → withPrices k (take m s) text ≡ withPrices k s text
   unfolding withPrices priceFileChecks

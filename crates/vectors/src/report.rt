@@ -15,7 +15,7 @@ fn reported(name: &[u8], first_limit: u64, quantity: u64) {
         &mut grid,
     );
     let mut book = [0u8; 8];
-    book_file::write_book(3, 1, &[0, 1, 7, 0, 1, quantity], &mut book);
+    book_file::write_book(Form::Narrow, 3, 1, &[0, 1, 7, 0, 1, quantity], &mut book);
     let mut text = [0u8; 2048];
     print(name);
     match feasibility_report::write_report(&grid, &book, &mut text) {
