@@ -216,20 +216,8 @@ fn refusals() {
     );
 }
 
-// Books of other lengths: no exchange, no pairs, case L, no contract, a byte too few.
-fn places() {
-    let mut two = [238u8; 14];
-    remapped(
-        b"6.12, no exchange",
-        3,
-        b"\x00\x80\x40\x70\x10\x20\x00\x05\x40\x70\x20\x10\x00\x05",
-        &[1, 2],
-        &[2, 1],
-        &mut two,
-        0,
-        14,
-        b"\x00\x80\x40\x70\x10\x10\x00\x05\x40\x70\x10\x10\x00\x05",
-    );
+// Case L's book, by no pairs and with node 2 retired into node 1.
+fn case_l() {
     let mut same = [238u8; 26];
     remapped(
         b"6.14, no pairs",
@@ -253,6 +241,22 @@ fn places() {
         0,
         26,
         b"\x01\x00\x40\x70\x00\x10\x27\x10\xc0\x80\x00\x10\x01\xf4\x40\x70\x00\x10\x00\x01\x00\x90\x00\x10\x00\x05",
+    );
+}
+
+// Books of other lengths: no exchange, no contract, a byte too few.
+fn places() {
+    let mut two = [238u8; 14];
+    remapped(
+        b"6.12, no exchange",
+        3,
+        b"\x00\x80\x40\x70\x10\x20\x00\x05\x40\x70\x20\x10\x00\x05",
+        &[1, 2],
+        &[2, 1],
+        &mut two,
+        0,
+        14,
+        b"\x00\x80\x40\x70\x10\x10\x00\x05\x40\x70\x10\x10\x00\x05",
     );
     let mut none = [238u8; 2];
     remapped(
@@ -285,5 +289,6 @@ pub fn go_through() {
     written();
     pairs();
     refusals();
+    case_l();
     places();
 }
