@@ -24,6 +24,11 @@ pub first-refuses : (c : Check) (cs : List Check) → c .fails ≡ true → firs
 unfolding first
 first-refuses c cs e = rw e
 
+-- lists that find the same, behind a check
+pub first-under : (c : Check) (xs ys : List Check) → first xs ≡ first ys → first (c ∷ xs) ≡ first (c ∷ ys)
+unfolding first
+first-under c xs ys e = ap (cond (c .fails) (Refused (c .refusal))) e
+
 pub first-append : (xs ys : List Check) → first (xs ++ ys) ≡ decided (first xs) Refused (first ys)
 unfolding first
 first-append [] ys = refl
