@@ -43,6 +43,15 @@ impl Draw {
         }
     }
 
+    /// The form of a round's book: wide and narrow in turn for the extremes.
+    pub fn form_of(&mut self, round: u64) -> Form {
+        match round as usize {
+            extreme if extreme < EXTREMES.len() && extreme % 2 == 0 => Form::Wide,
+            extreme if extreme < EXTREMES.len() => Form::Narrow,
+            _ => self.form(),
+        }
+    }
+
     /// A number by which a writer is told the form.
     pub fn told(&mut self, form: Form) -> u64 {
         match form {

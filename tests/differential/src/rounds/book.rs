@@ -92,7 +92,7 @@ fn other_length(draw: &mut Draw, form: Form, file: &[u8], contracts: usize) -> V
 
 pub fn read(round: &mut Round) {
     let size = draw::size(&mut round.draw, round.number);
-    let form = round.draw.form();
+    let form = round.draw.form_of(round.number);
     let book = draw::book(&mut round.draw, size, form);
     let file = book::file_of(form, &book);
     let (nodes, room) = (size.nodes as usize, 6 * book.len());
@@ -193,7 +193,7 @@ fn wrong(draw: &mut Draw, asked: &mut Table, size: Size, bytes: usize) {
 
 pub fn write(round: &mut Round) {
     let size = draw::size(&mut round.draw, round.number);
-    let form = round.draw.form();
+    let form = round.draw.form_of(round.number);
     let book = draw::book(&mut round.draw, size, form);
     let bytes = 2 + record(form) * book.len();
     let rows: Vec<i128> = book.iter().flat_map(Contract::row).collect();

@@ -16,10 +16,13 @@ fn headers(round: &Round) -> impl Iterator<Item = [u8; 2]> {
     (0..=255).map(move |low| [high, low])
 }
 
-/// Zeros or any bytes, as many as a file has after what is there.
+/// Zeros, zeros and a last bit that is set, or any bytes, as many as a file has after what is there.
 fn filled(draw: &mut Draw, mut file: Vec<u8>, length: usize) -> Vec<u8> {
     let count = length.saturating_sub(file.len()).min(LONGEST);
-    let more = if draw.once_in(2) { vec![0; count] } else { draw.bytes(count) };
+    let mut more = if draw.once_in(3) { draw.bytes(count) } else { vec![0; count] };
+    if draw.once_in(3) {
+        more.iter_mut().rev().take(1).for_each(|last| *last |= 1);
+    }
     file.extend(more);
     file
 }
@@ -54,9 +57,12 @@ fn records(draw: &mut Draw, form: Form, count: usize) -> Vec<u8> {
         Form::Wide => &[0x40, 0x70, 0x00, 0x00, 0x10, 0x27, 0x10],
     };
     let mut bytes = own.repeat(count);
-    if count > 0 && draw.once_in(3) {
-        let at = draw.below(bytes.len() as u64) as usize;
-        bytes[at] = draw.next() as u8;
+    let at = draw.below(bytes.len() as u64 + 1) as usize;
+    match draw.below(6) {
+        0 | 1 => bytes.iter_mut().skip(at).take(1).for_each(|byte| *byte = draw.next() as u8),
+        // the last contract's quantity 0
+        2 => bytes.iter_mut().rev().take(2).for_each(|byte| *byte = 0),
+        _ => {}
     }
     bytes
 }

@@ -58,10 +58,14 @@ fn call(round: &mut Round, asked: &Asked) {
 }
 
 /// Pairs along a walk from node to node: a chain, the chain from its end, a cycle, no move, one node retired again and again, all into one, or at random.
-/// Ends of the book's form are below `below`.
-fn run(draw: &mut Draw, nodes: i128, below: i128) -> Vec<(u64, u64)> {
-    let near = draw.pick(&[below, below.min(6)]) as u64;
-    let walk: Vec<u64> = (0..draw.within(2, 6)).map(|_| draw.below(near)).collect();
+/// New numbers fit the book's form, and the walk often starts at a contract's end.
+fn run(draw: &mut Draw, own: &Own) -> Vec<(u64, u64)> {
+    let nodes = own.size.nodes as u64;
+    let below = ends_below(own.form, own.size.nodes) as u64;
+    let mut walk: Vec<u64> = (0..draw.within(2, 6)).map(|_| draw.below(below)).collect();
+    if !own.book.is_empty() && draw.once_in(2) {
+        walk[0] = own.book[draw.below(own.book.len() as u64) as usize].source as u64;
+    }
     let chain = walk.windows(2).map(|step| (step[0], step[1]));
     let (start, others) = (walk[0], walk[1..].iter());
     match draw.below(7) {
@@ -71,7 +75,7 @@ fn run(draw: &mut Draw, nodes: i128, below: i128) -> Vec<(u64, u64)> {
         3 => others.map(|&node| (node, node)).collect(),
         4 => others.map(|&node| (start, node)).collect(),
         5 => others.map(|&node| (node, start)).collect(),
-        _ => others.map(|&node| (draw.below(nodes as u64), node)).collect(),
+        _ => others.map(|&node| (draw.below(nodes), node)).collect(),
     }
 }
 
@@ -80,7 +84,7 @@ fn lists(draw: &mut Draw, own: &Own, most: i128) -> (Vec<u64>, Vec<u64>) {
     let count = draw.within(0, most) as usize;
     let mut pairs = Vec::new();
     while pairs.len() < count {
-        pairs.extend(run(draw, own.size.nodes, ends_below(own.form, own.size.nodes)));
+        pairs.extend(run(draw, own));
     }
     pairs.into_iter().take(count).unzip()
 }
@@ -163,7 +167,7 @@ fn listed(round: &mut Round, own: &Own, valid: &Asked) {
 
 pub fn round(round: &mut Round) {
     let size = draw::size(&mut round.draw, round.number);
-    let form = round.draw.form();
+    let form = round.draw.form_of(round.number);
     let book = draw::book(&mut round.draw, size, form);
     let file = book::file_of(form, &book);
     let own = Own { size, form, book };

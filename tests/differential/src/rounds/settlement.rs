@@ -144,7 +144,7 @@ fn priced_hour(round: &mut Round) {
 
 pub fn hour(round: &mut Round) {
     let size = draw::size(&mut round.draw, round.number);
-    let form = round.draw.form();
+    let form = round.draw.form_of(round.number);
     let book = draw::book(&mut round.draw, size, form);
     let file = book::file_of(form, &book);
     round.shown(&forms::book(form, size.nodes, &book));

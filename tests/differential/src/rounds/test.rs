@@ -81,7 +81,7 @@ fn tables(draw: &mut Draw, grid: &Grid, book: &[u8], process: u64, period: u64) 
 
 pub fn round(round: &mut Round) {
     let size = draw::size(&mut round.draw, round.number);
-    let form = round.draw.form();
+    let form = round.draw.form_of(round.number);
     let mut grid = draw::grid(&mut round.draw, size);
     let book = draw::book(&mut round.draw, size, form);
     let file = book::file_of(form, &book);
