@@ -1,0 +1,91 @@
+"""A case: a grid, a book and hours of prices as tables of whole numbers, with the names that people use for what the library numbers."""
+
+from __future__ import annotations
+
+from array import array
+from dataclasses import dataclass, field
+from typing import Dict, List, NamedTuple
+
+from .files import Contract, Grid
+from .interface import HOLDER, MAX_CONSTRAINTS, MAX_CONTRACTS, MAX_NODES
+
+TIMES_OF_USE = ("OFF", "ON")  # by the period's number
+HEDGE_TYPES = ("OBL", "OPT")  # by the kind's number
+
+
+class PricedHour(NamedTuple):
+    """An hour's prices. The day is YYYY-MM-DD and the hour is the hour ending, 1 to 25; a single hour may go without: empty and 0."""
+
+    day: str
+    hour: int
+    period: int
+    prices: "array[int]"
+
+
+@dataclass
+class Names:
+    """Names by number, all different in each list. A holder that is not named is called by its number."""
+
+    nodes: List[str] = field(default_factory=list)
+    constraints: List[str] = field(default_factory=list)
+    contracts: List[str] = field(default_factory=list)
+    holders: Dict[int, str] = field(default_factory=dict)
+
+    def holder(self, number: int) -> str:
+        """A holder's name."""
+        return self.holders.get(number, str(number))
+
+
+@dataclass
+class Case:
+    """Tables of any size; `fits` says whether the library takes them whole."""
+
+    names: Names
+    limits: "array[int]"
+    factors: "array[int]"
+    book: List[Contract] = field(default_factory=list)
+    hours: List[PricedHour] = field(default_factory=list)
+
+    @property
+    def grid(self) -> Grid:
+        """The grid's tables for the library."""
+        return Grid(len(self.names.nodes), len(self.names.constraints), self.limits, self.factors)
+
+    @property
+    def fits(self) -> bool:
+        """Whether no count is above the library's."""
+        names = self.names
+        return len(names.nodes) <= MAX_NODES and len(names.constraints) <= MAX_CONSTRAINTS and len(self.book) <= MAX_CONTRACTS
+
+
+class Holders:
+    """Holders' names and numbers. A name that is itself a number from 0 to 1,023 stands for that holder; every other name gets, in the order in
+    which they come, the lowest number that no holder has, or the one that it had before (`known`, from names.csv)."""
+
+    def __init__(self, known: Dict[int, str]) -> None:
+        self._known = {name: number for number, name in known.items()}
+
+    def numbered(self, owners: List[str]) -> Dict[str, int]:
+        """The number of each owner. It may pass the highest number where there are too many owners."""
+        numbers: Dict[str, int] = {}
+        for owner in owners:
+            plain = plain_number(owner)
+            if plain is not None:
+                numbers[owner] = plain
+            elif owner in self._known:
+                numbers[owner] = self._known[owner]
+        taken, free = set(numbers.values()), 0
+        for owner in owners:
+            if owner not in numbers:
+                while free in taken:
+                    free += 1
+                numbers[owner] = free
+                taken.add(free)
+        return numbers
+
+
+def plain_number(name: str) -> "int | None":
+    """The holder that a name stands for by itself: a number from 0 to 1,023 without leading zeros."""
+    if name.isascii() and name.isdigit() and len(name) <= 4 and str(int(name)) == name and int(name) <= HOLDER.high:
+        return int(name)
+    return None

@@ -1,0 +1,208 @@
+"""What each command of `crr` does. A command gives an answer, as text for people and as data for scripts; faults are raised."""
+
+from __future__ import annotations
+
+from concurrent.futures import ProcessPoolExecutor
+from pathlib import Path
+from typing import Dict, Iterable, List, NamedTuple, Optional, Sequence, Tuple
+
+from .case import TIMES_OF_USE, Case, Names
+from .decimals import decimal
+from .faults import Fault, raise_any
+from .feasibility import PROCESSES, Verdict, test_book
+from .files import Contract, read_book, read_grid, remap_book
+from .from_csv import load
+from .hours import Progress, Settled, settle_hours
+from .interface import FLOW_PLACES
+from .packed import Packed, bin_files, hour_name, packed, read_packed, unpacked, write_packed
+from .results import HOLDERS, HOURS, dollars, exact_total, holder_months, hour_rows, result_files
+from .sheet import Sheet
+from .slices import settle_sliced
+from .to_csv import csv_text, write_csv, write_files
+
+PASSES, FAILS, FAULTY = 0, 1, 2  # exit statuses
+
+
+class Answer(NamedTuple):
+    """A command's answer: the exit status, what a person reads, the same for a script, and a note beside the text, for standard error."""
+
+    status: int
+    text: str
+    data: Dict[str, object]
+    note: str = ""
+
+
+class Opened(NamedTuple):
+    """A folder's case: its tables, and its files where the library takes them whole."""
+
+    names: Names
+    book: List[Contract]
+    files: Optional[Packed]
+    case: Optional[Case]
+    rounded: int
+    form: str
+
+
+def is_csv(folder: Path) -> bool:
+    """Whether a folder is taken as CSV files; the bin files that `pack` puts beside them are then left alone."""
+    if not folder.is_dir():
+        raise_any([Fault(str(folder), 0, "", "no such folder")])
+    if any((folder / name).exists() for name in ("constraints.csv", "factors.csv", "book.csv")):
+        return True
+    if not (folder / "grid.bin").exists():
+        raise_any([Fault(str(folder), 0, "", "neither CSV files (constraints.csv, factors.csv, book.csv) nor grid.bin")])
+    return False
+
+
+def opened(folder: Path, round_prices: bool = False, any_size: bool = False) -> Opened:
+    """The case of a folder in either form."""
+    if is_csv(folder):
+        case, rounded = load(folder, any_size, round_prices)
+        return Opened(case.names, case.book, packed(case) if case.fits else None, case, rounded, "CSV")
+    files = read_packed(folder)
+    return Opened(files.names, read_book(read_grid(files.grid).nodes, files.book), files, None, 0, "bin")
+
+
+def _files(found: Opened) -> Packed:
+    """The files of a folder that was opened at the library's sizes, or a fault that says which count is too large for it."""
+    assert found.files is not None, "only a folder opened at any size may have no files"
+    return found.files
+
+
+def _counted(number: int, what: str) -> str:
+    return f"{number:,} {what}{'' if number == 1 else 's'}"
+
+
+def _rounded(count: int) -> str:
+    return f"; {_counted(count, 'price')} rounded to cents" if count else ""
+
+
+def pack(folder: Path, out: Path, round_prices: bool) -> Answer:
+    """CSV files to bin files, read back and compared."""
+    case, rounded = load(folder, round_prices=round_prices)
+    written = write_packed(case, out)
+    text = f"{out}: grid.bin, book.bin, names.csv and {_counted(len(case.hours), 'hour')} of prices written and read back{_rounded(rounded)}\n"
+    return Answer(PASSES, text, {"out": str(out), "written": written, "rounded_prices": rounded})
+
+
+def unpack(folder: Path, out: Path, force: bool) -> Answer:
+    """Bin files to CSV files."""
+    files = read_packed(folder)
+    written = write_csv(unpacked(files), out, hour_name(files.hours), force)
+    return Answer(PASSES, f"{out}: {', '.join(sorted(written))} written\n", {"out": str(out), "written": written})
+
+
+def check(folder: Path, round_prices: bool) -> Answer:
+    """Reads everything; every fault would have been raised."""
+    found = opened(folder, round_prices)
+    case = found.case or unpacked(_files(found))
+    counts = {
+        "nodes": len(case.names.nodes),
+        "constraints": len(case.names.constraints),
+        "contracts": len(case.book),
+        "holders": len({contract.holder for contract in case.book}),
+        "hours": len(case.hours),
+    }
+    told = ", ".join(_counted(number, what[:-1]) for what, number in counts.items())
+    return Answer(PASSES, f"{folder}: {told}; {found.form} files without a fault{_rounded(found.rounded)}\n", {"folder": str(folder), **counts})
+
+
+VERDICTS = ("TIME_OF_USE", "PROCESS", "VERDICT", "OVERLOADED", "LOWEST", "EXCESS_MW", "CONSTRAINTS")
+
+
+def verdicts(files: Packed, periods: Sequence[int] = (0, 1), processes: Sequence[int] = (0, 1, 2)) -> Dict[Tuple[int, int], Verdict]:
+    """The test's answers by period and process."""
+    grid = read_grid(files.grid)
+    return {(period, process): test_book(grid, files.book, process, period) for period in periods for process in processes}
+
+
+def _verdict_row(names: Names, period: int, process: int, verdict: Verdict) -> Tuple[str, str, str, int, str, str, List[str]]:
+    told = (TIMES_OF_USE[period], PROCESSES[process])
+    if verdict.passed:
+        return (*told, "pass", 0, "", "", [])
+    overloaded = [names.constraints[k] for k in verdict.overloaded]
+    return (*told, "fail", verdict.count, names.constraints[verdict.lowest], decimal(verdict.excess, FLOW_PLACES), overloaded)
+
+
+def test(folder: Path, periods: Sequence[int], processes: Sequence[int]) -> Answer:
+    """The simultaneous feasibility test; status 1 where the book fails in one of the periods and processes asked for."""
+    found = opened(folder)
+    answers = verdicts(_files(found), periods, processes)
+    rows = [_verdict_row(found.names, period, process, verdict) for (period, process), verdict in answers.items()]
+    status = PASSES if all(verdict.passed for verdict in answers.values()) else FAILS
+    text = csv_text(VERDICTS, ((*row[:-1], "; ".join(row[-1])) for row in rows))
+    return Answer(status, text, {"passed": status == PASSES, "verdicts": _objects(VERDICTS, rows)})
+
+
+def settled(found: Opened, jobs: int, progress: Progress) -> Settled:
+    """All hours of a folder, by slices where the library does not take the case whole."""
+    if found.files is None:
+        assert found.case is not None
+        return settle_sliced(found.case, progress)
+    if jobs > 1:
+        with ProcessPoolExecutor(jobs) as pool:
+            return settle_hours(found.files.grid, found.files.book, found.files.hours, pool, progress=progress)
+    return settle_hours(found.files.grid, found.files.book, found.files.hours, progress=progress)
+
+
+def times(found: Opened) -> List[Tuple[str, int]]:
+    """The day and hour of each price file."""
+    hours = found.files.hours if found.files else found.case.hours if found.case else []
+    return [(hour.day, hour.hour) for hour in hours]
+
+
+def settle(folder: Path, out: Optional[Path], jobs: int, round_prices: bool, progress: Progress) -> Answer:
+    """Settles every hour; with `out` writes hours.csv, holders.csv and contracts.csv there."""
+    found = opened(folder, round_prices, any_size=True)
+    result = settled(found, jobs, progress)
+    if out:
+        files = result_files(result, found.names, found.book, times(found))
+        write_files(out, {name: text.encode() for name, text in files.items()})
+    rows = [(found.names.holder(holder), month, dollars(cents)) for (holder, month), cents in holder_months(result, found.book).items()]
+    told = f"{_counted(len(result.hours), 'hour')}: sum {dollars(result.sum)}, exact total {exact_total(result)}{_rounded(found.rounded)}\n"
+    data: Dict[str, object] = {
+        "hours": len(result.hours),
+        "sum": dollars(result.sum),
+        "exact_total": exact_total(result),
+        "by_holder": _objects(HOLDERS, rows),
+        "by_hour": _objects(HOURS, hour_rows(result, times(found))),
+        "rounded_prices": found.rounded,
+    }
+    text = f"{out}: hours.csv, holders.csv and contracts.csv written\n" if out else csv_text(HOLDERS, rows)
+    return Answer(PASSES, text, data, told)
+
+
+def _objects(heading: Sequence[str], rows: Iterable[Sequence[object]]) -> List[Dict[str, object]]:
+    return [{name.lower(): value for name, value in zip(heading, row)} for row in rows]
+
+
+def _pairs(path: Path, nodes: Sequence[str]) -> Tuple[List[int], List[int]]:
+    """Old and new node numbers of a file OLD_NODE,NEW_NODE."""
+    faults: List[Fault] = []
+    sheet = Sheet(path, ("OLD_NODE", "NEW_NODE"), faults)
+    numbers = {name: number for number, name in enumerate(nodes)}
+    lists: Dict[str, List[int]] = {ours: [] for ours in sheet.at}
+    for line, row in sheet.rows():
+        for ours, at in sheet.at.items():
+            if row[at] not in numbers:
+                sheet.fault(line, ours, f"no node {row[at]!r} in the grid", 11)
+            lists[ours].append(numbers.get(row[at], 0))
+    raise_any(faults)
+    return lists["OLD_NODE"], lists["NEW_NODE"]
+
+
+def remap(folder: Path, pairs: Path, out: Path) -> Answer:
+    """Moves the ends of a book's contracts, pair after pair, and writes the whole case to another folder in the form that it had."""
+    found = opened(folder)
+    files = _files(found)
+    nodes = read_grid(files.grid).nodes
+    old, new = _pairs(pairs, found.names.nodes)
+    moved = Packed(found.names, files.grid, remap_book(nodes, files.book, old, new), files.hours)
+    contracts = read_book(nodes, moved.book)
+    changed = sum(before != after for before, after in zip(found.book, contracts))
+    if found.case:
+        write_csv(unpacked(moved), out, hour_name(files.hours))
+    else:
+        write_files(out, bin_files(moved))
+    text = f"{out}: {_counted(len(old), 'pair')} applied, {_counted(changed, 'contract')} of {len(contracts):,} changed\n"
+    return Answer(PASSES, text, {"out": str(out), "pairs": len(old), "changed": changed, "contracts": len(contracts)})

@@ -1,0 +1,73 @@
+"""The command `crr report`: gathers what the page shows and writes it."""
+
+from __future__ import annotations
+
+import hashlib
+from fractions import Fraction
+from pathlib import Path
+from typing import Dict, List, Optional
+
+from .commands import PASSES, Answer, Opened, check, is_csv, opened, settled, times, verdicts
+from .decimals import decimal
+from .feasibility import PERIODS, PROCESSES, find_flows, released_percent
+from .files import read_grid
+from .hours import Progress, Settled
+from .interface import PART_PLACES
+from .packed import Packed, price_files
+from .page import Figures, Input, Month, page
+from .results import dollars, holder_sums
+from .to_csv import write_files
+
+
+def _inputs(folder: Path) -> List[Input]:
+    """The files that were read. The price files of many hours are taken as one, in the order of their hours."""
+    if is_csv(folder):
+        groups = {name: [name] for name in ("constraints.csv", "factors.csv", "book.csv", "prices.csv") if (folder / name).exists()}
+    else:
+        hours = price_files(folder)
+        groups = {"grid.bin": ["grid.bin"], "book.bin": ["book.bin"]}
+        if hours:
+            groups["prices.bin" if len(hours) == 1 else f"prices/, {len(hours):,} files one behind the other"] = hours
+    out = []
+    for name, files in groups.items():
+        data = b"".join((folder / file).read_bytes() for file in files)
+        out.append(Input(name, len(data), hashlib.sha256(data).hexdigest()))
+    return out
+
+
+def _months(found: Opened, result: Settled) -> List[Month]:
+    sums: Dict[str, List[Fraction]] = {}
+    for (day, _), total in zip(times(found), result.hours):
+        count, cents, exact = sums.get(day[:7], [Fraction(0)] * 3)
+        sums[day[:7]] = [count + 1, cents + total.sum, exact + total.exact]
+    exact_text = lambda exact: decimal(int(exact * 10**PART_PLACES), 2 + PART_PLACES)
+    return [Month(name, int(count), dollars(int(cents)), exact_text(exact)) for name, (count, cents, exact) in sorted(sums.items())]
+
+
+def figures(folder: Path, found: Opened, files: Packed, result: Settled, summary: str) -> Figures:
+    """All that the page shows of a case."""
+    grid = read_grid(files.grid)
+    holders = [(found.names.holder(holder), cents) for holder, cents in holder_sums(result, found.book).items()]
+    return Figures(
+        folder.resolve().name,
+        summary,
+        found.names.constraints,
+        list(grid.limits),  # type: ignore[arg-type]
+        [released_percent(process) for process in range(len(PROCESSES))],
+        verdicts(files),
+        [find_flows(grid, files.book, period) for period in range(len(PERIODS))],
+        holders,
+        _months(found, result),
+        _inputs(folder),
+    )
+
+
+def report(folder: Path, out: Optional[Path], round_prices: bool, progress: Progress) -> Answer:
+    """Writes the page; a book that fails is what it tells and no fault of it."""
+    found = opened(folder, round_prices)
+    assert found.files is not None
+    summary = check(folder, round_prices).text.partition(": ")[2].partition(";")[0] + "."
+    text = page(figures(folder, found, found.files, settled(found, 1, progress), summary))
+    target = out or folder / "report.html"
+    write_files(target.parent, {target.name: text.encode()})
+    return Answer(PASSES, f"{target} written\n", {"out": str(target)})
