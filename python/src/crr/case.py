@@ -4,7 +4,7 @@ from __future__ import annotations
 
 from array import array
 from dataclasses import dataclass, field
-from typing import Dict, List, NamedTuple
+from typing import Dict, List, NamedTuple, Optional
 
 from .files import Contract, Grid
 from .interface import HOLDER, MAX_CONSTRAINTS, MAX_CONTRACTS, MAX_NODES
@@ -53,38 +53,32 @@ class Case:
 
     @property
     def fits(self) -> bool:
-        """Whether no count is above the library's."""
+        """Whether no count, and no holder's number, is above the library's."""
         names = self.names
-        return len(names.nodes) <= MAX_NODES and len(names.constraints) <= MAX_CONSTRAINTS and len(self.book) <= MAX_CONTRACTS
+        tables = len(names.nodes) <= MAX_NODES and len(names.constraints) <= MAX_CONSTRAINTS
+        return tables and len(self.book) <= MAX_CONTRACTS and all(contract.holder <= HOLDER.high for contract in self.book)
 
 
-class Holders:
-    """Holders' names and numbers. A name that is itself a number from 0 to 1,023 stands for that holder; every other name gets, in the order in
-    which they come, the lowest number that no holder has, or the one that it had before (`known`, from names.csv)."""
+def holder_numbers(owners: List[str], known: Dict[int, str]) -> Dict[str, int]:
+    """The number of each owner, all different.
 
-    def __init__(self, known: Dict[int, str]) -> None:
-        self._known = {name: number for number, name in known.items()}
-
-    def numbered(self, owners: List[str]) -> Dict[str, int]:
-        """The number of each owner. It may pass the highest number where there are too many owners."""
-        numbers: Dict[str, int] = {}
-        for owner in owners:
-            plain = plain_number(owner)
-            if plain is not None:
-                numbers[owner] = plain
-            elif owner in self._known:
-                numbers[owner] = self._known[owner]
-        taken, free = set(numbers.values()), 0
-        for owner in owners:
-            if owner not in numbers:
-                while free in taken:
-                    free += 1
-                numbers[owner] = free
-                taken.add(free)
-        return numbers
+    An owner that is itself a number from 0 to 1,023 stands for that holder. Every other keeps the number that it had before (`known`, from names.csv)
+    or gets, in the order in which they come, the lowest that no owner has; with too many owners it passes the highest."""
+    plain = {owner: number for owner in owners for number in [plain_number(owner)] if number is not None}
+    taken = set(plain.values())
+    before = {name: number for number, name in known.items() if number not in taken}
+    numbers = {**plain, **{owner: before[owner] for owner in owners if owner in before and owner not in plain}}
+    taken, free = set(numbers.values()), 0
+    for owner in owners:
+        if owner not in numbers:
+            while free in taken:
+                free += 1
+            numbers[owner] = free
+            taken.add(free)
+    return numbers
 
 
-def plain_number(name: str) -> "int | None":
+def plain_number(name: str) -> Optional[int]:
     """The holder that a name stands for by itself: a number from 0 to 1,023 without leading zeros."""
     if name.isascii() and name.isdigit() and len(name) <= 4 and str(int(name)) == name and int(name) <= HOLDER.high:
         return int(name)

@@ -15,7 +15,7 @@ from .from_csv import load
 from .hours import Progress, Settled, settle_hours
 from .interface import FLOW_PLACES
 from .packed import Packed, bin_files, hour_name, packed, read_packed, unpacked, write_packed
-from .results import HOLDERS, HOURS, dollars, exact_total, holder_months, hour_rows, result_files
+from .results import HOLDERS, HOURS, Time, dollars, exact_dollars, holder_months, hour_rows, result_files
 from .sheet import Sheet
 from .slices import settle_sliced
 from .to_csv import csv_text, write_csv, write_files
@@ -33,14 +33,14 @@ class Answer(NamedTuple):
 
 
 class Opened(NamedTuple):
-    """A folder's case: its tables, and its files where the library takes them whole."""
+    """A folder's case: names, contracts, the day and hour of each hour; its files where the library takes them whole, its tables where it is CSV."""
 
     names: Names
     book: List[Contract]
+    times: List[Time]
     files: Optional[Packed]
     case: Optional[Case]
     rounded: int
-    form: str
 
 
 def is_csv(folder: Path) -> bool:
@@ -58,14 +58,16 @@ def opened(folder: Path, round_prices: bool = False, any_size: bool = False) -> 
     """The case of a folder in either form."""
     if is_csv(folder):
         case, rounded = load(folder, any_size, round_prices)
-        return Opened(case.names, case.book, packed(case) if case.fits else None, case, rounded, "CSV")
+        times = [(hour.day, hour.hour) for hour in case.hours]
+        return Opened(case.names, case.book, times, packed(case) if case.fits else None, case, rounded)
     files = read_packed(folder)
-    return Opened(files.names, read_book(read_grid(files.grid).nodes, files.book), files, None, 0, "bin")
+    times = [(hour.day, hour.hour) for hour in files.hours]
+    return Opened(files.names, read_book(read_grid(files.grid).nodes, files.book), times, files, None, 0)
 
 
 def _files(found: Opened) -> Packed:
-    """The files of a folder that was opened at the library's sizes, or a fault that says which count is too large for it."""
-    assert found.files is not None, "only a folder opened at any size may have no files"
+    """The files of a folder that was opened at the library's sizes, where a larger one is a fault."""
+    assert found.files is not None
     return found.files
 
 
@@ -92,19 +94,30 @@ def unpack(folder: Path, out: Path, force: bool) -> Answer:
     return Answer(PASSES, f"{out}: {', '.join(sorted(written))} written\n", {"out": str(out), "written": written})
 
 
-def check(folder: Path, round_prices: bool) -> Answer:
-    """Reads everything; every fault would have been raised."""
-    found = opened(folder, round_prices)
-    case = found.case or unpacked(_files(found))
-    counts = {
-        "nodes": len(case.names.nodes),
-        "constraints": len(case.names.constraints),
-        "contracts": len(case.book),
-        "holders": len({contract.holder for contract in case.book}),
-        "hours": len(case.hours),
+def counts(found: Opened) -> Dict[str, int]:
+    """How many of what a case has."""
+    return {
+        "nodes": len(found.names.nodes),
+        "constraints": len(found.names.constraints),
+        "contracts": len(found.book),
+        "holders": len({contract.holder for contract in found.book}),
+        "hours": len(found.times),
     }
-    told = ", ".join(_counted(number, what[:-1]) for what, number in counts.items())
-    return Answer(PASSES, f"{folder}: {told}; {found.form} files without a fault{_rounded(found.rounded)}\n", {"folder": str(folder), **counts})
+
+
+def counts_told(found: Opened) -> str:
+    """The counts in words."""
+    return ", ".join(_counted(number, what[:-1]) for what, number in counts(found).items())
+
+
+def check(folder: Path, round_prices: bool) -> Answer:
+    """Reads everything; every fault is raised."""
+    found = opened(folder, round_prices)
+    if not found.case:
+        unpacked(_files(found))  # its price files too
+    form = "CSV" if found.case else "bin"
+    text = f"{folder}: {counts_told(found)}; {form} files without a fault{_rounded(found.rounded)}\n"
+    return Answer(PASSES, text, {"folder": str(folder), "form": form, **counts(found), "rounded_prices": found.rounded})
 
 
 VERDICTS = ("TIME_OF_USE", "PROCESS", "VERDICT", "OVERLOADED", "LOWEST", "EXCESS_MW", "CONSTRAINTS")
@@ -145,27 +158,21 @@ def settled(found: Opened, jobs: int, progress: Progress) -> Settled:
     return settle_hours(found.files.grid, found.files.book, found.files.hours, progress=progress)
 
 
-def times(found: Opened) -> List[Tuple[str, int]]:
-    """The day and hour of each price file."""
-    hours = found.files.hours if found.files else found.case.hours if found.case else []
-    return [(hour.day, hour.hour) for hour in hours]
-
-
 def settle(folder: Path, out: Optional[Path], jobs: int, round_prices: bool, progress: Progress) -> Answer:
     """Settles every hour; with `out` writes hours.csv, holders.csv and contracts.csv there."""
     found = opened(folder, round_prices, any_size=True)
     result = settled(found, jobs, progress)
     if out:
-        files = result_files(result, found.names, found.book, times(found))
+        files = result_files(result, found.names, found.book, found.times)
         write_files(out, {name: text.encode() for name, text in files.items()})
     rows = [(found.names.holder(holder), month, dollars(cents)) for (holder, month), cents in holder_months(result, found.book).items()]
-    told = f"{_counted(len(result.hours), 'hour')}: sum {dollars(result.sum)}, exact total {exact_total(result)}{_rounded(found.rounded)}\n"
+    told = f"{_counted(len(result.hours), 'hour')}: sum {dollars(result.sum)}, exact total {exact_dollars(result.exact)}{_rounded(found.rounded)}\n"
     data: Dict[str, object] = {
         "hours": len(result.hours),
         "sum": dollars(result.sum),
-        "exact_total": exact_total(result),
+        "exact_total": exact_dollars(result.exact),
         "by_holder": _objects(HOLDERS, rows),
-        "by_hour": _objects(HOURS, hour_rows(result, times(found))),
+        "by_hour": _objects(HOURS, hour_rows(result, found.times)),
         "rounded_prices": found.rounded,
     }
     text = f"{out}: hours.csv, holders.csv and contracts.csv written\n" if out else csv_text(HOLDERS, rows)

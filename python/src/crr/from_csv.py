@@ -15,7 +15,7 @@ from datetime import date
 from pathlib import Path
 from typing import Dict, List, Optional, Set, Tuple
 
-from .case import Case, Holders, Names, PricedHour
+from .case import Case, Names, PricedHour, holder_numbers
 from .faults import Fault, raise_any
 from .files import Contract
 from .interface import HOLDER, LIMIT, MAX_CONSTRAINTS, MAX_CONTRACTS, MAX_NODES, QUANTITY, SHADOW_PRICE, SHIFT_FACTOR
@@ -157,7 +157,7 @@ def _read_book(loaded: Loaded, known: Dict[int, str]) -> Tuple[List[Contract], L
             owners.append(row[owner])
             lines.append(line)
             loaded.count(sheet, line, "CRR_ID", len(contracts), MAX_CONTRACTS, "contracts", 10)
-    numbers = Holders(known).numbered(owners)
+    numbers = holder_numbers(owners, known)
     too_many = next((i for i, owner in enumerate(owners) if numbers[owner] > HOLDER.high), None)
     if too_many is not None and not loaded.any_size:
         sheet.fault(lines[too_many], "OWNER", f"more than {HOLDER.high + 1} owners", 18)

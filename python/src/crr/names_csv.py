@@ -10,6 +10,7 @@ from typing import Dict, List, Tuple
 
 from .case import Names, plain_number
 from .faults import Fault
+from .interface import HOLDER
 from .sheet import Sheet
 
 Tables = Dict[str, Dict[int, str]]
@@ -33,6 +34,8 @@ def read_names(folder: Path, faults: List[Fault]) -> Tables:
             sheet.fault(line, "TABLE", f"{table!r} is none of {', '.join(tables)}")
         elif not (number.isascii() and number.isdigit() and len(number) < 10):
             sheet.fault(line, "NUMBER", f"{number!r} is not a number from 0 on")
+        elif table == "holder" and int(number) > HOLDER.high:
+            sheet.fault(line, "NUMBER", f"holder {number} is above {HOLDER.high}", HOLDER.refusal)
         elif int(number) in tables[table]:
             sheet.fault(line, "NUMBER", f"{table} {number} occurs twice")
         elif (table, name) in taken:

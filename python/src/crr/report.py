@@ -7,15 +7,13 @@ from fractions import Fraction
 from pathlib import Path
 from typing import Dict, List, Optional
 
-from .commands import PASSES, Answer, Opened, check, is_csv, opened, settled, times, verdicts
-from .decimals import decimal
+from .commands import PASSES, Answer, Opened, counts_told, is_csv, opened, settled, verdicts
 from .feasibility import PERIODS, PROCESSES, find_flows, released_percent
 from .files import read_grid
 from .hours import Progress, Settled
-from .interface import PART_PLACES
 from .packed import Packed, price_files
 from .page import Figures, Input, Month, page
-from .results import dollars, holder_sums
+from .results import dollars, exact_dollars, holder_sums
 from .to_csv import write_files
 
 
@@ -37,20 +35,19 @@ def _inputs(folder: Path) -> List[Input]:
 
 def _months(found: Opened, result: Settled) -> List[Month]:
     sums: Dict[str, List[Fraction]] = {}
-    for (day, _), total in zip(times(found), result.hours):
+    for (day, _), total in zip(found.times, result.hours):
         count, cents, exact = sums.get(day[:7], [Fraction(0)] * 3)
         sums[day[:7]] = [count + 1, cents + total.sum, exact + total.exact]
-    exact_text = lambda exact: decimal(int(exact * 10**PART_PLACES), 2 + PART_PLACES)
-    return [Month(name, int(count), dollars(int(cents)), exact_text(exact)) for name, (count, cents, exact) in sorted(sums.items())]
+    return [Month(name, int(count), dollars(int(cents)), exact_dollars(exact)) for name, (count, cents, exact) in sorted(sums.items())]
 
 
-def figures(folder: Path, found: Opened, files: Packed, result: Settled, summary: str) -> Figures:
+def figures(folder: Path, found: Opened, files: Packed, result: Settled) -> Figures:
     """All that the page shows of a case."""
     grid = read_grid(files.grid)
     holders = [(found.names.holder(holder), cents) for holder, cents in holder_sums(result, found.book).items()]
     return Figures(
         folder.resolve().name,
-        summary,
+        f"{counts_told(found)}.",
         found.names.constraints,
         list(grid.limits),  # type: ignore[arg-type]
         [released_percent(process) for process in range(len(PROCESSES))],
@@ -66,8 +63,7 @@ def report(folder: Path, out: Optional[Path], round_prices: bool, progress: Prog
     """Writes the page; a book that fails is what it tells and no fault of it."""
     found = opened(folder, round_prices)
     assert found.files is not None
-    summary = check(folder, round_prices).text.partition(": ")[2].partition(";")[0] + "."
-    text = page(figures(folder, found, found.files, settled(found, 1, progress), summary))
+    text = page(figures(folder, found, found.files, settled(found, 1, progress)))
     target = out or folder / "report.html"
     write_files(target.parent, {target.name: text.encode()})
     return Answer(PASSES, f"{target} written\n", {"out": str(target)})

@@ -2,6 +2,7 @@
 
 from __future__ import annotations
 
+from fractions import Fraction
 from typing import Dict, List, Sequence, Tuple
 
 from .case import HEDGE_TYPES, TIMES_OF_USE, Names
@@ -9,7 +10,6 @@ from .decimals import decimal
 from .files import Contract
 from .hours import Settled
 from .interface import PART_PLACES
-from .settlement import HourTotal
 from .to_csv import csv_text
 
 _CENTS = 2  # decimals of a dollar
@@ -21,15 +21,9 @@ def dollars(cents: int) -> str:
     return decimal(cents, _CENTS)
 
 
-def exact_dollars(total: HourTotal) -> str:
-    """An exact total in dollars, with every one of its ten decimals."""
-    return decimal(total.whole * 10**PART_PLACES + total.parts, _CENTS + PART_PLACES)
-
-
-def exact_total(settled: Settled) -> str:
-    """The exact total of all hours in dollars."""
-    exact = settled.exact * 10**PART_PLACES
-    return decimal(int(exact), _CENTS + PART_PLACES)
+def exact_dollars(cents: Fraction) -> str:
+    """An exact total of cents in dollars, with every one of its ten decimals."""
+    return decimal(int(cents * 10**PART_PLACES), _CENTS + PART_PLACES)
 
 
 def holder_months(settled: Settled, book: Sequence[Contract]) -> Dict[Tuple[int, str], int]:
@@ -52,7 +46,7 @@ def holder_sums(settled: Settled, book: Sequence[Contract]) -> Dict[int, int]:
 def hour_rows(settled: Settled, times: Sequence[Time]) -> List[Tuple[str, object, str, str, str]]:
     """A row for each hour: its time, the rounded cents added, and the exact total."""
     return [
-        (day, hour or "", TIMES_OF_USE[total.period], dollars(total.sum), exact_dollars(total))
+        (day, hour or "", TIMES_OF_USE[total.period], dollars(total.sum), exact_dollars(total.exact))
         for (day, hour), total in zip(times, settled.hours)
     ]
 

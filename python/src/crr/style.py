@@ -15,7 +15,7 @@ h1 { font-size: 1.7em; margin: 0 0 4px; overflow-wrap: anywhere; }
 h2 { font-size: 1.25em; margin: 40px 0 8px; }
 p { margin: 4px 0 12px; max-width: 72ch; }
 .faint, .legend { color: var(--faint); font-size: .9em; }
-.verdicts { list-style: none; padding: 0; margin: 12px 0; display: grid; grid-template-columns: repeat(auto-fit, minmax(250px, 1fr)); gap: 12px; }
+.verdicts { list-style: none; padding: 0; margin: 12px 0; display: grid; grid-template-columns: repeat(3, 1fr); gap: 12px; }
 .verdicts li { border: 1px solid var(--rule); border-left: 6px solid var(--pass); border-radius: 6px; padding: 10px 14px; }
 .verdicts li.fail { border-left-style: double; border-left-color: var(--fail); }
 .verdicts h3 { margin: 0; font-size: 1em; font-weight: 600; }
@@ -29,7 +29,7 @@ td.figure, th.figure { text-align: right; white-space: nowrap; padding-right: 0;
 .plain th, .plain td { border-bottom: 1px solid var(--rule); }
 .plain { width: auto; }
 .bars th { font-weight: 400; width: 20%; overflow-wrap: anywhere; }
-.bars td.bar { width: 50%; padding: 2px 0; }
+.bars td.bar { width: 54%; padding: 2px 0; }
 .bars td.figure small { display: block; color: var(--faint); }
 .bars svg { display: block; width: 100%; height: 22px; }
 .track { fill: var(--track); } .within { fill: var(--within); } .some { fill: var(--some); } .over { fill: var(--over); }
@@ -40,9 +40,9 @@ td.figure, th.figure { text-align: right; white-space: nowrap; padding-right: 0;
 details { margin: 8px 0; } summary { cursor: pointer; color: var(--faint); }
 code { font: .85em/1.4 ui-monospace, monospace; overflow-wrap: anywhere; }
 @media (max-width: 640px) {
-  .bars tr { display: grid; grid-template-columns: 1fr auto; padding: 6px 0; border-bottom: 1px solid var(--rule); }
-  .bars th, .bars td, .bars td.bar { width: auto; padding: 0; } .bars td.bar { grid-column: 1 / -1; grid-row: 2; }
-  .bars td.figure small { display: inline; margin-left: 8px; }
+  .verdicts { grid-template-columns: 1fr; }
+  .bars tr { display: grid; grid-template-columns: minmax(0, 1fr) auto; gap: 0 10px; padding: 6px 0; border-bottom: 1px solid var(--rule); }
+  .bars th, .bars td, .bars td.bar, .bars td.figure { width: auto; padding: 0; } .bars td.bar { grid-column: 1 / -1; grid-row: 2; }
   .plain { width: 100%; } .hashes tr { display: block; } .hashes td { display: block; border: 0; text-align: left; padding: 0; }
 }
 @media print {
