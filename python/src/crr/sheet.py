@@ -103,11 +103,12 @@ class Sheet:
                 for row in self._reader:
                     first, line = line + 1, self._reader.line_num
                     fields = [field.strip() for field in row]
-                    if len(fields) == width:
-                        if not self._doubtful or self._readable(first, fields):
-                            yield first, fields
-                    elif any(fields):
+                    if not any(fields):
+                        continue
+                    if len(fields) != width:
                         self._wrong_width(first, len(fields))
+                    elif not self._doubtful or self._readable(first, fields):
+                        yield first, fields
                 return
             except csv.Error as error:
                 first, line = line + 1, self._reader.line_num
