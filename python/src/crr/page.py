@@ -11,7 +11,6 @@ from typing import Callable, Dict, List, NamedTuple, Sequence, Tuple
 from .decimals import decimal
 from .feasibility import PERIODS, PROCESSES, Flows, Verdict
 from .interface import FLOW_PLACES, LIMIT, PART_PLACES
-from .results import dollars
 from .style import CSS
 
 MOST_LOADED = 15  # constraints shown at once; the others are folded
@@ -27,12 +26,12 @@ class Input(NamedTuple):
 
 
 class Month(NamedTuple):
-    """A month's hours, rounded sum and exact total in dollars."""
+    """A month's hours, the sum of its rounded cents and its exact total."""
 
     name: str
     hours: int
-    sum: str
-    exact: str
+    cents: int
+    exact: str  # dollars
 
 
 class Figures(NamedTuple):
@@ -55,6 +54,11 @@ def megawatts(flow: int) -> str:
     drop = 10 ** (FLOW_PLACES - 3)
     size = (2 * abs(flow) + drop) // (2 * drop)
     return decimal(-size if flow < 0 else size, 3)
+
+
+def money(cents: int) -> str:
+    """-125000 cents are '-$1,250.00'."""
+    return f"{'-' if cents < 0 else ''}${abs(cents) // 100:,}.{abs(cents) % 100:02}"
 
 
 def _verdict_card(figures: Figures, period: int, process: int) -> str:
@@ -88,7 +92,7 @@ def _bar(label: str, start: float, end: float, kind: str, marks: str) -> str:
     x, width = f"{start:.2f}%", f"{max(end - start, 0.15):.2f}%"
     hatch = f'<rect x="{x}" y="4" width="{width}" height="14" fill="url(#hatch)"/>' if kind == "over" else ""
     return (
-        f'<svg role="img" aria-label="{escape(label)}"><title>{escape(label)}</title><rect class="track" y="4" width="100%" height="14"/>'
+        f'<svg role="img"><title>{escape(label)}</title><rect class="track" y="4" width="100%" height="14"/>'
         f'<rect class="{kind}" x="{x}" y="4" width="{width}" height="14"/>{hatch}{marks}</svg>'
     )
 
@@ -175,10 +179,10 @@ def _payment_section(figures: Figures) -> str:
     for name, cents in rows:
         said = "paid" if cents > 0 else "charged" if cents < 0 else ""
         start, end = sorted((place(0), place(cents)))
-        bar = _bar(f"{name}: {dollars(cents)} dollars {said}", start, end, "over" if cents < 0 else "within", zero)
-        drawn.append(_row(name, bar, f"${dollars(cents)}", said))
+        bar = _bar(f"{name}: {money(cents)} {said}", start, end, "over" if cents < 0 else "within", zero)
+        drawn.append(_row(name, bar, money(cents), said))
     months = "".join(
-        f"<tr><td>{escape(month.name or 'one hour')}</td><td class=figure>{month.hours:,}</td><td class=figure>${month.sum}</td>"
+        f"<tr><td>{escape(month.name or 'one hour')}</td><td class=figure>{month.hours:,}</td><td class=figure>{money(month.cents)}</td>"
         f"<td class=figure>${month.exact}</td></tr>"
         for month in figures.months
     )

@@ -13,7 +13,7 @@ from .files import read_grid
 from .hours import Progress, Settled
 from .packed import Packed, price_files
 from .page import Figures, Input, Month, page
-from .results import dollars, exact_dollars, holder_sums
+from .results import exact_dollars, holder_sums
 from .to_csv import write_files
 
 
@@ -38,7 +38,7 @@ def _months(found: Opened, result: Settled) -> List[Month]:
     for (day, _), total in zip(found.times, result.hours):
         count, cents, exact = sums.get(day[:7], [Fraction(0)] * 3)
         sums[day[:7]] = [count + 1, cents + total.sum, exact + total.exact]
-    return [Month(name, int(count), dollars(int(cents)), exact_dollars(exact)) for name, (count, cents, exact) in sorted(sums.items())]
+    return [Month(name, int(count), int(cents), exact_dollars(exact)) for name, (count, cents, exact) in sorted(sums.items())]
 
 
 def figures(folder: Path, found: Opened, files: Packed, result: Settled) -> Figures:

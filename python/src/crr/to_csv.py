@@ -4,6 +4,7 @@ from __future__ import annotations
 
 import csv
 import io
+import os
 from pathlib import Path
 from typing import Dict, Iterable, List, Sequence
 
@@ -63,12 +64,13 @@ def csv_files(case: Case, hour_name: str = "") -> Dict[str, str]:
 
 def write_files(folder: Path, files: Dict[str, bytes]) -> None:
     """Writes files below a folder, each whole or not at all."""
+    for below in {os.path.dirname(os.path.join(folder, name)) for name in files}:
+        os.makedirs(below, exist_ok=True)
     for name, data in files.items():
-        path = folder / name
-        path.parent.mkdir(parents=True, exist_ok=True)
-        fresh = path.with_name(f".{path.name}.new")
-        fresh.write_bytes(data)
-        fresh.replace(path)
+        path = os.path.join(folder, name)
+        with open(f"{path}.new", "wb") as file:
+            file.write(data)
+        os.replace(f"{path}.new", path)
 
 
 def write_csv(case: Case, folder: Path, hour_name: str = "", force: bool = False) -> List[str]:
