@@ -103,10 +103,10 @@ def main(arguments: Optional[List[str]] = None) -> int:
         answer = _faulty(options, problem)
     told = json.dumps(answer.data, indent=1) + "\n" if options.json else answer.text
     stream = sys.stderr if answer.status == FAULTY and not options.json else sys.stdout
-    sys.stderr.write("" if options.json else answer.note)
     try:
         stream.write(told)
         stream.flush()
+        sys.stderr.write("" if options.json else answer.note)
     except BrokenPipeError:  # the reader, such as head, has seen enough
         os.dup2(os.open(os.devnull, os.O_WRONLY), stream.fileno())
     except OSError as error:
