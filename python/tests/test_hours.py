@@ -87,6 +87,29 @@ class Results(FolderTest):
         self.assertEqual({row["MONTH"] for row in self.table("holders.csv")}, {"2026-07", "2026-08"})
         self.assertEqual(len(self.table("hours.csv")), 48)
 
+    def test_from_the_text_of_the_files(self):
+        """Every contract's dollars, worked out from the CSV files by fractions and nothing of the package."""
+
+        def read(name):
+            return list(csv.DictReader(io.StringIO((IEEE14 / name).read_text())))
+
+        factors = {row.pop("NODE_ID"): {name: Fraction(value) for name, value in row.items()} for row in read("factors.csv")}
+        hours = {}
+        for row in read("prices.csv"):
+            posted = hours.setdefault((row["OPR_DT"], row["OPR_HR"], row["TIME_OF_USE"]), {})
+            if row["CONSTRAINT_ID"]:
+                posted[row["CONSTRAINT_ID"]] = Fraction(row["SHADOW_PRICE"])
+        expected = {}
+        for row in read("book.csv"):
+            source, sink, cents = factors[row["SOURCE"]], factors[row["SINK"]], 0
+            for (_, _, own), posted in hours.items():
+                amount = sum(price * (source[name] - sink[name]) for name, price in posted.items()) * Fraction(row["MW"]) * 100
+                if own == row["TIME_OF_USE"]:
+                    cents += half_away(max(amount, 0) if row["HEDGE_TYPE"] == "OPT" else amount)
+            expected[row["CRR_ID"]] = Fraction(cents, 100)
+        command("settle", IEEE14, "-o", self.folder)
+        self.assertEqual({row["CRR_ID"]: Fraction(row["AMOUNT"]) for row in self.table("contracts.csv")}, expected)
+
     def test_processes(self):
         self.assertEqual(command("settle", IEEE14, "-j", "2"), command("settle", IEEE14))
 

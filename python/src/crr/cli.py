@@ -73,7 +73,8 @@ def _parser() -> argparse.ArgumentParser:
         if name in ("check", "pack", "settle", "report"):
             command.add_argument("--round-prices", action="store_true", help="round prices of more than two decimals to the nearest cent")
     of["remap"].add_argument("pairs", type=Path, metavar="PAIRS", help="a CSV file OLD_NODE,NEW_NODE")
-    for name, what in (("pack", "a folder"), ("unpack", "a folder"), ("settle", "a folder for the result files"), ("report", "the HTML file"), ("remap", "a folder")):
+    places = {"pack": "a folder", "unpack": "a folder", "settle": "a folder for the result files", "report": "the HTML file", "remap": "a folder"}
+    for name, what in places.items():
         of[name].add_argument("-o", "--out", type=Path, metavar="OUT", required=name == "remap", help=what)
     of["unpack"].add_argument("--force", action="store_true", help="write over CSV files that differ")
     of["test"].add_argument("--period", choices=list(_PERIODS), default="both")
