@@ -1,13 +1,17 @@
 """The command: exit statuses, JSON, remapping, ./crr from any folder, pipes that close and disks that are full."""
 
+import io
 import json
 import os
 import shutil
 import subprocess
 import unittest
+from contextlib import redirect_stderr
+from unittest import mock
 
 from support import CASE_L, IEEE14, ROOT, FolderTest, command, contents
 import crr
+from crr.cli import Bar
 
 CRR = ROOT / "crr"
 
@@ -46,6 +50,30 @@ class Statuses(FolderTest):
         command("pack", IEEE14, "-o", self.folder)
         for arguments in (("test",), ("settle",)):
             self.assertEqual(command(*arguments, IEEE14), command(*arguments, self.folder))
+
+
+class Terminal(io.StringIO):
+    def isatty(self):
+        return True
+
+
+class Progress(unittest.TestCase):
+    def told(self, stream, seconds):
+        with redirect_stderr(stream), mock.patch("time.monotonic", side_effect=[0.0] + seconds):
+            bar = Bar("settle")
+            for done in range(1, len(seconds) + 1):
+                bar(done, len(seconds))
+        return stream.getvalue()
+
+    def test_on_a_terminal(self):
+        said = self.told(Terminal(), [0.1, 1.0, 1.05, 2.0])
+        self.assertEqual(said.split("\r")[1:], ["settle [###############...............] 2 of 4 hours, 1 s left ", f"settle [{'#' * 30}] 4 of 4 hours, 0 s left \n"])
+
+    def test_elsewhere(self):
+        self.assertEqual(self.told(io.StringIO(), [1.0, 2.0]), "")
+
+    def test_short_work(self):
+        self.assertEqual(self.told(Terminal(), [0.1, 0.2]), "")
 
 
 class Remap(FolderTest):

@@ -92,8 +92,9 @@ class Page(FolderTest):
 
     def test_no_constraints(self):
         (self.folder / "case").mkdir()
-        for name, text in (("constraints", "CONSTRAINT_ID,LIMIT_MW\n"), ("factors", "NODE_ID\nA\nB\n"), ("book", "CRR_ID,OWNER,HEDGE_TYPE,TIME_OF_USE,SOURCE,SINK,MW\n")):
-            (self.folder / "case" / f"{name}.csv").write_text(text)
+        heading = (IEEE14 / "book.csv").read_text().splitlines()[0]
+        for name, text in (("constraints", "CONSTRAINT_ID,LIMIT_MW"), ("factors", "NODE_ID\nA\nB"), ("book", heading)):
+            (self.folder / "case" / f"{name}.csv").write_text(f"{text}\n")
         self.says(self.page(self.folder / "case"), "The grid has no constraints.")
 
     def test_default_place(self):

@@ -2,7 +2,6 @@
 
 from __future__ import annotations
 
-from concurrent.futures import ProcessPoolExecutor
 from pathlib import Path
 from typing import Dict, Iterable, List, NamedTuple, Optional, Sequence, Tuple
 
@@ -65,8 +64,8 @@ def opened(folder: Path, round_prices: bool = False, any_size: bool = False) -> 
     return Opened(files.names, read_book(read_grid(files.grid).nodes, files.book), times, files, None, 0)
 
 
-def _files(found: Opened) -> Packed:
-    """The files of a folder that was opened at the library's sizes, where a larger one is a fault."""
+def files_of(found: Opened) -> Packed:
+    """The files of a folder that was opened at the library's sizes: a larger one is a fault then."""
     assert found.files is not None
     return found.files
 
@@ -114,7 +113,7 @@ def check(folder: Path, round_prices: bool) -> Answer:
     """Reads everything; every fault is raised."""
     found = opened(folder, round_prices)
     if not found.case:
-        unpacked(_files(found))  # its price files too
+        unpacked(files_of(found))  # its price files too
     form = "CSV" if found.case else "bin"
     text = f"{folder}: {counts_told(found)}; {form} files without a fault{_rounded(found.rounded)}\n"
     return Answer(PASSES, text, {"folder": str(folder), "form": form, **counts(found), "rounded_prices": found.rounded})
@@ -140,7 +139,7 @@ def _verdict_row(names: Names, period: int, process: int, verdict: Verdict) -> T
 def test(folder: Path, periods: Sequence[int], processes: Sequence[int]) -> Answer:
     """The simultaneous feasibility test; status 1 where the book fails in one of the periods and processes asked for."""
     found = opened(folder)
-    answers = verdicts(_files(found), periods, processes)
+    answers = verdicts(files_of(found), periods, processes)
     rows = [_verdict_row(found.names, period, process, verdict) for (period, process), verdict in answers.items()]
     status = PASSES if all(verdict.passed for verdict in answers.values()) else FAILS
     text = csv_text(VERDICTS, ((*row[:-1], "; ".join(row[-1])) for row in rows))
@@ -153,6 +152,8 @@ def settled(found: Opened, jobs: int, progress: Progress) -> Settled:
         assert found.case is not None
         return settle_sliced(found.case, progress)
     if jobs > 1:
+        from concurrent.futures import ProcessPoolExecutor  # a tenth of a second that other commands do without
+
         with ProcessPoolExecutor(jobs) as pool:
             return settle_hours(found.files.grid, found.files.book, found.files.hours, pool, progress=progress)
     return settle_hours(found.files.grid, found.files.book, found.files.hours, progress=progress)
@@ -201,7 +202,7 @@ def _pairs(path: Path, nodes: Sequence[str]) -> Tuple[List[int], List[int]]:
 def remap(folder: Path, pairs: Path, out: Path) -> Answer:
     """Moves the ends of a book's contracts, pair after pair, and writes the whole case to another folder in the form that it had."""
     found = opened(folder)
-    files = _files(found)
+    files = files_of(found)
     nodes = read_grid(files.grid).nodes
     old, new = _pairs(pairs, found.names.nodes)
     moved = Packed(found.names, files.grid, remap_book(nodes, files.book, old, new), files.hours)

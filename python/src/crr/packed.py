@@ -87,7 +87,7 @@ def write_packed(case: Case, folder: Path) -> List[str]:
     raise_any([Fault(name, 0, "", f"{folder / name} is there and not one of the hours packed: remove it first") for name in stale])
     write_files(folder, out)
     if unpacked(read_packed(folder)) != case:
-        raise Faults([Fault(str(folder), 0, "", "what was written does not read back as the same case")])
+        raise OSError(f"{folder}: what was written does not read back as the same case")
     return list(out)
 
 

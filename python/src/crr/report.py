@@ -7,7 +7,7 @@ from fractions import Fraction
 from pathlib import Path
 from typing import Dict, List, Optional
 
-from .commands import PASSES, Answer, Opened, counts_told, is_csv, opened, settled, verdicts
+from .commands import PASSES, Answer, Opened, counts_told, files_of, is_csv, opened, settled, verdicts
 from .feasibility import PERIODS, PROCESSES, find_flows, released_percent
 from .files import read_grid
 from .hours import Progress, Settled
@@ -62,8 +62,7 @@ def figures(folder: Path, found: Opened, files: Packed, result: Settled) -> Figu
 def report(folder: Path, out: Optional[Path], round_prices: bool, progress: Progress) -> Answer:
     """Writes the page; a book that fails is what it tells and no fault of it."""
     found = opened(folder, round_prices)
-    assert found.files is not None
-    text = page(figures(folder, found, found.files, settled(found, 1, progress)))
+    text = page(figures(folder, found, files_of(found), settled(found, 1, progress)))
     target = out or folder / "report.html"
     write_files(target.parent, {target.name: text.encode()})
     return Answer(PASSES, f"{target} written\n", {"out": str(target)})

@@ -68,9 +68,13 @@ def write_files(folder: Path, files: Dict[str, bytes]) -> None:
         os.makedirs(below, exist_ok=True)
     for name, data in files.items():
         path = os.path.join(folder, name)
-        with open(f"{path}.new", "wb") as file:
-            file.write(data)
-        os.replace(f"{path}.new", path)
+        try:
+            with open(f"{path}.new", "wb") as file:
+                file.write(data)
+            os.replace(f"{path}.new", path)
+        finally:
+            if os.path.exists(f"{path}.new"):
+                os.remove(f"{path}.new")
 
 
 def write_csv(case: Case, folder: Path, hour_name: str = "", force: bool = False) -> List[str]:
