@@ -17,7 +17,7 @@ DAMAGED = [
     ("book.csv", "30.000", "３０", "book.csv:2:MW: '３０' is not a decimal number"),
     ("book.csv", ",Bus 1,Bus 4,30", ",Bus 15,Bus 4,30", "book.csv:2:SOURCE: no node 'Bus 15' in factors.csv (refusal 11)"),
     ("book.csv", "Power,OBL,ON", "Power,FWD,ON", "book.csv:2:HEDGE_TYPE: 'FWD' is neither OBL nor OPT (refusal 17)"),
-    ("book.csv", "Power,OBL,ON", "Power,OBL,24H", "book.csv:2:TIME_OF_USE: '24H' is neither ON nor OFF; split such a contract into an ON and an OFF row (refusal 17)"),
+    ("book.csv", "OBL,ON", "OBL,24H", "book.csv:2:TIME_OF_USE: '24H' is neither ON nor OFF; split such a contract into an ON and an OFF row (refusal 17)"),
     ("book.csv", "CRR-002", "CRR-001", "book.csv:3:CRR_ID: CRR-001 occurs twice"),
     ("book.csv", "CRR-003,Alder Power,", "CRR-003,,", "book.csv:4:OWNER: empty"),
     ("book.csv", "SINK,MW", "SINK,MEGAWATTS", "book.csv:1:MW: the column is missing"),

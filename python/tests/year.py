@@ -1,4 +1,4 @@
-"""Times a year of hours of the largest case on one core, from bin files and from CSV. Not a test: run it by hand.
+"""Times a year of hours of the largest case on one core, from bin files and from CSV, and a larger book by slices. Not a test: run it by hand.
 
 Usage: year.py [FOLDER]   where the year's files are made and kept (a temporary folder, if none is named)
 """
@@ -7,12 +7,16 @@ import random
 import sys
 import tempfile
 import time
+from array import array
 from datetime import date, timedelta
 from pathlib import Path
 
 from support import SEED, command, draw_book, draw_grid, draw_prices
 import crr
+from crr.case import Case, Names, PricedHour
+from crr.files import Contract
 from crr.packed import read_packed
+from crr.slices import cut, settle_sliced
 
 
 def make(folder):
@@ -38,7 +42,31 @@ def timed(what, function, rounds=5):
     return result
 
 
+def larger(nodes, constraints, contracts, hours, priced):
+    """A case beyond the library's sizes. Seven sinks in ten are one of 20 hubs, as books have them."""
+    rng = random.Random(SEED)
+    hubs = rng.sample(range(nodes), 20)
+    book = []
+    for _ in range(contracts):
+        source, sink = rng.sample(range(nodes), 2)
+        if rng.random() < 0.7:
+            sink = rng.choice([hub for hub in hubs if hub != source])
+        book.append(Contract(int(rng.random() < 0.1), int(rng.random() < 0.6), 0, source, sink, rng.randint(1, 50_000)))
+    factors = array("q", [rng.randint(-60_000, 60_000) for _ in range(nodes * constraints)])
+    out = []
+    for hour in range(hours):
+        prices = array("Q", bytes(8 * constraints))
+        for k in rng.sample(range(constraints), priced):
+            prices[k] = rng.randint(1, 20_000)
+        out.append(PricedHour("2026-01-01", 1 + hour, 1, prices))
+    names = Names([str(n) for n in range(nodes)], [str(k) for k in range(constraints)], [str(i) for i in range(contracts)], {})
+    return Case(names, array("Q", bytes(8 * constraints)), factors, book, out)
+
+
 def main(folder):
+    case = larger(2000, 500, 20_000, 24, 40)
+    print(f"20,000 contracts, 2,000 nodes, 500 constraints of which 40 are priced: {len(cut(case.book))} slices")
+    timed("settle_sliced on 24 hours of these", lambda: settle_sliced(case), 3)
     if not (folder / "grid.bin").exists():
         make(folder)
 

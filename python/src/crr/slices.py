@@ -18,10 +18,9 @@ from typing import Dict, List, NamedTuple, Sequence
 
 from .case import Case, PricedHour
 from .faults import Fault, raise_any
-from .files import Contract, write_book, write_prices
+from .files import Contract, Grid, write_book, write_prices
 from .hours import PriceFile, Progress, Settled
 from .interface import MAX_CONSTRAINTS, MAX_CONTRACTS, MAX_NODES, PART_PLACES
-from .files import Grid
 from .settlement import HourTotal, Settler
 
 
@@ -65,7 +64,7 @@ class SlicedSettler:
         """The factors of a constraint on each slice's nodes, kept for the hours to come."""
         if k not in self._columns:
             of_all = self.case.factors[k :: len(self.case.names.constraints)]
-            self._columns[k] = [array("q", [of_all[node] for node in piece.nodes]) for piece in self.slices]
+            self._columns[k] = [array("q", map(of_all.__getitem__, piece.nodes)) for piece in self.slices]
         return self._columns[k]
 
     def settle(self, hour: PricedHour, into: List[int]) -> HourTotal:
@@ -88,7 +87,9 @@ class SlicedSettler:
 
 
 def settle_sliced(case: Case, progress: Progress = lambda done, total: None) -> Settled:
-    """Settles a case of any size, hour by hour; an hour may have as many priced constraints as the library takes. Equal to `settle_hours` where that can be used."""
+    """Settles a case of any size, hour by hour; an hour may have as many priced constraints as the library takes.
+
+    Equal to `settle_hours` where that can be used."""
     too_many = [hour for hour in case.hours if sum(price > 0 for price in hour.prices) > MAX_CONSTRAINTS]
     raise_any([Fault("prices.csv", 0, "", f"{hour.day} HE{hour.hour:02} has more than {MAX_CONSTRAINTS} priced constraints", 3) for hour in too_many])
     settler = SlicedSettler(case)
