@@ -140,11 +140,6 @@ class FromTheShell(FolderTest):
             done = subprocess.run([str(CRR), "test", str(CASE_L)], stdout=full, stderr=subprocess.PIPE)
         self.assertEqual((done.returncode, done.stderr), (2, b"crr: the output can't be written: No space left on device\n"))
 
-    def test_the_clone_stays_clean(self):
-        before = {path for path in (ROOT / "python").rglob("*")}
-        self.run_crr("check", CASE_L)
-        self.assertEqual({path for path in (ROOT / "python").rglob("*")}, before)
-
     def test_unwritable(self):
         shutil.copytree(CASE_L, self.folder / "case")
         (self.folder / "file").write_text("")
