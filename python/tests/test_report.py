@@ -62,7 +62,7 @@ class Page(FolderTest):
         text = self.page(IEEE14)
         self.assertEqual((text.count("<li class=pass>"), text.count("<li class=fail>")), (4, 2))
         self.says(text, "7-8 reverse overloaded; at 7-8 reverse by 2.25000000 MW.", "an hour pays $0.0225 more than its congestion rent.")
-        self.says(text, "7-9 reverse", "62.2%, over: Tier LT", "-$1,183.88 <small>charged</small>", "<td>2026-08</td>")
+        self.says(text, "7-9 reverse", "62.2%, over: Tier LT", "-$1,183.88 <small>charged</small>", "<td>2026-08</td>", "$11,034.2220770875")
         self.says(text, "prefers-color-scheme: dark", "@media print", "@media (max-width")
         self.assertEqual(text.count("<code>"), 4)
         self.assertTrue(text == self.page(IEEE14))

@@ -11,6 +11,7 @@ from typing import Callable, Dict, List, NamedTuple, Sequence, Tuple
 from .decimals import decimal
 from .feasibility import PERIODS, PROCESSES, Flows, Verdict
 from .interface import FLOW_PLACES, LIMIT, PART_PLACES
+from .results import dollars
 from .style import CSS
 
 MOST_LOADED = 15  # constraints shown at once; the others are folded
@@ -26,12 +27,12 @@ class Input(NamedTuple):
 
 
 class Month(NamedTuple):
-    """A month's hours, the sum of its rounded cents and its exact total."""
+    """A month's hours, the sum of its rounded cents and its exact total, in dollars."""
 
     name: str
     hours: int
-    cents: int
-    exact: str  # dollars
+    sum: str
+    exact: str
 
 
 class Figures(NamedTuple):
@@ -45,7 +46,7 @@ class Figures(NamedTuple):
     verdicts: Dict[Tuple[int, int], Verdict]  # by period and process
     flows: Sequence[Flows]  # by period
     holders: Sequence[Tuple[str, int]]  # cents
-    months: Sequence[Month]
+    months: Sequence[Month]  # the last one: all of them
     inputs: Sequence[Input]
 
 
@@ -56,9 +57,10 @@ def megawatts(flow: int) -> str:
     return decimal(-size if flow < 0 else size, 3)
 
 
-def money(cents: int) -> str:
-    """-125000 cents are '-$1,250.00'."""
-    return f"{'-' if cents < 0 else ''}${abs(cents) // 100:,}.{abs(cents) % 100:02}"
+def money(amount: str) -> str:
+    """'-1250.00' is '-$1,250.00'."""
+    size, _, parts = amount.lstrip("-").partition(".")
+    return f"{'-' if amount.startswith('-') else ''}${int(size):,}.{parts}"
 
 
 def _verdict_card(figures: Figures, period: int, process: int) -> str:
@@ -179,11 +181,11 @@ def _payment_section(figures: Figures) -> str:
     for name, cents in rows:
         said = "paid" if cents > 0 else "charged" if cents < 0 else ""
         start, end = sorted((place(0), place(cents)))
-        bar = _bar(f"{name}: {money(cents)} {said}", start, end, "over" if cents < 0 else "within", zero)
-        drawn.append(_row(name, bar, money(cents), said))
+        bar = _bar(f"{name}: {money(dollars(cents))} {said}", start, end, "over" if cents < 0 else "within", zero)
+        drawn.append(_row(name, bar, money(dollars(cents)), said))
     months = "".join(
-        f"<tr><td>{escape(month.name or 'one hour')}</td><td class=figure>{month.hours:,}</td><td class=figure>{money(month.cents)}</td>"
-        f"<td class=figure>${month.exact}</td></tr>"
+        f"<tr><td>{escape(month.name)}</td><td class=figure>{month.hours:,}</td><td class=figure>{money(month.sum)}</td>"
+        f"<td class=figure>{money(month.exact)}</td></tr>"
         for month in figures.months
     )
     head = "<tr><th>month</th><th class=figure>hours</th><th class=figure>sum of rounded cents</th><th class=figure>exact total</th></tr>"

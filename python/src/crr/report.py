@@ -13,7 +13,8 @@ from .files import read_grid
 from .hours import Progress, Settled
 from .packed import Packed, price_files
 from .page import Figures, Input, Month, page
-from .results import exact_dollars, holder_sums
+from .results import dollars, exact_dollars, holder_sums
+from .settlement import HourTotal
 from .to_csv import write_files
 
 
@@ -34,11 +35,15 @@ def _inputs(folder: Path) -> List[Input]:
 
 
 def _months(found: Opened, result: Settled) -> List[Month]:
-    sums: Dict[str, List[Fraction]] = {}
+    """Each month's figures, and last those of all hours; none where there is no hour."""
+    hours: Dict[str, List[HourTotal]] = {}
     for (day, _), total in zip(found.times, result.hours):
-        count, cents, exact = sums.get(day[:7], [Fraction(0)] * 3)
-        sums[day[:7]] = [count + 1, cents + total.sum, exact + total.exact]
-    return [Month(name, int(count), int(cents), exact_dollars(exact)) for name, (count, cents, exact) in sorted(sums.items())]
+        hours.setdefault(day[:7], []).append(total)
+    named = [(name, hours[name]) for name in sorted(hours) if name] + ([("all", result.hours)] if result.hours else [])
+    return [
+        Month(name, len(totals), dollars(sum(total.sum for total in totals)), exact_dollars(sum((total.exact for total in totals), Fraction(0))))
+        for name, totals in named
+    ]
 
 
 def figures(folder: Path, found: Opened, files: Packed, result: Settled) -> Figures:

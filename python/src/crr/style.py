@@ -26,8 +26,8 @@ table { border-collapse: collapse; width: 100%; font-variant-numeric: tabular-nu
 th { font-weight: 600; text-align: left; }
 th, td { padding: 4px 12px 4px 0; vertical-align: middle; }
 td.figure, th.figure { text-align: right; white-space: nowrap; padding-right: 0; padding-left: 12px; }
-.plain th, .plain td { border-bottom: 1px solid var(--rule); }
-.plain { width: auto; }
+.plain { width: auto; } .plain th, .plain td, .plain .figure { border-bottom: 1px solid var(--rule); padding: 4px 20px 4px 0; }
+.plain th { white-space: normal; vertical-align: bottom; } .plain tr > :last-child { padding-right: 0; }
 .bars th { font-weight: 400; width: 20%; overflow-wrap: anywhere; }
 .bars td.bar { width: 54%; padding: 2px 0; }
 .bars td.figure small { display: block; color: var(--faint); }
@@ -43,7 +43,8 @@ code { font: .85em/1.4 ui-monospace, monospace; overflow-wrap: anywhere; }
   .verdicts { grid-template-columns: 1fr; }
   .bars tr { display: grid; grid-template-columns: minmax(0, 1fr) auto; gap: 0 10px; padding: 6px 0; border-bottom: 1px solid var(--rule); }
   .bars th, .bars td, .bars td.bar, .bars td.figure { width: auto; padding: 0; } .bars td.bar { grid-column: 1 / -1; grid-row: 2; }
-  .plain { width: 100%; } .hashes tr { display: block; } .hashes td { display: block; border: 0; text-align: left; padding: 0; }
+  .plain { width: 100%; } .plain th, .plain td, .plain .figure { font-size: .85em; padding-right: 8px; } td:first-child { white-space: nowrap; }
+  .hashes tr { display: block; padding-bottom: 8px; } .plain.hashes td, .plain.hashes .figure { display: block; border: 0; text-align: left; padding: 0; }
 }
 @media print {
   :root { --page: #fff; --text: #000; --faint: #444; --rule: #bbb; --track: #eee; --within: #0072b2; --some: #e69f00; --over: #d55e00;
