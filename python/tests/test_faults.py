@@ -114,6 +114,12 @@ class Damaged(FolderTest):
         self.assertEqual((status, err.splitlines()[0].startswith("factors.csv: No such file or directory: ")), (2, True))
         self.assertEqual(command("test", self.folder / "nowhere")[2].splitlines()[0], f"{self.folder / 'nowhere'}: no such folder")
 
+    def test_what_follows_from_a_fault_is_not_told(self):
+        for name in ("constraints.csv", "factors.csv"):
+            self.assertIn("crr: 1 fault in", self.damaged(name, ""))
+        heading = "CONSTRAINT_ID,LIMIT_MW\n"
+        self.assertEqual(self.damaged("constraints.csv", heading).count("constraints.csv\n"), 40 + 42)  # no constraint: every column and price is a fault
+
     def test_names(self):
         shutil.copytree(IEEE14, self.folder / "case")
         for row, message in (

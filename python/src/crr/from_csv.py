@@ -39,6 +39,7 @@ class Loaded:
         self.folder, self.any_size, self.round_prices = folder, any_size, round_prices
         self.faults: List[Fault] = []
         self.rounded = 0
+        self.constraints_read = False  # else nothing is said of names that would not be found
         self.constraints: Dict[str, int] = {}
         self.nodes: Dict[str, int] = {}
         self.limits = array("Q")
@@ -80,6 +81,7 @@ def _read_constraints(loaded: Loaded) -> None:
     sheet = Sheet(loaded.folder / "constraints.csv", ("CONSTRAINT_ID", "LIMIT_MW"), loaded.faults)
     if len(sheet.at) < 2:
         return
+    loaded.constraints_read = True
     name_at, limit_at = sheet.at["CONSTRAINT_ID"], sheet.at["LIMIT_MW"]
     for line, fields in sheet.rows():
         if _new_name(sheet, line, "CONSTRAINT_ID", fields[name_at], loaded.constraints):
@@ -105,7 +107,7 @@ def _read_factors(loaded: Loaded) -> None:
     sheet = Sheet(loaded.folder / "factors.csv", ("NODE_ID",), loaded.faults, first=True)
     if not sheet.at:
         return
-    columns = _factor_columns(loaded, sheet) if loaded.constraints or not loaded.faults else []
+    columns = _factor_columns(loaded, sheet) if loaded.constraints_read else []
     line = 1
     for line, fields in sheet.rows():
         if _new_name(sheet, line, "NODE_ID", fields[0], loaded.nodes):
@@ -179,7 +181,7 @@ def _read_prices(loaded: Loaded) -> List[PricedHour]:
             continue
         k = loaded.constraints.get(name)
         if k is None:
-            if loaded.constraints:
+            if loaded.constraints_read:
                 sheet.fault(line, "CONSTRAINT_ID", f"no constraint {name!r} in constraints.csv")
             continue
         key = (hour.day, hour.hour, k)
