@@ -100,6 +100,14 @@ class Remap(FolderTest):
         ends = [row[3:5] for row in crr.read_book(14, after["book.bin"])]
         self.assertEqual(ends[4], (0, 11))
 
+    def test_no_other_hours(self):
+        command("pack", IEEE14, "-o", self.folder / "bin")
+        shutil.copytree(self.folder / "bin", self.folder / "out")
+        (self.folder / "bin" / "prices" / "2026-08-01" / "HE24.bin").unlink()
+        (self.folder / "pairs.csv").write_text(self.PAIRS)
+        status, _, err = command("remap", self.folder / "bin", self.folder / "pairs.csv", "-o", self.folder / "out")
+        self.assertEqual((status, err.count("HE24.bin is there and not one of the hours written")), (2, 1))
+
     def test_same_ends(self):
         (self.folder / "pairs.csv").write_text("OLD_NODE,NEW_NODE\nBus 1,Bus 4\n")
         self.assertEqual(command("remap", IEEE14, self.folder / "pairs.csv", "-o", self.folder / "out")[0], 0)

@@ -120,6 +120,11 @@ class Damaged(FolderTest):
         heading = "CONSTRAINT_ID,LIMIT_MW\n"
         self.assertEqual(self.damaged("constraints.csv", heading).count("constraints.csv\n"), 40 + 42)  # no constraint: every column and price is a fault
 
+    def test_headings_that_cannot_be_printed(self):
+        text = (IEEE14 / "factors.csv").read_text()
+        self.assertIn("factors.csv:1:column 2: no such constraint", self.damaged("factors.csv", text.replace(",1-2,", ',"\x1b[31m",', 1)))
+        self.assertIn("factors.csv:1:column 2: not UTF-8: the byte 0xe9", self.damaged("factors.csv", text.replace(",1-2,", ",\udce9,", 1)))
+
     def test_names(self):
         shutil.copytree(IEEE14, self.folder / "case")
         for row, message in (

@@ -139,6 +139,8 @@ class Slices(FolderTest):
             files = [crr.PriceFile(hour.day, hour.hour, crr.write_prices(hour.period, hour.prices)) for hour in case.hours]
             whole = crr.settle_hours(crr.write_grid(case.grid), crr.write_book(sizes[0], case.book), files)
             self.assertEqual(settle_sliced(case), whole)
+            with ThreadPoolExecutor(2) as engine:
+                self.assertEqual(settle_sliced(case, engine, parts=3), whole)
 
     def test_larger_than_the_library(self):
         case = self.case(450, 150, 2300, 2, 40)
@@ -166,6 +168,7 @@ class Slices(FolderTest):
         status, out, err = command("settle", self.folder / "case")
         self.assertEqual((status, err), (0, "48 hours: sum 1103422.00, exact total 1103422.2077087500\n"))
         self.assertIn("Fir Storage,2026-07,-78931.00\n", out)
+        self.assertEqual(command("settle", self.folder / "case", "-j", "2"), (status, out, err))
 
 
 if __name__ == "__main__":

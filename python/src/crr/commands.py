@@ -2,6 +2,7 @@
 
 from __future__ import annotations
 
+from concurrent.futures import Executor
 from pathlib import Path
 from typing import Dict, Iterable, List, NamedTuple, Optional, Sequence, Tuple
 
@@ -13,7 +14,7 @@ from .files import Contract, read_book, read_grid, remap_book
 from .from_csv import load
 from .hours import Progress, Settled, settle_hours
 from .interface import FLOW_PLACES
-from .packed import Packed, bin_files, hour_name, packed, read_packed, unpacked, write_packed
+from .packed import Packed, hour_name, packed, read_packed, unpacked, write_bin, write_packed
 from .results import HOLDERS, HOURS, Time, dollars, exact_dollars, holder_months, hour_rows, result_files
 from .sheet import Sheet
 from .slices import settle_sliced
@@ -147,16 +148,21 @@ def test(folder: Path, periods: Sequence[int], processes: Sequence[int]) -> Answ
 
 
 def settled(found: Opened, jobs: int, progress: Progress) -> Settled:
-    """All hours of a folder, by slices where the library does not take the case whole."""
-    if found.files is None:
-        assert found.case is not None
-        return settle_sliced(found.case, progress)
-    if jobs > 1:
-        from concurrent.futures import ProcessPoolExecutor  # a tenth of a second that other commands do without
+    """All hours of a folder."""
+    if jobs <= 1:
+        return _settled(found, None, progress)
+    from concurrent.futures import ProcessPoolExecutor  # a tenth of a second that other commands do without
 
-        with ProcessPoolExecutor(jobs) as pool:
-            return settle_hours(found.files.grid, found.files.book, found.files.hours, pool, progress=progress)
-    return settle_hours(found.files.grid, found.files.book, found.files.hours, progress=progress)
+    with ProcessPoolExecutor(jobs) as pool:
+        return _settled(found, pool, progress)
+
+
+def _settled(found: Opened, executor: Optional[Executor], progress: Progress) -> Settled:
+    """By slices where the library does not take the case whole."""
+    if found.files:
+        return settle_hours(found.files.grid, found.files.book, found.files.hours, executor, progress=progress)
+    assert found.case is not None
+    return settle_sliced(found.case, executor, progress=progress)
 
 
 def settle(folder: Path, out: Optional[Path], jobs: int, round_prices: bool, progress: Progress) -> Answer:
@@ -211,6 +217,6 @@ def remap(folder: Path, pairs: Path, out: Path) -> Answer:
     if found.case:
         write_csv(unpacked(moved), out, hour_name(files.hours))
     else:
-        write_files(out, bin_files(moved))
+        write_bin(moved, out)
     text = f"{out}: {_counted(len(old), 'pair')} applied, {_counted(changed, 'contract')} of {len(contracts):,} changed\n"
     return Answer(PASSES, text, {"out": str(out), "pairs": len(old), "changed": changed, "contracts": len(contracts)})

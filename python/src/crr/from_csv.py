@@ -94,7 +94,7 @@ def _factor_columns(loaded: Loaded, sheet: Sheet) -> List[int]:
     others = sheet.heading[1:]
     for at, name in enumerate(others, start=1):
         if name not in loaded.constraints:
-            loaded.faults.append(Fault(sheet.name, 1, name or sheet.column(at), "no such constraint in constraints.csv"))
+            loaded.faults.append(Fault(sheet.name, 1, sheet.column(at), "no such constraint in constraints.csv"))
         elif name in others[: at - 1]:
             loaded.faults.append(Fault(sheet.name, 1, name, "the constraint's column occurs twice"))
     for name in loaded.constraints:

@@ -6,8 +6,8 @@ import os
 from array import array
 from concurrent.futures import Executor, as_completed
 from fractions import Fraction
-from functools import lru_cache
-from typing import Callable, Dict, List, NamedTuple, Optional, Sequence, Tuple, Union
+from functools import lru_cache, partial
+from typing import Callable, Dict, List, NamedTuple, Optional, Sequence, Tuple, TypeVar, Union
 
 from .files import Grid, read_book_cells, read_grid
 from .interface import MAX_PRICE_BYTES
@@ -50,7 +50,8 @@ class Settled(NamedTuple):
 
 
 Progress = Callable[[int, int], None]  # hours done, hours in all
-_Part = Tuple[List[HourTotal], Dict[str, int]]
+Hours = TypeVar("Hours")
+Result = TypeVar("Result")
 
 
 class _Lanes:
@@ -91,7 +92,7 @@ def read_price_file(file: Union[bytes, str]) -> Tuple[bytes, str]:
         os.close(handle)
 
 
-def settle_part(grid: bytes, book: bytes, hours: Sequence[PriceFile]) -> _Part:
+def settle_part(grid: bytes, book: bytes, hours: Sequence[PriceFile]) -> Tuple[List[HourTotal], Dict[str, int]]:
     """What a worker runs: a pure function of arguments that pickle. Gives the hours' figures and each month's cents, as `_Lanes` puts them."""
     tables, contracts, lanes = _opened(grid, book)
     settler = Settler(tables, book, contracts)
@@ -104,24 +105,30 @@ def settle_part(grid: bytes, book: bytes, hours: Sequence[PriceFile]) -> _Part:
     return totals, months
 
 
-def _parts(grid: bytes, book: bytes, hours: Sequence[PriceFile], step: int, executor: Optional[Executor], progress: Progress) -> List[_Part]:
+def in_parts(
+    task: Callable[[Sequence[Hours]], Result], hours: Sequence[Hours], executor: Optional[Executor], parts: int, progress: Progress
+) -> List[Result]:
+    """The task's result for each part of the hours, in their order. The first exception of a task is raised, and what has not begun is called off."""
+    step = max(1, -(-len(hours) // max(1, parts)))
     cuts = [hours[at : at + step] for at in range(0, len(hours), step)]
-    done, got = 0, []
+    done = 0
     if executor is None:
+        got = []
         for cut in cuts:
-            got.append(settle_part(grid, book, cut))
+            got.append(task(cut))
             done += len(cut)
             progress(done, len(hours))
         return got
-    tasks = [executor.submit(settle_part, grid, book, cut) for cut in cuts]
+    tasks = {executor.submit(task, cut): len(cut) for cut in cuts}
     try:
-        for task in as_completed(tasks):
-            done += len(task.result()[0])
+        for finished in as_completed(tasks):
+            finished.result()
+            done += tasks[finished]
             progress(done, len(hours))
-        return [task.result() for task in tasks]
+        return [finished.result() for finished in tasks]
     finally:
-        for task in tasks:
-            task.cancel()
+        for unfinished in tasks:
+            unfinished.cancel()
 
 
 def settle_hours(
@@ -136,10 +143,9 @@ def settle_hours(
 
     Every sum is of whole numbers, so the result is the same for every engine and every number of parts."""
     _, _, lanes = _opened(grid, book)
-    step = max(1, -(-len(hours) // max(1, parts)))
     totals: List[HourTotal] = []
     months: Dict[str, int] = {}
-    for part_totals, part_months in _parts(grid, book, hours, step, executor, progress):
+    for part_totals, part_months in in_parts(partial(settle_part, grid, book), hours, executor, parts, progress):
         totals += part_totals
         for month, number in part_months.items():
             months[month] = months.get(month, 0) + number

@@ -18,7 +18,7 @@ from .native import Refused
 from .to_csv import csv_text, write_files
 
 _HOUR_FILE = re.compile(r"HE(0[1-9]|1[0-9]|2[0-5])\.bin")
-_HOUR_NAME = re.compile(r"([0-9]{4}-[0-9]{2}-[0-9]{2}) HE([0-9]{2})")
+_HOUR_NAME = re.compile(r"([0-9]{4}-[0-9]{2}-[0-9]{2}) HE(0[1-9]|1[0-9]|2[0-5])")
 _DAY = re.compile(r"[0-9]{4}-[0-9]{2}-[0-9]{2}")
 
 
@@ -78,17 +78,22 @@ def bin_files(files: Packed) -> Dict[str, bytes]:
     return out
 
 
-def write_packed(case: Case, folder: Path) -> List[str]:
-    """Packs a case into a folder and gives the files' names. What was written is read back and compared.
-
-    Price files of other hours that stand there already are faults: they would be settled along with these."""
-    out = bin_files(packed(case))
+def write_bin(files: Packed, folder: Path) -> List[str]:
+    """Writes the files into a folder and gives their names. Price files of other hours that stand there already are faults: they would be settled
+    along with these."""
+    out = bin_files(files)
     stale = [name for name in price_files(folder) if name not in out]
-    raise_any([Fault(name, 0, "", f"{folder / name} is there and not one of the hours packed: remove it first") for name in stale])
+    raise_any([Fault(name, 0, "", f"{folder / name} is there and not one of the hours written: remove it first") for name in stale])
     write_files(folder, out)
+    return list(out)
+
+
+def write_packed(case: Case, folder: Path) -> List[str]:
+    """Packs a case into a folder, and reads back and compares what was written."""
+    written = write_bin(packed(case), folder)
     if unpacked(read_packed(folder)) != case:
         raise OSError(f"{folder}: what was written does not read back as the same case")
-    return list(out)
+    return written
 
 
 def price_files(folder: Path) -> List[str]:

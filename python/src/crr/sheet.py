@@ -56,8 +56,7 @@ class Sheet:
         self.at: Dict[str, int] = {}
         self._text, self._doubtful = self._decoded(path, need)
         self._delimiter = _delimiter(self._text)
-        self._lines = io.StringIO(self._text, newline="")
-        self._reader = csv.reader(self._lines, delimiter=self._delimiter, strict=True)
+        self._reader = csv.reader(_lines(self._text), delimiter=self._delimiter, strict=True)
         if self._text:
             self._read_heading(need, first)
 
@@ -115,8 +114,9 @@ class Sheet:
                 self.faults.append(Fault(self.name, first, self._quoted_column(first), f"quotes: {error}"))
 
     def column(self, at: int) -> str:
-        """A column's heading as it stands in the file."""
-        return self.heading[at] if at < len(self.heading) else f"column {at + 1}"
+        """A column's heading as it stands in the file, or its place where that can't be printed."""
+        heading = self.heading[at] if at < len(self.heading) else ""
+        return heading if heading and heading.isprintable() else f"column {at + 1}"
 
     def fault(self, line: int, ours: str, text: str, refusal: int = 0) -> None:
         """Notes a fault in a column that is one of ours."""
@@ -149,8 +149,7 @@ class Sheet:
         bad = [at for at, field in enumerate(fields) if any("\udc80" <= c <= "\udcff" for c in field)]
         for at in bad:
             byte = next(ord(c) - 0xDC00 for c in fields[at] if "\udc80" <= c <= "\udcff")
-            column = self.column(at) if line > 1 else f"column {at + 1}"
-            self.faults.append(Fault(self.name, line, column, f"not UTF-8: the byte {byte:#04x}; save as CSV UTF-8"))
+            self.faults.append(Fault(self.name, line, self.column(at), f"not UTF-8: the byte {byte:#04x}; save as CSV UTF-8"))
         return not bad
 
     def _wrong_width(self, line: int, fields: int) -> None:
@@ -159,7 +158,7 @@ class Sheet:
 
     def _quoted_column(self, line: int) -> str:
         """The column of the first quote that is not closed, or not followed by a separator, in the lines from this one on."""
-        text = "".join(self._text.splitlines(keepends=True)[line - 1 :])
+        text = "".join(list(_lines(self._text))[line - 1 :])
         at, column = 0, 0
         while at < len(text) and text[at] not in "\r\n":
             if text[at] == '"':
@@ -172,6 +171,11 @@ class Sheet:
             if text[at : at + 1] == self._delimiter:
                 at, column = at + 1, column + 1
         return self.column(column)
+
+
+def _lines(text: str) -> io.StringIO:
+    """The lines as the csv module counts them."""
+    return io.StringIO(text, newline="")
 
 
 def _delimiter(text: str) -> str:

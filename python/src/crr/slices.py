@@ -14,12 +14,16 @@ slices' exact totals, since neither is rounded after adding.
 from __future__ import annotations
 
 from array import array
-from typing import Dict, List, NamedTuple, Sequence
+from concurrent.futures import Executor
+from dataclasses import replace
+from functools import partial
+from operator import add
+from typing import Dict, List, NamedTuple, Optional, Sequence
 
 from .case import Case, PricedHour
 from .faults import Fault, raise_any
 from .files import Contract, Grid, write_book, write_prices
-from .hours import PriceFile, Progress, Settled
+from .hours import Progress, Settled, in_parts
 from .interface import MAX_CONSTRAINTS, MAX_CONTRACTS, MAX_NODES, PART_PLACES
 from .settlement import HourTotal, Settler
 
@@ -86,17 +90,26 @@ class SlicedSettler:
         return HourTotal(hour.period, total, whole, parts)
 
 
-def settle_sliced(case: Case, progress: Progress = lambda done, total: None) -> Settled:
-    """Settles a case of any size, hour by hour; an hour may have as many priced constraints as the library takes.
-
-    Equal to `settle_hours` where that can be used."""
-    too_many = [hour for hour in case.hours if sum(price > 0 for price in hour.prices) > MAX_CONSTRAINTS]
-    raise_any([Fault("prices.csv", 0, "", f"{hour.day} HE{hour.hour:02} has more than {MAX_CONSTRAINTS} priced constraints", 3) for hour in too_many])
-    settler = SlicedSettler(case)
+def _settle_part(settler: SlicedSettler, hours: Sequence[PricedHour]) -> Settled:
+    """What a worker runs."""
     totals: List[HourTotal] = []
     months: Dict[str, List[int]] = {}
-    for done, hour in enumerate(case.hours, start=1):
-        month = PriceFile(hour.day, hour.hour, b"").month
-        totals.append(settler.settle(hour, months.setdefault(month, [0] * len(case.book))))
-        progress(done, len(case.hours))
+    for hour in hours:
+        totals.append(settler.settle(hour, months.setdefault(hour.day[:7], [0] * len(settler.case.book))))
+    return Settled(totals, months)
+
+
+def settle_sliced(
+    case: Case, executor: Optional[Executor] = None, parts: int = 24, progress: Progress = lambda done, total: None
+) -> Settled:
+    """Settles a case of any size; an hour may have as many priced constraints as the library takes. Equal to `settle_hours` where that can be used."""
+    too_many = [hour for hour in case.hours if sum(price > 0 for price in hour.prices) > MAX_CONSTRAINTS]
+    raise_any([Fault("prices.csv", 0, "", f"{hour.day} HE{hour.hour:02} has more than {MAX_CONSTRAINTS} priced constraints", 3) for hour in too_many])
+    totals: List[HourTotal] = []
+    months: Dict[str, List[int]] = {}
+    settler = SlicedSettler(replace(case, hours=[]))  # each task is handed its own hours
+    for part in in_parts(partial(_settle_part, settler), case.hours, executor, parts, progress):
+        totals += part.hours
+        for month, cents in part.months.items():
+            months[month] = list(map(add, months[month], cents)) if month in months else cents
     return Settled(totals, dict(sorted(months.items())))
