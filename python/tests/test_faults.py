@@ -5,6 +5,8 @@ import shutil
 import unittest
 
 from support import CASE_L, IEEE14, FolderTest, command, contents
+from crr.faults import Faults
+from crr.from_csv import load
 
 # What is damaged: the file, what stands there once, what is put for it, and the message.
 DAMAGED = [
@@ -144,6 +146,30 @@ class Damaged(FolderTest):
         self.assertEqual((status, err), (2, ""))
         fault = {"file": "book.csv", "line": 2, "column": "MW", "text": "0 is outside 0.001 to 1000.000", "refusal": 13}
         self.assertEqual(json.loads(out), {"faults": [fault]})
+
+
+class Drawn(FolderTest):
+    """Files damaged at random: each is read, or gives faults that have a line; nothing else comes out."""
+
+    PIECES = (b",", b'"', b'""', b"\n", b"\r", b"\0", b"\xff", b"\xe2\x80\xa8", b";", b"-", b".", b"e", b"9", b"", b"ON", b"\xef\xbb\xbf")
+
+    def test_any_damage(self):
+        command("unpack", CASE_L, "-o", self.folder)
+        whole, read = contents(self.folder), 0
+        for _ in range(400):
+            name = self.rng.choice(sorted(whole))
+            data = bytearray(whole[name])
+            for _ in range(self.rng.randint(1, 3)):
+                start = self.rng.randrange(len(data) + 1)
+                data[start : start + self.rng.choice((0, 1, 2, 20))] = self.rng.choice(self.PIECES)
+            (self.folder / name).write_bytes(data)
+            try:
+                load(self.folder)
+                read += 1
+            except Faults as found:
+                self.assertTrue(all(fault.line and fault.column for fault in found.faults), str(found))
+            (self.folder / name).write_bytes(whole[name])
+        self.assertTrue(0 < read < 400)
 
 
 class DamagedBin(FolderTest):
