@@ -5,8 +5,10 @@ import json
 import os
 import shutil
 import subprocess
+import tempfile
 import unittest
 from contextlib import redirect_stderr
+from pathlib import Path
 from unittest import mock
 
 from support import CASE_L, IEEE14, ROOT, FolderTest, command, contents
@@ -135,6 +137,17 @@ class FromTheShell(FolderTest):
 
     def test_status(self):
         self.assertEqual([self.run_crr("test", folder).returncode for folder in (CASE_L, IEEE14, self.folder)], [0, 1, 2])
+
+    def test_older_library(self):
+        """A library without the functions of today is told, and so is none at all."""
+        with tempfile.TemporaryDirectory() as held:
+            older = Path(held) / "libcrr.so"
+            subprocess.run(["gcc", "-shared", "-o", str(older), "-x", "c", os.devnull], check=True)
+            done = self.run_crr("test", CASE_L, env={**os.environ, "CRR_LIBRARY": str(older)})
+            said = f"crr: {older} has no crr_read_grid: it is older than this package; ./library builds it anew\n"
+            self.assertEqual((done.returncode, done.stderr.decode()), (2, said))
+            done = self.run_crr("test", CASE_L, env={**os.environ, "CRR_LIBRARY": str(older) + ".gone"})
+            self.assertEqual((done.returncode, done.stderr.decode().count("no shared library at")), (2, 1))
 
     def test_pipe_closed(self):
         shell = f"{CRR} settle {IEEE14} --json | head -n 1"

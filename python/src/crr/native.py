@@ -155,7 +155,10 @@ class Entry:
     @cached_property
     def function(self) -> Callable[..., int]:
         """The function itself: addresses, lengths and numbers in, the refusal's number out."""
-        found = _library()[self.name]
+        try:
+            found = _library()[self.name]
+        except AttributeError:
+            raise OSError(f"{library_path()} has no {self.name}: it is older than this package; ./library builds it anew") from None
         found.restype = ctypes.c_uint64
         found.argtypes = [kind for parameter in self.parameters for kind in _argument_types(parameter)]
         return found

@@ -5,7 +5,7 @@ from __future__ import annotations
 from array import array
 from ctypes import addressof, c_int64, c_uint64
 from fractions import Fraction
-from typing import Any, List, NamedTuple
+from typing import NamedTuple
 
 from .files import Grid, read_book_cells
 from .interface import MAX_CONSTRAINTS, PART_PLACES
@@ -73,27 +73,25 @@ class Settler:
 
     def __init__(self, grid: Grid, book: bytes, contracts: int) -> None:
         self.cents, self.priced = zeros("q", contracts), zeros("Q", contracts)
-        self._prices = zeros("Q", MAX_CONSTRAINTS)
-        self._period, self._parts = c_uint64(), c_uint64()
-        self._sum, self._whole = c_int64(), c_int64()
-        # Kept, so that what the addresses below point to stays.
-        self._lent: List[Any] = [lend_cells(grid.factors, "q"), Lent(self._prices, "Q", True), lend_bytes(book)]
-        self._lent += [Lent(self.cents, "q", True), Lent(self.priced, "Q", True)]
-        factors, prices, bytes_of_book, cents, priced = self._lent
-        self._count = grid.constraints
-        self._into_prices = (prices.address, prices.cells, addressof(self._period))
-        self._before = (grid.nodes, grid.constraints)
-        self._after = _settle_hour.arguments(
-            grid.nodes, grid.constraints, 0, factors, prices, bytes_of_book, cents, priced, self._sum, self._whole, self._parts
-        )[3:]
+        self._period, self._sum, self._whole, self._parts = c_uint64(), c_int64(), c_int64(), c_uint64()
+        prices = Lent(zeros("Q", MAX_CONSTRAINTS), "Q", True)
+        factors, lent_book = lend_cells(grid.factors, "q"), lend_bytes(book)
+        cents, priced = Lent(self.cents, "q", True), Lent(self.priced, "Q", True)
+        self._kept = (factors, prices, lent_book, cents, priced)  # the addresses below stay good as long as these are lent
+        self._reading = _read_prices.arguments(grid.constraints, Lent(b"", "B"), prices, self._period)
+        self._settling = _settle_hour.arguments(
+            grid.nodes, grid.constraints, 0, factors, prices, lent_book, cents, priced, self._sum, self._whole, self._parts
+        )
 
     def settle(self, file: Bytes, name: str = "") -> HourTotal:
         """Settles the hour of a price file."""
         lent = Lent(file, "B")
-        number = _read_prices.function(self._count, lent.address, lent.cells, *self._into_prices)
+        self._reading[1:3] = lent.address, lent.cells
+        number = _read_prices.function(*self._reading)
         if number:
             raise Refused(number, _read_prices.name, name)
-        number = _settle_hour.function(*self._before, self._period.value, *self._after)
+        self._settling[2] = self._period.value
+        number = _settle_hour.function(*self._settling)
         if number:
             raise Refused(number, _settle_hour.name, name)
         return HourTotal(self._period.value, self._sum.value, self._whole.value, self._parts.value)
