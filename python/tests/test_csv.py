@@ -138,10 +138,6 @@ class Owners(unittest.TestCase):
         self.assertEqual(holder_numbers(["new", "old"], {5: "old", 0: "gone"}), {"old": 5, "new": 0})
         self.assertEqual(holder_numbers(["5", "old"], {5: "old"}), {"5": 5, "old": 0})
 
-    def test_known_numbers_are_kept(self):
-        rows = [(0, 1, holder, 0, 1, 1) for holder in (900, 3, 900)]
-        self.assertEqual(len(crr.write_book(2, rows)), 20)
-
 
 class KeptNumbers(FolderTest):
     def test_holders_by_name_keep_their_numbers(self):

@@ -100,9 +100,11 @@ def _settle_part(settler: SlicedSettler, hours: Sequence[PricedHour]) -> Settled
 
 
 def settle_sliced(
-    case: Case, executor: Optional[Executor] = None, parts: int = 24, progress: Progress = lambda done, total: None
+    case: Case, executor: Optional[Executor] = None, parts: int = 8, progress: Progress = lambda done, total: None
 ) -> Settled:
-    """Settles a case of any size; an hour may have as many priced constraints as the library takes. Equal to `settle_hours` where that can be used."""
+    """Settles a case of any size; an hour may have as many priced constraints as the library takes. Equal to `settle_hours` where that can be used.
+
+    Each task of an engine is handed the whole case, megabytes of factors where it is large: hence few parts."""
     too_many = [hour for hour in case.hours if sum(price > 0 for price in hour.prices) > MAX_CONSTRAINTS]
     raise_any([Fault("prices.csv", 0, "", f"{hour.day} HE{hour.hour:02} has more than {MAX_CONSTRAINTS} priced constraints", 3) for hour in too_many])
     totals: List[HourTotal] = []
