@@ -5,7 +5,7 @@ from __future__ import annotations
 from array import array
 from ctypes import c_uint64
 from dataclasses import dataclass
-from typing import Any, Iterable, List, NamedTuple, Sequence, Union
+from typing import Iterable, List, NamedTuple, Sequence, Union, cast
 
 from .interface import MAX_BOOK_BYTES, MAX_CONSTRAINTS, MAX_CONTRACTS, MAX_GRID_BYTES, MAX_NODES, MAX_PRICE_BYTES
 from .native import Bytes, Cells, Entry, Given, Lent, lend_bytes, lend_cells, zeros
@@ -21,7 +21,8 @@ _write_prices = Entry("crr_write_prices")
 
 @dataclass(frozen=True)
 class Grid:
-    """A grid's tables: limits, one for each constraint, and factors, that of node n on constraint k in cell n * constraints + k."""
+    """A grid's tables: limits, one for each constraint, and factors, that of node n on constraint k in cell n * constraints + k. Those that were
+    read from a file are arrays."""
 
     nodes: int
     constraints: int
@@ -86,10 +87,10 @@ def read_book(nodes: int, file: Bytes, name: str = "") -> List[Contract]:
 
 def book_cells(book: Book) -> Cells:
     """A book as cells, six for each contract: a buffer as it is, else rows put one behind the other."""
-    given: Any = book
-    if isinstance(given, array) or hasattr(given, "__array_interface__"):
-        return given  # type: ignore[no-any-return]
-    return array("Q", [value for row in given for value in row])
+    if isinstance(book, array) or hasattr(book, "__array_interface__"):
+        return cast(Cells, book)
+    rows = cast(Iterable[Sequence[int]], book)
+    return array("Q", [value for row in rows for value in row])
 
 
 def write_book(nodes: int, book: Book) -> bytes:

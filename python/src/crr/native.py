@@ -186,14 +186,15 @@ def _argument_types(parameter: Parameter) -> List[Any]:
 
 
 def _argument(entry: str, parameter: Parameter, value: Given) -> List[Any]:
-    if parameter.form == "number":
-        number = operator.index(value)  # type: ignore[arg-type]
-        if not 0 <= number < 1 << 64:
-            raise OverflowError(f"{parameter.name} of {entry} is a number of 64 bits, not {number}")
-        return [number]
     if isinstance(value, Lent):
         if parameter.form == "buffer" and value.code == parameter.code and value.writable >= parameter.writable:
             return [value.address, value.cells]
-    elif parameter.form == "figure" and isinstance(value, _FIGURES[parameter.code]):
-        return [ctypes.addressof(value)]
+    elif isinstance(value, (ctypes.c_uint64, ctypes.c_int64)):
+        if parameter.form == "figure" and isinstance(value, _FIGURES[parameter.code]):
+            return [ctypes.addressof(value)]
+    elif parameter.form == "number":
+        number = operator.index(value)
+        if not 0 <= number < 1 << 64:
+            raise OverflowError(f"{parameter.name} of {entry} is a number of 64 bits, not {number}")
+        return [number]
     raise TypeError(f"{parameter.name} of {entry} is a {parameter.form} of {parameter.code!r}")

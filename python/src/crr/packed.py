@@ -4,9 +4,10 @@ from __future__ import annotations
 
 import os
 import re
+from array import array
 from dataclasses import dataclass
 from pathlib import Path
-from typing import Dict, List, Tuple
+from typing import Dict, List, Tuple, cast
 
 from .case import Case, Names, PricedHour
 from .faults import Fault, Faults, raise_any
@@ -51,7 +52,7 @@ def unpacked(files: Packed) -> Case:
         except Refused as refused:
             faults.append(Fault(_short(name), 0, "", refused.meaning, refused.number))
     raise_any(faults)
-    return Case(files.names, grid.limits, grid.factors, book, hours)  # type: ignore[arg-type]
+    return Case(files.names, cast("array[int]", grid.limits), cast("array[int]", grid.factors), book, hours)
 
 
 def _short(path: str) -> str:

@@ -3,9 +3,10 @@
 from __future__ import annotations
 
 import hashlib
+from array import array
 from fractions import Fraction
 from pathlib import Path
-from typing import Dict, List, Optional
+from typing import Dict, List, Optional, cast
 
 from .commands import PASSES, Answer, Opened, counts_told, files_of, is_csv, opened, settled, verdicts
 from .feasibility import PERIODS, PROCESSES, find_flows, released_percent
@@ -54,7 +55,7 @@ def figures(folder: Path, found: Opened, files: Packed, result: Settled) -> Figu
         folder.resolve().name,
         f"{counts_told(found)}.",
         found.names.constraints,
-        list(grid.limits),  # type: ignore[arg-type]
+        cast("array[int]", grid.limits),
         [released_percent(process) for process in range(len(PROCESSES))],
         verdicts(files),
         [find_flows(grid, files.book, period) for period in range(len(PERIODS))],

@@ -3,7 +3,7 @@
 from __future__ import annotations
 
 from array import array
-from ctypes import addressof, c_int64, c_uint64
+from ctypes import c_int64, c_uint64
 from fractions import Fraction
 from typing import NamedTuple
 
