@@ -28,6 +28,12 @@ class Statuses(FolderTest):
         self.assertEqual(command("test", IEEE14, "--period", "off")[0], 0)
         self.assertEqual(command("test", IEEE14, "--period", "on", "--process", "lt")[0], 1)
 
+    def test_prices_are_not_tested(self):
+        shutil.copytree(IEEE14, self.folder / "case")
+        (self.folder / "case" / "prices.csv").write_text("damaged")
+        self.assertEqual(command("test", self.folder / "case"), command("test", IEEE14))
+        self.assertEqual(command("check", self.folder / "case")[0], 2)
+
     def test_usage(self):
         self.assertEqual(command()[0], 2)
         self.assertEqual(command("tset", CASE_L)[0], 2)

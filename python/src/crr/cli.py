@@ -49,7 +49,7 @@ _COMMANDS: Dict[str, Callable[[argparse.Namespace], Answer]] = {
     "test": lambda o: commands.test(o.folder, _PERIODS[o.period], _PROCESSES[o.process]),
     "settle": lambda o: commands.settle(o.folder, o.out, o.jobs, o.round_prices, Bar("settle")),
     "report": _report,
-    "remap": lambda o: commands.remap(o.folder, o.pairs, o.out),
+    "remap": lambda o: commands.remap(o.folder, o.pairs, o.out, o.round_prices),
 }
 _HELP = {
     "check": "read everything and list every fault",
@@ -70,7 +70,7 @@ def _parser() -> argparse.ArgumentParser:
     for name, command in of.items():
         command.add_argument("folder", type=Path, metavar="FOLDER", help="a folder of CSV files, or of bin files")
         command.add_argument("--json", action="store_true", help="the answer, or the faults, as one JSON object")
-        if name in ("check", "pack", "settle", "report"):
+        if name in ("check", "pack", "settle", "report", "remap"):
             command.add_argument("--round-prices", action="store_true", help="round prices of more than two decimals to the nearest cent")
     of["remap"].add_argument("pairs", type=Path, metavar="PAIRS", help="a CSV file OLD_NODE,NEW_NODE")
     places = {"pack": "a folder", "unpack": "a folder", "settle": "a folder for the result files", "report": "the HTML file", "remap": "a folder"}

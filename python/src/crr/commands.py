@@ -54,10 +54,10 @@ def is_csv(folder: Path) -> bool:
     return False
 
 
-def opened(folder: Path, round_prices: bool = False, any_size: bool = False) -> Opened:
+def opened(folder: Path, round_prices: bool = False, any_size: bool = False, prices: bool = True) -> Opened:
     """The case of a folder in either form."""
     if is_csv(folder):
-        case, rounded = load(folder, any_size, round_prices)
+        case, rounded = load(folder, any_size, round_prices, prices)
         times = [(hour.day, hour.hour) for hour in case.hours]
         return Opened(case.names, case.book, times, packed(case) if case.fits else None, case, rounded)
     files = read_packed(folder)
@@ -139,7 +139,7 @@ def _verdict_row(names: Names, period: int, process: int, verdict: Verdict) -> T
 
 def test(folder: Path, periods: Sequence[int], processes: Sequence[int]) -> Answer:
     """The simultaneous feasibility test; status 1 where the book fails in one of the periods and processes asked for."""
-    found = opened(folder)
+    found = opened(folder, prices=False)
     answers = verdicts(files_of(found), periods, processes)
     rows = [_verdict_row(found.names, period, process, verdict) for (period, process), verdict in answers.items()]
     status = PASSES if all(verdict.passed for verdict in answers.values()) else FAILS
@@ -205,9 +205,9 @@ def _pairs(path: Path, nodes: Sequence[str]) -> Tuple[List[int], List[int]]:
     return lists["OLD_NODE"], lists["NEW_NODE"]
 
 
-def remap(folder: Path, pairs: Path, out: Path) -> Answer:
+def remap(folder: Path, pairs: Path, out: Path, round_prices: bool) -> Answer:
     """Moves the ends of a book's contracts, pair after pair, and writes the whole case to another folder in the form that it had."""
-    found = opened(folder)
+    found = opened(folder, round_prices)
     files = files_of(found)
     nodes = read_grid(files.grid).nodes
     old, new = _pairs(pairs, found.names.nodes)

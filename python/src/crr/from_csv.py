@@ -51,16 +51,16 @@ class Loaded:
             sheet.fault(line, ours, f"more than {most} {what}", refusal)
 
 
-def load(folder: Path, any_size: bool = False, round_prices: bool = False) -> Tuple[Case, int]:
+def load(folder: Path, any_size: bool = False, round_prices: bool = False, prices: bool = True) -> Tuple[Case, int]:
     """The case of a folder, and how many of its prices were rounded. Raises `Faults`.
 
     With `any_size` counts above the library's are taken, for settling by slices. With `round_prices` a price of more than two decimals is
-    rounded to the nearest cent; it is a fault otherwise."""
+    rounded to the nearest cent; it is a fault otherwise. Without `prices` prices.csv is not looked at."""
     loaded = Loaded(Path(folder), any_size, round_prices)
     _read_constraints(loaded)
     _read_factors(loaded)
     book, ids, holders = _read_book(loaded, read_names(loaded.folder, loaded.faults)["holder"])
-    hours = _read_prices(loaded) if (loaded.folder / "prices.csv").exists() else []
+    hours = _read_prices(loaded) if prices and (loaded.folder / "prices.csv").exists() else []
     raise_any(loaded.faults)
     names = Names(list(loaded.nodes), list(loaded.constraints), ids, holders)
     return Case(names, loaded.limits, loaded.factors, book, hours), loaded.rounded
