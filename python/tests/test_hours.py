@@ -13,6 +13,7 @@ import crr
 from crr.case import Case, Names, PricedHour
 from crr.files import Contract
 from crr.hours import _Lanes
+from crr.interface import MAX_CONTRACTS, MAX_NODES
 from crr.slices import cut, settle_sliced
 
 
@@ -147,7 +148,7 @@ class Slices(FolderTest):
         self.assertFalse(case.fits)
         slices = cut(case.book)
         self.assertEqual(sorted(i for piece in slices for i in piece.contracts), list(range(2300)))
-        self.assertTrue(all(len(piece.contracts) <= 1000 and len(piece.nodes) <= 200 for piece in slices))
+        self.assertTrue(all(len(piece.contracts) <= MAX_CONTRACTS and len(piece.nodes) <= MAX_NODES for piece in slices))
         settled = settle_sliced(case)
         exact = [amounts(case.book, case.factors, 150, hour.period, hour.prices) for hour in case.hours]
         self.assertEqual(settled.cents, [sum(half_away(hour[i]) for hour in exact) for i in range(2300)])
