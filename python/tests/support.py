@@ -55,18 +55,20 @@ def draw_prices(rng, constraints):
 
 def half_away(number):
     """A fraction to the nearest whole number, a half away from zero."""
-    size = (2 * abs(number) + 1) // 2
-    return int(size if number >= 0 else -size)
+    over, under = number.numerator, number.denominator
+    size = (2 * abs(over) + under) // (2 * under)
+    return size if over >= 0 else -size
 
 
 def amounts(rows, factors, constraints, period, prices):
-    """The exact amount in cents of each contract in an hour; 0 for the other period's."""
+    """The exact amount in cents of each contract in an hour; 0 for the other period's. Sums are in 10^-8 cents, and nothing is lost in them."""
     nodes = len(factors) // constraints if constraints else 1 + max([0] + [end for row in rows for end in row[3:5]])
-    mcc = [-sum(Fraction(factors[n * constraints + k], 10**5) * prices[k] for k in range(constraints)) for n in range(nodes)]
+    posted = [k for k in range(constraints) if prices[k]]
+    mcc = [-sum(factors[n * constraints + k] * prices[k] for k in posted) for n in range(nodes)]
     out = []
     for kind, own, _, source, sink, quantity in rows:
-        amount = (mcc[sink] - mcc[source]) * Fraction(quantity, 1000)
-        out.append(Fraction(0) if own != period else max(Fraction(0), amount) if kind else amount)
+        amount = (mcc[sink] - mcc[source]) * quantity if own == period else 0
+        out.append(Fraction(max(0, amount) if kind else amount, 10**8))
     return out
 
 
