@@ -9,6 +9,7 @@ import crr
 
 HEADER = (ROOT / "include" / "crr.h").read_text()
 CODE = re.sub(r"/\*.*?\*/", "", HEADER, flags=re.S)
+SIZES, REFUSALS = HEADER.split("Refusals, by number.")
 
 
 class Header(unittest.TestCase):
@@ -24,13 +25,12 @@ class Header(unittest.TestCase):
             self.assertTrue(callable(getattr(crr, name[len("crr_") :], None)), name)
 
     def test_constants(self):
-        refusals = set(re.findall(r"#define CRR_(\w+) +\d+ +/\*", HEADER))
-        found = {name: int(value) for name, value in re.findall(r"#define CRR_(\w+) +(\d+)", HEADER) if name not in refusals}
+        found = {name: int(value) for name, value in re.findall(r"#define CRR_(\w+) +(\d+)", SIZES)}
         ours = {name: value for name, value in vars(interface).items() if name.isupper() and isinstance(value, int) and not name.endswith("_PLACES")}
         self.assertEqual(found, ours)
 
     def test_meanings(self):
-        found = {int(number): meaning for number, meaning in re.findall(r"#define CRR_\w+ +(\d+) +/\* (.*?) \*/", HEADER)}
+        found = {int(number): meaning for number, meaning in re.findall(r"#define CRR_\w+ +(\d+) +/\* (.*?) \*/", REFUSALS)}
         self.assertEqual(found.pop(0), "no refusal")
         self.assertEqual(found, interface.MEANINGS)
 
