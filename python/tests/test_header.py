@@ -31,6 +31,7 @@ class Header(unittest.TestCase):
 
     def test_meanings(self):
         found = {int(number): meaning for number, meaning in re.findall(r"#define CRR_\w+ +(\d+) +/\* (.*?) \*/", REFUSALS)}
+        self.assertEqual(sorted(found), sorted(map(int, re.findall(r"#define CRR_\w+ +(\d+)", REFUSALS))))  # none without its meaning
         self.assertEqual(found.pop(0), "no refusal")
         self.assertEqual(found, interface.MEANINGS)
 
