@@ -51,6 +51,18 @@ class RoundTrips(FolderTest):
                 for name in ("csv", "bin", "again"):
                     shutil.rmtree(self.folder / name)
 
+    def test_forms_are_kept(self):
+        for nodes, form in ((3, 1), (300, 1), (200, 0)):
+            with self.subTest(nodes=nodes, form=form):
+                source = self.folder / f"source-{nodes}"
+                source.mkdir()
+                factors = [self.rng.randint(-100_000, 100_000) for _ in range(2 * nodes)]
+                (source / "grid.bin").write_bytes(crr.write_grid(crr.Grid(nodes, 2, [5, 6], factors, form)))
+                (source / "book.bin").write_bytes(crr.write_book(nodes, [(0, 1, 2, nodes - 1, 0, 7)], form))
+                self.assertEqual(list(self.there_and_back(source)), ["names.csv"])
+                for name in ("csv", "bin", "again"):
+                    shutil.rmtree(self.folder / name)
+
     def test_an_hour_keeps_its_time(self):
         command("unpack", CASE_L, "-o", self.folder / "csv")
         prices = self.folder / "csv" / "prices.csv"

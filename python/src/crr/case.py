@@ -4,10 +4,10 @@ from __future__ import annotations
 
 from array import array
 from dataclasses import dataclass, field
-from typing import Dict, List, NamedTuple, Optional
+from typing import Dict, List, NamedTuple, Optional, Sequence
 
 from .files import Contract, Grid
-from .interface import HOLDER, MAX_CONSTRAINTS, MAX_CONTRACTS, MAX_NODES
+from .interface import HOLDER, MAX_CONSTRAINTS, MAX_CONTRACTS, MAX_NARROW_NODES, MAX_NODES, NARROW, WIDE
 
 TIMES_OF_USE = ("OFF", "ON")  # by the period's number
 HEDGE_TYPES = ("OBL", "OPT")  # by the kind's number
@@ -45,11 +45,13 @@ class Case:
     factors: "array[int]"
     book: List[Contract] = field(default_factory=list)
     hours: List[PricedHour] = field(default_factory=list)
+    grid_form: int = NARROW
+    book_form: int = NARROW
 
     @property
     def grid(self) -> Grid:
         """The grid's tables for the library."""
-        return Grid(len(self.names.nodes), len(self.names.constraints), self.limits, self.factors)
+        return Grid(len(self.names.nodes), len(self.names.constraints), self.limits, self.factors, self.grid_form)
 
     @property
     def fits(self) -> bool:
@@ -57,6 +59,20 @@ class Case:
         names = self.names
         tables = len(names.nodes) <= MAX_NODES and len(names.constraints) <= MAX_CONSTRAINTS
         return tables and len(self.book) <= MAX_CONTRACTS and all(contract.holder <= HOLDER.high for contract in self.book)
+
+
+FORMS = ("narrow", "wide")  # by number
+NARROW_ENDS = 256  # node numbers that a narrow book has room for
+
+
+def grid_form(nodes: int) -> int:
+    """The form that a grid of so many nodes is written in where none is asked for: narrow where it can be."""
+    return NARROW if nodes <= MAX_NARROW_NODES else WIDE
+
+
+def book_form(book: Sequence[Contract]) -> int:
+    """The form that a book is written in where none is asked for: narrow where it can be."""
+    return NARROW if all(max(contract.source, contract.sink) < NARROW_ENDS for contract in book) else WIDE
 
 
 def holder_numbers(owners: List[str], known: Dict[int, str]) -> Dict[str, int]:

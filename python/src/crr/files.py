@@ -5,9 +5,9 @@ from __future__ import annotations
 from array import array
 from ctypes import c_uint64
 from dataclasses import dataclass
-from typing import Iterable, List, NamedTuple, Sequence, Union, cast
+from typing import Iterable, List, NamedTuple, Sequence, Tuple, Union, cast
 
-from .interface import MAX_BOOK_BYTES, MAX_CONSTRAINTS, MAX_CONTRACTS, MAX_GRID_BYTES, MAX_NODES, MAX_PRICE_BYTES
+from .interface import MAX_BOOK_BYTES, MAX_CONSTRAINTS, MAX_CONTRACTS, MAX_GRID_BYTES, MAX_NODES, MAX_PRICE_BYTES, NARROW
 from .native import Bytes, Cells, Entry, Given, Lent, lend_bytes, lend_cells, zeros
 
 _read_grid = Entry("crr_read_grid")
@@ -28,6 +28,7 @@ class Grid:
     constraints: int
     limits: Cells
     factors: Cells
+    form: int = NARROW
 
 
 class Contract(NamedTuple):
@@ -61,22 +62,32 @@ def _written(entry: Entry, longest: int, given: Sequence[Given]) -> bytes:
 def read_grid(file: Bytes, name: str = "") -> Grid:
     """The tables of a grid's file. `name` is what a refusal calls the file."""
     limits, factors = zeros("Q", MAX_CONSTRAINTS), zeros("q", MAX_NODES * MAX_CONSTRAINTS)
-    nodes, constraints = c_uint64(), c_uint64()
-    _read_grid(lend_bytes(file), Lent(limits, "Q", True), Lent(factors, "q", True), nodes, constraints, file=name)
+    nodes, constraints, form = c_uint64(), c_uint64(), c_uint64()
+    _read_grid(lend_bytes(file), Lent(limits, "Q", True), Lent(factors, "q", True), nodes, constraints, form, file=name)
     n, k = nodes.value, constraints.value
-    return Grid(n, k, limits[:k], factors[: n * k])
+    return Grid(n, k, limits[:k], factors[: n * k], form.value)
 
 
 def write_grid(grid: Grid) -> bytes:
     """The grid's file."""
-    return _written(_write_grid, MAX_GRID_BYTES, (grid.nodes, grid.constraints, lend_cells(grid.limits, "Q"), lend_cells(grid.factors, "q")))
+    tables = (lend_cells(grid.limits, "Q"), lend_cells(grid.factors, "q"))
+    return _written(_write_grid, MAX_GRID_BYTES, (grid.form, grid.nodes, grid.constraints, *tables))
+
+
+def _read_cells(nodes: int, file: Bytes, name: str) -> Tuple["array[int]", int]:
+    cells, contracts, form = zeros("Q", 6 * MAX_CONTRACTS), c_uint64(), c_uint64()
+    _read_book(nodes, lend_bytes(file), Lent(cells, "Q", True), contracts, form, file=name)
+    return cells[: 6 * contracts.value], form.value
 
 
 def read_book_cells(nodes: int, file: Bytes, name: str = "") -> "array[int]":
     """A book's contracts as six cells each: kind, period, holder, source, sink, quantity."""
-    cells, contracts = zeros("Q", 6 * MAX_CONTRACTS), c_uint64()
-    _read_book(nodes, lend_bytes(file), Lent(cells, "Q", True), contracts, file=name)
-    return cells[: 6 * contracts.value]
+    return _read_cells(nodes, file, name)[0]
+
+
+def read_book_form(nodes: int, file: Bytes, name: str = "") -> int:
+    """Whether a book's file is narrow or wide."""
+    return _read_cells(nodes, file, name)[1]
 
 
 def read_book(nodes: int, file: Bytes, name: str = "") -> List[Contract]:
@@ -93,10 +104,10 @@ def book_cells(book: Book) -> Cells:
     return array("Q", [value for row in rows for value in row])
 
 
-def write_book(nodes: int, book: Book) -> bytes:
+def write_book(nodes: int, book: Book, form: int = NARROW) -> bytes:
     """The book's file, for a grid of so many nodes, from contracts or from a buffer of six cells for each."""
     cells = lend_cells(book_cells(book), "Q")
-    return _written(_write_book, MAX_BOOK_BYTES, (nodes, cells.cells // 6, cells))
+    return _written(_write_book, MAX_BOOK_BYTES, (form, nodes, cells.cells // 6, cells))
 
 
 def remap_book(nodes: int, book: Bytes, old_nodes: Cells, new_nodes: Cells) -> bytes:

@@ -15,7 +15,7 @@ from datetime import date
 from pathlib import Path
 from typing import Dict, List, Optional, Set, Tuple
 
-from .case import Case, Names, PricedHour, holder_numbers
+from .case import FORMS, Case, Names, PricedHour, book_form, grid_form, holder_numbers
 from .faults import Fault, raise_any
 from .files import Contract
 from .interface import HOLDER, LIMIT, MAX_CONSTRAINTS, MAX_CONTRACTS, MAX_NODES, QUANTITY, SHADOW_PRICE, SHIFT_FACTOR
@@ -59,11 +59,14 @@ def load(folder: Path, any_size: bool = False, round_prices: bool = False, price
     loaded = Loaded(Path(folder), any_size, round_prices)
     _read_constraints(loaded)
     _read_factors(loaded)
-    book, ids, holders = _read_book(loaded, read_names(loaded.folder, loaded.faults)["holder"])
+    told = read_names(loaded.folder, loaded.faults)
+    book, ids, holders = _read_book(loaded, told["holder"])
     hours = _read_prices(loaded) if prices and (loaded.folder / "prices.csv").exists() else []
     raise_any(loaded.faults)
     names = Names(list(loaded.nodes), list(loaded.constraints), ids, holders)
-    return Case(names, loaded.limits, loaded.factors, book, hours), loaded.rounded
+    forms = {number: FORMS.index(name) for number, name in told["form"].items()}
+    of_grid, of_book = forms.get(0, grid_form(len(names.nodes))), forms.get(1, book_form(book))
+    return Case(names, loaded.limits, loaded.factors, book, hours, of_grid, of_book), loaded.rounded
 
 
 def _new_name(sheet: Sheet, line: int, ours: str, name: str, known: Dict[str, int]) -> bool:

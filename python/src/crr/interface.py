@@ -9,14 +9,19 @@ import re
 from typing import Dict, List, NamedTuple
 
 # Sizes: the most that is accepted, and the longest files and texts.
-MAX_NODES = 200
+MAX_NODES = 4000
+MAX_NARROW_NODES = 200
 MAX_CONSTRAINTS = 64
 MAX_CONTRACTS = 1000
-MAX_GRID_BYTES = 29018
-MAX_BOOK_BYTES = 6002
+MAX_GRID_BYTES = 576220
+MAX_BOOK_BYTES = 7002
 MAX_PRICE_BYTES = 153
 STATEMENT_BYTES = 29085
 REPORT_BYTES = 2048
+
+# Forms of a grid's and a book's file.
+NARROW = 0
+WIDE = 1
 
 # Periods and processes.
 OFF_PEAK = 0
@@ -66,11 +71,11 @@ MEANINGS: Dict[int, str] = {
 # Every function returns uint64_t, the number of the refusal or 0.
 DECLARATIONS: Dict[str, str] = {
     "crr_read_grid": "const uint8_t *file, size_t file_len, uint64_t *limits, size_t limits_len, "
-    "int64_t *factors, size_t factors_len, size_t *nodes, size_t *constraints",
-    "crr_write_grid": "size_t nodes, size_t constraints, const uint64_t *limits, size_t limits_len, "
+    "int64_t *factors, size_t factors_len, size_t *nodes, size_t *constraints, uint64_t *form",
+    "crr_write_grid": "uint64_t form, size_t nodes, size_t constraints, const uint64_t *limits, size_t limits_len, "
     "const int64_t *factors, size_t factors_len, uint8_t *file, size_t file_len, size_t *bytes",
-    "crr_read_book": "size_t nodes, const uint8_t *file, size_t file_len, uint64_t *book, size_t book_len, size_t *contracts",
-    "crr_write_book": "size_t nodes, size_t contracts, const uint64_t *book, size_t book_len, uint8_t *file, size_t file_len, size_t *bytes",
+    "crr_read_book": "size_t nodes, const uint8_t *file, size_t file_len, uint64_t *book, size_t book_len, size_t *contracts, uint64_t *form",
+    "crr_write_book": "uint64_t form, size_t nodes, size_t contracts, const uint64_t *book, size_t book_len, uint8_t *file, size_t file_len, size_t *bytes",
     "crr_remap_book": "size_t nodes, const uint8_t *book, size_t book_len, const uint64_t *old_nodes, size_t old_len, "
     "const uint64_t *new_nodes, size_t new_len, uint8_t *file, size_t file_len, size_t *bytes",
     "crr_read_prices": "size_t constraints, const uint8_t *file, size_t file_len, uint64_t *prices, size_t prices_len, uint64_t *period",

@@ -1,14 +1,15 @@
 """names.csv: the names of what the bin files number. `pack` writes it beside them; `unpack` reads it and hands it on, since holders keep their numbers by it.
 
-TABLE is node, constraint, contract, holder or hour; the one row of an hour tells the day and hour ending of prices.bin, as 2026-07-01 HE08.
+TABLE is node, constraint, contract, holder, hour or form; the one row of an hour tells the day and hour ending of prices.bin, as 2026-07-01 HE08, and
+form 0 and 1 whether grid.bin and book.bin are narrow or wide (none: narrow where they can be).
 """
 
 from __future__ import annotations
 
 from pathlib import Path
-from typing import Dict, List, Tuple
+from typing import Dict, List, Sequence, Tuple
 
-from .case import Names, plain_number
+from .case import FORMS, Names, plain_number
 from .faults import Fault
 from .interface import HOLDER
 from .sheet import Sheet
@@ -19,7 +20,7 @@ HEADING = ("TABLE", "NUMBER", "NAME")
 
 def read_names(folder: Path, faults: List[Fault]) -> Tables:
     """Names by table and number; none where the folder has no names.csv."""
-    tables: Tables = {table: {} for table in ("node", "constraint", "contract", "holder", "hour")}
+    tables: Tables = {table: {} for table in ("node", "constraint", "contract", "holder", "hour", "form")}
     path = folder / "names.csv"
     if not path.exists():
         return tables
@@ -38,22 +39,25 @@ def read_names(folder: Path, faults: List[Fault]) -> Tables:
             sheet.fault(line, "NUMBER", f"holder {number} is above {HOLDER.high}", HOLDER.refusal)
         elif int(number) in tables[table]:
             sheet.fault(line, "NUMBER", f"{table} {number} occurs twice")
-        elif (table, name) in taken:
+        elif (table, name) in taken and table != "form":
             sheet.fault(line, "NAME", f"{table} {name} occurs twice")
         elif table == "holder" and plain_number(name) not in (None, int(number)):
             sheet.fault(line, "NAME", f"{name} stands for holder {name}, not {number}")
+        elif table == "form" and (int(number) > 1 or name not in FORMS):
+            sheet.fault(line, "NAME", "form 0, the grid's, and 1, the book's, are narrow or wide")
         elif sheet.name_in(line, "NAME", name):
             tables[table][int(number)] = name
             taken.add((table, name))
     return tables
 
 
-def name_rows(names: Names, hour: str) -> List[Tuple[str, int, str]]:
+def name_rows(names: Names, hour: str, forms: Sequence[int]) -> List[Tuple[str, int, str]]:
     """The rows of names.csv."""
     rows = [("node", number, name) for number, name in enumerate(names.nodes)]
     rows += [("constraint", number, name) for number, name in enumerate(names.constraints)]
     rows += [("contract", number, name) for number, name in enumerate(names.contracts)]
     rows += [("holder", number, name) for number, name in sorted(names.holders.items())]
+    rows += [("form", number, FORMS[form]) for number, form in enumerate(forms) if form]
     return rows + ([("hour", 0, hour)] if hour else [])
 
 

@@ -11,7 +11,7 @@ from typing import Dict, List, Tuple, cast
 
 from .case import Case, Names, PricedHour
 from .faults import Fault, Faults, raise_any
-from .files import read_book, read_grid, read_prices, write_book, write_grid, write_prices
+from .files import read_book, read_book_form, read_grid, read_prices, write_book, write_grid, write_prices
 from .hours import PriceFile, read_price_file
 from .interface import MAX_BOOK_BYTES, MAX_GRID_BYTES
 from .names_csv import HEADING, name_rows, names_of, read_names
@@ -35,7 +35,7 @@ class Packed:
 
 def packed(case: Case) -> Packed:
     """A case's files, written by the library, which checks every figure once more."""
-    grid, book = write_grid(case.grid), write_book(len(case.names.nodes), case.book)
+    grid, book = write_grid(case.grid), write_book(len(case.names.nodes), case.book, case.book_form)
     hours = [PriceFile(hour.day, hour.hour, write_prices(hour.period, hour.prices)) for hour in case.hours]
     return Packed(case.names, grid, book, hours)
 
@@ -52,7 +52,8 @@ def unpacked(files: Packed) -> Case:
         except Refused as refused:
             faults.append(Fault(_short(name), 0, "", refused.meaning, refused.number))
     raise_any(faults)
-    return Case(files.names, cast("array[int]", grid.limits), cast("array[int]", grid.factors), book, hours)
+    forms = (grid.form, read_book_form(grid.nodes, files.book))
+    return Case(files.names, cast("array[int]", grid.limits), cast("array[int]", grid.factors), book, hours, *forms)
 
 
 def _short(path: str) -> str:
@@ -75,7 +76,9 @@ def bin_files(files: Packed) -> Dict[str, bytes]:
     out = {"grid.bin": files.grid, "book.bin": files.book}
     for hour in files.hours:
         out[_bin_name(hour, len(files.hours))] = read_price_file(hour.file)[0]
-    out["names.csv"] = csv_text(HEADING, name_rows(files.names, hour_name(files.hours))).encode()
+    grid = read_grid(files.grid)
+    forms = (grid.form, read_book_form(grid.nodes, files.book))
+    out["names.csv"] = csv_text(HEADING, name_rows(files.names, hour_name(files.hours), forms)).encode()
     return out
 
 

@@ -20,7 +20,7 @@ from functools import partial
 from operator import add
 from typing import Dict, List, NamedTuple, Optional, Sequence
 
-from .case import Case, PricedHour
+from .case import Case, PricedHour, book_form
 from .faults import Fault, raise_any
 from .files import Contract, Grid, write_book, write_prices
 from .hours import Progress, Settled, in_parts
@@ -54,7 +54,7 @@ def cut(book: Sequence[Contract]) -> List[Slice]:
 def _slice(book: Sequence[Contract], taken: List[int], nodes: Dict[int, int]) -> Slice:
     # The holder is 0 for all: it plays no part in settling, and a larger book may have more holders than the file has numbers.
     rows = [book[i]._replace(holder=0, source=nodes[book[i].source], sink=nodes[book[i].sink]) for i in taken]
-    return Slice(taken, list(nodes), write_book(len(nodes), rows))
+    return Slice(taken, list(nodes), write_book(len(nodes), rows, book_form(rows)))
 
 
 class SlicedSettler:

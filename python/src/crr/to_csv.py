@@ -55,7 +55,7 @@ def csv_files(case: Case, hour_name: str = "") -> Dict[str, str]:
             ("NODE_ID", *names.constraints), ((node, *factors[n * count : (n + 1) * count]) for n, node in enumerate(names.nodes))
         ),
         "book.csv": csv_text(BOOK, book),
-        "names.csv": csv_text(HEADING, name_rows(names, hour_name)),
+        "names.csv": csv_text(HEADING, name_rows(names, hour_name, (case.grid_form, case.book_form))),
     }
     if case.hours:
         files["prices.csv"] = csv_text(PRICES, (row for hour in case.hours for row in _price_rows(case, hour)))
