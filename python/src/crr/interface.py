@@ -16,6 +16,7 @@ MAX_CONTRACTS = 1000
 MAX_GRID_BYTES = 576220
 MAX_BOOK_BYTES = 7002
 MAX_PRICE_BYTES = 153
+PROGRAM_GRID_BYTES = 32768
 STATEMENT_BYTES = 29085
 REPORT_BYTES = 2048
 
@@ -49,10 +50,10 @@ FLOW_PLACES = 8  # of a MW
 PART_PLACES = 8  # of a cent
 
 MEANINGS: Dict[int, str] = {
-    1: "a file of fewer bytes than its header: two (grid, book) or one (prices)",
-    2: "nodes 0 or above 200",
+    1: "a file of fewer bytes than its header: two (grid, book), four (wide grid) or one (prices)",
+    2: "nodes 0 or above 4,000; in a narrow grid's file, above 200",
     3: "constraints above 64",
-    4: "a spare bit of a file's header is set",
+    4: "the spare bits of a file's header are other than its forms have",
     5: "a file's length differs from what its counts fix",
     6: "a limit above 100,000,000",
     7: "a factor below -100,000 or above 100,000",
