@@ -2,9 +2,10 @@
  * crr.h: congestion revenue rights (CRRs), tested against a grid and settled
  * hour by hour.
  *
- * The library is libcrr.a (`./library` builds it), for 64-bit machines:
- * x86-64 Linux. It allocates nothing, keeps no state and does no input or output,
- * so any number of threads may call it at once. There is no floating point in it.
+ * The library is libcrr.a, and libcrr.so for programs that load it when they run
+ * (`./library` builds both), for 64-bit machines: x86-64 Linux. It allocates
+ * nothing, keeps no state and does no input or output, so any number of threads may
+ * call it at once. There is no floating point in it.
  * crr_write_report and crr_write_statement hold a grid's tables on the stack: 150,000
  * bytes are enough for either.
  *
