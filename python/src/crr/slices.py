@@ -6,7 +6,7 @@ A contract's amount is made of the factors of its source and sink and of the hou
 - nodes that are no end of a contract may be left out, and the others numbered anew, each with its own factors;
 - contracts may be settled in any company.
 
-A slice is a grid of at most 200 nodes and the hour's priced constraints, of which there may be 64, with a book of at most 1,000 contracts. Each contract
+A slice is a grid of at most 4,000 nodes and the hour's priced constraints, of which there may be 64, with a book of at most 1,000 contracts. Each contract
 stands in one slice with its own figures, so its cents are those of the whole book. The hour's sum is that of all cents, and the exact total that of the
 slices' exact totals, since neither is rounded after adding.
 """
