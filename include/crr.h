@@ -77,18 +77,29 @@ extern "C" {
 #endif
 
 /* Sizes: the most that is accepted. */
-#define CRR_MAX_NODES 200
+#define CRR_MAX_NODES 4000
+#define CRR_MAX_NARROW_NODES 200 /* of a narrow grid's file */
 #define CRR_MAX_CONSTRAINTS 64
 #define CRR_MAX_CONTRACTS 1000
 
 /* The longest files. One byte more is never accepted. */
-#define CRR_MAX_GRID_BYTES 29018
+#define CRR_MAX_GRID_BYTES 576220
 #define CRR_MAX_BOOK_BYTES 6002
 #define CRR_MAX_PRICE_BYTES 153
 
 /* What crr_write_statement and crr_write_report ask for, whatever they write. */
 #define CRR_STATEMENT_BYTES 29085
 #define CRR_REPORT_BYTES 2048
+
+/*
+ * crr_write_statement and crr_write_report take a grid's file of at most so many
+ * bytes; a longer one draws 5 if no earlier check does.
+ */
+#define CRR_PROGRAM_GRID_BYTES 32768
+
+/* The forms of a grid's file. A writer takes any number but 0 as wide. */
+#define CRR_NARROW 0
+#define CRR_WIDE 1
 
 /* Periods and processes. */
 #define CRR_OFF_PEAK 0
@@ -101,10 +112,10 @@ extern "C" {
  * Refusals, by number. Each comes for its own condition only.
  */
 #define CRR_OK 0               /* no refusal */
-#define CRR_SHORT_FILE 1       /* a file of fewer bytes than its header: two (grid, book) or one (prices) */
-#define CRR_NODE_COUNT 2       /* nodes 0 or above 200 */
+#define CRR_SHORT_FILE 1       /* a file of fewer bytes than its header: two (grid, book), four (wide grid) or one (prices) */
+#define CRR_NODE_COUNT 2       /* nodes 0 or above 4,000; in a narrow grid's file, above 200 */
 #define CRR_CONSTRAINT_COUNT 3 /* constraints above 64 */
-#define CRR_SPARE_BITS 4       /* a spare bit of a file's header is set */
+#define CRR_SPARE_BITS 4       /* the spare bits of a file's header are other than its forms have */
 #define CRR_FILE_LENGTH 5      /* a file's length differs from what its counts fix */
 #define CRR_LIMIT_RANGE 6      /* a limit above 100,000,000 */
 #define CRR_FACTOR_RANGE 7     /* a factor below -100,000 or above 100,000 */
@@ -124,7 +135,8 @@ extern "C" {
  * Reads a grid's file.
  *
  * On success writes the file's limits and factors to the first cells of both
- * tables, and the counts to *nodes and *constraints.
+ * tables, the counts to *nodes and *constraints, and CRR_NARROW or CRR_WIDE, the
+ * file's form, to *form.
  *
  * Refusals, in this order: 1, 2, 3, 4, 5, 6, 7, 8, and 9 if the limits or the
  * factors don't fit.
@@ -132,10 +144,11 @@ extern "C" {
 uint64_t crr_read_grid(const uint8_t *file, size_t file_len,
                        uint64_t *limits, size_t limits_len,
                        int64_t *factors, size_t factors_len,
-                       size_t *nodes, size_t *constraints);
+                       size_t *nodes, size_t *constraints,
+                       uint64_t *form);
 
 /*
- * Writes a grid's file from the first cells of its tables.
+ * Writes a grid's file, in the form asked for, from the first cells of its tables.
  *
  * On success writes the file to the first bytes of file, and its length to
  * *bytes. The longest has CRR_MAX_GRID_BYTES.
@@ -143,7 +156,7 @@ uint64_t crr_read_grid(const uint8_t *file, size_t file_len,
  * Refusals, in this order: 2, 3, 9 (limits, factors), 6, 7, and 9 if the bytes
  * don't fit.
  */
-uint64_t crr_write_grid(size_t nodes, size_t constraints,
+uint64_t crr_write_grid(uint64_t form, size_t nodes, size_t constraints,
                         const uint64_t *limits, size_t limits_len,
                         const int64_t *factors, size_t factors_len,
                         uint8_t *file, size_t file_len,
