@@ -33,7 +33,8 @@
  *             constraint k is in cell n * constraints + k
  *   prices    one cell for each constraint
  *   book      six cells for each contract: kind (0 obligation, 1 option), period,
- *             holder (0 to 1,023), source, sink, quantity
+ *             holder (0 to 1,023), source, sink (it may equal the source),
+ *             quantity
  *   mcc       one cell for each node
  *   cents     one cell for each contract
  *   priced    one cell for each contract, a set of constraints: bit k is
@@ -109,10 +110,10 @@ extern "C" {
 #define CRR_LIMIT_RANGE 6      /* a limit above 100,000,000 */
 #define CRR_FACTOR_RANGE 7     /* a factor below -100,000 or above 100,000 */
 #define CRR_PADDING 8          /* a padding bit at a file's end is set */
-#define CRR_SHORT_TABLE 9      /* a lent table, or a place for an answer, of too few cells */
+#define CRR_SHORT_TABLE 9      /* a lent table, or a place for an answer, of too few cells; remapping, unequal lists */
 #define CRR_CONTRACT_COUNT 10  /* more than 1,000 contracts */
-#define CRR_NODE_NUMBER 11     /* a source or sink not below the node count */
-#define CRR_SAME_ENDS 12       /* a contract's source equals its sink */
+#define CRR_NODE_NUMBER 11     /* a source, sink or listed node not below the node count */
+/* 12 is no longer given: a contract whose source equals its sink is accepted. */
 #define CRR_QUANTITY_RANGE 13  /* quantity 0 or above 1,000,000 */
 #define CRR_PRICE_COUNT 14     /* the price file's constraint count differs from the one stated */
 #define CRR_PRICE_RANGE 15     /* a price above 500,000 */
@@ -155,8 +156,8 @@ uint64_t crr_write_grid(size_t nodes, size_t constraints,
  * On success writes six cells for each contract to the first cells of book, and
  * the number of contracts to *contracts.
  *
- * Refusals, in this order: 2, 1, 10, 4, 5, then contract by contract 11, 12, 13,
- * and 9 if the contracts don't fit.
+ * Refusals, in this order: 2, 1, 10, 4, 5, then contract by contract 11, 13, and
+ * 9 if the contracts don't fit.
  */
 uint64_t crr_read_book(size_t nodes,
                        const uint8_t *file, size_t file_len,
@@ -171,10 +172,34 @@ uint64_t crr_read_book(size_t nodes,
  * *bytes. The longest has CRR_MAX_BOOK_BYTES.
  *
  * Refusals, in this order: 2, 10, 9 (book), then contract by contract 17, 18, 11,
- * 12, 13, and 9 if the bytes don't fit.
+ * 13, and 9 if the bytes don't fit.
  */
 uint64_t crr_write_book(size_t nodes, size_t contracts,
                         const uint64_t *book, size_t book_len,
+                        uint8_t *file, size_t file_len,
+                        size_t *bytes);
+
+/*
+ * Remaps a book's file, for a grid of so many nodes: moves the ends of its
+ * contracts by pairs of node numbers, cell i of old_nodes and cell i of new_nodes.
+ * The pairs act one after another, each on what those before it gave: an end that is
+ * the old node becomes the new one. 1 to 2 and then 2 to 3 sends 1 to 3; 1 to 2 and
+ * then 2 to 1 exchanges nothing. Both lists are read whole. They may be of any
+ * length, empty too, and name a node more than once; a pair of equal numbers moves
+ * nothing.
+ *
+ * On success writes the file, of the same contracts with both ends moved, to the
+ * first bytes of file, and its length, which is book_len, to *bytes. Kinds, periods,
+ * holders, quantities and the order of the contracts stay. Ends may become equal.
+ *
+ * Refusals, in this order: 2, 1, 10, 4, 5, then contract by contract 11, 13; 11 (a
+ * number of old_nodes, of new_nodes), 9 if the lists differ in length, and 9 if the
+ * bytes don't fit.
+ */
+uint64_t crr_remap_book(size_t nodes,
+                        const uint8_t *book, size_t book_len,
+                        const uint64_t *old_nodes, size_t old_len,
+                        const uint64_t *new_nodes, size_t new_len,
                         uint8_t *file, size_t file_len,
                         size_t *bytes);
 
@@ -219,7 +244,7 @@ uint64_t crr_write_prices(uint64_t period, size_t constraints,
  * *lowest and 0 elsewhere do, by *excess in 10^-8 cents for an hour.
  *
  * Refusals, in this order: 2, 3, 16, 17, 9 (limits, factors), 6, 7, then the
- * book's own: 1, 10, 4, 5, and contract by contract 11, 12, 13.
+ * book's own: 1, 10, 4, 5, and contract by contract 11, 13.
  */
 uint64_t crr_test_book(size_t nodes, size_t constraints,
                        uint64_t process, uint64_t period,
@@ -256,8 +281,8 @@ uint64_t crr_find_mcc(size_t nodes, size_t constraints,
  * -1 whole cents and 17,000,000 parts.
  *
  * Refusals, in this order: 2, 3, 17, 9 (factors, prices), 7, 15, then the book's
- * own: 1, 10, 4, 5, and contract by contract 11, 12, 13; last 9 if the cents or
- * the sets don't fit.
+ * own: 1, 10, 4, 5, and contract by contract 11, 13; last 9 if the cents or the
+ * sets don't fit.
  */
 uint64_t crr_settle_hour(size_t nodes, size_t constraints, uint64_t period,
                          const int64_t *factors, size_t factors_len,

@@ -12,11 +12,12 @@ pub struct Entry {
     pub run: fn(&Inputs) -> Result<Times, String>,
 }
 
-pub const ENTRIES: [Entry; 11] = [
+pub const ENTRIES: [Entry; 12] = [
     Entry { name: "read_grid", run: read_grid },
     Entry { name: "write_grid", run: write_grid },
     Entry { name: "read_book", run: read_book },
     Entry { name: "write_book", run: write_book },
+    Entry { name: "remap_book", run: remap_book },
     Entry { name: "read_prices", run: read_prices },
     Entry { name: "write_prices", run: write_prices },
     Entry { name: "test_book", run: test_book },
@@ -104,6 +105,23 @@ fn write_book(inputs: &Inputs) -> Result<Times, String> {
         },
         &mut || {
             let _ = black_box(plain::write_book(nodes, contracts, black_box(book), &mut plain_file));
+        },
+    ))
+}
+
+fn remap_book(inputs: &Inputs) -> Result<Times, String> {
+    let (nodes, book, old, new) = (inputs.size.nodes, &inputs.book_file, &inputs.old, &inputs.new);
+    let (mut file, mut plain_file, mut bytes) = (vec![0; 6_002], vec![0; 6_002], 0);
+    let proved = library::remap_book(nodes, book, old, new, &mut file, &mut bytes);
+    let plain = plain::remap_book(nodes, book, old, new, &mut plain_file);
+    agree(&(proved, Ok(bytes)), &(0, plain))?;
+    agree(&file, &plain_file)?;
+    Ok(side_by_side(
+        &mut || {
+            black_box(library::remap_book(nodes, black_box(book), old, new, &mut file, &mut bytes));
+        },
+        &mut || {
+            let _ = black_box(plain::remap_book(nodes, black_box(book), old, new, &mut plain_file));
         },
     ))
 }

@@ -23,6 +23,9 @@ pub struct Inputs {
     pub grid_file: Vec<u8>,
     pub book_file: Vec<u8>,
     pub price_file: Vec<u8>,
+    /// Nodes to remap: as many pairs as there are nodes.
+    pub old: Vec<u64>,
+    pub new: Vec<u64>,
 }
 
 fn contract(draw: &mut Draw, nodes: usize) -> [u64; 6] {
@@ -46,6 +49,7 @@ impl Inputs {
         book_file.truncate(length);
         let length = plain::write_prices(1, constraints, &prices, &mut price_file).expect("prices in range");
         price_file.truncate(length);
-        Inputs { size, limits, factors, prices, book, grid_file, book_file, price_file }
+        let (old, new) = (0..nodes).map(|_| (draw.below(nodes as u64), draw.below(nodes as u64))).unzip();
+        Inputs { size, limits, factors, prices, book, grid_file, book_file, price_file, old, new }
     }
 }

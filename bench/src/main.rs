@@ -14,10 +14,11 @@ use inputs::{Inputs, Size, LARGEST};
 use std::process::ExitCode;
 
 /// The entries whose cost grows with the contracts, the constraints and the nodes.
-const BY_CONTRACTS: [&str; 6] = ["read_book", "write_book", "test_book", "settle_hour", "write_report", "write_statement"];
+const BY_CONTRACTS: [&str; 7] = ["read_book", "write_book", "remap_book", "test_book", "settle_hour", "write_report", "write_statement"];
 const BY_CONSTRAINTS: [&str; 9] =
     ["read_grid", "write_grid", "read_prices", "write_prices", "test_book", "find_mcc", "settle_hour", "write_report", "write_statement"];
-const BY_NODES: [&str; 7] = ["read_grid", "write_grid", "test_book", "find_mcc", "settle_hour", "write_report", "write_statement"];
+const BY_NODES: [&str; 8] =
+    ["read_grid", "write_grid", "remap_book", "test_book", "find_mcc", "settle_hour", "write_report", "write_statement"];
 
 fn line(label: &str, entry: &Entry, size: Size) -> Result<(), String> {
     let times = (entry.run)(&Inputs::new(size)).map_err(|why| format!("{}, {label}: {why}", entry.name))?;

@@ -1,6 +1,7 @@
 /*
  * Calls every function of crr.h once, on case L of document 01: each file read and
- * written again, the test, the MCC, the hour, the two texts. Also a C++ program.
+ * written again, a node retired, the test, the MCC, the hour, the two texts. Also a
+ * C++ program.
  */
 #include <stdint.h>
 #include <stdio.h>
@@ -10,6 +11,10 @@
 static uint8_t grid_file[CRR_MAX_GRID_BYTES], book_file[CRR_MAX_BOOK_BYTES], price_file[CRR_MAX_PRICE_BYTES];
 static uint8_t copy[CRR_MAX_GRID_BYTES], text[CRR_STATEMENT_BYTES];
 static uint64_t limits[CRR_MAX_CONSTRAINTS], prices[CRR_MAX_CONSTRAINTS], rows[6 * CRR_MAX_CONTRACTS], priced[CRR_MAX_CONTRACTS];
+static const uint64_t old_nodes[] = {2}, new_nodes[] = {1};
+/* Case L's book after node 2 was retired into node 1, and the cell after it. */
+static const uint8_t remapped[] = {0x01, 0x00, 0x40, 0x70, 0x00, 0x10, 0x27, 0x10, 0xc0, 0x80, 0x00, 0x10, 0x01, 0xf4,
+                                   0x40, 0x70, 0x00, 0x10, 0x00, 0x01, 0x00, 0x90, 0x00, 0x10, 0x00, 0x05, 7};
 static int64_t factors[CRR_MAX_NODES * CRR_MAX_CONSTRAINTS], mcc[CRR_MAX_NODES], cents[CRR_MAX_CONTRACTS];
 static int passed, failed;
 
@@ -47,6 +52,9 @@ int main(void) {
                                  && bytes == grid_len && memcmp(copy, grid_file, bytes) == 0);
     expect("crr_read_book", crr_read_book(nodes, book_file, book_len, rows, 6 * CRR_MAX_CONTRACTS, &contracts) == CRR_OK && contracts == 4 && rows[5] == 10000 && rows[6] == 1);
     expect("crr_write_book", crr_write_book(nodes, contracts, rows, 6 * CRR_MAX_CONTRACTS, copy, sizeof copy, &bytes) == CRR_OK && bytes == book_len && memcmp(copy, book_file, bytes) == 0);
+    copy[26] = 7;
+    expect("crr_remap_book", crr_remap_book(nodes, book_file, book_len, old_nodes, 1, new_nodes, 1, copy, sizeof copy, &bytes) == CRR_OK
+                                 && bytes == book_len && memcmp(copy, remapped, sizeof remapped) == 0);
     expect("crr_read_prices", crr_read_prices(constraints, price_file, price_len, prices, CRR_MAX_CONSTRAINTS, &period) == CRR_OK && period == CRR_ON_PEAK && prices[1] == 2550);
     expect("crr_write_prices", crr_write_prices(period, constraints, prices, CRR_MAX_CONSTRAINTS, copy, sizeof copy, &bytes) == CRR_OK
                                    && bytes == price_len && memcmp(copy, price_file, bytes) == 0);

@@ -11,12 +11,18 @@ pub struct Contract {
     pub quantity: u64,
 }
 
+/// A contract's six bytes as one number.
+#[inline]
+fn record(bytes: &[u8]) -> u64 {
+    let mut record = [0; 8];
+    record[2..].copy_from_slice(bytes);
+    u64::from_be_bytes(record)
+}
+
 impl Contract {
     #[inline]
     fn from_bytes(bytes: &[u8]) -> Self {
-        let mut record = [0; 8];
-        record[2..].copy_from_slice(bytes);
-        let record = u64::from_be_bytes(record);
+        let record = record(bytes);
         Contract {
             option: record >> 47 == 1,
             period: record >> 46 & 1,
@@ -30,7 +36,6 @@ impl Contract {
 
 fn check_ends(nodes: u64, source: u64, sink: u64, quantity: u64) -> Result<(), Refusal> {
     demand(source < nodes && sink < nodes, NODE_NUMBER)?;
-    demand(source != sink, SAME_ENDS)?;
     demand((1..=1_000_000).contains(&quantity), QUANTITY_RANGE)
 }
 
@@ -83,6 +88,39 @@ pub fn write_book(nodes: usize, contracts: usize, book: &[u64], file: &mut [u8])
         let &[kind, period, holder, source, sink, quantity] = row else { unreachable!() };
         let record = kind << 47 | period << 46 | holder << 36 | source << 28 | sink << 20 | quantity;
         bytes.copy_from_slice(&record.to_be_bytes()[2..]);
+    }
+    Ok(size)
+}
+
+fn check_listed(nodes: usize, list: &[u64]) -> Result<(), Refusal> {
+    demand(list.iter().all(|&node| node < nodes as u64), NODE_NUMBER)
+}
+
+/// What each node becomes, with a cell for every number that an end's field holds. The pairs are taken from the last to the first, so that the cell of a
+/// pair's new node has what the pairs after it make of that node.
+fn moved_nodes(old: &[u64], new: &[u64]) -> [u8; 256] {
+    let mut moved = std::array::from_fn(|node| node as u8);
+    for (&old, &new) in old.iter().zip(new).rev() {
+        moved[old as usize] = moved[new as usize];
+    }
+    moved
+}
+
+#[inline(never)]
+pub fn remap_book(nodes: usize, book: &[u8], old: &[u64], new: &[u64], file: &mut [u8]) -> Result<usize, Refusal> {
+    check_nodes(nodes)?;
+    check_book(nodes, book)?;
+    check_listed(nodes, old)?;
+    check_listed(nodes, new)?;
+    demand(old.len() == new.len(), SHORT_TABLE)?;
+    let size = book.len();
+    let file = file.get_mut(..size).ok_or(SHORT_TABLE)?;
+    let moved = moved_nodes(old, new);
+    file[..2].copy_from_slice(&book[..2]);
+    for (to, from) in file[2..].chunks_exact_mut(6).zip(book[2..].chunks_exact(6)) {
+        let record = record(from);
+        let ends = u64::from(moved[(record >> 28 & 0xff) as usize]) << 28 | u64::from(moved[(record >> 20 & 0xff) as usize]) << 20;
+        to.copy_from_slice(&(record & !(0xffff << 20) | ends).to_be_bytes()[2..]);
     }
     Ok(size)
 }

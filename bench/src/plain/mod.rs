@@ -8,7 +8,7 @@ mod settlement;
 mod test;
 mod text;
 
-pub use book::{read_book, write_book};
+pub use book::{read_book, remap_book, write_book};
 pub use grid::{read_grid, write_grid};
 pub use prices::{read_prices, write_prices};
 pub use settlement::{find_mcc, settle_hour, Totals};
@@ -29,7 +29,6 @@ pub const PADDING: Refusal = 8;
 pub const SHORT_TABLE: Refusal = 9;
 pub const CONTRACT_COUNT: Refusal = 10;
 pub const NODE_NUMBER: Refusal = 11;
-pub const SAME_ENDS: Refusal = 12;
 pub const QUANTITY_RANGE: Refusal = 13;
 pub const PRICE_COUNT: Refusal = 14;
 pub const PRICE_RANGE: Refusal = 15;

@@ -8,7 +8,7 @@ use borrow.Author.Tests.{le-ltb}
 use lib.ListN.{length, take}
 use Rattle.bits.proofs.Numbers.{Below}
 use Rattle.tariff.specs.declared.refusals.Checked.the-variants.{Passed}
-use Rattle.tariff.proofs.Checks.{first-passes, last-passes, passed-cons}
+use Rattle.tariff.proofs.Checks.{first-passes, last-passes, passed-cons, append-passes}
 use Rattle.layouts.specs.BookFile.{bookFile, contractCountIn, bookIn}
 use Rattle.layouts.specs.BookTable.{contractCells, cellsOf, rowsIn}
 use Rattle.layouts.proofs.BookFile.{book-read}
@@ -16,7 +16,6 @@ use Rattle.layouts.proofs.BookTable.{cells-rows}
 use Rattle.books.specs.BookChecks.{bookChecks}
 use Rattle.book_file.specs.ReadBook.{ReadBookCall, readBookCall, readBookChecks, readBookChecked}
 use Rattle.book_file.specs.WriteBook.{WriteBookCall, writeBookChecks, writeBookChecked, bookWritten}
-use Rattle.book_file.proofs.Checking.{append-passes}
 use Rattle.book_file.proofs.Accepted.{Writable, readable, writable, rows-made, count-written}
 
 -- ---- read, then written

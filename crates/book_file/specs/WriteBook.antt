@@ -22,7 +22,7 @@ pub record WriteBookCall : Type 0 where
 abbrev pub writeBookCall : ℕ → ℕ → List ℕ → List ℕ → WriteBookCall
 writeBookCall n m table place = record { nodes = n; contracts = m; table = table; place = place }
 
--- contract by contract: "17 (here kind or period not 0 or 1), 18 (holder above 1,023), 11, 12, 13"
+-- contract by contract: "17 (here kind or period not 0 or 1), 18 (holder above 1,023), 11", 13
 unfoldable pub rowChecks : ℕ → List ℕ → ℕ → List Check
 rowChecks n table i =
     kindAndPeriod (getD table (contractCells * i) 0) (getD table (contractCells * i + 1) 0)

@@ -111,7 +111,7 @@ fn row_from(cells: &[u64], at: usize) -> Contract
     }
 }
 
-// A row's checks: 17, 18, 11, 12, 13.
+// A row's checks: 17, 18, 11, 13.
 fn check_row(nodes: usize, cells: &[u64], i: usize) -> Checked
     requires { ⌜ (i < maxContracts) × (contractCells * i + contractCells ≤ length (now cells)) ⌝ }
     ensures { λ r. ⌜ r ≡ first (rowChecks nodes (before cells) i) ⌝ }

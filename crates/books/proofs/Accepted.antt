@@ -25,11 +25,10 @@ contract-in-range n c e =
     let p = passed-cons _ _ e in
     let ends = neither (leb n (c .source)) (leb n (c .sink)) (p .0) in
     let q = passed-cons _ _ (p .1) in
-    let r = passed-cons _ _ (q .1) in
     record {
       source-below = leb-false n (c .source) (ends .0);
       sink-below = leb-false n (c .sink) (ends .1);
-      quantity-sized = ltb-false maxQuantity (c .quantity .0) (neither (eqb (c .quantity .0) 0) (ltb maxQuantity (c .quantity .0)) (r .0) .1);
+      quantity-sized = ltb-false maxQuantity (c .quantity .0) (neither (eqb (c .quantity .0) 0) (ltb maxQuantity (c .quantity .0)) (q .0) .1);
     }
 
 pub record Accepted (n : ℕ) (s : List ℕ) : Type 0 where
@@ -37,6 +36,13 @@ pub record Accepted (n : ℕ) (s : List ℕ) : Type 0 where
   pub spare : bookSpareIn s ≡ 0
   pub size : length s ≡ bookBytes (contractCountIn s)
   pub each : (i : ℕ) → i < contractCountIn s → InRange n (contractAt s i)
+
+-- each contract of it passes its own
+pub contracts-pass : (n : ℕ) (s : List ℕ) → first (bookChecks n s) ≡ Passed → (i : ℕ) → i < contractCountIn s → first (contractChecks n (contractAt s i)) ≡ Passed
+unfolding bookChecks
+contracts-pass n s e =
+    let own = passed-cons _ _ (passed-cons _ _ (passed-cons _ _ (passed-cons _ _ e .1) .1) .1) .1 in
+    checks-each (λ j. contractChecks n (contractAt s j)) (contractCountIn s) own
 
 pub book-accepted : (n : ℕ) (s : List ℕ) → first (bookChecks n s) ≡ Passed → Accepted n s
 unfolding bookChecks
@@ -49,7 +55,7 @@ book-accepted n s e =
       few = ltb-false maxContracts (contractCountIn s) (b .0);
       spare = same-of (bookSpareIn s) 0 (c .0);
       size = same-of (length s) (bookBytes (contractCountIn s)) (d .0);
-      each = λ i h. contract-in-range n (contractAt s i) (checks-each (λ j. contractChecks n (contractAt s j)) (contractCountIn s) (d .1) i h);
+      each = λ i h. contract-in-range n (contractAt s i) (contracts-pass n s e i h);
     }
 
 pub all-in-range : (n : ℕ) (s : List ℕ) → Accepted n s → Each (InRange n) (bookIn s)

@@ -3,18 +3,18 @@ use mathlib.Core.List.{List, [], _∷_, _++_}
 use Prim.Native.Nat.{ℕ, zero, suc}
 use Rattle.tariff.specs.declared.contracts.Contract.{Contract}
 use Rattle.tariff.specs.Refusals.{Check}
-use Rattle.tariff.specs.Checks.{contractCount, nodeNumber, sameEnds, quantityRange}
+use Rattle.tariff.specs.Checks.{contractCount, nodeNumber, quantityRange}
 use Rattle.layouts.specs.Files.{shortFile, spareBits, fileLength}
 use Rattle.layouts.specs.BookFile.{bookBytes, contractCountIn, bookSpareIn, contractAt}
 
 -- "contract by contract": the checks of 0, then of 1, and so on below m
-unfoldable pub checksTo : ℕ → (ℕ → List Check) → List Check
+unfoldable pub checksTo : {A : Type 0} → ℕ → (ℕ → List A) → List A
 checksTo zero f = []
 checksTo (suc m) f = checksTo m f ++ f m
 
--- "11, source or sink not below the node count; 12, source equals sink; 13, quantity 0 or above 1,000,000"
+-- "11, source or sink not below the node count; 13, quantity 0 or above 1,000,000"; ends that coincide are accepted (document 02, paper 6)
 unfoldable pub contractChecks : ℕ → Contract → List Check
-contractChecks n c = nodeNumber n (c .source) (c .sink) ∷ sameEnds (c .source) (c .sink) ∷ quantityRange (c .quantity .0) ∷ []
+contractChecks n c = nodeNumber n (c .source) (c .sink) ∷ quantityRange (c .quantity .0) ∷ []
 
 -- "the book's own from 1 to 13", for a grid of n nodes: 1, 10, 4, 5, then contract by contract
 unfoldable pub bookChecks : ℕ → List ℕ → List Check

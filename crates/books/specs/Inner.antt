@@ -4,7 +4,7 @@ use Prim.Native.Nat.{ℕ, _/_, _%_, _^_}
 use Rattle.bits.specs.Fields.{bits, fileOf}
 use Rattle.tariff.specs.declared.contracts.Contract.{Contract}
 use Rattle.tariff.specs.Refusals.{Check}
-use Rattle.tariff.specs.Checks.{nodeNumber, sameEnds, quantityRange}
+use Rattle.tariff.specs.Checks.{nodeNumber, quantityRange}
 use Rattle.layouts.specs.BookFile.{contract, contractFields, endBits}
 
 -- the header of a book of m contracts
@@ -24,4 +24,4 @@ contractOf v = contract (v / 2 ^ 47 % 2 ^ 1) (v / 2 ^ 46 % 2 ^ 1) (v / 2 ^ 36 % 
 
 -- a contract's own checks, on its numbers
 abbrev pub numberChecks : ℕ → ℕ → ℕ → ℕ → List Check
-numberChecks n source sink quantity = nodeNumber n source sink ∷ sameEnds source sink ∷ quantityRange quantity ∷ []
+numberChecks n source sink quantity = nodeNumber n source sink ∷ quantityRange quantity ∷ []

@@ -1,2 +1,3 @@
 pub mod BookChecks
+pub mod Former
 pub mod Inner

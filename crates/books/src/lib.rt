@@ -111,7 +111,7 @@ pub fn store_contract(file: &mut [u8], i: usize, c: Contract)
     bits::store6(file, BOOK_HEADER_BYTES + CONTRACT_BYTES * i, v);
 }
 
-// A contract's own checks, on its numbers: 11, 12, 13. None has its unit before it has passed.
+// A contract's own checks, on its numbers: 11, 13. None has its unit before it has passed.
 pub fn check_numbers(nodes: usize, source: usize, sink: usize, quantity: u64) -> Checked
     ensures { λ r. ⌜ r ≡ first (numberChecks nodes source sink quantity) ⌝ }
 {
@@ -120,9 +120,6 @@ pub fn check_numbers(nodes: usize, source: usize, sink: usize, quantity: u64) ->
     }
     if nodes <= sink {
         return Checked::Refused(Refusal::NodeNumber);
-    }
-    if source == sink {
-        return Checked::Refused(Refusal::SameEnds);
     }
     if tariff::quantity_bad(quantity) {
         return Checked::Refused(Refusal::QuantityRange);
@@ -160,7 +157,7 @@ fn check_contracts(nodes: usize, file: &[u8], count: usize) -> Checked
     Checked::Passed
 }
 
-// The book's own checks: 1, 10, 4, 5, then contract by contract 11, 12, 13.
+// The book's own checks: 1, 10, 4, 5, then contract by contract 11, 13.
 pub fn check_book(nodes: usize, file: &[u8]) -> Checked
     ensures { λ r. ⌜ r ≡ first (bookChecks nodes (before file)) ⌝ }
 {

@@ -1,38 +1,51 @@
 -- What an answer says of its checks, and what an entry that checks first answers: values given mean that none refuses, and a refusal's number is the first one's.
 use mathlib.Core.Path.{_≡_, refl, sym, ap, _∙_}
+use mathlib.Core.Logic.{_≢_}
 use mathlib.Core.List.{List}
-use Prim.Native.Nat.{ℕ}
+use Prim.Native.Nat.{ℕ, _<_}
 use native.Mathlib.Omega.{arith}
 use lib.ListN.{getD}
 use lib.IntN.{ℤ, pos, natAbs}
 use Rattle.tariff.specs.declared.refusals.Refusal.{Refusal}
 use Rattle.tariff.specs.declared.refusals.Refusal.the-variants.{ShortFile, NodeCount, ConstraintCount, SpareBits, FileLength, LimitRange, FactorRange, Padding, ShortTable}
-use Rattle.tariff.specs.declared.refusals.Refusal.the-variants.{ContractCount, NodeNumber, SameEnds, QuantityRange, PriceCount, PriceRange, ProcessNumber, PeriodOrKind, HolderRange}
+use Rattle.tariff.specs.declared.refusals.Refusal.the-variants.{ContractCount, NodeNumber, QuantityRange, PriceCount, PriceRange, ProcessNumber, PeriodOrKind, HolderRange}
 use Rattle.tariff.specs.declared.refusals.Checked.{Checked}
 use Rattle.tariff.specs.declared.refusals.Checked.the-variants.{Passed, Refused}
 use Rattle.lists.specs.Lent.{overwrite}
 use Rattle.tariff.specs.Refusals.{Outcome, numberOf, given, refusedBy, decided, answered, cellsAfter, cellAfter, numberAfter}
 
+-- a refusal's number: 1 to 99, and not 12
+pub record IsNumber (n : ℕ) : Type 0 where
+  pub above : 0 < n
+  pub two-digits : n < 100
+  pub not-12 : n ≢ 12
+
+module _ (n : ℕ) (above : 0 < n) (small : n < 100) (other : n ≢ 12) where
+  is-number : IsNumber n
+  is-number = record { above = above; two-digits = small; not-12 = other }
+
+pub number-is : (r : Refusal) → IsNumber (numberOf r)
+number-is ShortFile = is-number _ (omega arith) (omega arith) (λ e. omega arith)
+number-is NodeCount = is-number _ (omega arith) (omega arith) (λ e. omega arith)
+number-is ConstraintCount = is-number _ (omega arith) (omega arith) (λ e. omega arith)
+number-is SpareBits = is-number _ (omega arith) (omega arith) (λ e. omega arith)
+number-is FileLength = is-number _ (omega arith) (omega arith) (λ e. omega arith)
+number-is LimitRange = is-number _ (omega arith) (omega arith) (λ e. omega arith)
+number-is FactorRange = is-number _ (omega arith) (omega arith) (λ e. omega arith)
+number-is Padding = is-number _ (omega arith) (omega arith) (λ e. omega arith)
+number-is ShortTable = is-number _ (omega arith) (omega arith) (λ e. omega arith)
+number-is ContractCount = is-number _ (omega arith) (omega arith) (λ e. omega arith)
+number-is NodeNumber = is-number _ (omega arith) (omega arith) (λ e. omega arith)
+number-is QuantityRange = is-number _ (omega arith) (omega arith) (λ e. omega arith)
+number-is PriceCount = is-number _ (omega arith) (omega arith) (λ e. omega arith)
+number-is PriceRange = is-number _ (omega arith) (omega arith) (λ e. omega arith)
+number-is ProcessNumber = is-number _ (omega arith) (omega arith) (λ e. omega arith)
+number-is PeriodOrKind = is-number _ (omega arith) (omega arith) (λ e. omega arith)
+number-is HolderRange = is-number _ (omega arith) (omega arith) (λ e. omega arith)
+
 -- no refusal has the number 0
 pub numbered : (r : Refusal) → numberOf r ≡ 0 → ⊥
-numbered ShortFile e = omega arith
-numbered NodeCount e = omega arith
-numbered ConstraintCount e = omega arith
-numbered SpareBits e = omega arith
-numbered FileLength e = omega arith
-numbered LimitRange e = omega arith
-numbered FactorRange e = omega arith
-numbered Padding e = omega arith
-numbered ShortTable e = omega arith
-numbered ContractCount e = omega arith
-numbered NodeNumber e = omega arith
-numbered SameEnds e = omega arith
-numbered QuantityRange e = omega arith
-numbered PriceCount e = omega arith
-numbered PriceRange e = omega arith
-numbered ProcessNumber e = omega arith
-numbered PeriodOrKind e = omega arith
-numbered HolderRange e = omega arith
+numbered r e = absurd (omega (arith, number-is r .above))
 
 pub never-given : (r : Refusal) (vs : List ℤ) → refusedBy r ≡ given vs → ⊥
 never-given r vs e = numbered r (ap (λ (o : Outcome). o .number) e)

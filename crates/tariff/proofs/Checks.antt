@@ -2,10 +2,12 @@
 use mathlib.Core.Path.{_≡_, refl, ap, _∙_}
 use mathlib.Core.Bool.{Bool, true, false, cond, not, _||_}
 use mathlib.Core.List.{List, [], _∷_, _++_}
-use Prim.Native.Nat.{ℕ, _+_, _≤_}
-use borrow.Author.Tests.{ltb-false, eqb-true, eq-eqb, ne-eqb, not-false}
+use Prim.Native.Nat.{ℕ, _+_, _≤_, _<_}
+use native.Mathlib.Nat.{pos-of-ne-zero}
+use borrow.Author.Tests.{ltb-false, eqb-true, eqb-false, eq-eqb, ne-eqb, not-false}
 use lib.Dec.{ltb, eqb}
 use Rattle.lists.proofs.Search.{neither}
+use Rattle.tariff.specs.declared.refusals.Refusal.{Refusal}
 use Rattle.tariff.specs.declared.refusals.Checked.{Checked}
 use Rattle.tariff.specs.declared.refusals.Checked.the-variants.{Passed, Refused}
 use Rattle.tariff.specs.Units.{maxNodes}
@@ -31,6 +33,14 @@ first-append (c ∷ cs) ys = by (c .fails) (first-append cs ys)
         → cond b (Refused (c .refusal)) (first (cs ++ ys)) ≡ decided (cond b (Refused (c .refusal)) (first cs)) Refused (first ys)
     by true e = refl
     by false e = e
+
+-- checks behind others: those that refuse come first, those that pass give way
+module _ (xs ys : List Check) where
+  pub append-refuses : (r : Refusal) → first xs ≡ Refused r → first (xs ++ ys) ≡ Refused r
+  append-refuses r e = first-append xs ys ∙ rw e
+
+  pub append-passes : first xs ≡ Passed → first (xs ++ ys) ≡ first ys
+  append-passes e = first-append xs ys ∙ rw e
 
 -- checks behind others that pass where those do
 pub first-room : (xs ys : List Check) → (first xs ≡ Passed → first ys ≡ Passed) → first (xs ++ ys) ≡ first xs
@@ -64,6 +74,9 @@ passed-append (c ∷ cs) ys e = by (c .fails) refl (passed-append cs ys) e
 -- one that the check accepts
 pub nodes-few-of : (n : ℕ) → nodeCount n .fails ≡ false → n ≤ maxNodes
 nodes-few-of n e = ltb-false maxNodes n (neither (eqb n 0) (ltb maxNodes n) e .1)
+
+pub nodes-some-of : (n : ℕ) → nodeCount n .fails ≡ false → 0 < n
+nodes-some-of n e = pos-of-ne-zero (eqb-false n 0 (neither (eqb n 0) (ltb maxNodes n) e .0))
 
 -- ---- what a test in code says of a condition
 

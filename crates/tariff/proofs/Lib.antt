@@ -1,6 +1,8 @@
 pub mod Worst
 pub mod Overloads
 pub mod Priced
+pub mod SameEnds
+pub mod Former
 pub mod Theorems
 pub mod Kept
 pub mod Sizes

@@ -1,5 +1,5 @@
 -- THE THEOREMS over the definitions, each for every grid, book, period and process. Statements only: the proofs are in Worst.antt,
--- WorstNumber.antt, Overloads.antt, Rules.antt, Periods.antt and Priced.antt.
+-- WorstNumber.antt, Overloads.antt, Rules.antt, Periods.antt, Priced.antt, SameEnds.antt and Answers.antt.
 use mathlib.Core.Path.{_≡_, refl}
 use mathlib.Core.Logic.{_↔_, _≢_}
 use mathlib.Core.Bool.{true, cond}
@@ -16,8 +16,10 @@ use Rattle.tariff.specs.declared.contracts.Contract.{Contract}
 use Rattle.tariff.specs.declared.contracts.Kind.the-variants.{Option}
 use Rattle.tariff.specs.declared.contracts.Period.{Period}
 use Rattle.tariff.specs.declared.processes.Process.{Process}
+use Rattle.tariff.specs.declared.refusals.Refusal.{Refusal}
 use Rattle.tariff.specs.Units.{Factors, Grid, factor, price, maxConstraints}
 use Rattle.tariff.specs.Contracts.{counted, ofPeriod}
+use Rattle.tariff.specs.Refusals.{numberOf}
 use Rattle.tariff.specs.Feasibility.{flow, Passes, excess, overloaded, overloadSet, overloadCount, lowestOverload}
 use Rattle.tariff.specs.Settlement.{congestion, mcc, amount, spreadAt, pricedAt, pricedSet, pricedCount}
 use Rattle.tariff.specs.Shortfall.{PriceList, shortfall, oneCent, IsWorst}
@@ -27,6 +29,8 @@ use Rattle.tariff.proofs.Rules as R
 use Rattle.tariff.proofs.Periods as P
 use Rattle.tariff.proofs.WorstNumber as N
 use Rattle.tariff.proofs.Priced as C
+use Rattle.tariff.proofs.SameEnds as S
+use Rattle.tariff.proofs.Answers as A
 
 module _ (g : Grid) (process : Process) (period : Period) (book : List Contract) where
   abbrev tested : List Contract
@@ -121,3 +125,18 @@ module _ (f : Factors) (p : List ℕ) (c : Contract) where
   -- where it is empty the amount is 0
   pub unpriced-amount-zero : pricedSet f p c ≡ 0 → amount f p c ≡ pos 0
   unpriced-amount-zero = C.amount-unpriced f p c
+
+-- Paper 6: "flow 0, amount 0, either kind", and nothing prices a contract whose ends coincide
+module _ (f : Factors) (c : Contract) (same : c .source ≡ c .sink) where
+  pub same-ends-no-flow : (k : ℕ) → flow f c k ≡ pos 0
+  same-ends-no-flow = S.no-flow f c same
+
+  pub same-ends-no-amount : (p : List ℕ) → amount f p c ≡ pos 0
+  same-ends-no-amount = S.no-amount f c same
+
+  pub same-ends-not-priced : (p : List ℕ) → pricedSet f p c ≡ 0
+  same-ends-not-priced = S.not-priced f c same
+
+-- "12 no longer occurs": no refusal has that number
+pub no-number-is-12 : (r : Refusal) → numberOf r ≢ 12
+no-number-is-12 r = A.number-is r .not-12

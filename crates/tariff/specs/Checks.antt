@@ -6,7 +6,7 @@ use lib.Dec.{leb, ltb, eqb}
 use lib.IntN.{ℤ, natAbs}
 use Rattle.lists.specs.Lists.{some, above}
 use Rattle.tariff.specs.declared.refusals.Refusal.the-variants.{NodeCount, ConstraintCount, LimitRange, FactorRange, ShortTable, ContractCount}
-use Rattle.tariff.specs.declared.refusals.Refusal.the-variants.{NodeNumber, SameEnds, QuantityRange, PriceRange, ProcessNumber, PeriodOrKind, HolderRange}
+use Rattle.tariff.specs.declared.refusals.Refusal.the-variants.{NodeNumber, QuantityRange, PriceRange, ProcessNumber, PeriodOrKind, HolderRange}
 use Rattle.tariff.specs.Units.{maxNodes, maxConstraints, maxContracts, maxLimit, maxFactor, maxPrice, maxQuantity, maxHolder}
 use Rattle.tariff.specs.Refusals.{Check}
 
@@ -43,10 +43,6 @@ contractCount m = record { fails = ltb maxContracts m; refusal = ContractCount }
 -- 11: source or sink not below the node count
 abbrev pub nodeNumber : ℕ → ℕ → ℕ → Check
 nodeNumber nodes source sink = record { fails = leb nodes source || leb nodes sink; refusal = NodeNumber }
-
--- 12: source equals sink
-abbrev pub sameEnds : ℕ → ℕ → Check
-sameEnds source sink = record { fails = eqb source sink; refusal = SameEnds }
 
 -- 13: quantity 0 or above 1,000,000
 abbrev pub quantityRange : ℕ → Check

@@ -1,6 +1,7 @@
 pub mod Refusals
 pub mod Units
 pub mod Checks
+pub mod Former
 pub mod Contracts
 pub mod Processes
 pub mod Settlement

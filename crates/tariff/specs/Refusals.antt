@@ -6,12 +6,12 @@ use lib.IntN.{ℤ}
 use Rattle.lists.specs.Lent.{overwrite}
 use Rattle.tariff.specs.declared.refusals.Refusal.{Refusal}
 use Rattle.tariff.specs.declared.refusals.Refusal.the-variants.{ShortFile, NodeCount, ConstraintCount, SpareBits, FileLength, LimitRange, FactorRange}
-use Rattle.tariff.specs.declared.refusals.Refusal.the-variants.{Padding, ShortTable, ContractCount, NodeNumber, SameEnds, QuantityRange}
+use Rattle.tariff.specs.declared.refusals.Refusal.the-variants.{Padding, ShortTable, ContractCount, NodeNumber, QuantityRange}
 use Rattle.tariff.specs.declared.refusals.Refusal.the-variants.{PriceCount, PriceRange, ProcessNumber, PeriodOrKind, HolderRange}
 use Rattle.tariff.specs.declared.refusals.Checked.{Checked}
 use Rattle.tariff.specs.declared.refusals.Checked.the-variants.{Passed, Refused}
 
--- the paper's number of each refusal
+-- the papers' number of each refusal; "12 no longer occurs" (document 02, paper 6)
 abbrev pub numberOf : Refusal → ℕ
 numberOf ShortFile = 1
 numberOf NodeCount = 2
@@ -24,7 +24,6 @@ numberOf Padding = 8
 numberOf ShortTable = 9
 numberOf ContractCount = 10
 numberOf NodeNumber = 11
-numberOf SameEnds = 12
 numberOf QuantityRange = 13
 numberOf PriceCount = 14
 numberOf PriceRange = 15

@@ -5,7 +5,7 @@ ghost use Rattle.tariff.specs.Checks.{nodeCount, quantityRange};
 use crate::MAX_NODES;
 use crate::MAX_QUANTITY;
 
-// Why input is turned down ("When input is turned down"): one case for each of the paper's numbers.
+// Why input is turned down ("When input is turned down"): one case for each of the papers' numbers. 12 is no longer given (document 02, paper 6).
 pub enum Refusal {
     ShortFile,
     NodeCount,
@@ -18,7 +18,6 @@ pub enum Refusal {
     ShortTable,
     ContractCount,
     NodeNumber,
-    SameEnds,
     QuantityRange,
     PriceCount,
     PriceRange,
@@ -43,7 +42,6 @@ impl Refusal {
             Refusal::ShortTable => 9,
             Refusal::ContractCount => 10,
             Refusal::NodeNumber => 11,
-            Refusal::SameEnds => 12,
             Refusal::QuantityRange => 13,
             Refusal::PriceCount => 14,
             Refusal::PriceRange => 15,

@@ -1,48 +1,23 @@
 -- A refusal's number as text, and what an operation's answer says of a text that is its refusal's line or another.
-use mathlib.Core.Path.{_≡_, refl, sym, ap}
-use mathlib.Core.Bool.{true}
+use mathlib.Core.Path.{_≡_, sym, ap}
 use mathlib.Core.List.{List, _++_}
 use Prim.Native.Nat.{ℕ, _≤_}
 use native.Mathlib.Omega.{arith}
-use borrow.Author.Tests.{ltb-true}
-use lib.Dec.{ltb}
 use lib.ListN.{length}
 use lib.IntN.{ℤ}
 use Rattle.tariff.specs.declared.refusals.Refusal.{Refusal}
-use Rattle.tariff.specs.declared.refusals.Refusal.the-variants.{ShortFile, NodeCount, ConstraintCount, SpareBits, FileLength, LimitRange, FactorRange, Padding, ShortTable}
-use Rattle.tariff.specs.declared.refusals.Refusal.the-variants.{ContractCount, NodeNumber, SameEnds, QuantityRange, PriceCount, PriceRange, ProcessNumber, PeriodOrKind, HolderRange}
 use Rattle.tariff.specs.declared.refusals.Checked.{Checked}
 use Rattle.tariff.specs.declared.refusals.Checked.the-variants.{Passed, Refused}
 use Rattle.tariff.specs.Refusals.{Outcome, numberOf, refusedBy, decided, answered}
-use Rattle.tariff.proofs.Answers.{never-given}
+use Rattle.tariff.proofs.Answers.{number-is, never-given}
 use Rattle.text.specs.Ascii.{ascii}
 use Rattle.text.specs.Decimal.{decimal}
 use Rattle.text.specs.RefusedLine.{refusedLine}
 use Rattle.text.proofs.Digits.{decimal-below}
 
 -- every refusal's number has at most two digits
-number-small : (r : Refusal) → ltb (numberOf r) 100 ≡ true
-number-small ShortFile = refl
-number-small NodeCount = refl
-number-small ConstraintCount = refl
-number-small SpareBits = refl
-number-small FileLength = refl
-number-small LimitRange = refl
-number-small FactorRange = refl
-number-small Padding = refl
-number-small ShortTable = refl
-number-small ContractCount = refl
-number-small NodeNumber = refl
-number-small SameEnds = refl
-number-small QuantityRange = refl
-number-small PriceCount = refl
-number-small PriceRange = refl
-number-small ProcessNumber = refl
-number-small PeriodOrKind = refl
-number-small HolderRange = refl
-
 pub number-short : (n : ℕ) (r : Refusal) → n ≡ numberOf r → length (decimal n) ≤ 2
-number-short n r e = decimal-below 2 n (omega arith) (rw e (ltb-true (numberOf r) 100 (number-small r)))
+number-short n r e = decimal-below 2 n (omega arith) (rw e (number-is r .two-digits))
 
 -- a refusal was given: the text is its line
 pub refused-line : (checked : Checked) (vs : List ℤ) (r : Refusal) → refusedBy r ≡ answered checked vs → (file rest : List ℕ) → decided checked (refusedLine file) rest ≡ refusedLine file r

@@ -161,6 +161,27 @@ fn manual_flow(name: &[u8], second: i64, over: i64) {
     fails(name, answer, 1, 1, 0, over);
 }
 
+// Ends that coincide (02, paper 6) carry no flow: 6.7 alone on limits of 0, 6.8 beside a contract that overloads.
+fn same_ends() {
+    passes(
+        b"6.7, ends that coincide",
+        on_l(&[0, 0], 2, 1, b"\x00\x40\x40\x70\x10\x10\x27\x10"),
+    );
+    fails(
+        b"6.8, beside another contract",
+        on_l(
+            &[6000, 0],
+            0,
+            1,
+            b"\x00\xc0\x40\x70\x10\x10\x27\x10\x40\x70\x00\x10\x27\x10\xc0\x30\x20\x20\x00\x01",
+        ),
+        1,
+        1,
+        0,
+        210000000,
+    );
+}
+
 pub fn go_through() {
     p3();
     p3_second();
@@ -170,4 +191,5 @@ pub fn go_through() {
     p8();
     manual_flow(b"001 2.1.3, first case", 20000, 1000000000);
     manual_flow(b"001 2.1.3, second case", 49000, 2450000000);
+    same_ends();
 }

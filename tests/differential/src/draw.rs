@@ -48,7 +48,7 @@ pub const EXTREMES: [Size; 6] = [
     Size { nodes: 200, constraints: 64, contracts: 1000 },
     Size { nodes: 1, constraints: 0, contracts: 0 },
     Size { nodes: 200, constraints: 0, contracts: 1000 },
-    Size { nodes: 1, constraints: 64, contracts: 0 },
+    Size { nodes: 1, constraints: 64, contracts: 1000 },
     Size { nodes: 2, constraints: 1, contracts: 1 },
 ];
 
@@ -75,17 +75,15 @@ pub fn prices(draw: &mut Draw, constraints: i128) -> Vec<i128> {
     (0..constraints).map(|_| draw.figure(0, 500_000, &[0, 1, 2, 5, 10, 1_000])).collect()
 }
 
-/// A contract between two nodes of at least two.
+/// A contract whose ends are often the same node.
 fn contract(draw: &mut Draw, nodes: i128) -> Contract {
     let source = draw.within(0, nodes - 1);
-    let sink = (source + draw.within(1, nodes - 1)) % nodes;
+    let sink = if draw.once_in(4) { source } else { draw.within(0, nodes - 1) };
     let holder = draw.figure(0, 1_023, &[7, 10, 100, 1_000]);
     let quantity = draw.figure(1, 1_000_000, &[10, 100, 500, 1_000, 10_000]);
     Contract { kind: draw.within(0, 1), period: draw.within(0, 1), holder, source, sink, quantity }
 }
 
-/// A grid of one node has no contracts: source and sink would be the same.
 pub fn book(draw: &mut Draw, size: Size) -> Vec<Contract> {
-    let contracts = if size.nodes < 2 { 0 } else { size.contracts };
-    (0..contracts).map(|_| contract(draw, size.nodes)).collect()
+    (0..size.contracts).map(|_| contract(draw, size.nodes)).collect()
 }

@@ -34,6 +34,18 @@ mod c {
             file_len: usize,
             bytes: *mut usize,
         ) -> u64;
+        pub fn crr_remap_book(
+            nodes: usize,
+            book: *const u8,
+            book_len: usize,
+            old_nodes: *const u64,
+            old_len: usize,
+            new_nodes: *const u64,
+            new_len: usize,
+            file: *mut u8,
+            file_len: usize,
+            bytes: *mut usize,
+        ) -> u64;
         pub fn crr_read_prices(
             constraints: usize,
             file: *const u8,
@@ -155,6 +167,23 @@ pub fn read_book(nodes: usize, file: &[u8], book: &mut [u64], contracts: &mut us
 
 pub fn write_book(nodes: usize, contracts: usize, book: &[u64], file: &mut [u8], bytes: &mut usize) -> u64 {
     unsafe { c::crr_write_book(nodes, contracts, book.as_ptr(), book.len(), file.as_mut_ptr(), file.len(), bytes) }
+}
+
+pub fn remap_book(nodes: usize, book: &[u8], old: &[u64], new: &[u64], file: &mut [u8], bytes: &mut usize) -> u64 {
+    unsafe {
+        c::crr_remap_book(
+            nodes,
+            book.as_ptr(),
+            book.len(),
+            old.as_ptr(),
+            old.len(),
+            new.as_ptr(),
+            new.len(),
+            file.as_mut_ptr(),
+            file.len(),
+            bytes,
+        )
+    }
 }
 
 pub fn read_prices(constraints: usize, file: &[u8], prices: &mut [u64], period: &mut u64) -> u64 {

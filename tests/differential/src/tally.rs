@@ -34,6 +34,14 @@ impl Tally {
         answers.chain(lines).chain(cases).collect()
     }
 
+    /// The answers and lines that no paper lists for the entry. 12, of a contract's equal ends, is such a number everywhere (paper 6).
+    pub fn unlisted(&self, entry: &Entry) -> Vec<String> {
+        let answers = self.refusals.keys().filter(|number| **number != 0 && !entry.refusals.contains(number)).map(u64::to_string);
+        let listed = |&&(file, number): &&Refused| entry.files.iter().any(|(name, numbers)| *name == file && numbers.contains(&number));
+        let lines = self.files.keys().filter(|refused| !listed(refused)).map(|(file, number)| format!("{file} {number}"));
+        answers.chain(lines).collect()
+    }
+
     pub fn print(&self, entry: &Entry) {
         let counts: Vec<String> = self.refusals.iter().map(|(number, count)| format!("{number}:{count}")).collect();
         println!("{:<16} | {:>7} | {:>6} | {}", entry.name, self.calls, self.failed, counts.join(" "));
@@ -44,7 +52,7 @@ impl Tally {
         }
         if !entry.cases.is_empty() {
             let counts: Vec<String> = self.cases.iter().map(|(case, count)| format!("{case}: {count}")).collect();
-            println!("{:<16} | {:>7} | {:>6} | {}", "  contracts", "", "", counts.join(", "));
+            println!("{:<16} | {:>7} | {:>6} | {}", "  cases", "", "", counts.join(", "));
         }
     }
 }
@@ -70,7 +78,7 @@ impl<'a> Round<'a> {
     pub fn compare(&mut self, proved: u64, second: u64, differences: &[Option<String>]) {
         self.call += 1;
         self.tally.calls += 1;
-        *self.tally.refusals.entry(second).or_default() += 1;
+        *self.tally.refusals.entry(proved).or_default() += 1;
         let cells: Vec<&String> = differences.iter().flatten().collect();
         if proved == second && cells.is_empty() {
             return;

@@ -3,9 +3,18 @@
 use crate::second::book::{self, Contract};
 use crate::second::grid::{self, Grid};
 use crate::second::prices;
+use crate::second::remap::remap;
 use crate::second::settlement::{amount, cents, hour, mcc, settle, Asked};
-use crate::second::test::{figures, flow, of_period};
-use crate::second::{set_of, text};
+use crate::second::test::{self, figures, flow, of_period};
+use crate::second::{set_of, text, Answer};
+
+/// Case L's book.
+const BOOK: &str = "01 00 40 70 00 10 27 10 c0 80 00 20 01 f4 40 70 00 20 00 01 00 90 00 10 00 05";
+/// An obligation from node 1 to node 2.
+const ONE: &str = "00 40 40 70 10 20 27 10";
+/// Contracts whose ends coincide: an obligation alone; that one, an obligation from node 0 to node 1, and an option.
+const SAME: &str = "00 40 40 70 10 10 27 10";
+const SAME_AMONG: &str = "00 c0 40 70 10 10 27 10 40 70 00 10 27 10 c0 30 20 20 00 01";
 
 fn contract(kind: i128, period: i128, ends: (i128, i128), quantity: i128, holder: i128) -> Contract {
     Contract { kind, period, holder, source: ends.0, sink: ends.1, quantity }
@@ -30,6 +39,10 @@ fn tested(limit: i128, quantity: i128, process: u64) -> [i128; 4] {
 fn hex(bytes: &[u8]) -> String {
     let digits: Vec<String> = bytes.iter().map(|byte| format!("{byte:02x}")).collect();
     digits.join(" ")
+}
+
+fn bytes(hex: &str) -> Vec<u8> {
+    hex.split(' ').map(|byte| u8::from_str_radix(byte, 16).expect("two digits")).collect()
 }
 
 fn settlement_values() -> [bool; 6] {
@@ -115,19 +128,84 @@ fn test_values() -> [bool; 7] {
 
 fn file_values() -> [bool; 5] {
     let (grid, book, list) = case_l();
-    let book_hex = "01 00 40 70 00 10 27 10 c0 80 00 20 01 f4 40 70 00 20 00 01 00 90 00 10 00 05";
     [
         hex(&grid::file_of(&grid)) == "03 04 00 30 d4 00 03 0d 40 ea 60 ec 78 00 00 00 00 03 d8 f0 27 10 00",
-        hex(&book::file_of(&book)) == book_hex,
+        hex(&book::file_of(&book)) == BOOK,
         hex(&prices::file_of(1, &list)) == "82 00 7d 00 27 d8",
         hex(&book::file_of(&book[..1])) == "00 40 40 70 00 10 27 10",
         hex(&prices::file_of(1, &[1])) == "81 00 00 20",
     ]
 }
 
+/// The test of an on-peak book's file on case L's factors.
+fn tested_file(limits: [u64; 2], process: u64, file: &str) -> Answer<[i128; 4]> {
+    let factors = [60_000, -20_000, 0, 0, -10_000, 40_000];
+    test::test(&test::Asked { nodes: 3, constraints: 2, process, period: 1, limits: &limits, factors: &factors, book: &bytes(file) })
+}
+
+/// Ends that coincide: read, written, tested, and settled on case L's grid and prices.
+fn same_ends_values() -> [bool; 9] {
+    let (grid, _, list) = case_l();
+    let read = |file: &str| book::read(3, &bytes(file), 12).map(|book| book.iter().map(Contract::row).collect::<Vec<_>>());
+    let row = [0, 1, 7, 1, 1, 10_000];
+    let statement = text::statement(&grid::file_of(&grid), &bytes(SAME_AMONG), &prices::file_of(1, &list), 29_085);
+    let page = "contract,holder,kind,cents,priced\n0,7,OBL,0,0\n1,7,OBL,900,2\n2,3,OPT,0,0\nsum,900\nexact,900,0\n";
+    [
+        read(SAME) == Ok(vec![row.map(i128::from)]),
+        read("00 40 c0 70 20 20 00 01") == Ok(vec![[1, 1, 7, 2, 2, 1]]),
+        read("00 40 40 70 10 10 00 00") == Err(13),
+        read("00 40 40 70 30 30 00 05") == Err(11),
+        read("00 80 40 70 10 10 00 05 40 70 00 30 00 05") == Err(11),
+        book::write(3, 1, &row, 8) == Ok(bytes(SAME)),
+        tested_file([0, 0], 2, SAME) == Ok([0; 4]),
+        tested_file([6_000, 0], 0, SAME_AMONG) == Ok([1, 1, 0, 210_000_000]),
+        statement.map(|page| page.text) == Ok(page.to_string()),
+    ]
+}
+
+/// Remapping into a place of the book's length.
+fn remapped(nodes: usize, book: &str, old: &[u64], new: &[u64]) -> Answer<String> {
+    let book = bytes(book);
+    remap(nodes, &book, old, new, book.len()).map(|file| hex(&file))
+}
+
+/// Pairs act one after another, and on both ends.
+fn remap_values() -> [bool; 9] {
+    let (two, one) = ("00 80 40 70 10 20 00 05 40 70 20 10 00 05", "00 80 40 70 10 10 00 05 40 70 10 10 00 05");
+    let retired = "01 00 40 70 00 10 27 10 c0 80 00 10 01 f4 40 70 00 10 00 01 00 90 00 10 00 05";
+    let gives = |answer: Answer<String>, file: &str| answer.as_deref() == Ok(file);
+    [
+        gives(remapped(4, ONE, &[1, 2], &[2, 3]), "00 40 40 70 30 30 27 10"),
+        gives(remapped(4, ONE, &[2, 1], &[3, 2]), "00 40 40 70 20 30 27 10"),
+        gives(remapped(3, two, &[1, 2], &[2, 1]), one),
+        gives(remapped(3, ONE, &[2], &[1]), SAME),
+        gives(remapped(3, BOOK, &[], &[]), BOOK),
+        gives(remapped(3, BOOK, &[2], &[1]), retired),
+        gives(remapped(4, ONE, &[1, 1], &[2, 3]), "00 40 40 70 20 20 27 10"),
+        gives(remapped(3, ONE, &[1, 0], &[0, 1]), ONE),
+        gives(remapped(3, "00 00", &[0], &[1]), "00 00"),
+    ]
+}
+
+/// The node count, the book, the listed numbers, the lists, the place.
+fn remap_refusals() -> [bool; 8] {
+    let cut = "00 40 40 70 10 20 27";
+    [
+        remapped(3, ONE, &[3], &[1]) == Err(11),
+        remapped(3, ONE, &[1], &[3]) == Err(11),
+        remapped(3, ONE, &[1, 2], &[1]) == Err(9),
+        remapped(3, ONE, &[1, 3], &[1]) == Err(11),
+        remap(3, &bytes(ONE), &[1], &[2], 7) == Err(9),
+        remapped(3, cut, &[9], &[]) == Err(5),
+        remapped(0, cut, &[9], &[]) == Err(2),
+        remapped(2, ONE, &[9], &[]) == Err(11),
+    ]
+}
+
 /// Prints how many hold; how many do not.
 pub fn check() -> usize {
-    let all = [&settlement_values()[..], &priced_values(), &room_values(), &test_values(), &file_values()].concat();
+    let base = [&settlement_values()[..], &priced_values(), &room_values(), &test_values(), &file_values()].concat();
+    let all = [&base[..], &same_ends_values(), &remap_values(), &remap_refusals()].concat();
     let wrong = all.iter().filter(|holds| !**holds).count();
     println!("second implementation on the papers' checked values: {} hold, {wrong} do not", all.len() - wrong);
     wrong

@@ -7,13 +7,12 @@ use borrow.Author.Tests.{lt-ltb, le-ltb}
 use lib.ListN.{length}
 use Rattle.tariff.specs.Refusals.{first}
 use Rattle.tariff.specs.Checks.{shortTable}
-use Rattle.tariff.proofs.Checks.{first-passes, first-refuses, last-passes}
+use Rattle.tariff.proofs.Checks.{first-passes, first-refuses, last-passes, append-refuses, append-passes}
 use Rattle.layouts.specs.BookFile.{contractCountIn}
 use Rattle.layouts.specs.BookTable.{contractCells}
 use Rattle.books.specs.BookChecks.{bookChecks}
 use Rattle.books.proofs.Accepted.{book-accepted}
 use Rattle.book_file.specs.ReadBook.{readBookCall, readBookChecks, readBookChecked}
-use Rattle.book_file.proofs.Checking.{append-refuses, append-passes}
 use borrow.Author.Needs.{needs}
 use Rattle.book_file.proofs.check_read.Statement.{statement}
 use Rattle.book_file.proofs.check_read.Tie as tie

@@ -7,11 +7,11 @@ use borrow.Author.Tests.{lt-ltb, le-ltb}
 use lib.ListN.{length}
 use Rattle.tariff.specs.Refusals.{first}
 use Rattle.tariff.specs.Checks.{shortTable}
-use Rattle.tariff.proofs.Checks.{first-passes, first-refuses, last-passes}
+use Rattle.tariff.proofs.Checks.{first-passes, first-refuses, last-passes, append-refuses, append-passes}
 use Rattle.layouts.specs.BookFile.{bookBytes}
 use Rattle.books.specs.BookChecks.{checksTo}
 use Rattle.book_file.specs.WriteBook.{writeBookCall, rowChecks, writeBookChecks, writeBookChecked}
-use Rattle.book_file.proofs.Checking.{append-refuses, append-passes, then-rows}
+use Rattle.book_file.proofs.Checking.{then-rows}
 use borrow.Author.Needs.{needs}
 use Rattle.book_file.proofs.check_write.Statement.{statement}
 use Rattle.book_file.proofs.check_write.Tie as tie

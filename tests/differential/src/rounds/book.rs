@@ -28,7 +28,10 @@ pub fn out_of_range(draw: &mut Draw, book: &[Contract], nodes: i128) -> Vec<u8> 
             match draw.below(5) {
                 0 => contract.source = draw.within(nodes, 255),
                 1 => contract.sink = draw.within(nodes, 255),
-                2 => contract.sink = contract.source,
+                2 => {
+                    let node = draw.within(nodes, 255);
+                    (contract.source, contract.sink) = (node, node)
+                }
                 3 => contract.quantity = 0,
                 _ => contract.quantity = draw.pick(&[1_000_001, 1_048_575]),
             }
@@ -114,10 +117,7 @@ fn wrong(draw: &mut Draw, asked: &mut Table, size: Size, bytes: usize) {
             set(draw, asked, 2, holder)
         }
         5 | 6 => set(draw, asked, 3 + column, node),
-        7 => {
-            let node = draw.below(size.nodes as u64);
-            asked.cells.chunks_exact_mut(6).take(1).for_each(|row| (row[3], row[4]) = (node, node))
-        }
+        7 => asked.cells.chunks_exact_mut(6).take(1).for_each(|row| (row[3], row[4]) = (node, node)),
         8 => {
             let quantity = draw.pick(&[0, 1_000_001, 1_048_575, 1 << 32, u64::MAX]);
             set(draw, asked, 5, quantity)

@@ -26,7 +26,7 @@ struct Case {
 
 impl Case {
     fn new(draw: &mut Draw) -> Self {
-        let size = Size { nodes: draw.within(2, 6), constraints: draw.within(1, 3), contracts: draw.within(0, 6) };
+        let size = Size { nodes: draw.within(1, 6), constraints: draw.within(1, 3), contracts: draw.within(0, 6) };
         let (mut grid, book) = (draw::grid(draw, size), draw::book(draw, size));
         if draw.once_in(2) {
             grid.limits.iter_mut().for_each(|limit| *limit /= 50);

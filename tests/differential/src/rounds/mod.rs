@@ -5,6 +5,7 @@ pub mod demand;
 pub mod grid;
 pub mod priced;
 pub mod prices;
+pub mod remap;
 pub mod settlement;
 pub mod test;
 pub mod text;

@@ -6,7 +6,7 @@ use crate::second::grid::Grid;
 use crate::second::settlement::{priced, share};
 
 /// What contracts of the hour's period show.
-pub const CASES: [&str; 8] = [
+pub const CASES: [&str; 10] = [
     "price 0",
     "equal factors",
     "option not paid",
@@ -15,6 +15,8 @@ pub const CASES: [&str; 8] = [
     "constraint 63 in the set",
     "constraint 63 alone",
     "all 64",
+    "obligation of equal ends",
+    "option of equal ends",
 ];
 
 /// What prices the contracts: shares that are often 0 and often cancel, the last constraint alone, or every constraint.
@@ -65,17 +67,20 @@ impl Priced {
 /// What a contract shows.
 fn shows(grid: &Grid, prices: &[i128], contract: &Contract) -> [bool; CASES.len()] {
     let set = priced(grid, prices, contract);
+    let same = contract.source == contract.sink;
     let differ = |k: usize| grid.factors[contract.source as usize][k] != grid.factors[contract.sink as usize][k];
     let spread: i128 = (0..prices.len()).map(|k| share(grid, prices, contract, k)).sum();
     [
         (0..prices.len()).any(|k| prices[k] == 0 && differ(k)),
-        (0..prices.len()).any(|k| prices[k] != 0 && !differ(k)),
+        !same && (0..prices.len()).any(|k| prices[k] != 0 && !differ(k)),
         contract.kind == 1 && spread < 0,
         !set.is_empty() && spread == 0,
-        set.is_empty(),
+        !same && set.is_empty(),
         set.contains(&63),
         set == [63],
         set.len() == 64,
+        same && contract.kind == 0,
+        same && contract.kind == 1,
     ]
 }
 

@@ -28,13 +28,9 @@ impl Contract {
         self.row().iter().zip(widths).map(|(&value, width)| field(value, width)).collect()
     }
 
-    /// 11, 12, 13.
+    /// 11, 13.
     fn check(&self, nodes: i128) -> Answer<()> {
-        first(&[
-            (self.source >= nodes || self.sink >= nodes, 11),
-            (self.source == self.sink, 12),
-            (self.quantity == 0 || self.quantity > 1_000_000, 13),
-        ])
+        first(&[(self.source >= nodes || self.sink >= nodes, 11), (self.quantity == 0 || self.quantity > 1_000_000, 13)])
     }
 
     /// An amount or a flow as it counts: an option's is never below zero.

@@ -1,9 +1,10 @@
-//! A second implementation of the scope document: integers of 128 bits, files as words of '0' and '1', and nothing taken from the proved code.
-//! Each operation gives what is written, or the number of the refusal.
+//! A second implementation of the scope document and the change requests: integers of 128 bits, files as words of '0' and '1', and nothing taken from the
+//! proved code. Each operation gives what is written, or the number of the refusal.
 
 pub mod book;
 pub mod grid;
 pub mod prices;
+pub mod remap;
 pub mod settlement;
 pub mod test;
 pub mod text;

@@ -1,0 +1,136 @@
+-- What is known of a call that remapping's checks accept.
+use mathlib.Core.Path.{_≡_, sym, ap, _∙_}
+use mathlib.Core.Bool.{false}
+use mathlib.Core.List.{List, [], _∷_, _++_, map}
+use Prim.Native.Nat.{ℕ, _≤_, _<_}
+use native.Mathlib.Omega.{arith}
+use borrow.Author.Tests.{ltb-false, leb-false, lt-leb}
+use lib.Dec.{leb}
+use lib.ListN.{length, getD}
+use Rattle.lists.specs.Lists.{Each, some, listTo}
+use Rattle.lists.proofs.Lists.{length-listTo, listTo-cong, map-listTo, each-listTo}
+use Rattle.lists.proofs.Search.{none-bad}
+use Rattle.tariff.specs.declared.contracts.Contract.{Contract}
+use Rattle.tariff.specs.declared.refusals.Checked.the-variants.{Passed}
+use Rattle.tariff.specs.Inner.{InRange}
+use Rattle.tariff.specs.Refusals.{first}
+use Rattle.tariff.specs.Checks.{nodeNumber, shortTable}
+use Rattle.tariff.proofs.Checks.{first-passes, passed-cons, passed-append, nodes-few-of, same-of}
+use Rattle.layouts.specs.BookFile.{endBits, bookBytes, bookFile, contractCountIn, contractAt, bookIn}
+use Rattle.layouts.specs.Inner.{ContractFits}
+use Rattle.layouts.proofs.BookFile.{contract-fits}
+use Rattle.books.specs.BookChecks.{contractChecks, bookChecks}
+use Rattle.books.proofs.Accepted.{Accepted, contract-in-range, contracts-pass, book-accepted}
+use Rattle.books.proofs.Making.{Made, book-made}
+use Rattle.book_remap.specs.RemapBook.{movedEnd, remapped, RemapBookCall, listedNodes, unequalLists, remapBookChecks, remapBookChecked, bookRemapped}
+use Rattle.book_remap.specs.Inner.{movedBy, Moves, Listed, Movable}
+use Rattle.book_remap.proofs.Moving.{moved-below}
+
+pub record Remappable (q : RemapBookCall) : Type 0 where
+  pub accepted : first (bookChecks (q .nodes) (q .book)) ≡ Passed
+  pub listed : Listed (q .nodes) (q .olds) (q .news)
+  pub new-good : some (leb (q .nodes)) (q .news) ≡ false
+  pub room : bookBytes (contractCountIn (q .book)) ≤ length (q .place)
+
+all-below : (n : ℕ) (xs : List ℕ) → some (leb n) xs ≡ false → (i : ℕ) → i < length xs → getD xs i 0 < n
+all-below n xs good i h = leb-false n (getD xs i 0) (none-bad (leb n) xs 0 good i h)
+
+pub remappable : (q : RemapBookCall) → remapBookChecked q ≡ Passed → Remappable q
+unfolding remapBookChecks
+remappable q e =
+    let room = shortTable (length (q .place)) (bookBytes (contractCountIn (q .book))) ∷ [] in
+    let a = passed-cons _ _ e in
+    let b = passed-append (bookChecks (q .nodes) (q .book)) (listedNodes (q .nodes) (q .olds) ∷ listedNodes (q .nodes) (q .news) ∷ unequalLists (q .olds) (q .news) ∷ room) (a .1) in
+    let c = passed-cons _ _ (b .1) in
+    let d = passed-cons _ _ (c .1) in
+    let f = passed-cons _ _ (d .1) in
+    record {
+      accepted = b .0;
+      listed =
+          record {
+            few = nodes-few-of (q .nodes) (a .0);
+            pairs = same-of (length (q .olds)) (length (q .news)) (f .0);
+            old-below = all-below (q .nodes) (q .olds) (c .0);
+            new-below = all-below (q .nodes) (q .news) (d .0);
+          };
+      new-good = d .0;
+      room = ltb-false (length (q .place)) (bookBytes (contractCountIn (q .book))) (passed-cons _ _ (f .1) .0);
+    }
+
+module _ (q : RemapBookCall) (ok : Remappable q) where
+  own : Accepted (q .nodes) (q .book)
+  own = book-accepted (q .nodes) (q .book) (ok .accepted)
+
+  -- contract i, moved
+  abbrev movedAt : ℕ → Contract
+  movedAt i = remapped (q .olds) (q .news) (contractAt (q .book) i)
+
+  end-below : (e : ℕ) → e < q .nodes → movedEnd (q .olds) (q .news) e < q .nodes
+  end-below e h = moved-below (q .nodes) (q .olds) (q .news) e (ok .new-good) h
+
+  pub moved-fits : (i : ℕ) → i < contractCountIn (q .book) → ContractFits endBits (movedAt i)
+  unfolding remapped
+  moved-fits i h =
+      let r = own .each i h in
+      let f = contract-fits endBits (q .book) _ in
+      record {
+        holder-fits = f .holder-fits;
+        source-fits = omega (arith, end-below _ (r .source-below), ok .listed .few);
+        sink-fits = omega (arith, end-below _ (r .sink-below), ok .listed .few);
+        quantity-fits = f .quantity-fits;
+      }
+
+  moved-passes : (i : ℕ) → i < contractCountIn (q .book) → first (contractChecks (q .nodes) (movedAt i)) ≡ Passed
+  unfolding remapped contractChecks
+  moved-passes i h =
+      let r = own .each i h in
+      let m = movedAt i in
+      let ends : nodeNumber (q .nodes) (m .source) (m .sink) .fails ≡ false = rw (lt-leb _ _ (end-below _ (r .source-below)), lt-leb _ _ (end-below _ (r .sink-below))) in
+      first-passes _ _ ends ∙ passed-cons _ _ (contracts-pass (q .nodes) (q .book) (ok .accepted) i h) .1
+
+  -- the moved contracts, by index
+  pub moved-list : map (remapped (q .olds) (q .news)) (bookIn (q .book)) ≡ listTo (contractCountIn (q .book)) movedAt
+  moved-list = map-listTo (contractCountIn (q .book)) (contractAt (q .book)) (remapped (q .olds) (q .news))
+
+  moved-many : length (map (remapped (q .olds) (q .news)) (bookIn (q .book))) ≡ contractCountIn (q .book)
+  moved-many = ap length moved-list ∙ length-listTo (contractCountIn (q .book)) movedAt
+
+  pub book-remade : Made (q .nodes) (map (remapped (q .olds) (q .news)) (bookIn (q .book)))
+  book-remade =
+      book-made (q .nodes) _ (omega (arith, moved-many, own .few))
+      (rw moved-list (each-listTo (ContractFits endBits) (contractCountIn (q .book)) movedAt moved-fits))
+      (rw moved-list (each-listTo (λ c. first (contractChecks (q .nodes) c) ≡ Passed) (contractCountIn (q .book)) movedAt moved-passes))
+
+  pub count-remade : contractCountIn (bookRemapped q) ≡ contractCountIn (q .book)
+  count-remade = book-remade .count ∙ moved-many
+
+  pub length-remade : length (bookRemapped q) ≡ length (q .book)
+  length-remade = book-remade .size ∙ ap bookBytes moved-many ∙ sym (own .size)
+
+  -- ---- with the table of where each node goes
+  module _ (ends : List ℕ) (t : Moves (q .nodes) (q .olds) (q .news) ends) where
+    pub looked-up : (i : ℕ) → i < contractCountIn (q .book) → movedBy ends (contractAt (q .book) i) ≡ movedAt i
+    unfolding remapped movedBy
+    looked-up i h =
+        let r = own .each i h in
+        let c = contractAt (q .book) i in
+        λ j. record {
+          kind = c .kind;
+          period = c .period;
+          holder = c .holder;
+          source = t .each (c .source) (r .source-below) j;
+          sink = t .each (c .sink) (r .sink-below) j;
+          quantity = c .quantity;
+        }
+
+    pub movable : (i : ℕ) → i < contractCountIn (q .book) → Movable ends (contractAt (q .book) i)
+    movable i h =
+        let r = own .each i h in
+        record {
+          source-known = omega (arith, r .source-below, ok .listed .few, t .size);
+          sink-known = omega (arith, r .sink-below, ok .listed .few, t .size);
+          fits = rw (looked-up i h) (moved-fits i h);
+        }
+
+    pub looked-up-list : listTo (contractCountIn (q .book)) (λ i. movedBy ends (contractAt (q .book) i)) ≡ map (remapped (q .olds) (q .news)) (bookIn (q .book))
+    looked-up-list = listTo-cong (contractCountIn (q .book)) _ movedAt looked-up ∙ sym moved-list

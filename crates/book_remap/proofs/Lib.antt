@@ -1,0 +1,4 @@
+pub mod Moving
+pub mod Checking
+pub mod Accepted
+pub mod Theorems

@@ -1,0 +1,2 @@
+pub mod RemapBook
+pub mod Inner

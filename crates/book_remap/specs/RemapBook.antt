@@ -1,0 +1,80 @@
+-- Remapping a book (document 02, paper 6): "apply a list of old and new node numbers to a book, one pair after another".
+use mathlib.Core.Bool.{not, cond}
+use mathlib.Core.List.{List, [], _∷_, _++_, map}
+use Prim.Native.Nat.{ℕ}
+use lib.Dec.{leb, eqb}
+use lib.ListN.{length}
+use Rattle.lists.specs.Lists.{some}
+use Rattle.lists.specs.Lent.{Lent, before, after}
+use Rattle.tariff.specs.declared.contracts.Contract.{Contract}
+use Rattle.tariff.specs.declared.refusals.Checked.{Checked}
+use Rattle.tariff.specs.declared.refusals.Refusal.the-variants.{NodeNumber, ShortTable}
+use Rattle.tariff.specs.Refusals.{Check, first}
+use Rattle.tariff.specs.Checks.{nodeCount, shortTable}
+use Rattle.layouts.specs.declared.WriteAnswer.{WriteAnswer}
+use Rattle.layouts.specs.BookFile.{bookBytes, bookFile, contractCountIn, bookIn}
+use Rattle.layouts.specs.Writing.{Writes, WritesForC}
+use Rattle.books.specs.BookChecks.{bookChecks}
+
+-- where an end goes: each pair acts on what those before it made
+unfoldable pub movedEnd : List ℕ → List ℕ → ℕ → ℕ
+movedEnd [] news end = end
+movedEnd (old ∷ olds) [] end = end
+movedEnd (old ∷ olds) (new ∷ news) end = movedEnd olds news (cond (eqb end old) new end)
+
+-- both ends moved, all else kept
+unfoldable pub remapped : List ℕ → List ℕ → Contract → Contract
+remapped olds news c =
+    record {
+      kind = c .kind;
+      period = c .period;
+      holder = c .holder;
+      source = movedEnd olds news (c .source);
+      sink = movedEnd olds news (c .sink);
+      quantity = c .quantity;
+    }
+
+-- 11: "a listed number not below the node count"
+abbrev pub listedNodes : ℕ → List ℕ → Check
+listedNodes n xs = record { fails = some (leb n) xs; refusal = NodeNumber }
+
+-- 9: "for unequal lists too"
+abbrev pub unequalLists : List ℕ → List ℕ → Check
+unequalLists olds news = record { fails = not (eqb (length olds) (length news)); refusal = ShortTable }
+
+-- the node count, the book's bytes, the two lists, and the place for the new book's bytes as it is at entry
+pub record RemapBookCall : Type 0 where
+  pub nodes : ℕ
+  pub book : List ℕ
+  pub olds : List ℕ
+  pub news : List ℕ
+  pub place : List ℕ
+
+abbrev pub remapBookCall : ℕ → List ℕ → List ℕ → List ℕ → List ℕ → RemapBookCall
+remapBookCall n book olds news place = record { nodes = n; book = book; olds = olds; news = news; place = place }
+
+module _ (q : RemapBookCall) where
+  -- "after the book's own checks a listed number not below the node count draws 11, then 9, for unequal lists too"
+  unfoldable pub remapBookChecks : List Check
+  remapBookChecks =
+      nodeCount (q .nodes)
+      ∷ bookChecks (q .nodes) (q .book)
+      ++ listedNodes (q .nodes) (q .olds)
+      ∷ listedNodes (q .nodes) (q .news)
+      ∷ unequalLists (q .olds) (q .news)
+      ∷ shortTable (length (q .place)) (bookBytes (contractCountIn (q .book)))
+      ∷ []
+
+  abbrev pub remapBookChecked : Checked
+  remapBookChecked = first remapBookChecks
+
+  -- the file written: the same contracts in their order, with their ends moved
+  abbrev pub bookRemapped : List ℕ
+  bookRemapped = bookFile (map (remapped (q .olds) (q .news)) (bookIn (q .book)))
+
+-- the promise: the answer, and the place at exit
+abbrev pub RemapsBook : RemapBookCall → WriteAnswer → List ℕ → Type 0
+RemapsBook q answer exit = Writes (remapBookChecked q) (bookRemapped q) (q .place) answer exit
+
+abbrev pub RemapsBookForC : RemapBookCall → ℕ → List ℕ → Lent ℕ → Type 0
+RemapsBookForC q number exit bytes = WritesForC (remapBookChecked q) (bookRemapped q) (q .place) (before bytes) number exit (after bytes)

@@ -1,0 +1,6 @@
+// The vectors of document 02's requests with the proved entries, each printed beside what is expected.
+mod remap;
+
+pub fn go_through() {
+    remap::go_through();
+}
