@@ -191,6 +191,24 @@ fn wrong(draw: &mut Draw, asked: &mut Table, size: Size, bytes: usize) {
     }
 }
 
+/// One end about the largest of a narrow book, in both forms, and nothing else wrong.
+fn far_end(round: &mut Round, nodes: usize, book: &[Contract], end: i128) {
+    let mut book = book.to_vec();
+    book.iter_mut().for_each(|own| (own.source, own.sink) = (own.source.min(255), own.sink.min(255)));
+    if let Some(last) = book.last_mut() {
+        if round.draw.once_in(2) {
+            last.source = end;
+        } else {
+            last.sink = end;
+        }
+    }
+    let cells: Vec<u64> = book.iter().flat_map(Contract::row).map(|cell| cell as u64).collect();
+    for form in [Form::Narrow, Form::Wide] {
+        let told = round.draw.told(form);
+        write_call(round, &Table { form: told, nodes, contracts: book.len(), cells: cells.clone(), room: 2 + record(form) * book.len() });
+    }
+}
+
 pub fn write(round: &mut Round) {
     let size = draw::size(&mut round.draw, round.number);
     let form = round.draw.form_of(round.number);
@@ -204,5 +222,8 @@ pub fn write(round: &mut Round) {
             wrong(&mut round.draw, &mut asked, size, bytes);
         }
         write_call(round, &asked);
+    }
+    for end in [254, 255, 256, 257].into_iter().filter(|_| size.nodes > 254) {
+        far_end(round, size.nodes as usize, &book, end);
     }
 }

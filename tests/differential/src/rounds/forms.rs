@@ -87,12 +87,17 @@ pub fn book_refused(file: &[u8], number: u64) -> Vec<&'static str> {
 pub const BOOKS_WRITTEN: [&str; 4] =
     ["told by 2", "told by the largest number", "an end of 256 in a narrow book refused", "an end of 255 in a narrow book, over 256 nodes"];
 
-/// What a table of contracts shows: the ends that are there, and the answer.
+/// What a table of contracts shows: its largest end, and the answer.
 pub fn book_written(told: u64, nodes: usize, rows: &[u64], number: u64) -> Vec<&'static str> {
-    let has = |end: u64| rows.chunks_exact(6).any(|row| row[3] == end || row[4] == end);
+    let far = rows.chunks_exact(6).map(|row| row[3].max(row[4])).max();
     let narrow = told == 0 && (257..=4000).contains(&nodes);
     names(
         &BOOKS_WRITTEN,
-        [told == 2 && number == 0, told == u64::MAX && number == 0, narrow && has(256) && number == 11, narrow && has(255) && number == 0],
+        [
+            told == 2 && number == 0,
+            told == u64::MAX && number == 0,
+            narrow && far == Some(256) && number == 11,
+            narrow && far == Some(255) && number == 0,
+        ],
     )
 }

@@ -78,10 +78,15 @@ fn report_call(round: &mut Round, grid_file: &[u8], book_file: &[u8], room: usiz
     round.compare(proved, number, &[page.difference(&written), bytes.difference(&count)]);
 }
 
-/// As large as the largest grids that a text takes.
+/// Grids that a text takes, seldom with very many nodes.
 fn size(round: &mut Round) -> Size {
     let size = draw::size(&mut round.draw, round.number);
-    Size { nodes: if size.constraints > 3 { size.nodes.min(226) } else { size.nodes }, ..size }
+    let most = match size.constraints {
+        4.. => 226,
+        _ if round.number < 20 || round.draw.once_in(10) => 4000,
+        _ => 300,
+    };
+    Size { nodes: size.nodes.min(most), ..size }
 }
 
 /// A grid's file and a book's file that fit each other.
