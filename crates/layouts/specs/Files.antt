@@ -18,11 +18,7 @@ padFor used = 8 * bytesFor used - used
 abbrev pub shortFile : List ℕ → ℕ → Check
 shortFile s header = record { fails = ltb (length s) header; refusal = ShortFile }
 
--- 4: a spare bit set
-abbrev pub spareBits : ℕ → Check
-spareBits spare = record { fails = not (eqb spare 0); refusal = SpareBits }
-
--- 4, of a file that has two forms: "spare bits other than the two patterns", so other than the pattern of the form found
+-- 4: "spare bits other than the two patterns", so other than the pattern of the form found
 abbrev pub spareOther : ℕ → ℕ → Check
 spareOther pattern spare = record { fails = not (eqb spare pattern); refusal = SpareBits }
 

@@ -179,7 +179,8 @@ pub fn put_lines(
     priced: &[u64],
     totals: Totals,
 ) -> usize
-    requires { ⌜ (count ≤ maxContracts) × (bookBytes (bookFormIn (now book)) count ≤ length (now book)) × (count ≤ length (now cents)) × (count ≤ length (now priced)) ⌝ }
+    requires { ⌜ (count ≤ maxContracts) × (bookBytes (bookFormIn (now book)) count ≤ length (now book))
+        × (count ≤ length (now cents)) × (count ≤ length (now priced)) ⌝ }
     requires { ⌜ Sized count (now cents) (now priced) totals × (length heading + longestLine * count + longestSum + longestExact ≤ length (now buf)) ⌝ }
     ensures { λ r. ⌜ Put (before buf) 0 (settledLines period (contractAt (before book)) (before cents) (before priced) count totals) (after buf) r ⌝ }
 {

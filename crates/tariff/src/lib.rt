@@ -26,8 +26,6 @@ pub const MAX_NARROW_NODES: usize = 200;
 
 pub const MAX_CONSTRAINTS: usize = 64;
 
-pub const MAX_FACTORS: usize = MAX_NODES * MAX_CONSTRAINTS;
-
 pub const MAX_CONTRACTS: usize = 1000;
 
 // Ranges: holders, thousandths of a MW, hundred-thousandths, thousandths of a MW, cents per MWh.

@@ -26,7 +26,8 @@ returns c =
     let a = c .before .before .before .before .before .before .args in
     let found = c .before .before .before .check-write .ensures (a .file .now) refl in
     let told = c .before .refusal .given .1 in
-    record { length-given = answer-refused _ _ found _ told _; bytes-written = cells-refused _ _ found _ told (bookWritten (writeBookCall (a .form) (a .nodes) (a .contracts) (a .book .now) (a .file .now))) _ }
+    let q = writeBookCall (a .form) (a .nodes) (a .contracts) (a .book .now) (a .file .now) in
+    record { length-given = answer-refused _ _ found _ told _; bytes-written = cells-refused _ _ found _ told (bookWritten q) _ }
 
 returns-2 : tie.Need-returns-2
 returns-2 c =

@@ -48,7 +48,8 @@ returns c =
     let p1 = c .before .before .before .before .before .before .before .before .before .before .before .before .before .before .before .before .put-text in
     let s = c .before .before .before .before .before .before .before .before .before .before .before .before .before .before .before .before .before .before .before .before .before .before .before in
     let r = s .args .totals in
-    p1 .ensures then rw (c .before .before .before .before .before .before .before .before .before .before .before .before .before .before .before .before .before .before .before .book-form .ensures) at (p2 .ensures .0) then rw (kept (r .sum) (most s .0)) at (p3 .ensures .0) then rw (kept (r .whole) (most s .1)) at (p4 .ensures .0)
+    let form = c .before .before .before .before .before .before .before .before .before .before .before .before .before .before .before .before .before .before .before .book-form .ensures in
+    p1 .ensures then rw form at (p2 .ensures .0) then rw (kept (r .sum) (most s .0)) at (p3 .ensures .0) then rw (kept (r .whole) (most s .1)) at (p4 .ensures .0)
 
 pub put-lines-spec : {M : Type 1} → statement M
 put-lines-spec =

@@ -95,8 +95,9 @@ loop-again c =
     let k = s .args .constraints in
     let fs = s .args .factors .now in
     let at = contractAt (s .args .book .now) in
-    let more = carry-same n k fs (l .i) (s .args .period) at (r .result) (read (c .before .before)) (l .carried .flows) (c .if1 .carried .flows) (l .carried .count) (c .if1 .carried .count) (l .inv .2) in
-    let same = carry-other n k fs (l .i) (s .args .period) at (r .result) (read (c .before .before)) (l .carried .flows) (c .if1 .carried .flows) (l .carried .count) (c .if1 .carried .count) (l .inv .2) in (
+    let is = read (c .before .before) in
+    let more = carry-same n k fs (l .i) (s .args .period) at (r .result) is (l .carried .flows) (c .if1 .carried .flows) (l .carried .count) (c .if1 .carried .count) (l .inv .2) in
+    let same = carry-other n k fs (l .i) (s .args .period) at (r .result) is (l .carried .flows) (c .if1 .carried .flows) (l .carried .count) (c .if1 .carried .count) (l .inv .2) in (
       omega arith,
       ⊎-elim (λ w. ap length (flows-of (w .3)) ∙ w .2 .ensures .length-kept ∙ l .inv .1) (λ w. ap length (flows-of (w .1)) ∙ l .inv .1) (c .if1 .came),
       ⊎-elim
