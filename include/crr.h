@@ -136,8 +136,7 @@ extern "C" {
 #define CRR_PADDING 8          /* a padding bit at a file's end is set */
 #define CRR_SHORT_TABLE 9      /* a lent table, or a place for an answer, of too few cells; remapping, unequal lists */
 #define CRR_CONTRACT_COUNT 10  /* more than 1,000 contracts */
-#define CRR_NODE_NUMBER 11     /* a source, sink or listed node not below the node count; writing a narrow book, a source or sink
-                                  above 255; remapping one, a new node above 255 */
+#define CRR_NODE_NUMBER 11     /* a source, sink or listed node not below the node count; written to a narrow book, above 255 */
 /* 12 is no longer given: a contract whose source equals its sink is accepted. */
 #define CRR_QUANTITY_RANGE 13  /* quantity 0 or above 1,000,000 */
 #define CRR_PRICE_COUNT 14     /* the price file's constraint count differs from the one stated */
