@@ -102,10 +102,10 @@ class Damaged(FolderTest):
         (folder / "book.csv").write_text(f"{heading}\n{owners}")
         self.assertEqual(command("check", folder)[0], 0)
         (folder / "constraints.csv").write_text("CONSTRAINT_ID,LIMIT_MW\n" + "".join(f"K{k},1\n" for k in range(65)))
-        (folder / "factors.csv").write_text("NODE_ID" + "".join(f",K{k}" for k in range(65)) + "\n" + "".join(f"N{n}" + ",0" * 65 + "\n" for n in range(201)))
+        (folder / "factors.csv").write_text("NODE_ID" + "".join(f",K{k}" for k in range(65)) + "\n" + "".join(f"N{n}" + ",0" * 65 + "\n" for n in range(4001)))
         said = command("check", folder)[2]
         self.assertIn("constraints.csv:66:CONSTRAINT_ID: more than 64 constraints (refusal 3)\n", said)
-        self.assertIn("factors.csv:202:NODE_ID: more than 200 nodes (refusal 2)\n", said)
+        self.assertIn("factors.csv:4002:NODE_ID: more than 4000 nodes (refusal 2)\n", said)
         (folder / "factors.csv").write_text("NODE_ID" + "".join(f",K{k}" for k in range(65)) + "\n")
         self.assertIn("factors.csv:1:NODE_ID: no node (refusal 2)\n", command("check", folder)[2])
 
@@ -130,7 +130,7 @@ class Damaged(FolderTest):
     def test_names(self):
         shutil.copytree(IEEE14, self.folder / "case")
         for row, message in (
-            ("nodes,0,x", "names.csv:2:TABLE: 'nodes' is none of node, constraint, contract, holder, hour"),
+            ("nodes,0,x", "names.csv:2:TABLE: 'nodes' is none of node, constraint, contract, holder, hour, form"),
             ("node,-1,x", "names.csv:2:NUMBER: '-1' is not a number from 0 on"),
             ("holder,1024,x", "names.csv:2:NUMBER: holder 1024 is above 1023 (refusal 18)"),
             ("holder,8,7", "names.csv:2:NAME: 7 stands for holder 7, not 8"),
@@ -182,10 +182,11 @@ class DamagedBin(FolderTest):
         return err.splitlines()[0]
 
     def test_refusals_in_words(self):
-        self.assertEqual(self.said("grid.bin", b"\0\0"), "grid.bin: nodes 0 or above 200 (refusal 2)")
-        self.assertEqual(self.said("book.bin", b"\0"), "book.bin: a file of fewer bytes than its header: two (grid, book) or one (prices) (refusal 1)")
+        self.assertEqual(self.said("grid.bin", b"\0\0"), "grid.bin: nodes 0 or above 4,000; reading or writing a narrow grid, above 200 (refusal 2)")
+        short = "book.bin: a file of fewer bytes than its header: two (grid, book), four (wide grid) or one (prices) (refusal 1)"
+        self.assertEqual(self.said("book.bin", b"\0"), short)
         self.assertEqual(self.said("prices.bin", b"\0"), "prices.bin: the price file's constraint count differs from the one stated (refusal 14)")
-        self.assertEqual(self.said("grid.bin", bytes(10**6)), "grid.bin: nodes 0 or above 200 (refusal 2)")
+        self.assertEqual(self.said("grid.bin", bytes(10**6)), "grid.bin: nodes 0 or above 4,000; reading or writing a narrow grid, above 200 (refusal 2)")
 
     def test_every_price_file(self):
         command("pack", IEEE14, "-o", self.folder)

@@ -16,7 +16,7 @@ MAX_CONTRACTS = 1000
 MAX_GRID_BYTES = 576220
 MAX_BOOK_BYTES = 7002
 MAX_PRICE_BYTES = 153
-PROGRAM_GRID_BYTES = 32768
+MAX_TEXT_GRID_BYTES = 32768
 STATEMENT_BYTES = 29085
 REPORT_BYTES = 2048
 
@@ -51,16 +51,16 @@ PART_PLACES = 8  # of a cent
 
 MEANINGS: Dict[int, str] = {
     1: "a file of fewer bytes than its header: two (grid, book), four (wide grid) or one (prices)",
-    2: "nodes 0 or above 4,000; in a narrow grid's file, above 200",
+    2: "nodes 0 or above 4,000; reading or writing a narrow grid, above 200",
     3: "constraints above 64",
-    4: "the spare bits of a file's header are other than its forms have",
-    5: "a file's length differs from what its counts fix",
+    4: "the spare bits of a file's header have neither form's pattern",
+    5: "a file's length differs from what its form and counts fix; a text's grid, also above 32,768 bytes",
     6: "a limit above 100,000,000",
     7: "a factor below -100,000 or above 100,000",
     8: "a padding bit at a file's end is set",
     9: "a lent table, or a place for an answer, of too few cells; remapping, unequal lists",
     10: "more than 1,000 contracts",
-    11: "a source, sink or listed node not below the node count",
+    11: "a source, sink or listed node not below the node count; written to a narrow book, above 255",
     13: "quantity 0 or above 1,000,000",
     14: "the price file's constraint count differs from the one stated",
     15: "a price above 500,000",
