@@ -2,6 +2,8 @@
 
 mod entries;
 mod inputs;
+// `released_percent`, a choice among three figures, is not timed.
+#[allow(dead_code)]
 #[path = "../../tests/differential/src/library.rs"]
 mod library;
 mod plain;
