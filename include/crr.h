@@ -6,8 +6,8 @@
  * (`./library` builds both), for 64-bit machines: x86-64 Linux. It allocates
  * nothing, keeps no state and does no input or output, so any number of threads may
  * call it at once. There is no floating point in it.
- * crr_write_report and crr_write_statement hold a grid's tables on the stack: 150,000
- * bytes are enough for either.
+ * crr_write_report and crr_write_statement hold a grid's tables on the stack: 200,000
+ * bytes are enough for either. 50,000 are enough for any other function.
  *
  *
  * UNITS. All figures are whole numbers.
