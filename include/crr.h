@@ -5,8 +5,8 @@
  * The library is libcrr.a (`./library` builds it), for 64-bit machines:
  * x86-64 Linux. It allocates nothing, keeps no state and does no input or output,
  * so any number of threads may call it at once. There is no floating point in it.
- * crr_write_report and crr_write_statement hold a grid's tables on the stack: 150,000
- * bytes are enough for either.
+ * crr_write_report and crr_write_statement hold a grid's tables on the stack: 200,000
+ * bytes are enough for either. 50,000 are enough for any other function.
  *
  *
  * UNITS. All figures are whole numbers.
@@ -22,7 +22,7 @@
  *   process        0 annual, 1 Tier LT, 2 monthly: 65, 60 and 100 percent of each
  *                  limit is released
  *
- * Nodes, constraints and contracts are numbered from 0.
+ * Nodes, constraints and contracts are numbered from 0: nodes up to 3,999.
  *
  *
  * TABLES. Each may be longer than is needed: only the first cells are read or
@@ -33,12 +33,26 @@
  *             constraint k is in cell n * constraints + k
  *   prices    one cell for each constraint
  *   book      six cells for each contract: kind (0 obligation, 1 option), period,
- *             holder (0 to 1,023), source, sink (it may equal the source),
- *             quantity
+ *             holder (0 to 1,023), source, sink (up to 3,999; the sink may equal
+ *             the source), quantity
  *   mcc       one cell for each node
  *   cents     one cell for each contract
  *   priced    one cell for each contract, a set of constraints: bit k is
  *             constraint k
+ *
+ *
+ * FORMS. The file of a grid and that of a book have two forms each. The narrow one
+ * is for node numbers of one byte: a grid of at most 200 nodes, a book whose sources
+ * and sinks are at most 255. The wide one is for up to 4,000 nodes: a node count of
+ * 16 bits, sources and sinks of 12. Each function that takes such a file takes both
+ * and tells them apart by the first two bytes. A grid and a book may differ in form,
+ * and grids or books that differ in nothing else give the same answers. Writers are
+ * told the form by a number: 0 (CRR_NARROW) is narrow, any other number is wide
+ * (CRR_WIDE is 1). Readers give 0 or 1, so that what was read can be written again,
+ * byte for byte; a remapped book keeps its form. Write the wide form where a node
+ * number needs it, and otherwise the narrow one: it is shorter, and it is the one
+ * that libraries without forms take, which refuse every wide file. The layouts are
+ * in crates/layouts/specs.
  *
  *
  * ANSWERS. Every function returns 0, or the number of the refusal (below). Its
@@ -78,18 +92,26 @@ extern "C" {
 #endif
 
 /* Sizes: the most that is accepted. */
-#define CRR_MAX_NODES 200
+#define CRR_MAX_NODES 4000
+#define CRR_MAX_NARROW_NODES 200 /* of a grid's file in the narrow form */
 #define CRR_MAX_CONSTRAINTS 64
 #define CRR_MAX_CONTRACTS 1000
 
 /* The longest files. One byte more is never accepted. */
-#define CRR_MAX_GRID_BYTES 29018
-#define CRR_MAX_BOOK_BYTES 6002
+#define CRR_MAX_GRID_BYTES 576220
+#define CRR_MAX_BOOK_BYTES 7002
 #define CRR_MAX_PRICE_BYTES 153
+
+/* The longest grid's file that crr_write_statement and crr_write_report take. */
+#define CRR_MAX_TEXT_GRID_BYTES 32768
 
 /* What crr_write_statement and crr_write_report ask for, whatever they write. */
 #define CRR_STATEMENT_BYTES 29085
 #define CRR_REPORT_BYTES 2048
+
+/* Forms. */
+#define CRR_NARROW 0
+#define CRR_WIDE 1
 
 /* Periods and processes. */
 #define CRR_OFF_PEAK 0
@@ -102,17 +124,17 @@ extern "C" {
  * Refusals, by number. Each comes for its own condition only.
  */
 #define CRR_OK 0               /* no refusal */
-#define CRR_SHORT_FILE 1       /* a file of fewer bytes than its header: two (grid, book) or one (prices) */
-#define CRR_NODE_COUNT 2       /* nodes 0 or above 200 */
+#define CRR_SHORT_FILE 1       /* a file of fewer bytes than its header: two (grid, book), four (wide grid) or one (prices) */
+#define CRR_NODE_COUNT 2       /* nodes 0 or above 4,000; reading or writing a narrow grid, above 200 */
 #define CRR_CONSTRAINT_COUNT 3 /* constraints above 64 */
-#define CRR_SPARE_BITS 4       /* a spare bit of a file's header is set */
-#define CRR_FILE_LENGTH 5      /* a file's length differs from what its counts fix */
+#define CRR_SPARE_BITS 4       /* the spare bits of a file's header have neither form's pattern */
+#define CRR_FILE_LENGTH 5      /* a file's length differs from what its form and counts fix; a text's grid, also above 32,768 bytes */
 #define CRR_LIMIT_RANGE 6      /* a limit above 100,000,000 */
 #define CRR_FACTOR_RANGE 7     /* a factor below -100,000 or above 100,000 */
 #define CRR_PADDING 8          /* a padding bit at a file's end is set */
 #define CRR_SHORT_TABLE 9      /* a lent table, or a place for an answer, of too few cells; remapping, unequal lists */
 #define CRR_CONTRACT_COUNT 10  /* more than 1,000 contracts */
-#define CRR_NODE_NUMBER 11     /* a source, sink or listed node not below the node count */
+#define CRR_NODE_NUMBER 11     /* a source, sink or listed node not below the node count; written to a narrow book, above 255 */
 /* 12 is no longer given: a contract whose source equals its sink is accepted. */
 #define CRR_QUANTITY_RANGE 13  /* quantity 0 or above 1,000,000 */
 #define CRR_PRICE_COUNT 14     /* the price file's constraint count differs from the one stated */
@@ -122,59 +144,69 @@ extern "C" {
 #define CRR_HOLDER_RANGE 18    /* holder above 1,023 */
 
 /*
- * Reads a grid's file.
+ * Reads a grid's file, of either form.
  *
  * On success writes the file's limits and factors to the first cells of both
- * tables, and the counts to *nodes and *constraints.
+ * tables, the counts to *nodes and *constraints, and 0 (narrow) or 1 (wide) to
+ * *form.
  *
- * Refusals, in this order: 1, 2, 3, 4, 5, 6, 7, 8, and 9 if the limits or the
- * factors don't fit.
+ * The file is wide where its node field, the first byte, is 0 and its spare bit,
+ * the last of the second byte, is set; else it is narrow. Refusals, in this order:
+ * 1 (narrow, fewer than two bytes; wide, fewer than four), 2 (narrow, not 1 to 200
+ * nodes; wide, not 1 to 4,000), 3, 4 (narrow alone: the spare bit is set), 5 (by
+ * the form's own length), 6, 7, 8, and 9 if the limits or the factors don't fit.
  */
 uint64_t crr_read_grid(const uint8_t *file, size_t file_len,
                        uint64_t *limits, size_t limits_len,
                        int64_t *factors, size_t factors_len,
-                       size_t *nodes, size_t *constraints);
+                       size_t *nodes, size_t *constraints, uint64_t *form);
 
 /*
- * Writes a grid's file from the first cells of its tables.
+ * Writes a grid's file from the first cells of its tables, in the form told: 0
+ * narrow, any other number wide.
  *
  * On success writes the file to the first bytes of file, and its length to
- * *bytes. The longest has CRR_MAX_GRID_BYTES.
+ * *bytes. The longest has CRR_MAX_GRID_BYTES, the longest narrow one 29,018.
  *
- * Refusals, in this order: 2, 3, 9 (limits, factors), 6, 7, and 9 if the bytes
- * don't fit.
+ * Refusals, in this order: 2 (narrow, not 1 to 200 nodes; wide, not 1 to 4,000), 3,
+ * 9 (limits, factors), 6, 7, and 9 if the bytes don't fit.
  */
-uint64_t crr_write_grid(size_t nodes, size_t constraints,
+uint64_t crr_write_grid(uint64_t form, size_t nodes, size_t constraints,
                         const uint64_t *limits, size_t limits_len,
                         const int64_t *factors, size_t factors_len,
                         uint8_t *file, size_t file_len,
                         size_t *bytes);
 
 /*
- * Reads a book's file, for a grid of so many nodes.
+ * Reads a book's file, of either form, for a grid of so many nodes.
  *
- * On success writes six cells for each contract to the first cells of book, and
- * the number of contracts to *contracts.
+ * On success writes six cells for each contract to the first cells of book, the
+ * same for both forms, the number of contracts to *contracts, and 0 (narrow) or 1
+ * (wide) to *form.
  *
- * Refusals, in this order: 2, 1, 10, 4, 5, then contract by contract 11, 13, and
- * 9 if the contracts don't fit.
+ * The file is wide where all six spare bits, the last of the second byte, are set,
+ * and narrow where they are clear. Refusals, in this order: 2 (not 1 to 4,000 nodes,
+ * for both forms), 1 (fewer than two bytes), 10, 4 (some of the spare bits are set
+ * and some clear), 5 (by the form's own length), then contract by contract 11, 13,
+ * and 9 if the contracts don't fit.
  */
 uint64_t crr_read_book(size_t nodes,
                        const uint8_t *file, size_t file_len,
                        uint64_t *book, size_t book_len,
-                       size_t *contracts);
+                       size_t *contracts, uint64_t *form);
 
 /*
  * Writes a book's file, for a grid of so many nodes, from the first 6 * contracts
- * cells of book.
+ * cells of book, in the form told: 0 narrow, any other number wide.
  *
  * On success writes the file to the first bytes of file, and its length to
- * *bytes. The longest has CRR_MAX_BOOK_BYTES.
+ * *bytes. The longest has CRR_MAX_BOOK_BYTES, the longest narrow one 6,002.
  *
- * Refusals, in this order: 2, 10, 9 (book), then contract by contract 17, 18, 11,
+ * Refusals, in this order: 2 (not 1 to 4,000 nodes, for both forms), 10, 9 (book),
+ * then contract by contract 17, 18, 11 (narrow, also a source or sink above 255),
  * 13, and 9 if the bytes don't fit.
  */
-uint64_t crr_write_book(size_t nodes, size_t contracts,
+uint64_t crr_write_book(uint64_t form, size_t nodes, size_t contracts,
                         const uint64_t *book, size_t book_len,
                         uint8_t *file, size_t file_len,
                         size_t *bytes);
@@ -189,12 +221,13 @@ uint64_t crr_write_book(size_t nodes, size_t contracts,
  * nothing.
  *
  * On success writes the file, of the same contracts with both ends moved, to the
- * first bytes of file, and its length, which is book_len, to *bytes. Kinds, periods,
- * holders, quantities and the order of the contracts stay. Ends may become equal.
+ * first bytes of file, and its length, which is book_len, to *bytes. The form, kinds,
+ * periods, holders, quantities and the order of the contracts stay. Ends may become
+ * equal.
  *
  * Refusals, in this order: 2, 1, 10, 4, 5, then contract by contract 11, 13; 11 (a
- * number of old_nodes, of new_nodes), 9 if the lists differ in length, and 9 if the
- * bytes don't fit.
+ * number of old_nodes, of new_nodes; where the book is narrow, also one of new_nodes
+ * above 255), 9 if the lists differ in length, and 9 if the bytes don't fit.
  */
 uint64_t crr_remap_book(size_t nodes,
                         const uint8_t *book, size_t book_len,
@@ -296,6 +329,9 @@ uint64_t crr_settle_hour(size_t nodes, size_t constraints, uint64_t period,
  * Writes the feasibility report on a grid's file and a book's file: a heading and
  * a line for each period and process, or the one line `refused,grid,N` or
  * `refused,book,N`. ASCII, each line ended by one line feed, no 0 byte at the end.
+ * A grid of more than CRR_MAX_TEXT_GRID_BYTES bytes draws 5 where none of 1, 2, 3
+ * and 4 does; of grids in the wide form that leaves those of 4,000 nodes with up to
+ * 3 constraints, or of 226 nodes with 64.
  *
  * On success writes the report to the first bytes of text, and its length to
  * *bytes.
@@ -314,7 +350,7 @@ uint64_t crr_write_report(const uint8_t *grid_file, size_t grid_file_len,
  * contract of the hour's period, the sum and the exact total, or the one line
  * `refused,grid,N`, `refused,book,N` or `refused,prices,N`. The field `priced` is
  * how many constraints priced the contract. ASCII, each line ended by one line
- * feed, no 0 byte at the end.
+ * feed, no 0 byte at the end. A grid's length is limited as for crr_write_report.
  *
  * On success writes the statement to the first bytes of text, and its length to
  * *bytes.

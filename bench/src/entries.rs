@@ -1,8 +1,8 @@
 //! Each public entry on given inputs, proved and plain: first compared, then timed.
 
-use crate::inputs::{Inputs, Size};
+use crate::inputs::{Inputs, Size, BOOK_BYTES, GRID_BYTES};
 use crate::library;
-use crate::plain::{self, Overload, Totals};
+use crate::plain::{self, Form, Header, Overload, Totals};
 use crate::timing::{side_by_side, Times};
 use std::hint::black_box;
 
@@ -35,20 +35,29 @@ fn agree<T: PartialEq>(proved: &T, plain: &T) -> Result<(), String> {
     }
 }
 
+/// The form as the proved library has it.
+fn number(form: Form) -> u64 {
+    match form {
+        Form::Narrow => 0,
+        Form::Wide => 1,
+    }
+}
+
 fn read_grid(inputs: &Inputs) -> Result<Times, String> {
     let file = &inputs.grid_file;
     let (mut limits, mut factors) = (vec![0; inputs.limits.len()], vec![0; inputs.factors.len()]);
-    let (mut nodes, mut constraints) = (0, 0);
-    let proved = library::read_grid(file, &mut limits, &mut factors, &mut nodes, &mut constraints);
+    let (mut nodes, mut constraints, mut form) = (0, 0, 7);
+    let proved = library::read_grid(file, &mut limits, &mut factors, &mut nodes, &mut constraints, &mut form);
     let (mut plain_limits, mut plain_factors) = (vec![0; limits.len()], vec![0; factors.len()]);
     let plain = plain::read_grid(file, &mut plain_limits, &mut plain_factors);
-    agree(&(proved, nodes, constraints), &(0, inputs.size.nodes, inputs.size.constraints))?;
-    agree(&Ok((nodes, constraints)), &plain)?;
+    let Size { nodes: own_nodes, constraints: own_constraints, .. } = inputs.size;
+    agree(&(proved, nodes, constraints, form), &(0, own_nodes, own_constraints, number(inputs.form)))?;
+    agree(&Ok(Header { form: inputs.form, nodes, constraints }), &plain)?;
     agree(&(&limits, &factors), &(&plain_limits, &plain_factors))?;
     agree(&(&limits, &factors), &(&inputs.limits, &inputs.factors))?;
     Ok(side_by_side(
         &mut || {
-            black_box(library::read_grid(black_box(file), &mut limits, &mut factors, &mut nodes, &mut constraints));
+            black_box(library::read_grid(black_box(file), &mut limits, &mut factors, &mut nodes, &mut constraints, &mut form));
         },
         &mut || {
             let _ = black_box(plain::read_grid(black_box(file), &mut plain_limits, &mut plain_factors));
@@ -58,32 +67,34 @@ fn read_grid(inputs: &Inputs) -> Result<Times, String> {
 
 fn write_grid(inputs: &Inputs) -> Result<Times, String> {
     let Size { nodes, constraints, .. } = inputs.size;
+    let (form, told) = (inputs.form, number(inputs.form));
     let (limits, factors) = (&inputs.limits, &inputs.factors);
-    let (mut file, mut plain_file, mut bytes) = (vec![0; 29_018], vec![0; 29_018], 0);
-    let proved = library::write_grid(nodes, constraints, limits, factors, &mut file, &mut bytes);
-    let plain = plain::write_grid(nodes, constraints, limits, factors, &mut plain_file);
+    let (mut file, mut plain_file, mut bytes) = (vec![0; GRID_BYTES], vec![0; GRID_BYTES], 0);
+    let proved = library::write_grid(told, nodes, constraints, limits, factors, &mut file, &mut bytes);
+    let plain = plain::write_grid(form, nodes, constraints, limits, factors, &mut plain_file);
     agree(&(proved, Ok(bytes)), &(0, plain))?;
     agree(&file, &plain_file)?;
     Ok(side_by_side(
         &mut || {
-            black_box(library::write_grid(nodes, constraints, black_box(limits), factors, &mut file, &mut bytes));
+            black_box(library::write_grid(told, nodes, constraints, black_box(limits), factors, &mut file, &mut bytes));
         },
         &mut || {
-            let _ = black_box(plain::write_grid(nodes, constraints, black_box(limits), factors, &mut plain_file));
+            let _ = black_box(plain::write_grid(form, nodes, constraints, black_box(limits), factors, &mut plain_file));
         },
     ))
 }
 
 fn read_book(inputs: &Inputs) -> Result<Times, String> {
     let (nodes, file) = (inputs.size.nodes, &inputs.book_file);
-    let (mut book, mut plain_book, mut contracts) = (vec![0; inputs.book.len()], vec![0; inputs.book.len()], 0);
-    let proved = library::read_book(nodes, file, &mut book, &mut contracts);
+    let (mut book, mut plain_book) = (vec![0; inputs.book.len()], vec![0; inputs.book.len()]);
+    let (mut contracts, mut form) = (0, 7);
+    let proved = library::read_book(nodes, file, &mut book, &mut contracts, &mut form);
     let plain = plain::read_book(nodes, file, &mut plain_book);
-    agree(&(proved, Ok(contracts)), &(0, plain))?;
+    agree(&(proved, Ok((contracts, inputs.form)), form), &(0, plain, number(inputs.form)))?;
     agree(&(&book, &book), &(&plain_book, &inputs.book))?;
     Ok(side_by_side(
         &mut || {
-            black_box(library::read_book(nodes, black_box(file), &mut book, &mut contracts));
+            black_box(library::read_book(nodes, black_box(file), &mut book, &mut contracts, &mut form));
         },
         &mut || {
             let _ = black_box(plain::read_book(nodes, black_box(file), &mut plain_book));
@@ -93,25 +104,26 @@ fn read_book(inputs: &Inputs) -> Result<Times, String> {
 
 fn write_book(inputs: &Inputs) -> Result<Times, String> {
     let Size { nodes, contracts, .. } = inputs.size;
+    let (form, told) = (inputs.form, number(inputs.form));
     let book = &inputs.book;
-    let (mut file, mut plain_file, mut bytes) = (vec![0; 6_002], vec![0; 6_002], 0);
-    let proved = library::write_book(nodes, contracts, book, &mut file, &mut bytes);
-    let plain = plain::write_book(nodes, contracts, book, &mut plain_file);
+    let (mut file, mut plain_file, mut bytes) = (vec![0; BOOK_BYTES], vec![0; BOOK_BYTES], 0);
+    let proved = library::write_book(told, nodes, contracts, book, &mut file, &mut bytes);
+    let plain = plain::write_book(form, nodes, contracts, book, &mut plain_file);
     agree(&(proved, Ok(bytes)), &(0, plain))?;
     agree(&file, &plain_file)?;
     Ok(side_by_side(
         &mut || {
-            black_box(library::write_book(nodes, contracts, black_box(book), &mut file, &mut bytes));
+            black_box(library::write_book(told, nodes, contracts, black_box(book), &mut file, &mut bytes));
         },
         &mut || {
-            let _ = black_box(plain::write_book(nodes, contracts, black_box(book), &mut plain_file));
+            let _ = black_box(plain::write_book(form, nodes, contracts, black_box(book), &mut plain_file));
         },
     ))
 }
 
 fn remap_book(inputs: &Inputs) -> Result<Times, String> {
     let (nodes, book, old, new) = (inputs.size.nodes, &inputs.book_file, &inputs.old, &inputs.new);
-    let (mut file, mut plain_file, mut bytes) = (vec![0; 6_002], vec![0; 6_002], 0);
+    let (mut file, mut plain_file, mut bytes) = (vec![0; BOOK_BYTES], vec![0; BOOK_BYTES], 0);
     let proved = library::remap_book(nodes, book, old, new, &mut file, &mut bytes);
     let plain = plain::remap_book(nodes, book, old, new, &mut plain_file);
     agree(&(proved, Ok(bytes)), &(0, plain))?;

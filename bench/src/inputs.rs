@@ -1,6 +1,6 @@
 //! Inputs of a stated size, drawn at random and within every range.
 
-use crate::plain;
+use crate::plain::{self, Form};
 use crate::splitmix::Draw;
 
 /// How large the inputs are.
@@ -11,11 +11,19 @@ pub struct Size {
     pub contracts: usize,
 }
 
+/// The largest of each form, and the largest wide ones that the texts take.
 pub const LARGEST: Size = Size { nodes: 200, constraints: 64, contracts: 1000 };
+pub const WIDEST: Size = Size { nodes: 4000, constraints: 64, contracts: 1000 };
+pub const WIDEST_TEXT: Size = Size { nodes: 226, constraints: 64, contracts: 1000 };
 
-/// Every table and every file of one size.
+/// The longest files.
+pub const GRID_BYTES: usize = 576_220;
+pub const BOOK_BYTES: usize = 7_002;
+
+/// Every table and every file of one size and form.
 pub struct Inputs {
     pub size: Size,
+    pub form: Form,
     pub limits: Vec<u64>,
     pub factors: Vec<i64>,
     pub prices: Vec<u64>,
@@ -35,21 +43,21 @@ fn contract(draw: &mut Draw, nodes: usize) -> [u64; 6] {
 }
 
 impl Inputs {
-    pub fn new(size: Size) -> Self {
+    pub fn new(size: Size, form: Form) -> Self {
         let Size { nodes, constraints, contracts } = size;
         let mut draw = Draw::new(2013);
         let limits: Vec<u64> = (0..constraints).map(|_| draw.below(100_000_001)).collect();
         let factors: Vec<i64> = (0..nodes * constraints).map(|_| draw.below(200_001) as i64 - 100_000).collect();
         let prices: Vec<u64> = (0..constraints).map(|_| draw.below(500_001)).collect();
         let book: Vec<u64> = (0..contracts).flat_map(|_| contract(&mut draw, nodes)).collect();
-        let (mut grid_file, mut book_file, mut price_file) = (vec![0; 29_018], vec![0; 6_002], vec![0; 153]);
-        let length = plain::write_grid(nodes, constraints, &limits, &factors, &mut grid_file).expect("a grid in range");
+        let (mut grid_file, mut book_file, mut price_file) = (vec![0; GRID_BYTES], vec![0; BOOK_BYTES], vec![0; 153]);
+        let length = plain::write_grid(form, nodes, constraints, &limits, &factors, &mut grid_file).expect("a grid in range");
         grid_file.truncate(length);
-        let length = plain::write_book(nodes, contracts, &book, &mut book_file).expect("a book in range");
+        let length = plain::write_book(form, nodes, contracts, &book, &mut book_file).expect("a book in range");
         book_file.truncate(length);
         let length = plain::write_prices(1, constraints, &prices, &mut price_file).expect("prices in range");
         price_file.truncate(length);
         let (old, new) = (0..nodes).map(|_| (draw.below(nodes as u64), draw.below(nodes as u64))).unzip();
-        Inputs { size, limits, factors, prices, book, grid_file, book_file, price_file, old, new }
+        Inputs { size, form, limits, factors, prices, book, grid_file, book_file, price_file, old, new }
     }
 }

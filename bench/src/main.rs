@@ -1,4 +1,4 @@
-//! Times each public entry of the proved library beside plain Rust, on the largest inputs, and how the cost grows with each count.
+//! Times each public entry of the proved library beside plain Rust, on the largest inputs of both forms, and how the cost grows with each count.
 
 mod entries;
 mod inputs;
@@ -10,7 +10,8 @@ mod splitmix;
 mod timing;
 
 use entries::{Entry, ENTRIES};
-use inputs::{Inputs, Size, LARGEST};
+use inputs::{Inputs, Size, LARGEST, WIDEST, WIDEST_TEXT};
+use plain::Form;
 use std::process::ExitCode;
 
 /// The entries whose cost grows with the contracts, the constraints and the nodes.
@@ -20,8 +21,25 @@ const BY_CONSTRAINTS: [&str; 9] =
 const BY_NODES: [&str; 8] =
     ["read_grid", "write_grid", "remap_book", "test_book", "find_mcc", "settle_hour", "write_report", "write_statement"];
 
-fn line(label: &str, entry: &Entry, size: Size) -> Result<(), String> {
-    let times = (entry.run)(&Inputs::new(size)).map_err(|why| format!("{}, {label}: {why}", entry.name))?;
+const BY_WIDE_NODES: [&str; 8] =
+    ["read_grid", "write_grid", "read_book", "write_book", "remap_book", "test_book", "find_mcc", "settle_hour"];
+
+/// The entries that take nodes or their numbers, by the largest inputs that they take in the wide form.
+const WIDE: [(&str, Size); 10] = [
+    ("read_grid", WIDEST),
+    ("write_grid", WIDEST),
+    ("read_book", WIDEST),
+    ("write_book", WIDEST),
+    ("remap_book", WIDEST),
+    ("test_book", WIDEST),
+    ("find_mcc", WIDEST),
+    ("settle_hour", WIDEST),
+    ("write_report", WIDEST_TEXT),
+    ("write_statement", WIDEST_TEXT),
+];
+
+fn line(label: &str, entry: &Entry, size: Size, form: Form) -> Result<(), String> {
+    let times = (entry.run)(&Inputs::new(size, form)).map_err(|why| format!("{}, {label}: {why}", entry.name))?;
     println!("{label:<26} | {:>10.2} | {:>10.2} | {:>5.2}", times.proved, times.plain, times.proved / times.plain);
     Ok(())
 }
@@ -30,24 +48,36 @@ fn heading(what: &str) {
     println!("\n{what:<26} | proved µs  | plain µs   | ratio");
 }
 
-fn growth(count: &str, names: &[&str], sizes: &[(usize, Size)]) -> Result<(), String> {
+fn growth(count: &str, names: &[&str], form: Form, sizes: &[(usize, Size)]) -> Result<(), String> {
     for entry in ENTRIES.iter().filter(|entry| names.contains(&entry.name)) {
         heading(&format!("{}, {count}", entry.name));
         for &(n, size) in sizes {
-            line(&n.to_string(), entry, size)?;
+            line(&n.to_string(), entry, size, form)?;
         }
     }
     Ok(())
 }
 
+fn wide() -> Result<(), String> {
+    heading("entry, wide");
+    for (name, size) in WIDE {
+        for entry in ENTRIES.iter().filter(|entry| entry.name == name) {
+            line(&format!("{name}, {} nodes", size.nodes), entry, size, Form::Wide)?;
+        }
+    }
+    growth("wide, nodes", &BY_WIDE_NODES, Form::Wide, &[200, 1000, 4000].map(|nodes| (nodes, Size { nodes, ..WIDEST })))
+}
+
 fn tables() -> Result<(), String> {
     heading("entry");
     for entry in &ENTRIES {
-        line(entry.name, entry, LARGEST)?;
+        line(entry.name, entry, LARGEST, Form::Narrow)?;
     }
-    growth("contracts", &BY_CONTRACTS, &[125, 250, 500, 1000].map(|contracts| (contracts, Size { contracts, ..LARGEST })))?;
-    growth("constraints", &BY_CONSTRAINTS, &[8, 16, 32, 64].map(|constraints| (constraints, Size { constraints, ..LARGEST })))?;
-    growth("nodes", &BY_NODES, &[25, 50, 100, 200].map(|nodes| (nodes, Size { nodes, ..LARGEST })))
+    let narrow = Form::Narrow;
+    growth("contracts", &BY_CONTRACTS, narrow, &[125, 250, 500, 1000].map(|contracts| (contracts, Size { contracts, ..LARGEST })))?;
+    growth("constraints", &BY_CONSTRAINTS, narrow, &[8, 16, 32, 64].map(|constraints| (constraints, Size { constraints, ..LARGEST })))?;
+    growth("nodes", &BY_NODES, narrow, &[25, 50, 100, 200].map(|nodes| (nodes, Size { nodes, ..LARGEST })))?;
+    wide()
 }
 
 fn main() -> ExitCode {

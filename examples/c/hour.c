@@ -24,11 +24,11 @@ int main(void) {
     size_t book_len = load("book.bin", book, sizeof book);
     size_t price_len = load("prices.bin", price_file, sizeof price_file);
     size_t nodes, constraints, count, lowest;
-    uint64_t period, set, parts;
+    uint64_t form, period, set, parts;
     int64_t excess, sum, whole;
 
     if (refused("grid", crr_read_grid(grid, grid_len, limits, CRR_MAX_CONSTRAINTS, factors,
-                                      CRR_MAX_NODES * CRR_MAX_CONSTRAINTS, &nodes, &constraints))) return 1;
+                                      CRR_MAX_NODES * CRR_MAX_CONSTRAINTS, &nodes, &constraints, &form))) return 1;
     if (refused("prices", crr_read_prices(constraints, price_file, price_len, prices, CRR_MAX_CONSTRAINTS, &period))) return 1;
     if (refused("test", crr_test_book(nodes, constraints, 2, period, limits, constraints, factors, nodes * constraints,
                                       book, book_len, &set, &count, &lowest, &excess))) return 1;

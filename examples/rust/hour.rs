@@ -2,7 +2,7 @@
 extern "C" {
     fn crr_read_grid(
         file: *const u8, file_len: usize, limits: *mut u64, limits_len: usize, factors: *mut i64, factors_len: usize,
-        nodes: &mut usize, constraints: &mut usize,
+        nodes: &mut usize, constraints: &mut usize, form: &mut u64,
     ) -> u64;
     fn crr_read_prices(
         constraints: usize, file: *const u8, file_len: usize, prices: *mut u64, prices_len: usize, period: &mut u64,
@@ -29,16 +29,16 @@ fn accepted(what: &str, number: u64) {
 fn main() {
     let load = |name| std::fs::read(name).unwrap_or_default();
     let (grid, book, price_file) = (load("grid.bin"), load("book.bin"), load("prices.bin"));
-    let (mut limits, mut prices, mut factors) = ([0u64; 64], [0u64; 64], [0i64; 12800]);
+    let (mut limits, mut prices, mut factors) = ([0u64; 64], [0u64; 64], vec![0i64; 4000 * 64]);
     let (mut cents, mut priced) = ([0i64; 1000], [0u64; 1000]);
-    let (mut nodes, mut constraints, mut period) = (0, 0, 0);
+    let (mut nodes, mut constraints, mut form, mut period) = (0, 0, 0, 0);
     let (mut set, mut count, mut lowest, mut excess) = (0, 0, 0, 0);
     let (mut sum, mut whole, mut parts) = (0, 0, 0);
     // Each pointer is that of a live buffer of the length beside it, and no two of those lent to be written overlap.
     unsafe {
         accepted("grid", crr_read_grid(
             grid.as_ptr(), grid.len(), limits.as_mut_ptr(), limits.len(), factors.as_mut_ptr(), factors.len(),
-            &mut nodes, &mut constraints,
+            &mut nodes, &mut constraints, &mut form,
         ));
         accepted("prices", crr_read_prices(
             constraints, price_file.as_ptr(), price_file.len(), prices.as_mut_ptr(), prices.len(), &mut period,

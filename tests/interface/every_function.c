@@ -1,7 +1,7 @@
 /*
- * Calls every function of crr.h once, on case L of document 01: each file read and
- * written again, a node retired, the test, the MCC, the hour, the two texts. Also a
- * C++ program.
+ * Calls every function of crr.h, on case L of document 01: each file read and written
+ * again, the grid and the book in both forms, a node retired, the test, the MCC, the
+ * hour, the two texts. Also a C++ program.
  */
 #include <stdint.h>
 #include <stdio.h>
@@ -12,6 +12,11 @@ static uint8_t grid_file[CRR_MAX_GRID_BYTES], book_file[CRR_MAX_BOOK_BYTES], pri
 static uint8_t copy[CRR_MAX_GRID_BYTES], text[CRR_STATEMENT_BYTES];
 static uint64_t limits[CRR_MAX_CONSTRAINTS], prices[CRR_MAX_CONSTRAINTS], rows[6 * CRR_MAX_CONTRACTS], priced[CRR_MAX_CONTRACTS];
 static const uint64_t old_nodes[] = {2}, new_nodes[] = {1};
+/* Case L's grid and book in the wide form, and the cell after each. */
+static const uint8_t wide_grid[] = {0x00, 0x05, 0x00, 0x03, 0x00, 0x30, 0xd4, 0x00, 0x03, 0x0d, 0x40, 0xea, 0x60,
+                                    0xec, 0x78, 0x00, 0x00, 0x00, 0x00, 0x03, 0xd8, 0xf0, 0x27, 0x10, 0x00, 7};
+static const uint8_t wide_book[] = {0x01, 0x3f, 0x40, 0x70, 0x00, 0x00, 0x10, 0x27, 0x10, 0xc0, 0x80, 0x00, 0x00, 0x20, 0x01, 0xf4,
+                                    0x40, 0x70, 0x00, 0x00, 0x20, 0x00, 0x01, 0x00, 0x90, 0x00, 0x00, 0x10, 0x00, 0x05, 7};
 /* Case L's book after node 2 was retired into node 1, and the cell after it. */
 static const uint8_t remapped[] = {0x01, 0x00, 0x40, 0x70, 0x00, 0x10, 0x27, 0x10, 0xc0, 0x80, 0x00, 0x10, 0x01, 0xf4,
                                    0x40, 0x70, 0x00, 0x10, 0x00, 0x01, 0x00, 0x90, 0x00, 0x10, 0x00, 0x05, 7};
@@ -43,15 +48,29 @@ int main(void) {
     size_t book_len = load("book.bin", book_file, sizeof book_file);
     size_t price_len = load("prices.bin", price_file, sizeof price_file);
     size_t nodes = 0, constraints = 0, contracts = 0, bytes = 0, count = 7, lowest = 7;
-    uint64_t period = 7, set = 7, parts = 0;
+    uint64_t form = 7, period = 7, set = 7, parts = 0;
     int64_t excess = 7, sum = 0, whole = 0;
 
-    expect("crr_read_grid", crr_read_grid(grid_file, grid_len, limits, CRR_MAX_CONSTRAINTS, factors, CRR_MAX_NODES * CRR_MAX_CONSTRAINTS, &nodes, &constraints) == CRR_OK
-                                && nodes == 3 && constraints == 2 && limits[0] == 100000 && factors[0] == 60000 && factors[4] == -10000);
-    expect("crr_write_grid", crr_write_grid(nodes, constraints, limits, CRR_MAX_CONSTRAINTS, factors, CRR_MAX_NODES * CRR_MAX_CONSTRAINTS, copy, sizeof copy, &bytes) == CRR_OK
+    expect("crr_read_grid", crr_read_grid(grid_file, grid_len, limits, CRR_MAX_CONSTRAINTS, factors, CRR_MAX_NODES * CRR_MAX_CONSTRAINTS, &nodes, &constraints, &form) == CRR_OK
+                                && form == CRR_NARROW && nodes == 3 && constraints == 2 && limits[0] == 100000 && factors[0] == 60000 && factors[4] == -10000);
+    expect("crr_write_grid", crr_write_grid(form, nodes, constraints, limits, CRR_MAX_CONSTRAINTS, factors, CRR_MAX_NODES * CRR_MAX_CONSTRAINTS, copy, sizeof copy, &bytes) == CRR_OK
                                  && bytes == grid_len && memcmp(copy, grid_file, bytes) == 0);
-    expect("crr_read_book", crr_read_book(nodes, book_file, book_len, rows, 6 * CRR_MAX_CONTRACTS, &contracts) == CRR_OK && contracts == 4 && rows[5] == 10000 && rows[6] == 1);
-    expect("crr_write_book", crr_write_book(nodes, contracts, rows, 6 * CRR_MAX_CONTRACTS, copy, sizeof copy, &bytes) == CRR_OK && bytes == book_len && memcmp(copy, book_file, bytes) == 0);
+    copy[25] = 7;
+    expect("crr_write_grid, wide", crr_write_grid(CRR_WIDE, nodes, constraints, limits, CRR_MAX_CONSTRAINTS, factors, CRR_MAX_NODES * CRR_MAX_CONSTRAINTS, copy, sizeof copy, &bytes) == CRR_OK
+                                       && bytes == 25 && memcmp(copy, wide_grid, sizeof wide_grid) == 0);
+    limits[1] = 7;
+    expect("crr_read_grid, wide", crr_read_grid(wide_grid, 25, limits, CRR_MAX_CONSTRAINTS, factors, CRR_MAX_NODES * CRR_MAX_CONSTRAINTS, &nodes, &constraints, &form) == CRR_OK
+                                      && form == CRR_WIDE && nodes == 3 && constraints == 2 && limits[1] == 50000);
+    expect("crr_read_book", crr_read_book(nodes, book_file, book_len, rows, 6 * CRR_MAX_CONTRACTS, &contracts, &form) == CRR_OK
+                                && form == CRR_NARROW && contracts == 4 && rows[5] == 10000 && rows[6] == 1);
+    expect("crr_write_book", crr_write_book(form, nodes, contracts, rows, 6 * CRR_MAX_CONTRACTS, copy, sizeof copy, &bytes) == CRR_OK
+                                 && bytes == book_len && memcmp(copy, book_file, bytes) == 0);
+    copy[30] = 7;
+    expect("crr_write_book, wide", crr_write_book(CRR_WIDE, nodes, contracts, rows, 6 * CRR_MAX_CONTRACTS, copy, sizeof copy, &bytes) == CRR_OK
+                                       && bytes == 30 && memcmp(copy, wide_book, sizeof wide_book) == 0);
+    rows[11] = 7;
+    expect("crr_read_book, wide", crr_read_book(CRR_MAX_NODES, wide_book, 30, rows, 6 * CRR_MAX_CONTRACTS, &contracts, &form) == CRR_OK
+                                      && form == CRR_WIDE && contracts == 4 && rows[11] == 500);
     copy[26] = 7;
     expect("crr_remap_book", crr_remap_book(nodes, book_file, book_len, old_nodes, 1, new_nodes, 1, copy, sizeof copy, &bytes) == CRR_OK
                                  && bytes == book_len && memcmp(copy, remapped, sizeof remapped) == 0);
@@ -72,6 +91,8 @@ int main(void) {
                                    && starts_with("period,process,verdict,overloaded,lowest,excess,constraints\n", bytes));
     expect("crr_write_statement", crr_write_statement(grid_file, grid_len, book_file, book_len, price_file, price_len, text, sizeof text, &bytes) == CRR_OK
                                       && starts_with("contract,holder,kind,cents,priced\n0,7,OBL,900,2\n1,8,OPT,0,2\n", bytes));
+    expect("crr_write_statement, wide", crr_write_statement(wide_grid, 25, wide_book, 30, price_file, price_len, text, sizeof text, &bytes) == CRR_OK
+                                            && starts_with("contract,holder,kind,cents,priced\n0,7,OBL,900,2\n1,8,OPT,0,2\n", bytes));
     /* A refusal is its number alone. */
     set = 7;
     expect("a refusal", crr_test_book(0, constraints, CRR_MONTHLY, period, limits, constraints, factors, nodes * constraints, book_file, book_len, &set, &count, &lowest, &excess) == CRR_NODE_COUNT

@@ -9,7 +9,7 @@ mod test;
 mod text;
 
 pub use book::{read_book, remap_book, write_book};
-pub use grid::{read_grid, write_grid};
+pub use grid::{read_grid, write_grid, Header};
 pub use prices::{read_prices, write_prices};
 pub use settlement::{find_mcc, settle_hour, Totals};
 pub use test::{test_book, Overload};
@@ -36,9 +36,17 @@ pub const PROCESS_NUMBER: Refusal = 16;
 pub const PERIOD_OR_KIND: Refusal = 17;
 pub const HOLDER_RANGE: Refusal = 18;
 
-pub const MAX_NODES: usize = 200;
+pub const MAX_NODES: usize = 4000;
+pub const MAX_NARROW_NODES: usize = 200;
 pub const MAX_CONSTRAINTS: usize = 64;
 pub const MAX_CONTRACTS: usize = 1000;
+
+/// The two forms of a grid's file and of a book's.
+#[derive(Clone, Copy, Debug, PartialEq, Eq)]
+pub enum Form {
+    Narrow,
+    Wide,
+}
 
 /// The refusal unless the condition holds.
 fn demand(holds: bool, refusal: Refusal) -> Result<(), Refusal> {

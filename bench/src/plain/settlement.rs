@@ -1,4 +1,4 @@
-use super::book::{check_book, contracts, Contract};
+use super::book::{check_book, contracts, Contract, NARROW, WIDE};
 use super::*;
 
 /// The hour's figures: the sum of the rounded cents, and the exact total as whole cents and parts.
@@ -31,7 +31,7 @@ pub fn find_mcc(nodes: usize, constraints: usize, factors: &[i64], prices: &[u64
     Ok(())
 }
 
-fn amount(mcc: &[i64; MAX_NODES], c: Contract) -> i64 {
+fn amount(mcc: &[i64], c: Contract) -> i64 {
     let exact = (mcc[c.sink] - mcc[c.source]) * c.quantity as i64;
     if c.option {
         exact.max(0)
@@ -61,6 +61,34 @@ fn spread(constraints: usize, factors: &[i64], c: Contract) -> u64 {
     source.iter().zip(sink).rev().fold(differing(last_source, last_sink), |set, (from, to)| set << 8 | differing(from, to))
 }
 
+/// An hour's tables, checked.
+struct Hour<'a> {
+    constraints: usize,
+    period: u64,
+    factors: &'a [i64],
+    mcc: &'a [i64],
+    /// The constraints whose price isn't 0.
+    moving: u64,
+}
+
+fn settle<const BYTES: usize>(hour: &Hour, book: &[u8], cents: &mut [i64], priced: &mut [u64]) -> Totals {
+    let (mut sum, mut exact) = (0, 0i128);
+    for ((cell, set), c) in cents.iter_mut().zip(priced).zip(contracts::<BYTES>(book)) {
+        if c.period != hour.period {
+            (*cell, *set) = (0, 0);
+            continue;
+        }
+        let amount = amount(hour.mcc, c);
+        *cell = rounded(amount);
+        *set = hour.moving & spread(hour.constraints, hour.factors, c);
+        sum += *cell;
+        exact += i128::from(amount);
+    }
+    let whole = exact.div_euclid(i128::from(CENT)) as i64;
+    let parts = exact.rem_euclid(i128::from(CENT)) as u64;
+    Totals { sum, whole, parts }
+}
+
 #[inline(never)]
 #[allow(clippy::too_many_arguments)]
 pub fn settle_hour(
@@ -80,25 +108,15 @@ pub fn settle_hour(
     let prices = prices.get(..constraints).ok_or(SHORT_TABLE)?;
     check_factors(factors)?;
     check_prices(prices)?;
-    let count = check_book(nodes, book)?;
+    let (count, form) = check_book(nodes, book)?;
     let cents = cents.get_mut(..count).ok_or(SHORT_TABLE)?;
     let priced = priced.get_mut(..count).ok_or(SHORT_TABLE)?;
-    let mut mcc = [0; MAX_NODES];
-    fill_mcc(constraints, factors, prices, &mut mcc[..nodes]);
+    let mut mcc = vec![0; nodes];
+    fill_mcc(constraints, factors, prices, &mut mcc);
     let moving = set_of(prices.iter().map(|&price| price != 0));
-    let (mut sum, mut exact) = (0, 0i128);
-    for ((cell, set), c) in cents.iter_mut().zip(priced).zip(contracts(book)) {
-        if c.period != period {
-            (*cell, *set) = (0, 0);
-            continue;
-        }
-        let amount = amount(&mcc, c);
-        *cell = rounded(amount);
-        *set = moving & spread(constraints, factors, c);
-        sum += *cell;
-        exact += i128::from(amount);
-    }
-    let whole = exact.div_euclid(i128::from(CENT)) as i64;
-    let parts = exact.rem_euclid(i128::from(CENT)) as u64;
-    Ok(Totals { sum, whole, parts })
+    let hour = Hour { constraints, period, factors, mcc: &mcc, moving };
+    Ok(match form {
+        Form::Narrow => settle::<NARROW>(&hour, book, cents, priced),
+        Form::Wide => settle::<WIDE>(&hour, book, cents, priced),
+    })
 }

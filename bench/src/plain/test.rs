@@ -1,4 +1,4 @@
-use super::book::{check_book, contracts, Contract};
+use super::book::{check_book, contracts, Contract, NARROW, WIDE};
 use super::*;
 
 /// The test's figures: all 0 where the book passes.
@@ -29,11 +29,18 @@ fn add_flow(flows: &mut [i64], factors: &[i64], c: Contract) {
     }
 }
 
+fn carry_contracts<const BYTES: usize>(period: u64, factors: &[i64], book: &[u8], flows: &mut [i64]) {
+    for c in contracts::<BYTES>(book).filter(|c| c.period == period) {
+        add_flow(flows, factors, c);
+    }
+}
+
 /// The flows of one period's contracts; tables and book have been checked.
-pub fn carry(constraints: usize, period: u64, factors: &[i64], book: &[u8]) -> Flows {
+pub fn carry(constraints: usize, period: u64, factors: &[i64], form: Form, book: &[u8]) -> Flows {
     let mut flows = [0; MAX_CONSTRAINTS];
-    for c in contracts(book).filter(|c| c.period == period) {
-        add_flow(&mut flows[..constraints], factors, c);
+    match form {
+        Form::Narrow => carry_contracts::<NARROW>(period, factors, book, &mut flows[..constraints]),
+        Form::Wide => carry_contracts::<WIDE>(period, factors, book, &mut flows[..constraints]),
     }
     flows
 }
@@ -73,7 +80,7 @@ pub fn test_book(
     let factors = factors.get(..nodes * constraints).ok_or(SHORT_TABLE)?;
     check_limits(limits)?;
     check_factors(factors)?;
-    check_book(nodes, book)?;
-    let flows = carry(constraints, period, factors, book);
+    let (_, form) = check_book(nodes, book)?;
+    let flows = carry(constraints, period, factors, form, book);
     Ok(verdict(process, limits, &flows))
 }

@@ -68,6 +68,14 @@ pub fn window6(s: &[u8], first: usize) -> u64
     more(s, first, 5, window5(s, first))
 }
 
+// Seven bytes from `first` on, with no loop: a record of 56 bits.
+pub fn window7(s: &[u8], first: usize) -> u64
+    requires { ⌜ first + 7 ≤ length (now s) ⌝ }
+    ensures { λ r. ⌜ r ≡ number 8 (take 7 (drop first (before s))) ⌝ }
+{
+    more(s, first, 6, window6(s, first))
+}
+
 // The `width` bits of `v` above its `low` lowest.
 pub fn part(v: u64, low: usize, width: usize) -> u64
     requires { ⌜ (low ≤ 63) × (width ≤ 63) ⌝ }
@@ -150,6 +158,15 @@ pub fn store6(buf: &mut [u8], at: usize, v: u64)
 {
     store4(buf, at + 2, v);
     store2(buf, at, v >> 32);
+}
+
+// Stores the seven lowest bytes of `v` from place `at` on: a record of 56 bits.
+pub fn store7(buf: &mut [u8], at: usize, v: u64)
+    requires { ⌜ at + 7 ≤ length (now buf) ⌝ }
+    ensures { λ r. ⌜ after buf ≡ take at (before buf) ++ digits 8 7 v ++ drop (at + 7) (before buf) ⌝ }
+{
+    store6(buf, at + 1, v);
+    store1(buf, at, v >> 48);
 }
 
 // Writes `v` as the next `width` bits: four bytes leave the pen at once, as soon as it holds them.

@@ -13,12 +13,15 @@ use Rattle.tariff.specs.Refusals.{first}
 use Rattle.tariff.specs.Checks.{shortTable}
 use Rattle.tariff.specs.Units.{maxNodes, maxContracts, maxHolder}
 use Rattle.tariff.proofs.Checks.{passed-cons, passed-append, nodes-few-of}
-use Rattle.layouts.specs.BookFile.{endBits, bookBytes, contractCountIn}
+use Rattle.layouts.specs.declared.forms.Form.{Form}
+use Rattle.layouts.specs.Forms.{endWidth, endsBelow}
+use Rattle.layouts.specs.BookFile.{bookBytes, contractCountIn}
 use Rattle.layouts.specs.BookTable.{contractCells, rowFrom, rowAt, rowsIn}
 use Rattle.layouts.specs.Inner.{ContractFits}
+use Rattle.layouts.proofs.BookFile.{ends-fewer}
 use Rattle.books.specs.BookChecks.{checksTo, contractChecks, bookChecks}
 use Rattle.books.proofs.Checking.{checks-each}
-use Rattle.books.proofs.Accepted.{Accepted, contract-in-range, book-accepted}
+use Rattle.books.proofs.Accepted.{Accepted, contract-in-range, checks-below, book-accepted}
 use Rattle.books.proofs.Making.{Made, in-range-fits, book-made}
 use Rattle.book_file.specs.ReadBook.{ReadBookCall, readBookChecks, readBookChecked}
 use Rattle.book_file.specs.WriteBook.{WriteBookCall, rowChecks, writeBookChecks, writeBookChecked, bookWritten}
@@ -38,47 +41,50 @@ readable q e =
 
 -- ---- writing
 
--- a row that its checks accept
-pub record GoodRow (n : ℕ) (table : List ℕ) (i : ℕ) : Type 0 where
+-- a row that its checks accept in the form f
+pub record GoodRow (f : Form) (n : ℕ) (table : List ℕ) (i : ℕ) : Type 0 where
   pub kind-is-bit : getD table (contractCells * i) 0 ≤ 1
   pub period-is-bit : getD table (contractCells * i + 1) 0 ≤ 1
   pub passes : first (contractChecks n (rowAt table i)) ≡ Passed
-  pub fits : ContractFits endBits (rowAt table i)
+  pub fits : ContractFits (endWidth f) (rowAt table i)
 
-row-good : (n : ℕ) → n ≤ maxNodes → (table : List ℕ) (i : ℕ) → first (rowChecks n table i) ≡ Passed → GoodRow n table i
+row-good : (f : Form) (n : ℕ) → n ≤ maxNodes → (table : List ℕ) (i : ℕ) → first (rowChecks (endsBelow f n) table i) ≡ Passed → GoodRow f n table i
 unfolding rowChecks rowFrom
-row-good n few table i e =
+row-good f n few table i e =
     let at = contractCells * i in
     let p = passed-cons _ _ e in
     let bits = neither (ltb 1 (getD table at 0)) (ltb 1 (getD table (at + 1) 0)) (p .0) in
     let q = passed-cons _ _ (p .1) in
+    let c = rowAt table i in
+    let r = contract-in-range (endsBelow f n) c (q .1) in
     record {
       kind-is-bit = ltb-false 1 (getD table at 0) (bits .0);
       period-is-bit = ltb-false 1 (getD table (at + 1) 0) (bits .1);
-      passes = q .1;
-      fits = in-range-fits n (rowAt table i) few (contract-in-range n (rowAt table i) (q .1)) (ltb-false maxHolder (getD table (at + 2) 0) (q .0));
+      passes = checks-below (endsBelow f n) n c (omega (arith, ends-fewer f n, r .source-below)) (omega (arith, ends-fewer f n, r .sink-below)) (q .1);
+      fits = in-range-fits f n c few r (ltb-false maxHolder (getD table (at + 2) 0) (q .0));
     }
 
 pub record Writable (q : WriteBookCall) : Type 0 where
   pub few : q .contracts ≤ maxContracts
   pub long : contractCells * q .contracts ≤ length (q .table)
-  pub rows : (i : ℕ) → i < q .contracts → GoodRow (q .nodes) (q .table) i
-  pub room : bookBytes (q .contracts) ≤ length (q .place)
+  pub rows : (i : ℕ) → i < q .contracts → GoodRow (q .form) (q .nodes) (q .table) i
+  pub room : bookBytes (q .form) (q .contracts) ≤ length (q .place)
 
 pub writable : (q : WriteBookCall) → writeBookChecked q ≡ Passed → Writable q
 unfolding writeBookChecks
 writable q e =
     let m = q .contracts in
-    let rows = rowChecks (q .nodes) (q .table) in
+    let rows = rowChecks (endsBelow (q .form) (q .nodes)) (q .table) in
+    let size = bookBytes (q .form) m in
     let a = passed-cons _ _ e in
     let b = passed-cons _ _ (a .1) in
     let c = passed-cons _ _ (b .1) in
-    let d = passed-append (checksTo m rows) (shortTable (length (q .place)) (bookBytes m) ∷ []) (c .1) in
+    let d = passed-append (checksTo m rows) (shortTable (length (q .place)) size ∷ []) (c .1) in
     record {
       few = ltb-false maxContracts m (b .0);
       long = ltb-false (length (q .table)) (contractCells * m) (c .0);
-      rows = λ i h. row-good (q .nodes) (nodes-few-of (q .nodes) (a .0)) (q .table) i (checks-each rows m (d .0) i h);
-      room = ltb-false (length (q .place)) (bookBytes m) (passed-cons _ _ (d .1) .0);
+      rows = λ i h. row-good (q .form) (q .nodes) (nodes-few-of (q .nodes) (a .0)) (q .table) i (checks-each rows m (d .0) i h);
+      room = ltb-false (length (q .place)) size (passed-cons _ _ (d .1) .0);
     }
 
 -- the file of such rows
@@ -86,14 +92,14 @@ module _ (q : WriteBookCall) (ok : Writable q) where
   rows-many : length (rowsIn (q .contracts) (q .table)) ≡ q .contracts
   rows-many = length-listTo (q .contracts) (rowAt (q .table))
 
-  pub rows-made : Made (q .nodes) (rowsIn (q .contracts) (q .table))
+  pub rows-made : Made (q .form) (q .nodes) (rowsIn (q .contracts) (q .table))
   rows-made =
-      book-made (q .nodes) (rowsIn (q .contracts) (q .table)) (omega (arith, ok .few, rows-many))
-      (each-listTo (ContractFits endBits) (q .contracts) (rowAt (q .table)) (λ i h. ok .rows i h .fits))
+      book-made (q .form) (q .nodes) (rowsIn (q .contracts) (q .table)) (omega (arith, ok .few, rows-many))
+      (each-listTo (ContractFits (endWidth (q .form))) (q .contracts) (rowAt (q .table)) (λ i h. ok .rows i h .fits))
       (each-listTo (λ c. first (contractChecks (q .nodes) c) ≡ Passed) (q .contracts) (rowAt (q .table)) (λ i h. ok .rows i h .passes))
 
   pub count-written : contractCountIn (bookWritten q) ≡ q .contracts
   count-written = rows-made .count ∙ rows-many
 
-  pub length-written : length (bookWritten q) ≡ bookBytes (q .contracts)
-  length-written = rows-made .size ∙ ap bookBytes rows-many
+  pub length-written : length (bookWritten q) ≡ bookBytes (q .form) (q .contracts)
+  length-written = rows-made .size ∙ ap (bookBytes (q .form)) rows-many

@@ -9,6 +9,7 @@ use Rattle.tariff.specs.Refusals.{first}
 use Rattle.tariff.specs.Checks.{nodeCount, shortTable}
 use Rattle.tariff.specs.Units.{maxContracts}
 use Rattle.tariff.proofs.Checks.{first-passes}
+use Rattle.layouts.specs.Forms.{endsBelow}
 use Rattle.layouts.specs.BookFile.{bookBytes}
 use Rattle.layouts.specs.BookTable.{contractCells}
 use Rattle.books.specs.BookChecks.{checksTo}
@@ -16,6 +17,6 @@ use Rattle.book_file.specs.WriteBook.{WriteBookCall, rowChecks, writeBoo
 
 -- past 2, 10 and 9: row by row, then 9
 pub then-rows : (q : WriteBookCall) → nodeCount (q .nodes) .fails ≡ false → q .contracts ≤ maxContracts → contractCells * q .contracts ≤ length (q .table)
-    → writeBookChecked q ≡ first (checksTo (q .contracts) (rowChecks (q .nodes) (q .table)) ++ shortTable (length (q .place)) (bookBytes (q .contracts)) ∷ [])
+    → writeBookChecked q ≡ first (checksTo (q .contracts) (rowChecks (endsBelow (q .form) (q .nodes)) (q .table)) ++ shortTable (length (q .place)) (bookBytes (q .form) (q .contracts)) ∷ [])
 unfolding writeBookChecks
 then-rows q right few long = first-passes _ _ right ∙ first-passes _ _ (le-ltb _ _ few) ∙ first-passes _ _ (le-ltb _ _ long)

@@ -9,7 +9,7 @@ use lib.ListN.{length, take}
 use Rattle.bits.proofs.Numbers.{Below}
 use Rattle.tariff.specs.declared.refusals.Checked.the-variants.{Passed}
 use Rattle.tariff.proofs.Checks.{first-passes, last-passes, passed-cons, append-passes}
-use Rattle.layouts.specs.BookFile.{bookFile, contractCountIn, bookIn}
+use Rattle.layouts.specs.BookFile.{bookFile, contractCountIn, bookFormIn, bookIn}
 use Rattle.layouts.specs.BookTable.{contractCells, cellsOf, rowsIn}
 use Rattle.layouts.proofs.BookFile.{book-read}
 use Rattle.layouts.proofs.BookTable.{cells-rows}
@@ -20,7 +20,7 @@ use Rattle.book_file.proofs.Accepted.{Writable, readable, writable, row
 
 -- ---- read, then written
 
-pub read-then-written : (q : ReadBookCall) → Below 8 (q .file) → readBookChecked q ≡ Passed → bookFile (bookIn (q .file)) ≡ q .file
+pub read-then-written : (q : ReadBookCall) → Below 8 (q .file) → readBookChecked q ≡ Passed → bookFile (bookFormIn (q .file)) (bookIn (q .file)) ≡ q .file
 read-then-written q b e = let ok = readable q e .own in book-read (q .file) b (ok .size) (ok .spare)
 
 -- ---- written, then read
@@ -29,6 +29,7 @@ read-then-written q b e = let ok = readable q e .own in book-read (q .file) b (o
 pub record ReadBack (q : WriteBookCall) : Type 0 where
   pub passes : (table : List ℕ) → contractCells * q .contracts ≤ length table → readBookChecked (readBookCall (q .nodes) (bookWritten q) table) ≡ Passed
   pub count : contractCountIn (bookWritten q) ≡ q .contracts
+  pub form : bookFormIn (bookWritten q) ≡ q .form
   pub rows-are : bookIn (bookWritten q) ≡ rowsIn (q .contracts) (q .table)
   pub cells-are : flatMap cellsOf (bookIn (bookWritten q)) ≡ take (contractCells * q .contracts) (q .table)
 
@@ -47,6 +48,7 @@ module _ (q : WriteBookCall) (e : writeBookChecked q ≡ Passed) where
       record {
         passes = not-refused;
         count = count-written q ok;
+        form = rows-made q ok .form;
         rows-are = rows-made q ok .contracts;
         cells-are =
             ap (flatMap cellsOf) (rows-made q ok .contracts)

@@ -15,13 +15,16 @@ use Rattle.tariff.specs.Units.{maxHolder, maxContracts}
 use Rattle.tariff.specs.Refusals.{first}
 use Rattle.tariff.specs.Checks.{shortTable}
 use Rattle.tariff.proofs.Checks.{first-passes, first-append, last-passes, passed-cons, passed-append}
-use Rattle.layouts.specs.BookFile.{contractBits, endBits, bookBytes, contractCountIn, contractAt, bookIn}
+use Rattle.layouts.specs.declared.forms.Form.{Form}
+use Rattle.layouts.specs.Forms.{endsBelow}
+use Rattle.layouts.specs.BookFile.{bookBytes, contractCountIn, bookFormIn, contractAt, bookIn}
 use Rattle.layouts.specs.BookTable.{contractCells, cellsOf, rowFrom, rowAt, rowsIn}
-use Rattle.layouts.proofs.BookFile.{length-bookIn, contract-fits}
+use Rattle.layouts.proofs.BookFile.{length-bookIn, contract-in-fits, end-below}
 use Rattle.layouts.proofs.ContractBits.{kind-lt, period-lt, contract-is}
 use Rattle.layouts.proofs.BookTable.{length-cells}
 use Rattle.books.specs.BookChecks.{checksTo, contractChecks, bookChecks}
 use Rattle.books.proofs.Checking.{checks-all, checks-each}
+use Rattle.books.proofs.Accepted.{checks-below}
 use Rattle.book_file.specs.ReadBook.{readBookCall, readBookChecks, readBookChecked}
 use Rattle.book_file.specs.WriteBook.{writeBookCall, rowChecks, writeBookChecks, writeBookChecked}
 use Rattle.book_file.proofs.Accepted.{Readable, readable}
@@ -45,6 +48,9 @@ cell-at (c ∷ cs) (suc i) j d h b = behind c (flatMap cellsOf cs) (contractCell
 module _ (n : ℕ) (s entry : List ℕ) (e : readBookChecked (readBookCall n s entry) ≡ Passed) where
   abbrev M : ℕ
   M = contractCountIn s
+
+  abbrev F : Form
+  F = bookFormIn s
 
   abbrev cells : List ℕ
   cells = flatMap cellsOf (bookIn s)
@@ -76,25 +82,29 @@ module _ (n : ℕ) (s entry : List ℕ) (e : readBookChecked (readBookCall n s e
   pub rows-left : rowsIn M left ≡ bookIn s
   rows-left = listTo-cong M (rowAt left) (contractAt s) row-left
 
-  row-passes : (i : ℕ) → i < M → first (rowChecks n left i) ≡ Passed
+  row-passes : (i : ℕ) → i < M → first (rowChecks (endsBelow F n) left i) ≡ Passed
   unfolding bookChecks readBookChecks rowChecks cellsOf
   row-passes i h =
       let c = contractAt s i in
+      let fits = contract-in-fits F s i in
+      let in-range = ok .own .each i h in
       let kind : getD left (contractCells * i) 0 ≤ 1 = omega (arith, first-left i h, kind-lt (c .kind)) in
       let period : getD left (contractCells * i + 1) 0 ≤ 1 = omega (arith, cell-left i 1 h (omega arith), period-lt (c .period)) in
-      let holder : getD left (contractCells * i + 2) 0 ≤ maxHolder = omega (arith, cell-left i 2 h (omega arith), contract-fits endBits s (16 + contractBits endBits * i) .holder-fits) in
+      let holder : getD left (contractCells * i + 2) 0 ≤ maxHolder = omega (arith, cell-left i 2 h (omega arith), fits .holder-fits) in
       let own = passed-append (bookChecks n s) (shortTable (length entry) (contractCells * M) ∷ []) (passed-cons _ _ e .1) .0 in
       let each = passed-cons _ _ (passed-cons _ _ (passed-cons _ _ (passed-cons _ _ own .1) .1) .1) .1 in
       first-passes _ _ (rw (le-ltb 1 (getD left (contractCells * i) 0) kind) (le-ltb 1 (getD left (contractCells * i + 1) 0) period))
       ∙ first-passes _ _ (le-ltb maxHolder (getD left (contractCells * i + 2) 0) holder)
-      ∙ rw (row-left i h) (checks-each (λ j. contractChecks n (contractAt s j)) M each i h)
+      ∙ rw (row-left i h)
+      (checks-below n (endsBelow F n) c (end-below F n (c .source) (in-range .source-below) (fits .source-fits)) (end-below F n (c .sink) (in-range .sink-below) (fits .sink-fits))
+      (checks-each (λ j. contractChecks n (contractAt s j)) M each i h))
 
-  pub rows-accepted : (place : List ℕ) → length s ≤ length place → writeBookChecked (writeBookCall n M left place) ≡ Passed
+  pub rows-accepted : (place : List ℕ) → length s ≤ length place → writeBookChecked (writeBookCall F n M left place) ≡ Passed
   unfolding readBookChecks writeBookChecks
   rows-accepted place room =
-      let rows = rowChecks n left in
+      let rows = rowChecks (endsBelow F n) left in
       first-passes _ _ (passed-cons _ _ e .0)
       ∙ first-passes _ _ (le-ltb maxContracts M (ok .own .few))
       ∙ first-passes _ _ (le-ltb (length left) (contractCells * M) (front-room cells entry (contractCells * M) cells-many))
-      ∙ first-append (checksTo M rows) (shortTable (length place) (bookBytes M) ∷ [])
-      ∙ rw (checks-all rows M row-passes) (last-passes _ (le-ltb (length place) (bookBytes M) (omega (arith, ok .own .size))))
+      ∙ first-append (checksTo M rows) (shortTable (length place) (bookBytes F M) ∷ [])
+      ∙ rw (checks-all rows M row-passes) (last-passes _ (le-ltb (length place) (bookBytes F M) (omega (arith, ok .own .size))))

@@ -1,4 +1,5 @@
--- Writing a book from a table of six cells a contract (document 01, "When input is turned down" and "The three files").
+-- Writing a book from a table of six cells a contract (document 01, "When input is turned down" and "The three files"; document 02, paper 9: "writers are told
+-- which to write").
 use mathlib.Core.List.{List, [], _∷_, _++_}
 use Prim.Native.Nat.{ℕ, _+_, _*_}
 use lib.ListN.{length, getD}
@@ -7,37 +8,40 @@ use Rattle.tariff.specs.declared.refusals.Checked.{Checked}
 use Rattle.tariff.specs.Refusals.{Check, first}
 use Rattle.tariff.specs.Checks.{nodeCount, contractCount, kindAndPeriod, holderRange, shortTable}
 use Rattle.layouts.specs.declared.WriteAnswer.{WriteAnswer}
+use Rattle.layouts.specs.declared.forms.Form.{Form}
+use Rattle.layouts.specs.Forms.{endsBelow}
 use Rattle.layouts.specs.BookFile.{bookBytes, bookFile}
 use Rattle.layouts.specs.BookTable.{contractCells, rowAt, rowsIn}
 use Rattle.layouts.specs.Writing.{Writes, WritesForC}
 use Rattle.books.specs.BookChecks.{checksTo, contractChecks}
 
--- the node count, how many contracts, the table, and the place for the file as it is at entry
+-- the form, the node count, how many contracts, the table, and the place for the file as it is at entry
 pub record WriteBookCall : Type 0 where
+  pub form : Form
   pub nodes : ℕ
   pub contracts : ℕ
   pub table : List ℕ
   pub place : List ℕ
 
-abbrev pub writeBookCall : ℕ → ℕ → List ℕ → List ℕ → WriteBookCall
-writeBookCall n m table place = record { nodes = n; contracts = m; table = table; place = place }
+abbrev pub writeBookCall : Form → ℕ → ℕ → List ℕ → List ℕ → WriteBookCall
+writeBookCall f n m table place = record { form = f; nodes = n; contracts = m; table = table; place = place }
 
--- contract by contract: "17 (here kind or period not 0 or 1), 18 (holder above 1,023), 11", 13
+-- contract by contract: "17 (here kind or period not 0 or 1), 18 (holder above 1,023), 11", 13, where an end not below so many draws 11
 unfoldable pub rowChecks : ℕ → List ℕ → ℕ → List Check
-rowChecks n table i =
+rowChecks below table i =
     kindAndPeriod (getD table (contractCells * i) 0) (getD table (contractCells * i + 1) 0)
     ∷ holderRange (getD table (contractCells * i + 2) 0)
-    ∷ contractChecks n (rowAt table i)
+    ∷ contractChecks below (rowAt table i)
 
 module _ (q : WriteBookCall) where
-  -- "2 for the node count, 10, 9, then contract by contract .., and 9 last"
+  -- "2 for the node count, 10, 9, then contract by contract .., and 9 last"; "a narrow book's writer refuses an end above 255 by 11"
   unfoldable pub writeBookChecks : List Check
   writeBookChecks =
       nodeCount (q .nodes)
       ∷ contractCount (q .contracts)
       ∷ shortTable (length (q .table)) (contractCells * q .contracts)
-      ∷ checksTo (q .contracts) (rowChecks (q .nodes) (q .table))
-      ++ shortTable (length (q .place)) (bookBytes (q .contracts))
+      ∷ checksTo (q .contracts) (rowChecks (endsBelow (q .form) (q .nodes)) (q .table))
+      ++ shortTable (length (q .place)) (bookBytes (q .form) (q .contracts))
       ∷ []
 
   abbrev pub writeBookChecked : Checked
@@ -45,7 +49,7 @@ module _ (q : WriteBookCall) where
 
   -- the file written
   abbrev pub bookWritten : List ℕ
-  bookWritten = bookFile (rowsIn (q .contracts) (q .table))
+  bookWritten = bookFile (q .form) (rowsIn (q .contracts) (q .table))
 
 -- the promise: the answer, and the place at exit
 abbrev pub WritesBook : WriteBookCall → WriteAnswer → List ℕ → Type 0

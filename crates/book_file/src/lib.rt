@@ -7,15 +7,15 @@ ghost use Rattle.lists.specs.Lent.{before, after, overwrite};
 ghost use Rattle.lists.specs.Lists.{listTo};
 ghost use Rattle.tariff.specs.Units.{maxContracts};
 ghost use Rattle.tariff.specs.Refusals.{first};
-ghost use Rattle.layouts.specs.BookFile.{endBits, bookBytes, bookFile, contractAt};
+ghost use Rattle.layouts.specs.Forms.{endWidth};
+ghost use Rattle.layouts.specs.BookFile.{bookBytes, bookFile, contractIn};
 ghost use Rattle.layouts.specs.BookTable.{contractCells, cellsOf, rowFrom, rowAt, rowsIn};
 ghost use Rattle.layouts.specs.Inner.{ContractFits};
 ghost use Rattle.books.specs.BookChecks.{checksTo};
 ghost use Rattle.book_file.specs.ReadBook.{readBookCall, readBookChecked, ReadsBook};
 ghost use Rattle.book_file.specs.WriteBook.{writeBookCall, rowChecks, writeBookChecked, WritesBook};
-use layouts::BOOK_HEADER_BYTES;
-use layouts::CONTRACT_BYTES;
 use layouts::CONTRACT_CELLS;
+use layouts::Form;
 use layouts::WriteAnswer;
 use tariff::Checked;
 use tariff::Contract;
@@ -26,9 +26,9 @@ use tariff::Period;
 use tariff::Quantity;
 use tariff::Refusal;
 
-// What reading a book gives: how many contracts were read, or the refusal.
+// What reading a book gives: how many contracts were read, and in which form, or the refusal.
 pub enum BookAnswer {
-    Read { contracts: usize },
+    Read { contracts: usize, form: Form },
     Refused(Refusal),
 }
 
@@ -64,19 +64,19 @@ fn store_row(book: &mut [u64], at: usize, c: Contract)
     book[at + 5] = quantity.cell();
 }
 
-// Stores the file's contracts into the first cells.
-fn read_contracts(file: &[u8], contracts: usize, book: &mut [u64])
-    requires { ⌜ (contracts ≤ maxContracts) × (bookBytes contracts ≤ length (now file)) × (contractCells * contracts ≤ length (now book)) ⌝ }
-    ensures { λ r. ⌜ after book ≡ overwrite (flatMap cellsOf (listTo contracts (contractAt (before file)))) (before book) ⌝ }
+// Stores the contracts of a file in a form into the first cells.
+fn read_contracts(file: &[u8], form: Form, contracts: usize, book: &mut [u64])
+    requires { ⌜ (contracts ≤ maxContracts) × (bookBytes form contracts ≤ length (now file)) × (contractCells * contracts ≤ length (now book)) ⌝ }
+    ensures { λ r. ⌜ after book ≡ overwrite (flatMap cellsOf (listTo contracts (contractIn form (before file)))) (before book) ⌝ }
 {
     let mut i = 0;
     while i < contracts {
-        store_row(book, CONTRACT_CELLS * i, books::contract_at(file, i));
+        store_row(book, CONTRACT_CELLS * i, books::contract_at(file, form, i));
         i += 1;
     }
 }
 
-// Reads a book for a grid of `nodes` nodes into a table of six cells a contract.
+// Reads a book, in whichever form it is, for a grid of `nodes` nodes into a table of six cells a contract.
 pub fn read_book(nodes: usize, file: &[u8], book: &mut [u64]) -> BookAnswer
     ensures { λ r. ⌜ ReadsBook (readBookCall nodes (before file) (before book)) r (after book) ⌝ }
 {
@@ -84,8 +84,9 @@ pub fn read_book(nodes: usize, file: &[u8], book: &mut [u64]) -> BookAnswer
         Checked::Refused(refusal) => BookAnswer::Refused(refusal),
         Checked::Passed => {
             let contracts = books::contract_count(file);
-            read_contracts(file, contracts, book);
-            BookAnswer::Read { contracts }
+            let form = books::book_form(file);
+            read_contracts(file, form, contracts, book);
+            BookAnswer::Read { contracts, form }
         }
     }
 }
@@ -111,10 +112,10 @@ fn row_from(cells: &[u64], at: usize) -> Contract
     }
 }
 
-// A row's checks: 17, 18, 11, 13.
-fn check_row(nodes: usize, cells: &[u64], i: usize) -> Checked
+// A row's checks, its ends held to be below a number: 17, 18, 11, 13.
+fn check_row(below: usize, cells: &[u64], i: usize) -> Checked
     requires { ⌜ (i < maxContracts) × (contractCells * i + contractCells ≤ length (now cells)) ⌝ }
-    ensures { λ r. ⌜ r ≡ first (rowChecks nodes (before cells) i) ⌝ }
+    ensures { λ r. ⌜ r ≡ first (rowChecks below (before cells) i) ⌝ }
 {
     let at = CONTRACT_CELLS * i;
     if 1 < cells[at] {
@@ -127,7 +128,7 @@ fn check_row(nodes: usize, cells: &[u64], i: usize) -> Checked
         return Checked::Refused(Refusal::HolderRange);
     }
     books::check_numbers(
-        nodes,
+        below,
         cells[at + 3] as usize,
         cells[at + 4] as usize,
         cells[at + 5],
@@ -135,13 +136,13 @@ fn check_row(nodes: usize, cells: &[u64], i: usize) -> Checked
 }
 
 // The checks of the first `contracts` rows, one after the other.
-fn check_rows(nodes: usize, contracts: usize, cells: &[u64]) -> Checked
+fn check_rows(below: usize, contracts: usize, cells: &[u64]) -> Checked
     requires { ⌜ (contracts ≤ maxContracts) × (contractCells * contracts ≤ length (now cells)) ⌝ }
-    ensures { λ r. ⌜ r ≡ first (checksTo contracts (rowChecks nodes (before cells))) ⌝ }
+    ensures { λ r. ⌜ r ≡ first (checksTo contracts (rowChecks below (before cells))) ⌝ }
 {
     let mut i = 0;
     while i < contracts {
-        let checked = check_row(nodes, cells, i);
+        let checked = check_row(below, cells, i);
         if let Checked::Refused(refusal) = checked {
             return Checked::Refused(refusal);
         }
@@ -151,8 +152,8 @@ fn check_rows(nodes: usize, contracts: usize, cells: &[u64]) -> Checked
 }
 
 // The writer's checks, with `bytes` lent bytes for the file: 2, 10, 9, row by row, 9.
-fn check_write(nodes: usize, contracts: usize, book: &[u64], bytes: usize) -> Checked
-    ensures { λ r. ⌜ ((place : List ℕ) → length place ≡ bytes → r ≡ writeBookChecked (writeBookCall nodes contracts (before book) place)) ⌝ }
+fn check_write(form: Form, nodes: usize, contracts: usize, book: &[u64], bytes: usize) -> Checked
+    ensures { λ r. ⌜ ((place : List ℕ) → length place ≡ bytes → r ≡ writeBookChecked (writeBookCall form nodes contracts (before book) place)) ⌝ }
 {
     if tariff::nodes_bad(nodes) {
         return Checked::Refused(Refusal::NodeCount);
@@ -163,40 +164,45 @@ fn check_write(nodes: usize, contracts: usize, book: &[u64], bytes: usize) -> Ch
     if book.len() < CONTRACT_CELLS * contracts {
         return Checked::Refused(Refusal::ShortTable);
     }
-    if let Checked::Refused(refusal) = check_rows(nodes, contracts, book) {
+    if let Checked::Refused(refusal) = check_rows(form.ends_below(nodes), contracts, book) {
         return Checked::Refused(refusal);
     }
-    if bytes < BOOK_HEADER_BYTES + CONTRACT_BYTES * contracts {
+    if bytes < form.book_bytes(contracts) {
         return Checked::Refused(Refusal::ShortTable);
     }
     Checked::Passed
 }
 
-// Writes the header and the first `contracts` rows.
-fn write_contracts(cells: &[u64], contracts: usize, file: &mut [u8])
-    requires { ⌜ (contracts ≤ maxContracts) × (contractCells * contracts ≤ length (now cells)) × (bookBytes contracts ≤ length (now file)) ⌝ }
-    requires { ⌜ ((i : ℕ) → i < contracts → ContractFits endBits (rowAt (now cells) i)) ⌝ }
-    ensures { λ r. ⌜ after file ≡ overwrite (bookFile (rowsIn contracts (before cells))) (before file) ⌝ }
+// Writes the header and the first `contracts` rows in a form.
+fn write_contracts(form: Form, cells: &[u64], contracts: usize, file: &mut [u8])
+    requires { ⌜ (contracts ≤ maxContracts) × (contractCells * contracts ≤ length (now cells)) × (bookBytes form contracts ≤ length (now file)) ⌝ }
+    requires { ⌜ ((i : ℕ) → i < contracts → ContractFits (endWidth form) (rowAt (now cells) i)) ⌝ }
+    ensures { λ r. ⌜ after file ≡ overwrite (bookFile form (rowsIn contracts (before cells))) (before file) ⌝ }
 {
-    books::store_header(file, contracts);
+    books::store_header(file, form, contracts);
     let mut i = 0;
     while i < contracts {
-        books::store_contract(file, i, row_from(cells, CONTRACT_CELLS * i));
+        books::store_contract(file, form, i, row_from(cells, CONTRACT_CELLS * i));
         i += 1;
     }
 }
 
-// Writes the first `contracts` rows of a table as a book for a grid of `nodes` nodes.
-pub fn write_book(nodes: usize, contracts: usize, book: &[u64], file: &mut [u8]) -> WriteAnswer
-    ensures { λ r. ⌜ WritesBook (writeBookCall nodes contracts (before book) (before file)) r (after file) ⌝ }
+// Writes the first `contracts` rows of a table as a book in a form for a grid of `nodes` nodes.
+pub fn write_book(
+    form: Form,
+    nodes: usize,
+    contracts: usize,
+    book: &[u64],
+    file: &mut [u8],
+) -> WriteAnswer
+    ensures { λ r. ⌜ WritesBook (writeBookCall form nodes contracts (before book) (before file)) r (after file) ⌝ }
 {
-    match check_write(nodes, contracts, book, file.len()) {
+    match check_write(form, nodes, contracts, book, file.len()) {
         Checked::Refused(refusal) => WriteAnswer::Refused(refusal),
         Checked::Passed => {
-            write_contracts(book, contracts, file);
-            WriteAnswer::Written {
-                bytes: BOOK_HEADER_BYTES + CONTRACT_BYTES * contracts,
-            }
+            write_contracts(form, book, contracts, file);
+            let bytes = form.book_bytes(contracts);
+            WriteAnswer::Written { bytes }
         }
     }
 }

@@ -2,7 +2,7 @@
 use mathlib.Core.Path.{_≡_, sym, ap, _∙_}
 use mathlib.Core.Bool.{false}
 use mathlib.Core.List.{List, [], _∷_, _++_, map}
-use Prim.Native.Nat.{ℕ, _≤_, _<_}
+use Prim.Native.Nat.{ℕ, _^_, _≤_, _<_}
 use native.Mathlib.Omega.{arith}
 use borrow.Author.Tests.{ltb-false, leb-false, lt-leb}
 use lib.Dec.{leb}
@@ -16,9 +16,11 @@ use Rattle.tariff.specs.Inner.{InRange}
 use Rattle.tariff.specs.Refusals.{first}
 use Rattle.tariff.specs.Checks.{nodeNumber, shortTable}
 use Rattle.tariff.proofs.Checks.{first-passes, passed-cons, passed-append, nodes-few-of, same-of}
-use Rattle.layouts.specs.BookFile.{endBits, bookBytes, bookFile, contractCountIn, contractAt, bookIn}
+use Rattle.layouts.specs.declared.forms.Form.{Form}
+use Rattle.layouts.specs.Forms.{endWidth, endsBelow}
+use Rattle.layouts.specs.BookFile.{bookBytes, bookFile, contractCountIn, bookFormIn, contractAt, bookIn}
 use Rattle.layouts.specs.Inner.{ContractFits}
-use Rattle.layouts.proofs.BookFile.{contract-fits}
+use Rattle.layouts.proofs.BookFile.{contract-in-fits, ends-fewer, end-below, end-fits}
 use Rattle.books.specs.BookChecks.{contractChecks, bookChecks}
 use Rattle.books.proofs.Accepted.{Accepted, contract-in-range, contracts-pass, book-accepted}
 use Rattle.books.proofs.Making.{Made, book-made}
@@ -29,8 +31,8 @@ use Rattle.book_remap.proofs.Moving.{moved-below}
 pub record Remappable (q : RemapBookCall) : Type 0 where
   pub accepted : first (bookChecks (q .nodes) (q .book)) ≡ Passed
   pub listed : Listed (q .nodes) (q .olds) (q .news)
-  pub new-good : some (leb (q .nodes)) (q .news) ≡ false
-  pub room : bookBytes (contractCountIn (q .book)) ≤ length (q .place)
+  pub new-good : some (leb (endsBelow (bookFormIn (q .book)) (q .nodes))) (q .news) ≡ false
+  pub room : bookBytes (bookFormIn (q .book)) (contractCountIn (q .book)) ≤ length (q .place)
 
 all-below : (n : ℕ) (xs : List ℕ) → some (leb n) xs ≡ false → (i : ℕ) → i < length xs → getD xs i 0 < n
 all-below n xs good i h = leb-false n (getD xs i 0) (none-bad (leb n) xs 0 good i h)
@@ -38,9 +40,10 @@ all-below n xs good i h = leb-false n (getD xs i 0) (none-bad (leb n) xs 0 good 
 pub remappable : (q : RemapBookCall) → remapBookChecked q ≡ Passed → Remappable q
 unfolding remapBookChecks
 remappable q e =
-    let room = shortTable (length (q .place)) (bookBytes (contractCountIn (q .book))) ∷ [] in
+    let form = bookFormIn (q .book) in
+    let room = shortTable (length (q .place)) (bookBytes form (contractCountIn (q .book))) ∷ [] in
     let a = passed-cons _ _ e in
-    let b = passed-append (bookChecks (q .nodes) (q .book)) (listedNodes (q .nodes) (q .olds) ∷ listedNodes (q .nodes) (q .news) ∷ unequalLists (q .olds) (q .news) ∷ room) (a .1) in
+    let b = passed-append (bookChecks (q .nodes) (q .book)) (listedNodes (q .nodes) (q .olds) ∷ listedNodes (endsBelow form (q .nodes)) (q .news) ∷ unequalLists (q .olds) (q .news) ∷ room) (a .1) in
     let c = passed-cons _ _ (b .1) in
     let d = passed-cons _ _ (c .1) in
     let f = passed-cons _ _ (d .1) in
@@ -51,10 +54,10 @@ remappable q e =
             few = nodes-few-of (q .nodes) (a .0);
             pairs = same-of (length (q .olds)) (length (q .news)) (f .0);
             old-below = all-below (q .nodes) (q .olds) (c .0);
-            new-below = all-below (q .nodes) (q .news) (d .0);
+            new-below = λ i h. omega (arith, all-below (endsBelow form (q .nodes)) (q .news) (d .0) i h, ends-fewer form (q .nodes));
           };
       new-good = d .0;
-      room = ltb-false (length (q .place)) (bookBytes (contractCountIn (q .book))) (passed-cons _ _ (f .1) .0);
+      room = ltb-false (length (q .place)) (bookBytes form (contractCountIn (q .book))) (passed-cons _ _ (f .1) .0);
     }
 
 module _ (q : RemapBookCall) (ok : Remappable q) where
@@ -65,18 +68,22 @@ module _ (q : RemapBookCall) (ok : Remappable q) where
   abbrev movedAt : ℕ → Contract
   movedAt i = remapped (q .olds) (q .news) (contractAt (q .book) i)
 
-  end-below : (e : ℕ) → e < q .nodes → movedEnd (q .olds) (q .news) e < q .nodes
-  end-below e h = moved-below (q .nodes) (q .olds) (q .news) e (ok .new-good) h
+  abbrev form : Form
+  form = bookFormIn (q .book)
 
-  pub moved-fits : (i : ℕ) → i < contractCountIn (q .book) → ContractFits endBits (movedAt i)
+  -- an end of the book, moved, is one that its form has room for
+  moved-end : (e : ℕ) → e < q .nodes → e < 2 ^ endWidth form → movedEnd (q .olds) (q .news) e < endsBelow form (q .nodes)
+  moved-end e h fits = moved-below (endsBelow form (q .nodes)) (q .olds) (q .news) e (ok .new-good) (end-below form (q .nodes) e h fits)
+
+  pub moved-fits : (i : ℕ) → i < contractCountIn (q .book) → ContractFits (endWidth form) (movedAt i)
   unfolding remapped
   moved-fits i h =
       let r = own .each i h in
-      let f = contract-fits endBits (q .book) _ in
+      let f = contract-in-fits form (q .book) i in
       record {
         holder-fits = f .holder-fits;
-        source-fits = omega (arith, end-below _ (r .source-below), ok .listed .few);
-        sink-fits = omega (arith, end-below _ (r .sink-below), ok .listed .few);
+        source-fits = end-fits form (q .nodes) _ (ok .listed .few) (moved-end _ (r .source-below) (f .source-fits));
+        sink-fits = end-fits form (q .nodes) _ (ok .listed .few) (moved-end _ (r .sink-below) (f .sink-fits));
         quantity-fits = f .quantity-fits;
       }
 
@@ -84,8 +91,11 @@ module _ (q : RemapBookCall) (ok : Remappable q) where
   unfolding remapped contractChecks
   moved-passes i h =
       let r = own .each i h in
+      let f = contract-in-fits form (q .book) i in
       let m = movedAt i in
-      let ends : nodeNumber (q .nodes) (m .source) (m .sink) .fails ≡ false = rw (lt-leb _ _ (end-below _ (r .source-below)), lt-leb _ _ (end-below _ (r .sink-below))) in
+      let from : m .source < q .nodes = omega (arith, moved-end _ (r .source-below) (f .source-fits), ends-fewer form (q .nodes)) in
+      let to : m .sink < q .nodes = omega (arith, moved-end _ (r .sink-below) (f .sink-fits), ends-fewer form (q .nodes)) in
+      let ends : nodeNumber (q .nodes) (m .source) (m .sink) .fails ≡ false = rw (lt-leb _ _ from, lt-leb _ _ to) in
       first-passes _ _ ends ∙ passed-cons _ _ (contracts-pass (q .nodes) (q .book) (ok .accepted) i h) .1
 
   -- the moved contracts, by index
@@ -95,17 +105,17 @@ module _ (q : RemapBookCall) (ok : Remappable q) where
   moved-many : length (map (remapped (q .olds) (q .news)) (bookIn (q .book))) ≡ contractCountIn (q .book)
   moved-many = ap length moved-list ∙ length-listTo (contractCountIn (q .book)) movedAt
 
-  pub book-remade : Made (q .nodes) (map (remapped (q .olds) (q .news)) (bookIn (q .book)))
+  pub book-remade : Made form (q .nodes) (map (remapped (q .olds) (q .news)) (bookIn (q .book)))
   book-remade =
-      book-made (q .nodes) _ (omega (arith, moved-many, own .few))
-      (rw moved-list (each-listTo (ContractFits endBits) (contractCountIn (q .book)) movedAt moved-fits))
+      book-made form (q .nodes) _ (omega (arith, moved-many, own .few))
+      (rw moved-list (each-listTo (ContractFits (endWidth form)) (contractCountIn (q .book)) movedAt moved-fits))
       (rw moved-list (each-listTo (λ c. first (contractChecks (q .nodes) c) ≡ Passed) (contractCountIn (q .book)) movedAt moved-passes))
 
   pub count-remade : contractCountIn (bookRemapped q) ≡ contractCountIn (q .book)
   count-remade = book-remade .count ∙ moved-many
 
   pub length-remade : length (bookRemapped q) ≡ length (q .book)
-  length-remade = book-remade .size ∙ ap bookBytes moved-many ∙ sym (own .size)
+  length-remade = book-remade .size ∙ ap (bookBytes form) moved-many ∙ sym (own .size)
 
   -- ---- with the table of where each node goes
   module _ (ends : List ℕ) (t : Moves (q .nodes) (q .olds) (q .news) ends) where
@@ -123,7 +133,7 @@ module _ (q : RemapBookCall) (ok : Remappable q) where
           quantity = c .quantity;
         }
 
-    pub movable : (i : ℕ) → i < contractCountIn (q .book) → Movable ends (contractAt (q .book) i)
+    pub movable : (i : ℕ) → i < contractCountIn (q .book) → Movable form ends (contractAt (q .book) i)
     movable i h =
         let r = own .each i h in
         record {

@@ -12,7 +12,7 @@ use Rattle.tariff.specs.declared.refusals.Checked.the-variants.{Passed, Refused
 use Rattle.tariff.specs.Refusals.{Check, first}
 use Rattle.tariff.specs.Checks.{nodeCount, shortTable}
 use Rattle.tariff.proofs.Checks.{first-passes, first-refuses, last-passes, append-refuses, append-passes}
-use Rattle.layouts.specs.BookFile.{bookBytes, contractCountIn}
+use Rattle.layouts.specs.BookFile.{bookBytes, contractCountIn, bookFormIn}
 use Rattle.books.specs.BookChecks.{bookChecks}
 use Rattle.books.proofs.Accepted.{book-accepted}
 use Rattle.book_remap.specs.RemapBook.{RemapBookCall, remapBookChecks, remapBookChecked}
@@ -25,23 +25,23 @@ module _ (q : RemapBookCall) (right : nodeCount (q .nodes) .fails ≡ false) whe
 
   module _ (accepted : first (bookChecks (q .nodes) (q .book)) ≡ Passed) where
     abbrev last : List Check
-    last = shortTable (length (q .place)) (bookBytes (contractCountIn (q .book))) ∷ []
+    last = shortTable (length (q .place)) (bookBytes (bookFormIn (q .book)) (contractCountIn (q .book))) ∷ []
 
-    lists-next : remapBookChecked q ≡ first (listChecks (q .nodes) (q .olds) (q .news) ++ last)
+    lists-next : remapBookChecked q ≡ first (listChecks (bookFormIn (q .book)) (q .nodes) (q .olds) (q .news) ++ last)
     unfolding remapBookChecks listChecks
     lists-next = first-passes _ _ right ∙ append-passes (bookChecks (q .nodes) (q .book)) _ accepted
 
-    pub lists-refuse : (r : Refusal) → first (listChecks (q .nodes) (q .olds) (q .news)) ≡ Refused r → remapBookChecked q ≡ Refused r
-    lists-refuse r e = lists-next ∙ append-refuses (listChecks (q .nodes) (q .olds) (q .news)) last r e
+    pub lists-refuse : (r : Refusal) → first (listChecks (bookFormIn (q .book)) (q .nodes) (q .olds) (q .news)) ≡ Refused r → remapBookChecked q ≡ Refused r
+    lists-refuse r e = lists-next ∙ append-refuses (listChecks (bookFormIn (q .book)) (q .nodes) (q .olds) (q .news)) last r e
 
     -- an accepted book has the bytes that its count says
-    module _ (listed : first (listChecks (q .nodes) (q .olds) (q .news)) ≡ Passed) where
+    module _ (listed : first (listChecks (bookFormIn (q .book)) (q .nodes) (q .olds) (q .news)) ≡ Passed) where
       pub no-room : length (q .place) < length (q .book) → remapBookChecked q ≡ Refused ShortTable
       no-room h =
-          lists-next ∙ append-passes (listChecks (q .nodes) (q .olds) (q .news)) last listed
-          ∙ first-refuses _ _ (lt-ltb (length (q .place)) (bookBytes (contractCountIn (q .book))) (omega (arith, book-accepted (q .nodes) (q .book) accepted .size)))
+          lists-next ∙ append-passes (listChecks (bookFormIn (q .book)) (q .nodes) (q .olds) (q .news)) last listed
+          ∙ first-refuses _ _ (lt-ltb (length (q .place)) (bookBytes (bookFormIn (q .book)) (contractCountIn (q .book))) (rw (← book-accepted (q .nodes) (q .book) accepted .size) h))
 
       pub room : length (q .book) ≤ length (q .place) → remapBookChecked q ≡ Passed
       room h =
-          lists-next ∙ append-passes (listChecks (q .nodes) (q .olds) (q .news)) last listed
-          ∙ last-passes _ (le-ltb (length (q .place)) (bookBytes (contractCountIn (q .book))) (omega (arith, book-accepted (q .nodes) (q .book) accepted .size)))
+          lists-next ∙ append-passes (listChecks (bookFormIn (q .book)) (q .nodes) (q .olds) (q .news)) last listed
+          ∙ last-passes _ (le-ltb (length (q .place)) (bookBytes (bookFormIn (q .book)) (contractCountIn (q .book))) (rw (← book-accepted (q .nodes) (q .book) accepted .size) h))

@@ -7,7 +7,8 @@ use Rattle.bits.proofs.Bytes.{Bytes, bytes-below}
 use Rattle.tariff.specs.declared.contracts.Contract.{Contract}
 use Rattle.tariff.specs.declared.refusals.Checked.the-variants.{Passed}
 use Rattle.tariff.specs.Refusals.{first}
-use Rattle.layouts.specs.BookFile.{bookFile, bookIn}
+use Rattle.layouts.specs.declared.forms.Form.{Form}
+use Rattle.layouts.specs.BookFile.{bookFile, bookFormIn, bookIn}
 use Rattle.layouts.proofs.BookFile.{book-read}
 use Rattle.books.specs.BookChecks.{bookChecks}
 use Rattle.books.proofs.Accepted.{book-accepted}
@@ -34,6 +35,10 @@ module _ (q : RemapBookCall) (pass : remapBookChecked q ≡ Passed) where
   pub remap-keeps-length : length (bookRemapped q) ≡ length (q .book)
   remap-keeps-length = length-remade q (remappable q pass)
 
+  -- "a book made from a book keeps its form"
+  pub remap-keeps-form : bookFormIn (bookRemapped q) ≡ bookFormIn (q .book)
+  remap-keeps-form = book-remade q (remappable q pass) .form
+
   -- its contracts are those of the book given, in their order, with their ends moved
   pub remap-contracts : bookIn (bookRemapped q) ≡ map (remapped (q .olds) (q .news)) (bookIn (q .book))
   remap-contracts = book-remade q (remappable q pass) .contracts
@@ -43,7 +48,7 @@ pub remap-none : (n : ℕ) (s place : List ℕ) → Bytes s → remapBookChecked
 unfolding movedEnd remapped
 remap-none n s place b pass =
     let own = book-accepted n s (remappable (remapBookCall n s [] [] place) pass .accepted) in
-    ap bookFile (map-id (bookIn s)) ∙ book-read s (bytes-below s b) (own .size) (own .spare)
+    ap (bookFile (bookFormIn s)) (map-id (bookIn s)) ∙ book-read s (bytes-below s b) (own .size) (own .spare)
 
 -- pairs behind pairs: one pair after another, so the first list's, then the second's
 two-lists : (xs us ys vs : List ℕ) → length xs ≡ length us → remapped (xs ++ ys) (us ++ vs) ≡ (λ (c : Contract). remapped ys vs (remapped xs us c))
@@ -62,5 +67,6 @@ pub remap-append : (n : ℕ) (s xs us ys vs place : List ℕ) → remapBookCheck
     → bookRemapped (remapBookCall n s (xs ++ ys) (us ++ vs) place) ≡ bookRemapped (remapBookCall n (bookRemapped (remapBookCall n s xs us place)) ys vs place)
 remap-append n s xs us ys vs place pass =
     let q = remapBookCall n s xs us place in
-    ap (λ (f : Contract → Contract). bookFile (map f (bookIn s))) (two-lists xs us ys vs (remappable q pass .listed .pairs))
-    ∙ ap bookFile (sym (map-map (remapped ys vs) (remapped xs us) (bookIn s)) ∙ ap (map (remapped ys vs)) (sym (remap-contracts q pass)))
+    ap (λ (f : Contract → Contract). bookFile (bookFormIn s) (map f (bookIn s))) (two-lists xs us ys vs (remappable q pass .listed .pairs))
+    ∙ ap (bookFile (bookFormIn s)) (sym (map-map (remapped ys vs) (remapped xs us) (bookIn s)) ∙ ap (map (remapped ys vs)) (sym (remap-contracts q pass)))
+    ∙ ap (λ (f : Form). bookFile f (map (remapped ys vs) (bookIn (bookRemapped q)))) (sym (remap-keeps-form q pass))

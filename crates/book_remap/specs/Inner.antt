@@ -6,13 +6,14 @@ use lib.ListN.{length, getD}
 use Rattle.tariff.specs.declared.contracts.Contract.{Contract}
 use Rattle.tariff.specs.Refusals.{Check}
 use Rattle.tariff.specs.Units.{maxNodes}
-use Rattle.layouts.specs.BookFile.{endBits}
+use Rattle.layouts.specs.declared.forms.Form.{Form}
+use Rattle.layouts.specs.Forms.{endWidth, endsBelow}
 use Rattle.layouts.specs.Inner.{ContractFits}
 use Rattle.book_remap.specs.RemapBook.{movedEnd, listedNodes, unequalLists}
 
 -- the lists' checks: 11, 11, 9
-unfoldable pub listChecks : ℕ → List ℕ → List ℕ → List Check
-listChecks n olds news = listedNodes n olds ∷ listedNodes n news ∷ unequalLists olds news ∷ []
+unfoldable pub listChecks : Form → ℕ → List ℕ → List ℕ → List Check
+listChecks f n olds news = listedNodes n olds ∷ listedNodes (endsBelow f n) news ∷ unequalLists olds news ∷ []
 
 -- a contract with its ends looked up in a table
 unfoldable pub movedBy : List ℕ → Contract → Contract
@@ -38,7 +39,7 @@ pub record Listed (n : ℕ) (olds news : List ℕ) : Type 0 where
   pub old-below : (i : ℕ) → i < length olds → getD olds i 0 < n
   pub new-below : (i : ℕ) → i < length news → getD news i 0 < n
 
-pub record Movable (ends : List ℕ) (c : Contract) : Type 0 where
+pub record Movable (f : Form) (ends : List ℕ) (c : Contract) : Type 0 where
   pub source-known : c .source < length ends
   pub sink-known : c .sink < length ends
-  pub fits : ContractFits endBits (movedBy ends c)
+  pub fits : ContractFits (endWidth f) (movedBy ends c)

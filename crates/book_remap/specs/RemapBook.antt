@@ -1,4 +1,4 @@
--- Remapping a book (document 02, paper 6): "apply a list of old and new node numbers to a book, one pair after another".
+-- Remapping a book (document 02, papers 6 and 9): "apply a list of old and new node numbers to a book, one pair after another".
 use mathlib.Core.Bool.{not, cond}
 use mathlib.Core.List.{List, [], _∷_, _++_, map}
 use Prim.Native.Nat.{ℕ}
@@ -12,7 +12,8 @@ use Rattle.tariff.specs.declared.refusals.Refusal.the-variants.{NodeNumber, Sho
 use Rattle.tariff.specs.Refusals.{Check, first}
 use Rattle.tariff.specs.Checks.{nodeCount, shortTable}
 use Rattle.layouts.specs.declared.WriteAnswer.{WriteAnswer}
-use Rattle.layouts.specs.BookFile.{bookBytes, bookFile, contractCountIn, bookIn}
+use Rattle.layouts.specs.Forms.{endsBelow}
+use Rattle.layouts.specs.BookFile.{bookBytes, bookFile, contractCountIn, bookFormIn, bookIn}
 use Rattle.layouts.specs.Writing.{Writes, WritesForC}
 use Rattle.books.specs.BookChecks.{bookChecks}
 
@@ -54,23 +55,24 @@ abbrev pub remapBookCall : ℕ → List ℕ → List ℕ → List ℕ → List �
 remapBookCall n book olds news place = record { nodes = n; book = book; olds = olds; news = news; place = place }
 
 module _ (q : RemapBookCall) where
-  -- "after the book's own checks a listed number not below the node count draws 11, then 9, for unequal lists too"
+  -- "after the book's own checks a listed number not below the node count draws 11, then 9, for unequal lists too"; "a narrow book's writer refuses an end
+  -- above 255 by 11, as its remapping does a new number"
   unfoldable pub remapBookChecks : List Check
   remapBookChecks =
       nodeCount (q .nodes)
       ∷ bookChecks (q .nodes) (q .book)
       ++ listedNodes (q .nodes) (q .olds)
-      ∷ listedNodes (q .nodes) (q .news)
+      ∷ listedNodes (endsBelow (bookFormIn (q .book)) (q .nodes)) (q .news)
       ∷ unequalLists (q .olds) (q .news)
-      ∷ shortTable (length (q .place)) (bookBytes (contractCountIn (q .book)))
+      ∷ shortTable (length (q .place)) (bookBytes (bookFormIn (q .book)) (contractCountIn (q .book)))
       ∷ []
 
   abbrev pub remapBookChecked : Checked
   remapBookChecked = first remapBookChecks
 
-  -- the file written: the same contracts in their order, with their ends moved
+  -- the file written: the same contracts in their order, with their ends moved; "a book made from a book keeps its form"
   abbrev pub bookRemapped : List ℕ
-  bookRemapped = bookFile (map (remapped (q .olds) (q .news)) (bookIn (q .book)))
+  bookRemapped = bookFile (bookFormIn (q .book)) (map (remapped (q .olds) (q .news)) (bookIn (q .book)))
 
 -- the promise: the answer, and the place at exit
 abbrev pub RemapsBook : RemapBookCall → WriteAnswer → List ℕ → Type 0

@@ -7,9 +7,11 @@ ghost use Rattle.lists.specs.Lists.{listTo};
 ghost use Rattle.lists.specs.Lent.{before, after, overwrite};
 ghost use Rattle.tariff.specs.Refusals.{first};
 ghost use Rattle.tariff.specs.Units.{maxNodes, maxContracts};
-ghost use Rattle.layouts.specs.BookFile.{bookBytes, bookFile, contractAt};
+ghost use Rattle.layouts.specs.Forms.{recordBytes};
+ghost use Rattle.layouts.specs.BookFile.{bookBytes, bookFile, contractIn};
 ghost use Rattle.book_remap.specs.RemapBook.{listedNodes, remapBookCall, remapBookChecked, RemapsBook};
 ghost use Rattle.book_remap.specs.Inner.{listChecks, movedBy, Moves, Listed, Movable};
+use layouts::Form;
 use layouts::WriteAnswer;
 use tariff::Checked;
 use tariff::Contract;
@@ -24,15 +26,15 @@ fn listed_outside(nodes: usize, list: &[u64]) -> bool
     tables::cell_above(list, list.len(), (nodes - 1) as u64)
 }
 
-// The lists' checks: 11 for the old numbers, 11 for the new ones, 9 where there are not as many of each.
-fn check_lists(nodes: usize, old: &[u64], new: &[u64]) -> Checked
+// The lists' checks: 11 for the old numbers, 11 for the new ones, which a book of this form must have room for, 9 where there are not as many of each.
+fn check_lists(form: Form, nodes: usize, old: &[u64], new: &[u64]) -> Checked
     requires { ⌜ 0 < nodes ⌝ }
-    ensures { λ r. ⌜ r ≡ first (listChecks nodes (before old) (before new)) ⌝ }
+    ensures { λ r. ⌜ r ≡ first (listChecks form nodes (before old) (before new)) ⌝ }
 {
     if listed_outside(nodes, old) {
         return Checked::Refused(Refusal::NodeNumber);
     }
-    if listed_outside(nodes, new) {
+    if listed_outside(form.ends_below(nodes), new) {
         return Checked::Refused(Refusal::NodeNumber);
     }
     if old.len() != new.len() {
@@ -51,7 +53,7 @@ fn check_remap(nodes: usize, book: &[u8], old: &[u64], new: &[u64], bytes: usize
     if let Checked::Refused(refusal) = books::check_book(nodes, book) {
         return Checked::Refused(refusal);
     }
-    if let Checked::Refused(refusal) = check_lists(nodes, old, new) {
+    if let Checked::Refused(refusal) = check_lists(books::book_form(book), nodes, old, new) {
         return Checked::Refused(refusal);
     }
     if bytes < book.len() {
@@ -99,12 +101,12 @@ fn end_at(ends: &[u16], node: usize) -> usize
 }
 
 // Contract i of a book, with both ends moved.
-fn moved_contract(book: &[u8], i: usize, ends: &[u16]) -> Contract
-    requires { ⌜ (i < 1024) × (bookBytes i + 6 ≤ length (now book)) ⌝ }
-    requires { ⌜ Movable (now ends) (contractAt (now book) i) ⌝ }
-    ensures { λ r. ⌜ r ≡ movedBy (before ends) (contractAt (before book) i) ⌝ }
+fn moved_contract(book: &[u8], form: Form, i: usize, ends: &[u16]) -> Contract
+    requires { ⌜ (i < 1024) × (bookBytes form i + recordBytes form ≤ length (now book)) ⌝ }
+    requires { ⌜ Movable form (now ends) (contractIn form (now book) i) ⌝ }
+    ensures { λ r. ⌜ r ≡ movedBy (before ends) (contractIn form (before book) i) ⌝ }
 {
-    let c = books::contract_at(book, i);
+    let c = books::contract_at(book, form, i);
     let kind = c.kind;
     let period = c.period;
     let from = end_at(ends, c.source);
@@ -120,16 +122,16 @@ fn moved_contract(book: &[u8], i: usize, ends: &[u16]) -> Contract
     }
 }
 
-// Writes the book of the first `count` contracts, with their ends moved.
-fn write_moved(book: &[u8], count: usize, ends: &[u16], file: &mut [u8])
-    requires { ⌜ (count ≤ maxContracts) × (bookBytes count ≤ length (now book)) × (bookBytes count ≤ length (now file)) ⌝ }
-    requires { ⌜ ((i : ℕ) → i < count → Movable (now ends) (contractAt (now book) i)) ⌝ }
-    ensures { λ r. ⌜ after file ≡ overwrite (bookFile (listTo count (λ i. movedBy (before ends) (contractAt (before book) i)))) (before file) ⌝ }
+// Writes the book of the first `count` contracts in its form, with their ends moved.
+fn write_moved(book: &[u8], form: Form, count: usize, ends: &[u16], file: &mut [u8])
+    requires { ⌜ (count ≤ maxContracts) × (bookBytes form count ≤ length (now book)) × (bookBytes form count ≤ length (now file)) ⌝ }
+    requires { ⌜ ((i : ℕ) → i < count → Movable form (now ends) (contractIn form (now book) i)) ⌝ }
+    ensures { λ r. ⌜ after file ≡ overwrite (bookFile form (listTo count (λ i. movedBy (before ends) (contractIn form (before book) i)))) (before file) ⌝ }
 {
-    books::store_header(file, count);
+    books::store_header(file, form, count);
     let mut i = 0;
     while i < count {
-        books::store_contract(file, i, moved_contract(book, i, ends));
+        books::store_contract(file, form, i, moved_contract(book, form, i, ends));
         i += 1;
     }
 }
@@ -148,7 +150,8 @@ pub fn remap_book(
         Checked::Refused(refusal) => WriteAnswer::Refused(refusal),
         Checked::Passed => {
             let ends = moved_ends(nodes, old, new);
-            write_moved(book, books::contract_count(book), &ends, file);
+            let form = books::book_form(book);
+            write_moved(book, form, books::contract_count(book), &ends, file);
             WriteAnswer::Written { bytes: book.len() }
         }
     }

@@ -1,8 +1,9 @@
 -- What is known of a book that its own checks accept.
-use mathlib.Core.Path.{_≡_}
+use mathlib.Core.Path.{_≡_, _∙_}
 use mathlib.Core.List.{List}
-use Prim.Native.Nat.{ℕ, _≤_, _<_}
-use borrow.Author.Tests.{ltb-false, leb-false}
+use Prim.Native.Nat.{ℕ, _+_, _≤_, _<_}
+use native.Mathlib.Omega.{arith}
+use borrow.Author.Tests.{ltb-false, leb-false, lt-leb}
 use lib.Dec.{leb, ltb, eqb}
 use lib.ListN.{length}
 use Rattle.lists.specs.Lists.{Each}
@@ -12,8 +13,11 @@ use Rattle.tariff.specs.Inner.{InRange}
 use Rattle.tariff.specs.Refusals.{first}
 use Rattle.tariff.specs.Units.{maxQuantity, maxContracts}
 use Rattle.lists.proofs.Search.{neither}
-use Rattle.tariff.proofs.Checks.{passed-cons, same-of}
-use Rattle.layouts.specs.BookFile.{bookBytes, contractCountIn, bookSpareIn, contractAt, bookIn}
+use Rattle.tariff.proofs.Checks.{first-passes, passed-cons, same-of}
+use Rattle.layouts.specs.declared.forms.Form.{Form}
+use Rattle.layouts.specs.Forms.{recordBytes, sparePattern}
+use Rattle.layouts.specs.BookFile.{bookBytes, contractCountIn, bookSpareIn, bookFormIn, contractAt, bookIn}
+use Rattle.layouts.proofs.BookFile.{record-room}
 use Rattle.lists.proofs.Lists.{each-listTo}
 use Rattle.books.specs.BookChecks.{contractChecks, bookChecks}
 use Rattle.books.proofs.Checking.{checks-each}
@@ -31,10 +35,15 @@ contract-in-range n c e =
       quantity-sized = ltb-false maxQuantity (c .quantity .0) (neither (eqb (c .quantity .0) 0) (ltb maxQuantity (c .quantity .0)) (q .0) .1);
     }
 
+-- of the node count a contract's checks ask no more than that its ends are below it
+pub checks-below : (m n : ℕ) (c : Contract) → c .source < n → c .sink < n → first (contractChecks m c) ≡ Passed → first (contractChecks n c) ≡ Passed
+unfolding contractChecks
+checks-below m n c hs ht e = first-passes _ _ (rw (lt-leb n (c .source) hs) (lt-leb n (c .sink) ht)) ∙ passed-cons _ _ e .1
+
 pub record Accepted (n : ℕ) (s : List ℕ) : Type 0 where
   pub few : contractCountIn s ≤ maxContracts
-  pub spare : bookSpareIn s ≡ 0
-  pub size : length s ≡ bookBytes (contractCountIn s)
+  pub spare : bookSpareIn s ≡ sparePattern (bookFormIn s)
+  pub size : length s ≡ bookBytes (bookFormIn s) (contractCountIn s)
   pub each : (i : ℕ) → i < contractCountIn s → InRange n (contractAt s i)
 
 -- each contract of it passes its own
@@ -53,10 +62,14 @@ book-accepted n s e =
     let d = passed-cons _ _ (c .1) in
     record {
       few = ltb-false maxContracts (contractCountIn s) (b .0);
-      spare = same-of (bookSpareIn s) 0 (c .0);
-      size = same-of (length s) (bookBytes (contractCountIn s)) (d .0);
+      spare = same-of (bookSpareIn s) (sparePattern (bookFormIn s)) (c .0);
+      size = same-of (length s) (bookBytes (bookFormIn s) (contractCountIn s)) (d .0);
       each = λ i h. contract-in-range n (contractAt s i) (contracts-pass n s e i h);
     }
+
+-- in the form found contract i has its bytes
+pub accepted-room : (n : ℕ) (s : List ℕ) → Accepted n s → (f : Form) → f ≡ bookFormIn s → (i : ℕ) → i < contractCountIn s → (i < 1024) × (bookBytes f i + recordBytes f ≤ length s)
+accepted-room n s a f form i h = (omega (arith, a .few), rw form (record-room (bookFormIn s) i (contractCountIn s) (length s) h (omega (arith, a .size))))
 
 pub all-in-range : (n : ℕ) (s : List ℕ) → Accepted n s → Each (InRange n) (bookIn s)
 all-in-range n s a = each-listTo (InRange n) (contractCountIn s) (contractAt s) (a .each)

@@ -1,7 +1,8 @@
--- A book's bytes: two of the header, then six of each contract.
+-- A book's bytes: two of the header, then six or seven of each contract.
 use mathlib.Core.Path.{_≡_, refl, sym, ap, ap₂, _∙_}
 use mathlib.Core.List.{List, [], _∷_, _++_, flatMap}
 use Prim.Native.Nat.{ℕ, _+_, _*_, _/_, _%_, _^_, _≤_, _<_}
+use native.Mathlib.Nat.{mul-zero, mul-suc}
 use native.Mathlib.Omega.{arith}
 use lib.Pow.{high}
 use lib.ListN.{length, set, length-append}
@@ -13,11 +14,14 @@ use Rattle.bits.specs.Inner.{Fit}
 use Rattle.bits.proofs.Numbers.{digits-append, digits-high}
 use Rattle.bits.proofs.Files.{total-append, packed-append, packed-lt}
 use Rattle.tariff.specs.declared.contracts.Contract.{Contract}
-use Rattle.layouts.specs.BookFile.{kindBit, periodBit, contractBits, contractFields, packedBook, endBits, bookBytes, bookFile}
+use Rattle.layouts.specs.declared.forms.Form.{Form}
+use Rattle.layouts.specs.declared.forms.Form.the-variants.{Narrow, Wide}
+use Rattle.layouts.specs.Forms.{endWidth, recordBytes, sparePattern}
+use Rattle.layouts.specs.BookFile.{contractBits, contractFields, packedBook, bookBytes, bookFile}
 use Rattle.layouts.specs.Inner.{ContractFits}
 use Rattle.layouts.proofs.Records.{total-records, fit-records}
-use Rattle.layouts.proofs.BookFile.{total-contract, fit-contract}
-use Rattle.books.specs.Inner.{headerBytes, contractBytes, bookFront}
+use Rattle.layouts.proofs.BookFile.{total-contract, fit-contract, whole-bytes}
+use Rattle.books.specs.Inner.{headerBytes, contractBytes, bookFront, termsNumber}
 
 -- fields that fill whole bytes, behind others that do
 file-append : (xs ys : List Field) (a b : ℕ) → total xs ≡ 8 * a → total ys ≡ 8 * b → Fit ys → fileOf (xs ++ ys) ≡ fileOf xs ++ fileOf ys
@@ -34,56 +38,64 @@ file-append xs ys a b ea eb fit =
 
 -- ---- one contract, and the header
 
--- six bytes of a contract, from one number
-pub contract-number : (c : Contract) (k t q v : ℕ) → k ≡ kindBit (c .kind) → t ≡ periodBit (c .period) → q ≡ c .quantity .0
-    → v ≡ (((k * 2 + t) * 1024 + c .holder) * 65536 + (c .source * 256 + c .sink)) * 1048576 + q → contractBytes c ≡ digits 8 6 v
+-- a contract's bytes, from one number
+pub contract-number : (f : Form) (c : Contract) (t q v : ℕ) → t ≡ termsNumber c → q ≡ c .quantity .0
+    → v ≡ (t * 2 ^ (endWidth f + endWidth f) + (c .source * 2 ^ endWidth f + c .sink)) * 1048576 + q → contractBytes f c ≡ digits 8 (recordBytes f) v
 unfolding fileOf contractFields
-contract-number c k t q v ek et eq e = ap (digits 8 6) (rw (e, ek, et, eq) (omega arith))
+contract-number Narrow c t q v et eq e = ap (digits 8 6) (rw (e, et, eq) (omega arith))
+contract-number Wide c t q v et eq e = ap (digits 8 7) (rw (e, et, eq) (omega arith))
 
-pub length-contract : (c : Contract) → length (contractBytes c) ≡ 6
+pub length-contract : (f : Form) (c : Contract) → length (contractBytes f c) ≡ recordBytes f
 unfolding fileOf contractFields
-length-contract c = refl
+length-contract Narrow c = refl
+length-contract Wide c = refl
 
--- two bytes of the header, from the count
-pub header-stored : (f : List ℕ) (m : ℕ) → 2 ≤ length f → m < 1024 → set (set f 0 (m / 4)) 1 (m % 4 * 64) ≡ overwrite (headerBytes m) f
+-- two bytes of the header, from the count and the spare bits
+pub header-stored : (f : Form) (file : List ℕ) (m p : ℕ) → 2 ≤ length file → m < 1024 → p ≡ sparePattern f → p ≤ 63 → set (set file 0 (m / 4)) 1 (m % 4 * 64 + p) ≡ overwrite (headerBytes f m) file
 unfolding fileOf
-header-stored [] m h few = absurd (omega arith)
-header-stored (x ∷ []) m h few = absurd (omega arith)
-header-stored (x ∷ y ∷ zs) m h few =
-    let a : m / 4 ≡ (m * 64 + 0) / 2 ^ 8 % 2 ^ 8 = omega arith in
-    let b : m % 4 * 64 ≡ (m * 64 + 0) / 2 ^ 0 % 2 ^ 8 = omega arith in
+header-stored f [] m p h few is most = absurd (omega arith)
+header-stored f (x ∷ []) m p h few is most = absurd (omega arith)
+header-stored f (x ∷ y ∷ zs) m p h few is most =
+    let a : m / 4 ≡ (m * 64 + (sparePattern f * 1 + 0)) / 2 ^ 8 % 2 ^ 8 = omega arith in
+    let b : m % 4 * 64 + p ≡ (m * 64 + (sparePattern f * 1 + 0)) / 2 ^ 0 % 2 ^ 8 = omega arith in
     λ t. a t ∷ b t ∷ zs
 
-pub length-header : (m : ℕ) → length (headerBytes m) ≡ 2
+pub length-header : (f : Form) (m : ℕ) → length (headerBytes f m) ≡ 2
 unfolding fileOf
-length-header m = refl
+length-header f m = refl
 
 -- ---- a book
 
-total-contracts : (cs : List Contract) → total (flatMap (contractFields endBits) cs) ≡ contractBits endBits * length cs
-total-contracts = total-records (contractFields endBits) (contractBits endBits) (total-contract endBits)
+module _ (f : Form) where
+  fields : Contract → List Field
+  fields = contractFields (endWidth f)
 
-fit-contracts : (cs : List Contract) → Each (ContractFits endBits) cs → Fit (flatMap (contractFields endBits) cs)
-fit-contracts = fit-records (contractFields endBits) (ContractFits endBits) (fit-contract endBits)
+  total-contracts : (cs : List Contract) → total (flatMap fields cs) ≡ 8 * (recordBytes f * length cs)
+  unfolding fields
+  total-contracts cs = total-records (contractFields (endWidth f)) (contractBits (endWidth f)) (total-contract (endWidth f)) cs ∙ rw (← whole-bytes f) (omega arith)
 
-contracts-bytes : (cs : List Contract) → Each (ContractFits endBits) cs → fileOf (flatMap (contractFields endBits) cs) ≡ flatMap contractBytes cs
-unfolding flatMap contractFields fileOf
-contracts-bytes [] h = refl
-contracts-bytes (c ∷ cs) h =
-    file-append (contractFields endBits c) (flatMap (contractFields endBits) cs) 6 (6 * length cs) refl (omega (arith, total-contracts cs)) (fit-contracts cs (h .1))
-    ∙ ap (λ (l : List ℕ). contractBytes c ++ l) (contracts-bytes cs (h .1))
+  fit-contracts : (cs : List Contract) → Each (ContractFits (endWidth f)) cs → Fit (flatMap fields cs)
+  unfolding fields
+  fit-contracts = fit-records (contractFields (endWidth f)) (ContractFits (endWidth f)) (fit-contract (endWidth f))
 
--- a book whose contracts are all at its front is the whole file
-pub book-bytes : (cs : List Contract) → Each (ContractFits endBits) cs → bookFront (length cs) cs ≡ bookFile cs
-unfolding bookFile packedBook
-book-bytes cs h =
-    sym (file-append (bits 10 (length cs) ∷ bits 6 0 ∷ []) (flatMap (contractFields endBits) cs) 2 (6 * length cs) refl (omega (arith, total-contracts cs)) (fit-contracts cs h)
-    ∙ ap (λ (l : List ℕ). headerBytes (length cs) ++ l) (contracts-bytes cs h))
+  contracts-bytes : (cs : List Contract) → Each (ContractFits (endWidth f)) cs → fileOf (flatMap fields cs) ≡ flatMap (contractBytes f) cs
+  unfolding flatMap fileOf fields
+  contracts-bytes [] h = refl
+  contracts-bytes (c ∷ cs) h =
+      file-append (fields c) (flatMap fields cs) (recordBytes f) (recordBytes f * length cs) (total-contract (endWidth f) c ∙ sym (whole-bytes f)) (total-contracts cs) (fit-contracts cs (h .1))
+      ∙ ap (λ (l : List ℕ). contractBytes f c ++ l) (contracts-bytes cs (h .1))
 
-length-contracts : (cs : List Contract) → length (flatMap contractBytes cs) ≡ 6 * length cs
-unfolding flatMap
-length-contracts [] = refl
-length-contracts (c ∷ cs) = rw length-append (omega (arith, length-contract c, length-contracts cs))
+  -- a book whose contracts are all at its front is the whole file
+  pub book-bytes : (cs : List Contract) → Each (ContractFits (endWidth f)) cs → bookFront f (length cs) cs ≡ bookFile f cs
+  unfolding bookFile packedBook fields
+  book-bytes cs h =
+      sym (file-append (bits 10 (length cs) ∷ bits 6 (sparePattern f) ∷ []) (flatMap fields cs) 2 (recordBytes f * length cs) refl (total-contracts cs) (fit-contracts cs h)
+      ∙ ap (λ (l : List ℕ). headerBytes f (length cs) ++ l) (contracts-bytes cs h))
 
-pub length-front : (m : ℕ) (cs : List Contract) → length (bookFront m cs) ≡ bookBytes (length cs)
-length-front m cs = length-append (headerBytes m) (flatMap contractBytes cs) ∙ omega (arith, length-header m, length-contracts cs)
+  length-contracts : (cs : List Contract) → length (flatMap (contractBytes f) cs) ≡ recordBytes f * length cs
+  unfolding flatMap
+  length-contracts [] = sym (mul-zero (recordBytes f))
+  length-contracts (c ∷ cs) = rw length-append (omega (arith, length-contract f c, length-contracts cs, mul-suc (recordBytes f) (length cs)))
+
+  pub length-front : (m : ℕ) (cs : List Contract) → length (bookFront f m cs) ≡ bookBytes f (length cs)
+  length-front m cs = length-append (headerBytes f m) (flatMap (contractBytes f) cs) ∙ omega (arith, length-header f m, length-contracts cs)

@@ -1,10 +1,12 @@
 -- Laws of checks that go contract by contract.
-use mathlib.Core.Path.{_≡_, refl, sym, _∙_}
+use mathlib.Core.Path.{_≡_, refl, sym, ap₂, _∙_}
 use mathlib.Core.Logic.{⊎-elim}
-use mathlib.Core.List.{List}
-use Prim.Native.Nat.{ℕ, zero, suc, _+_, _<_, _≤_}
+use mathlib.Core.List.{List, _++_}
+use mathlib.Core.Bool.{Bool, true, false, _||_}
+use Prim.Native.Nat.{ℕ, zero, suc, _+_, _<_, _≤_, max}
 use lib.ListN.{length}
-use borrow.Author.Tests.{lt-ltb, le-ltb, eq-eqb, ne-eqb}
+use borrow.Author.Tests.{lt-ltb, le-ltb, eq-eqb, ne-eqb, le-leb, lt-leb, leb-false}
+use lib.Dec.{leb}
 use native.Mathlib.Nat.{eq-or-lt-of-le}
 use native.Mathlib.Numerals.{add-one}
 use native.Mathlib.Omega.{arith}
@@ -14,7 +16,9 @@ use Rattle.tariff.specs.Refusals.{Check, first}
 use Rattle.tariff.specs.Units.{maxContracts}
 use Rattle.tariff.proofs.Checks.{first-append, passed-append}
 use Rattle.tariff.specs.declared.refusals.Refusal.the-variants.{ShortFile, SpareBits, FileLength, ContractCount}
-use Rattle.layouts.specs.BookFile.{bookBytes, contractCountIn, bookSpareIn, contractAt}
+use Rattle.layouts.specs.declared.forms.Form.{Form}
+use Rattle.layouts.specs.Forms.{sparePattern}
+use Rattle.layouts.specs.BookFile.{bookBytes, contractCountIn, bookSpareIn, bookFormIn, contractIn}
 use Rattle.books.specs.BookChecks.{checksTo, contractChecks, bookChecks}
 
 module _ (f : ℕ → List Check) where
@@ -56,7 +60,24 @@ module _ (f : ℕ → List Check) where
       let p = passed-append (checksTo m f) (f m) e in
       ⊎-elim (λ q. let same : m ≡ i = omega arith in rw same at (p .1)) (λ q. checks-each m (p .0) i (omega arith)) (eq-or-lt-of-le h)
 
--- ---- the book's own checks, one after the other; m is the count read and x the spare bits
+-- the same checks for each, the same for all
+pub checks-same : (m : ℕ) (f g : ℕ → List Check) → ((i : ℕ) → i < m → f i ≡ g i) → checksTo m f ≡ checksTo m g
+unfolding checksTo
+checks-same zero f g h = refl
+checks-same (suc m) f g h = ap₂ (λ (xs ys : List Check). xs ++ ys) (checks-same m f g (λ i b. h i (omega arith))) (h m (omega arith))
+
+-- two ends by the larger of them
+pub end-refused : (n a b : ℕ) → n ≤ max a b → (leb n a || leb n b) ≡ true
+end-refused n a b h = by (leb n a) refl
+  where
+    by : (x : Bool) → leb n a ≡ x → (x || leb n b) ≡ true
+    by true e = refl
+    by false e = le-leb n b (omega (arith, leb-false n a e))
+
+pub ends-passed : (n a b : ℕ) → max a b < n → (leb n a || leb n b) ≡ false
+ends-passed n a b h = rw (lt-leb n a (omega arith)) (lt-leb n b (omega arith))
+
+-- ---- the book's own checks, one after the other; m is the count read, f the form, x the spare bits and p the form's
 module _ (n : ℕ) (s : List ℕ) where
   pub short-book : length s < 2 → Refused ShortFile ≡ first (bookChecks n s)
   unfolding first bookChecks
@@ -67,15 +88,18 @@ module _ (n : ℕ) (s : List ℕ) where
     unfolding first bookChecks
     many-contracts h = rw (le-ltb (length s) 2 long, ← count, lt-ltb maxContracts m h)
 
-    module _ (few : m ≤ maxContracts) (x : ℕ) (spare : x ≡ bookSpareIn s) where
-      pub spare-set : (x ≡ 0 → ⊥) → Refused SpareBits ≡ first (bookChecks n s)
+    module _ (few : m ≤ maxContracts) (f : Form) (form : f ≡ bookFormIn s) (x : ℕ) (spare : x ≡ bookSpareIn s) (p : ℕ) (pattern : p ≡ sparePattern f) where
+      pub spare-other : (x ≡ p → ⊥) → Refused SpareBits ≡ first (bookChecks n s)
       unfolding first bookChecks
-      spare-set h = rw (le-ltb (length s) 2 long, ← count, le-ltb maxContracts m few, ← spare, ne-eqb x 0 h)
+      spare-other h = rw (le-ltb (length s) 2 long, ← count, le-ltb maxContracts m few, ← form, ← pattern, ← spare, ne-eqb x p h)
 
-      pub wrong-length : x ≡ 0 → (length s ≡ bookBytes m → ⊥) → Refused FileLength ≡ first (bookChecks n s)
-      unfolding first bookChecks
-      wrong-length z h = rw (le-ltb (length s) 2 long, ← count, le-ltb maxContracts m few, ← spare, eq-eqb x 0 z, ne-eqb (length s) (bookBytes m) h)
+      module _ (same : x ≡ p) (size : ℕ) (right : size ≡ bookBytes f m) where
+        pub wrong-length : (length s ≡ size → ⊥) → Refused FileLength ≡ first (bookChecks n s)
+        unfolding first bookChecks
+        wrong-length h =
+            rw (le-ltb (length s) 2 long, ← count, le-ltb maxContracts m few, ← form, ← pattern, ← spare, eq-eqb x p same, ← right, ne-eqb (length s) size h)
 
-      pub right-header : x ≡ 0 → length s ≡ bookBytes m → first (checksTo m (λ i. contractChecks n (contractAt s i))) ≡ first (bookChecks n s)
-      unfolding first bookChecks
-      right-header z h = rw (le-ltb (length s) 2 long, ← count, le-ltb maxContracts m few, ← spare, eq-eqb x 0 z, eq-eqb (length s) (bookBytes m) h)
+        pub right-header : length s ≡ size → first (checksTo m (λ i. contractChecks n (contractIn f s i))) ≡ first (bookChecks n s)
+        unfolding first bookChecks
+        right-header h =
+            rw (le-ltb (length s) 2 long, ← count, le-ltb maxContracts m few, ← form, ← pattern, ← spare, eq-eqb x p same, ← right, eq-eqb (length s) size h)

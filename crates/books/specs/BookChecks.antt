@@ -4,8 +4,9 @@ use Prim.Native.Nat.{ℕ, zero, suc}
 use Rattle.tariff.specs.declared.contracts.Contract.{Contract}
 use Rattle.tariff.specs.Refusals.{Check}
 use Rattle.tariff.specs.Checks.{contractCount, nodeNumber, quantityRange}
-use Rattle.layouts.specs.Files.{shortFile, spareBits, fileLength}
-use Rattle.layouts.specs.BookFile.{bookBytes, contractCountIn, bookSpareIn, contractAt}
+use Rattle.layouts.specs.Files.{shortFile, spareOther, fileLength}
+use Rattle.layouts.specs.Forms.{sparePattern}
+use Rattle.layouts.specs.BookFile.{bookBytes, contractCountIn, bookSpareIn, bookFormIn, contractAt}
 
 -- "contract by contract": the checks of 0, then of 1, and so on below m
 unfoldable pub checksTo : {A : Type 0} → ℕ → (ℕ → List A) → List A
@@ -16,11 +17,11 @@ checksTo (suc m) f = checksTo m f ++ f m
 unfoldable pub contractChecks : ℕ → Contract → List Check
 contractChecks n c = nodeNumber n (c .source) (c .sink) ∷ quantityRange (c .quantity .0) ∷ []
 
--- "the book's own from 1 to 13", for a grid of n nodes: 1, 10, 4, 5, then contract by contract
+-- "the book's own from 1 to 13", for a grid of n nodes: 1, 10, 4 ("spare bits other than the two patterns"), 5, then contract by contract
 unfoldable pub bookChecks : ℕ → List ℕ → List Check
 bookChecks n s =
     shortFile s 2
     ∷ contractCount (contractCountIn s)
-    ∷ spareBits (bookSpareIn s)
-    ∷ fileLength s (bookBytes (contractCountIn s))
+    ∷ spareOther (sparePattern (bookFormIn s)) (bookSpareIn s)
+    ∷ fileLength s (bookBytes (bookFormIn s) (contractCountIn s))
     ∷ checksTo (contractCountIn s) (λ i. contractChecks n (contractAt s i))

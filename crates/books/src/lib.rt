@@ -1,18 +1,22 @@
 // A book's bytes: its contracts read and stored one by one, and the checks that every operation on a book has.
 ghost use mathlib.Core.Path.{_≡_};
 ghost use mathlib.Core.List.{_++_};
-ghost use Prim.Native.Nat.{_+_, _≤_, _<_};
+ghost use Prim.Native.Nat.{_+_, _≤_, _<_, max};
 ghost use lib.ListN.{length, take, drop};
 ghost use Rattle.lists.specs.Lent.{before, after, overwrite};
 ghost use Rattle.bits.specs.Bits.{digits};
 ghost use Rattle.tariff.specs.Refusals.{first};
 ghost use Rattle.tariff.specs.Units.{maxContracts};
-ghost use Rattle.layouts.specs.BookFile.{kindBit, periodBit, endBits, bookBytes, contractCountIn, contractAt};
-ghost use Rattle.layouts.specs.Inner.{ContractFits};
+ghost use Rattle.layouts.specs.declared.forms.Form.the-variants.{Narrow, Wide};
+ghost use Rattle.layouts.specs.Forms.{endWidth, recordBytes};
+ghost use Rattle.layouts.specs.BookFile.{kindBit, periodBit, bookBytes, contractCountIn, bookFormIn, contractIn};
+ghost use Rattle.layouts.specs.Inner.{ContractFits, contractOf};
 ghost use Rattle.books.specs.BookChecks.{checksTo, contractChecks, bookChecks};
-ghost use Rattle.books.specs.Inner.{headerBytes, contractBytes, contractOf, numberChecks};
+ghost use Rattle.books.specs.Inner.{headerBytes, contractBytes, termsNumber, numberChecks};
 use layouts::BOOK_HEADER_BYTES;
 use layouts::CONTRACT_BYTES;
+use layouts::Form;
+use layouts::WIDE_CONTRACT_BYTES;
 use tariff::Checked;
 use tariff::Contract;
 use tariff::Kind;
@@ -29,25 +33,42 @@ pub fn contract_count(file: &[u8]) -> usize
     bits::field(file, 0, 10) as usize
 }
 
-// The 48 bits of contract i of a book's bytes as one number: six bytes at once.
-fn bits_at(file: &[u8], i: usize) -> u64
-    requires { ⌜ (i < 1024) × (bookBytes i + 6 ≤ length (now file)) ⌝ }
-    ensures { λ r. ⌜ contractAt (before file) i ≡ contractOf r ⌝ }
+// The form of a book's bytes: wide where all six spare bits are set.
+pub fn book_form(file: &[u8]) -> Form
+    requires { ⌜ 2 ≤ length (now file) ⌝ }
+    ensures { λ r. ⌜ r ≡ bookFormIn (before file) ⌝ }
 {
-    bits::window6(file, BOOK_HEADER_BYTES + CONTRACT_BYTES * i)
+    if bits::field(file, 10, 6) == 63 {
+        Form::Wide
+    } else {
+        Form::Narrow
+    }
 }
 
-// Contract i of a book's bytes.
-pub fn contract_at(file: &[u8], i: usize) -> Contract
-    requires { ⌜ (i < 1024) × (bookBytes i + 6 ≤ length (now file)) ⌝ }
-    ensures { λ r. ⌜ r ≡ contractAt (before file) i ⌝ }
+// The bits of contract i of a book's bytes as one number: six or seven bytes at once.
+fn bits_at(file: &[u8], form: Form, i: usize) -> u64
+    requires { ⌜ (i < 1024) × (bookBytes form i + recordBytes form ≤ length (now file)) ⌝ }
+    ensures { λ r. ⌜ contractIn form (before file) i ≡ contractOf (endWidth form) r ⌝ }
 {
-    let v = bits_at(file, i);
-    let kind = Kind::from_number(bits::part(v, 47, 1));
-    let period = Period::from_number(bits::part(v, 46, 1));
-    let holder = bits::part(v, 36, 10);
-    let source = bits::part(v, 28, 8) as usize;
-    let sink = bits::part(v, 20, 8) as usize;
+    match form {
+        Form::Narrow => bits::window6(file, BOOK_HEADER_BYTES + CONTRACT_BYTES * i),
+        Form::Wide => bits::window7(file, BOOK_HEADER_BYTES + WIDE_CONTRACT_BYTES * i),
+    }
+}
+
+// Contract i of a book's bytes in a form.
+pub fn contract_at(file: &[u8], form: Form, i: usize) -> Contract
+    requires { ⌜ (i < 1024) × (bookBytes form i + recordBytes form ≤ length (now file)) ⌝ }
+    ensures { λ r. ⌜ r ≡ contractIn form (before file) i ⌝ }
+{
+    let v = bits_at(file, form, i);
+    let width = form.end_width();
+    let ends = width + width;
+    let kind = Kind::from_number(bits::part(v, 31 + ends, 1));
+    let period = Period::from_number(bits::part(v, 30 + ends, 1));
+    let holder = bits::part(v, 20 + ends, 10);
+    let source = bits::part(v, 20 + width, width) as usize;
+    let sink = bits::part(v, 20, width) as usize;
     let quantity = Quantity(bits::part(v, 0, 20));
     Contract {
         kind,
@@ -60,12 +81,13 @@ pub fn contract_at(file: &[u8], i: usize) -> Contract
 }
 
 // Stores the header of a book of so many contracts.
-pub fn store_header(file: &mut [u8], contracts: usize)
+pub fn store_header(file: &mut [u8], form: Form, contracts: usize)
     requires { ⌜ (contracts < 1024) × (2 ≤ length (now file)) ⌝ }
-    ensures { λ r. ⌜ after file ≡ overwrite (headerBytes contracts) (before file) ⌝ }
+    ensures { λ r. ⌜ after file ≡ overwrite (headerBytes form contracts) (before file) ⌝ }
 {
+    let spare = form.spare_pattern();
     file[0] = (contracts / 4) as u8;
-    file[1] = (contracts % 4 * 64) as u8;
+    file[1] = ((contracts % 4 * 64) as u64 + spare) as u8;
 }
 
 // A kind and a period by the numbers that a book has for them.
@@ -87,38 +109,70 @@ pub fn period_bit(period: Period) -> u64
     }
 }
 
-// A contract's 48 bits as one number.
-fn contract_number(c: Contract) -> u64
-    requires { ⌜ ContractFits endBits c ⌝ }
-    ensures { λ r. ⌜ contractBytes c ≡ digits 8 6 r ⌝ }
+// A contract's kind, period and holder as one number.
+fn terms_number(c: Contract) -> u64
+    requires { ⌜ c .holder < 1024 ⌝ }
+    ensures { λ r. ⌜ (r ≡ termsNumber c) × (r < 4096) ⌝ }
 {
     let kind = c.kind;
     let period = c.period;
-    let quantity = c.quantity;
-    let terms = kind_bit(kind) * 2 + period_bit(period);
-    let held = terms * (1u64 << 10) + c.holder;
-    let ends = (c.source as u64) * (1u64 << 8) + (c.sink as u64);
-    (held * (1u64 << 16) + ends) * (1u64 << 20) + quantity.cell()
+    (kind_bit(kind) * 2 + period_bit(period)) * 1024 + c.holder
 }
 
-// Stores contract i of a book: six bytes at once.
-pub fn store_contract(file: &mut [u8], i: usize, c: Contract)
-    requires { ⌜ (i < 1024) × (bookBytes i + 6 ≤ length (now file)) ⌝ }
-    requires { ⌜ ContractFits endBits c ⌝ }
-    ensures { λ r. ⌜ after file ≡ take (bookBytes i) (before file) ++ contractBytes c ++ drop (bookBytes i + 6) (before file) ⌝ }
+// A contract's 48 bits as one number, its ends of 8 bits.
+fn narrow_number(c: Contract) -> u64
+    requires { ⌜ ContractFits 8 c ⌝ }
+    ensures { λ r. ⌜ contractBytes Narrow c ≡ digits 8 6 r ⌝ }
 {
-    let v = contract_number(c);
-    bits::store6(file, BOOK_HEADER_BYTES + CONTRACT_BYTES * i, v);
+    let terms = terms_number(c);
+    let quantity = c.quantity;
+    let ends = (c.source as u64) * 256 + (c.sink as u64);
+    (terms * 65536 + ends) * 1048576 + quantity.cell()
+}
+
+// A contract's 56 bits as one number, its ends of 12 bits.
+fn wide_number(c: Contract) -> u64
+    requires { ⌜ ContractFits 12 c ⌝ }
+    ensures { λ r. ⌜ contractBytes Wide c ≡ digits 8 7 r ⌝ }
+{
+    let terms = terms_number(c);
+    let quantity = c.quantity;
+    let ends = (c.source as u64) * 4096 + (c.sink as u64);
+    (terms * 16777216 + ends) * 1048576 + quantity.cell()
+}
+
+// Stores contract i of a book in a form: six or seven bytes at once.
+pub fn store_contract(file: &mut [u8], form: Form, i: usize, c: Contract)
+    requires { ⌜ (i < 1024) × (bookBytes form i + recordBytes form ≤ length (now file)) ⌝ }
+    requires { ⌜ ContractFits (endWidth form) c ⌝ }
+    ensures { λ r. ⌜ after file ≡ take (bookBytes form i) (before file) ++ contractBytes form c ++ drop (bookBytes form i + recordBytes form) (before file) ⌝ }
+{
+    match form {
+        Form::Narrow => bits::store6(
+            file,
+            BOOK_HEADER_BYTES + CONTRACT_BYTES * i,
+            narrow_number(c),
+        ),
+        Form::Wide => bits::store7(
+            file,
+            BOOK_HEADER_BYTES + WIDE_CONTRACT_BYTES * i,
+            wide_number(c),
+        ),
+    }
+}
+
+// The larger of two node numbers: one comparison with the node count holds both ends.
+fn larger(a: usize, b: usize) -> usize
+    ensures { λ r. ⌜ r ≡ max a b ⌝ }
+{
+    if a < b { b } else { a }
 }
 
 // A contract's own checks, on its numbers: 11, 13. None has its unit before it has passed.
 pub fn check_numbers(nodes: usize, source: usize, sink: usize, quantity: u64) -> Checked
     ensures { λ r. ⌜ r ≡ first (numberChecks nodes source sink quantity) ⌝ }
 {
-    if nodes <= source {
-        return Checked::Refused(Refusal::NodeNumber);
-    }
-    if nodes <= sink {
+    if nodes <= larger(source, sink) {
         return Checked::Refused(Refusal::NodeNumber);
     }
     if tariff::quantity_bad(quantity) {
@@ -128,27 +182,28 @@ pub fn check_numbers(nodes: usize, source: usize, sink: usize, quantity: u64) ->
 }
 
 // The checks of contract i of a book's bytes.
-fn check_at(nodes: usize, file: &[u8], i: usize) -> Checked
-    requires { ⌜ (i < 1024) × (bookBytes i + 6 ≤ length (now file)) ⌝ }
-    ensures { λ r. ⌜ r ≡ first (contractChecks nodes (contractAt (before file) i)) ⌝ }
+fn check_at(nodes: usize, file: &[u8], form: Form, i: usize) -> Checked
+    requires { ⌜ (i < 1024) × (bookBytes form i + recordBytes form ≤ length (now file)) ⌝ }
+    ensures { λ r. ⌜ r ≡ first (contractChecks nodes (contractIn form (before file) i)) ⌝ }
 {
-    let v = bits_at(file, i);
+    let v = bits_at(file, form, i);
+    let width = form.end_width();
     check_numbers(
         nodes,
-        bits::part(v, 28, 8) as usize,
-        bits::part(v, 20, 8) as usize,
+        bits::part(v, 20 + width, width) as usize,
+        bits::part(v, 20, width) as usize,
         bits::part(v, 0, 20),
     )
 }
 
 // The checks of a book's contracts, one after the other.
-fn check_contracts(nodes: usize, file: &[u8], count: usize) -> Checked
-    requires { ⌜ (count ≤ maxContracts) × (bookBytes count ≤ length (now file)) ⌝ }
-    ensures { λ r. ⌜ r ≡ first (checksTo count (λ i. contractChecks nodes (contractAt (before file) i))) ⌝ }
+fn check_contracts(nodes: usize, file: &[u8], form: Form, count: usize) -> Checked
+    requires { ⌜ (count ≤ maxContracts) × (bookBytes form count ≤ length (now file)) ⌝ }
+    ensures { λ r. ⌜ r ≡ first (checksTo count (λ i. contractChecks nodes (contractIn form (before file) i))) ⌝ }
 {
     let mut i = 0;
     while i < count {
-        let checked = check_at(nodes, file, i);
+        let checked = check_at(nodes, file, form, i);
         if let Checked::Refused(refusal) = checked {
             return Checked::Refused(refusal);
         }
@@ -168,11 +223,12 @@ pub fn check_book(nodes: usize, file: &[u8]) -> Checked
     if MAX_CONTRACTS < count {
         return Checked::Refused(Refusal::ContractCount);
     }
-    if bits::field(file, 10, 6) != 0 {
+    let form = book_form(file);
+    if bits::field(file, 10, 6) != form.spare_pattern() {
         return Checked::Refused(Refusal::SpareBits);
     }
-    if file.len() != BOOK_HEADER_BYTES + CONTRACT_BYTES * count {
+    if file.len() != form.book_bytes(count) {
         return Checked::Refused(Refusal::FileLength);
     }
-    check_contracts(nodes, file, count)
+    check_contracts(nodes, file, form, count)
 }

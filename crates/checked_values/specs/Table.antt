@@ -11,6 +11,7 @@ use Rattle.tariff.specs.Units.{Grid}
 use Rattle.tariff.specs.Contracts.{ofPeriod}
 use Rattle.tariff.specs.Settlement.{mcc, amount, cents}
 use Rattle.tariff.specs.Feasibility.{totalFlow, excess, overloadSet, overloadCount, lowestOverload}
+use Rattle.layouts.specs.declared.forms.Form.the-variants.{Narrow}
 use Rattle.layouts.specs.BookFile.{bookFile}
 use Rattle.layouts.specs.PriceFile.{priceFile}
 use Rattle.checked_values.specs.Cases.{minus, factorsL, gridL, pricesL, bookL, gridP, bookP}
@@ -61,7 +62,7 @@ table =
     -- P9 amount -50,000,000 is -1 cent; -49,999,999 is 0
     ∷ record { given = cents (minus 50000000) ∷ cents (minus 49999999) ∷ []; expected = minus 1 ∷ pos 0 ∷ [] }
     -- P10 P4's book
-    ∷ record { given = bytes (bookFile (bookP 10000)); expected = bytes (0x00 ∷ 0x40 ∷ 0x40 ∷ 0x70 ∷ 0x00 ∷ 0x10 ∷ 0x27 ∷ 0x10 ∷ []) }
+    ∷ record { given = bytes (bookFile Narrow (bookP 10000)); expected = bytes (0x00 ∷ 0x40 ∷ 0x40 ∷ 0x70 ∷ 0x00 ∷ 0x10 ∷ 0x27 ∷ 0x10 ∷ []) }
     -- P11 on-peak, one price of 1 cent
     ∷ record { given = bytes (priceFile 1 1 (1 ∷ [])); expected = bytes (0x81 ∷ 0x00 ∷ 0x00 ∷ 0x20 ∷ []) }
     ∷ []

@@ -2,12 +2,12 @@
 // Where a file is there and can't be read, nothing is printed: `files` has told it on standard error.
 use feasibility_report::REPORT_ROOM;
 use layouts::MAX_BOOK_BYTES;
-use layouts::MAX_GRID_BYTES;
+use layouts::PROGRAM_GRID_BYTES;
 use layouts::WriteAnswer;
 
-// The buffers hold one byte more than the longest file allowed, so that the length of a longer one is refused.
+// The buffers hold one byte more than the longest file taken, so that the length of a longer one is refused.
 fn main() {
-    let mut grid = [0u8; MAX_GRID_BYTES + 1];
+    let mut grid = [0u8; PROGRAM_GRID_BYTES + 1];
     let mut book = [0u8; MAX_BOOK_BYTES + 1];
     let mut text = [0u8; REPORT_ROOM];
     let grid_file = files::read_file(b"grid.bin", &mut grid);

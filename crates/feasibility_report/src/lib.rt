@@ -12,11 +12,12 @@ ghost use Rattle.texts.specs.WithFiles.{withBook};
 ghost use Rattle.feasibility_report.specs.Report.{lines};
 ghost use Rattle.feasibility_report.specs.WriteReport.{report, reportRoom, reportCall, WritesReport};
 use grid_file::GridAnswer;
+use layouts::PROGRAM_FACTORS;
+use layouts::PROGRAM_GRID_BYTES;
 use layouts::WriteAnswer;
 use lines::put_lines;
 use tariff::Checked;
 use tariff::MAX_CONSTRAINTS;
-use tariff::MAX_FACTORS;
 use tariff::Refusal;
 
 // Every report fits into so many bytes.
@@ -47,12 +48,14 @@ fn put_report(grid_file: &[u8], book_file: &[u8], buf: &mut [u8]) -> usize
     ensures { λ r. ⌜ Put (before buf) 0 (report (before «grid_file») (before «book_file»)) (after buf) r ⌝ }
 {
     let mut limits = [0u64; MAX_CONSTRAINTS];
-    let mut factors = [0i64; MAX_FACTORS];
-    match grid_file::read_grid(grid_file, &mut limits, &mut factors) {
+    let mut factors = [0i64; PROGRAM_FACTORS];
+    match grid_file::read_within(PROGRAM_GRID_BYTES, grid_file, &mut limits, &mut factors) {
         GridAnswer::Refused(refusal) => text::put_refused(buf, b"grid", refusal),
-        GridAnswer::Read { nodes, constraints } => {
-            put_tested(buf, nodes, constraints, &limits, &factors, book_file)
-        }
+        GridAnswer::Read {
+            nodes,
+            constraints,
+            form: _,
+        } => { put_tested(buf, nodes, constraints, &limits, &factors, book_file) }
     }
 }
 

@@ -1,3 +1,4 @@
 pub mod Checking
 pub mod Flowing
 pub mod Judging
+pub mod Theorems

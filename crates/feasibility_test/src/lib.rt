@@ -15,11 +15,12 @@ ghost use Rattle.tariff.specs.Refusals.{first};
 ghost use Rattle.tariff.specs.Units.{Factors, factorsOf, gridOf, maxConstraints};
 ghost use Rattle.tariff.specs.Contracts.{ofPeriod};
 ghost use Rattle.tariff.specs.Processes.{percent};
-ghost use Rattle.layouts.specs.BookFile.{bookIn, contractCountIn, contractAt};
+ghost use Rattle.layouts.specs.BookFile.{bookIn, contractCountIn, bookFormIn, contractAt};
 ghost use Rattle.tables.specs.Inner.{GoodFactors};
 ghost use Rattle.books.specs.BookChecks.{bookChecks};
 ghost use Rattle.feasibility_test.specs.TestBook.{testCall, testChecked, TestsBook};
 ghost use Rattle.feasibility_test.specs.Inner.{Carries, Adds, Ends, Room, Judgeable, Judges};
+use layouts::Form;
 use tariff::Checked;
 use tariff::Contract;
 use tariff::Flow;
@@ -68,18 +69,19 @@ impl Flows {
         factors: &[i64],
         period: Period,
         book: &[u8],
+        form: Form,
         from: usize,
         upto: usize,
     ) -> Flows
         requires { ⌜ GoodFactors nodes constraints (now factors) × (first (bookChecks nodes (now book)) ≡ Passed) ⌝ }
-        requires { ⌜ (from ≤ upto) × (upto ≤ contractCountIn (now book)) ⌝ }
+        requires { ⌜ (form ≡ bookFormIn (now book)) × (from ≤ upto) × (upto ≤ contractCountIn (now book)) ⌝ }
         requires { ⌜ Carries (factorsOf nodes constraints (now factors)) (ofPeriod period (listTo from (contractAt (now book)))) self ⌝ }
         ensures { λ r. ⌜ Carries (factorsOf nodes constraints (before factors)) (ofPeriod period (listTo upto (contractAt (before book)))) r ⌝ }
     {
         let mut carried = self;
         let mut i = from;
         while i < upto {
-            let c = books::contract_at(book, i);
+            let c = books::contract_at(book, form, i);
             let own = c.period;
             if own.same(period) {
                 add_flow(&mut carried.flows, c, constraints, factors);
@@ -131,11 +133,12 @@ pub fn carry(
     ensures { λ r. ⌜ Carries (factorsOf nodes constraints (before factors)) (ofPeriod period (bookIn (before book))) r ⌝ }
 {
     let count = books::contract_count(book);
+    let form = books::book_form(book);
     let mut flows = Flows::none();
     let mut i = 0;
     while i < count {
         let end = step_end(i, count);
-        flows = flows.step(nodes, constraints, factors, period, book, i, end);
+        flows = flows.step(nodes, constraints, factors, period, book, form, i, end);
         i = end;
     }
     flows

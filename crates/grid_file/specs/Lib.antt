@@ -1,3 +1,4 @@
 pub mod ReadGrid
+pub mod Former
 pub mod WriteGrid
 pub mod Inner

@@ -1,9 +1,12 @@
 -- A book's packing over the width w of its ends, B bytes a contract, and the spare bits p: total, fit, written then read, read then written; and the book's
--- file, with ends of 8 bits.
-use mathlib.Core.Path.{_≡_, refl, sym, _∙_}
+-- file in either form.
+use mathlib.Core.Path.{_≡_, refl, sym, ap, _∙_}
+use mathlib.Core.Bool.{Bool, true, false, cond}
 use mathlib.Core.List.{List, [], _∷_, flatMap}
-use Prim.Native.Nat.{ℕ, _+_, _*_, _^_, _<_}
+use Prim.Native.Nat.{ℕ, _+_, _*_, _^_, _≤_, _<_}
 use native.Mathlib.Omega.{arith}
+use borrow.Author.Tests.{eqb-true, ne-eqb}
+use lib.Dec.{eqb}
 use lib.ListN.{length, getD}
 use Rattle.lists.specs.Lists.{Each, listTo}
 use Rattle.lists.proofs.Lists.{length-listTo, listTo-is, each-listTo}
@@ -13,7 +16,12 @@ use Rattle.bits.proofs.Numbers.{Below}
 use Rattle.bits.proofs.Fields.{field-lt}
 use Rattle.bits.proofs.Files.{total-append, fit-append, length-file, below-file, written-holds, holds-written, holds-append}
 use Rattle.tariff.specs.declared.contracts.Contract.{Contract}
-use Rattle.layouts.specs.BookFile.{contract, contractBits, contractFields, packedBook, contractFrom, endBits, bookBytes, bookFile, contractCountIn, bookSpareIn, bookIn}
+use Rattle.tariff.specs.Units.{maxNodes, maxContracts}
+use Rattle.layouts.specs.declared.forms.Form.{Form}
+use Rattle.layouts.specs.declared.forms.Form.the-variants.{Narrow, Wide}
+use Rattle.layouts.specs.Forms.{endWidth, recordBytes, sparePattern, endsBelow}
+use Rattle.layouts.specs.BookFile.{contract, contractBits, contractFields, packedBook, contractFrom}
+use Rattle.layouts.specs.BookFile.{bookBytes, bookFile, contractCountIn, bookSpareIn, bookFormIn, contractIn, contractAt, bookIn}
 use Rattle.layouts.specs.Inner.{ContractFits}
 use Rattle.layouts.proofs.ContractBits.{kind-bit, period-bit, kind-lt, period-lt, contract-is}
 use Rattle.layouts.proofs.Records.{fit-records, total-records, record-stands, records-stand}
@@ -120,18 +128,114 @@ module _ (w B p : ℕ) (whole : 8 * B ≡ contractBits w) where
             (λ i l. contract-holds w s (16 + contractBits w * i)),
       ))
 
--- ---- with ends of 8 bits
+-- ---- by the form: w = 8, B = 6 and w = 12, B = 7
 
-pub book-written : (cs : List Contract) → length cs < 2 ^ 10 → Each (ContractFits endBits) cs → Packed endBits 6 0 cs (bookFile cs)
-unfolding bookFile
-book-written cs few each = packed-written endBits 6 0 refl cs few (omega arith) each
+pub whole-bytes : (f : Form) → 8 * recordBytes f ≡ contractBits (endWidth f)
+whole-bytes Narrow = refl
+whole-bytes Wide = refl
 
-pub book-read : (s : List ℕ) → Below 8 s → length s ≡ bookBytes (contractCountIn s) → bookSpareIn s ≡ 0 → bookFile (bookIn s) ≡ s
+pattern-fits : (f : Form) → sparePattern f < 2 ^ 6
+pattern-fits Narrow = omega arith
+pattern-fits Wide = omega arith
+
+-- the form by its spare bits
+pub form-is : (f : Form) (s : List ℕ) → bookSpareIn s ≡ sparePattern f → bookFormIn s ≡ f
+unfolding bookFormIn
+form-is f s e = ap (λ (p : ℕ). cond (eqb p 63) Wide Narrow) e ∙ back f
+  where
+    back : (g : Form) → cond (eqb (sparePattern g) 63) Wide Narrow ≡ g
+    back Narrow = refl
+    back Wide = refl
+
+pub form-narrow : (s : List ℕ) → (bookSpareIn s ≡ 63 → ⊥) → bookFormIn s ≡ Narrow
+unfolding bookFormIn
+form-narrow s h = rw (ne-eqb (bookSpareIn s) 63 h)
+
+-- the wide form is there for all six spare bits alone
+pub wide-spare : (s : List ℕ) → bookFormIn s ≡ Wide → bookSpareIn s ≡ 63
+unfolding bookFormIn
+wide-spare s e = by (eqb (bookSpareIn s) 63) refl e
+  where
+    by : (b : Bool) → eqb (bookSpareIn s) 63 ≡ b → cond b Wide Narrow ≡ Wide → bookSpareIn s ≡ 63
+    by true q e = eqb-true (bookSpareIn s) 63 q
+    by false q e = cc
+
+-- the bytes s are the file of a book in the form f: what each reader finds in them
+pub record Filed (f : Form) (cs : List Contract) (s : List ℕ) : Type 0 where
+  pub size : length s ≡ bookBytes f (length cs)
+  pub bytes : Below 8 s
+  pub count : contractCountIn s ≡ length cs
+  pub spare : bookSpareIn s ≡ sparePattern f
+  pub form : bookFormIn s ≡ f
+  pub contracts : bookIn s ≡ cs
+
+filed : (f : Form) (cs : List Contract) (s : List ℕ) → Packed (endWidth f) (recordBytes f) (sparePattern f) cs s → Filed f cs s
+unfolding contractIn
+filed f cs s p =
+    record { size = p .size; bytes = p .bytes; count = p .count; spare = p .spare; form = form; contracts = ap (λ (g : Form). contractsIn (endWidth g) s) form ∙ p .contracts }
+  where
+    form : bookFormIn s ≡ f
+    form = form-is f s (p .spare)
+
+-- WRITTEN, THEN READ, in either form: the form and the contracts come back
+pub book-written : (f : Form) (cs : List Contract) → length cs < 2 ^ 10 → Each (ContractFits (endWidth f)) cs → Filed f cs (bookFile f cs)
 unfolding bookFile
-book-read = packed-read endBits 6 0 refl
+book-written f cs few each = filed f cs (bookFile f cs) (packed-written (endWidth f) (recordBytes f) (sparePattern f) (whole-bytes f) cs few (pattern-fits f) each)
+
+-- READ, THEN WRITTEN, in the form that the bytes say: the same bytes
+pub book-read : (s : List ℕ) → Below 8 s → length s ≡ bookBytes (bookFormIn s) (contractCountIn s) → bookSpareIn s ≡ sparePattern (bookFormIn s)
+    → bookFile (bookFormIn s) (bookIn s) ≡ s
+unfolding bookFile contractIn
+book-read s = let f = bookFormIn s in packed-read (endWidth f) (recordBytes f) (sparePattern f) (whole-bytes f) s
+
+-- ---- what is read, in whatever form
 
 pub length-bookIn : (s : List ℕ) → length (bookIn s) ≡ contractCountIn s
-length-bookIn = length-contractsIn endBits
+length-bookIn s = length-listTo (contractCountIn s) (contractAt s)
 
-pub book-fits : (s : List ℕ) → Each (ContractFits endBits) (bookIn s)
-book-fits = contracts-fit endBits
+pub contract-in-fits : (f : Form) (s : List ℕ) (i : ℕ) → ContractFits (endWidth f) (contractIn f s i)
+unfolding contractIn
+contract-in-fits f s i = contract-fits (endWidth f) s (16 + contractBits (endWidth f) * i)
+
+pub book-fits : (s : List ℕ) → Each (ContractFits (endWidth (bookFormIn s))) (bookIn s)
+book-fits s = each-listTo (ContractFits (endWidth (bookFormIn s))) (contractCountIn s) (contractAt s) (λ i b. contract-in-fits (bookFormIn s) s i)
+
+-- what fits the narrow form fits the wide one
+pub fits-wider : (cs : List Contract) → Each (ContractFits 8) cs → Each (ContractFits 12) cs
+fits-wider [] h = tt
+fits-wider (c ∷ cs) h =
+    let t = h .0 in
+    (record { holder-fits = t .holder-fits; source-fits = omega (arith, t .source-fits); sink-fits = omega (arith, t .sink-fits); quantity-fits = t .quantity-fits }, fits-wider cs (h .1))
+
+-- contract i has its bytes where all m have theirs
+pub record-room : (f : Form) (i m size : ℕ) → i < m → bookBytes f m ≤ size → bookBytes f i + recordBytes f ≤ size
+record-room Narrow i m size h room = omega arith
+record-room Wide i m size h room = omega arith
+
+pub book-bytes-least : (f : Form) (m size : ℕ) → bookBytes f m ≤ size → 2 ≤ size
+book-bytes-least Narrow m size h = omega arith
+book-bytes-least Wide m size h = omega arith
+
+-- the longest book has 7,002 bytes
+pub book-bytes-most : (f : Form) (m : ℕ) → m ≤ maxContracts → bookBytes f m ≤ 7002
+book-bytes-most Narrow m h = omega arith
+book-bytes-most Wide m h = omega arith
+
+-- ---- ends: "a narrow book's writer refuses an end above 255"
+
+pub ends-fewer : (f : Form) (n : ℕ) → endsBelow f n ≤ n
+ends-fewer Narrow n = omega arith
+ends-fewer Wide n = omega arith
+
+-- an end that its field holds
+pub end-below : (f : Form) (n x : ℕ) → x < n → x < 2 ^ endWidth f → x < endsBelow f n
+end-below Narrow n x h fit = omega arith
+end-below Wide n x h fit = h
+
+pub end-fits : (f : Form) (n x : ℕ) → n ≤ maxNodes → x < endsBelow f n → x < 2 ^ endWidth f
+end-fits Narrow n x few h = omega arith
+end-fits Wide n x few h = omega arith
+
+pub ends-some : (f : Form) (n : ℕ) → 0 < n → 0 < endsBelow f n
+ends-some Narrow n h = omega arith
+ends-some Wide n h = h

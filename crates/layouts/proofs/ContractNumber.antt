@@ -7,7 +7,11 @@ use lib.ListN.{length, take, drop}
 use Rattle.bits.specs.Bits.{number, field}
 use Rattle.bits.proofs.Numbers.{Below}
 use Rattle.bits.proofs.Fields.{field-part}
-use Rattle.layouts.specs.BookFile.{contract, contractBits, contractFrom, contractAt}
+use Rattle.layouts.specs.declared.forms.Form.{Form}
+use Rattle.layouts.specs.Forms.{endWidth, recordBytes}
+use Rattle.layouts.specs.BookFile.{contract, contractBits, contractFrom, bookBytes, contractIn}
+use Rattle.layouts.specs.Inner.{contractOf}
+use Rattle.layouts.proofs.BookFile.{whole-bytes}
 
 module _ (w B : ℕ) (whole : 8 * B ≡ contractBits w) (s : List ℕ) (i v : ℕ) (b : Below 8 s) (le : 2 + B * i + B ≤ length s) (e : v ≡ number 8 (take B (drop (2 + B * i) s))) where
   -- where the contract's bits begin, in bytes
@@ -22,8 +26,7 @@ module _ (w B : ℕ) (whole : 8 * B ≡ contractBits w) (s : List ℕ) (i v : �
       ∙ ap (λ (y : ℕ). number 8 (take B (drop (2 + B * i) s)) / 2 ^ y % 2 ^ x) {x = 8 * B - (a + x)} {y = r} (omega arith))
 
   -- the six fields as parts of the number v
-  pub contract-number : contractFrom w s (16 + contractBits w * i)
-      ≡ contract (v / 2 ^ (31 + (w + w)) % 2 ^ 1) (v / 2 ^ (30 + (w + w)) % 2 ^ 1) (v / 2 ^ (20 + (w + w)) % 2 ^ 10) (v / 2 ^ (20 + w) % 2 ^ w) (v / 2 ^ 20 % 2 ^ w) (v / 2 ^ 0 % 2 ^ 20)
+  pub contract-number : contractFrom w s (16 + contractBits w * i) ≡ contractOf w v
   unfolding contractFrom
   contract-number =
       let o = 16 + contractBits w * i in
@@ -31,7 +34,8 @@ module _ (w B : ℕ) (whole : 8 * B ≡ contractBits w) (s : List ℕ) (i v : �
       (contract-part 2 10 (o + 1 + 1) (20 + (w + w)) (omega arith) (omega arith) t) (contract-part 12 w (o + 1 + 1 + 10) (20 + w) (omega arith) (omega arith) t)
       (contract-part (12 + w) w (o + 1 + 1 + 10 + w) 20 (omega arith) (omega arith) t) (contract-part (12 + w + w) 20 (o + 1 + 1 + 10 + w + w) 0 (omega arith) (omega arith) t)
 
--- with ends of 8 bits
-pub contract-at-number : (s : List ℕ) (i v : ℕ) → Below 8 s → 2 + 6 * i + 6 ≤ length s → v ≡ number 8 (take 6 (drop (2 + 6 * i) s))
-    → contractAt s i ≡ contract (v / 2 ^ 47 % 2 ^ 1) (v / 2 ^ 46 % 2 ^ 1) (v / 2 ^ 36 % 2 ^ 10) (v / 2 ^ 28 % 2 ^ 8) (v / 2 ^ 20 % 2 ^ 8) (v / 2 ^ 0 % 2 ^ 20)
-contract-at-number = contract-number 8 6 refl
+-- in either form
+pub contract-in-number : (f : Form) (s : List ℕ) (i v : ℕ) → Below 8 s → bookBytes f i + recordBytes f ≤ length s → v ≡ number 8 (take (recordBytes f) (drop (bookBytes f i) s))
+    → contractIn f s i ≡ contractOf (endWidth f) v
+unfolding contractIn
+contract-in-number f = contract-number (endWidth f) (recordBytes f) (whole-bytes f)

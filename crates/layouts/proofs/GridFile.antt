@@ -1,4 +1,4 @@
--- The grid's file, written then read and read then written: its body behind any header of o bits, then the file.
+-- The grid's file, written then read and read then written: its body behind any header of h bits, then the file in either form.
 use mathlib.Core.Path.{_≡_, refl, ap, _∙_}
 use mathlib.Core.Logic.{_↔_}
 use mathlib.Core.List.{List, [], _∷_, _++_, map, append-assoc}
@@ -13,7 +13,7 @@ use lib.Signed.{mag}
 use lib.ListN.{length, length-map}
 use lib.Seq.{take-all}
 use lib.IntN.{ℤ, pos, negsuc}
-use Rattle.bits.specs.Bits.{fields}
+use Rattle.bits.specs.Bits.{field, fields}
 use Rattle.bits.specs.Signed.{ofInt, toInt}
 use Rattle.bits.specs.Fields.{Field, bits, total, fileOf}
 use Rattle.bits.specs.Inner.{Fit, Holds}
@@ -21,9 +21,13 @@ use Rattle.bits.proofs.Numbers.{Below}
 use Rattle.bits.proofs.Fields.{field-lt, length-fields, below-fields}
 use Rattle.bits.proofs.SignedLaws.{Small, to-of-all, of-to-all, of-below}
 use Rattle.bits.proofs.Files.{total-append, total-run, fit-append, fit-run}
-use Rattle.layouts.specs.GridFile.{limitWidth, factorWidth, gridHeaderBits, gridBits, gridBytes, gridHeader, gridBody, gridFields, gridFile}
-use Rattle.layouts.specs.GridFile.{nodesIn, constraintsIn, gridSpareIn, limitsFrom, factorsFrom, limitsIn, factorsIn, gridPadIn, gridIn}
+use Rattle.layouts.specs.declared.forms.Form.{Form}
+use Rattle.layouts.specs.Files.{bytesFor, padFor}
+use Rattle.layouts.specs.Forms.{gridSpare, gridHeaderBits}
+use Rattle.layouts.specs.GridFile.{limitWidth, factorWidth, bitsBehind, gridBits, gridBytes, gridHeader, gridBody, gridFields, gridFile}
+use Rattle.layouts.specs.GridFile.{gridFormIn, nodesIn, constraintsIn, gridSpareIn, headerIn, limitsFrom, factorsFrom, limitsIn, factorsIn, gridPadIn, gridIn}
 use Rattle.layouts.proofs.Padded.{Padded, padded-total, padded-written, padded-read, holds-then-run}
+use Rattle.layouts.proofs.GridHeader.{nodeWidth, header-total, header-fit, HeaderFound, header-found, header-holds, nodes-fit-read}
 
 -- what the fields of a grid's body can hold
 pub record BodyFits (n k : ℕ) (ls : List ℕ) (fs : List ℤ) : Type 0 where
@@ -31,23 +35,6 @@ pub record BodyFits (n k : ℕ) (ls : List ℕ) (fs : List ℤ) : Type 0 where
   pub one-factor-each : length fs ≡ n * k
   pub limits-fit : Below limitWidth ls
   pub factors-fit : Small factorWidth fs
-
--- and of its file
-pub record GridFits (n k : ℕ) (ls : List ℕ) (fs : List ℤ) : Type 0 where
-  pub nodes-fit : n < 2 ^ 8
-  pub constraints-fit : k < 2 ^ 7
-  pub body-fits : BodyFits n k ls fs
-
--- the bytes s are the file of a grid: what each reader finds in them
-pub record GridWritten (n k : ℕ) (ls : List ℕ) (fs : List ℤ) (s : List ℕ) : Type 0 where
-  pub size : length s ≡ gridBytes n k
-  pub bytes : Below 8 s
-  pub nodes : nodesIn s ≡ n
-  pub constraints : constraintsIn s ≡ k
-  pub spare : gridSpareIn s ≡ 0
-  pub limits : limitsIn s ≡ ls
-  pub factors : factorsIn s ≡ fs
-  pub pad : gridPadIn s ≡ 0
 
 -- ---- integers of w bits
 
@@ -128,65 +115,129 @@ module _ (s : List ℕ) (o n k : ℕ) where
         factors-fit = small-to-all factorWidth (fields s (o + limitWidth * k) factorWidth (n * k)) (omega arith) (below-fields s (o + limitWidth * k) factorWidth (n * k));
       }
 
+-- ---- the fields behind a header, and the padding
+
+-- the bytes s hold the header hs, of h bits, and behind it a grid's body
+pub record Behind (hs : List Field) (h n k : ℕ) (ls : List ℕ) (fs : List ℤ) (s : List ℕ) : Type 0 where
+  pub size : length s ≡ bytesFor (bitsBehind h n k)
+  pub bytes : Below 8 s
+  pub header : Holds s 0 hs
+  pub limits : limitsFrom s h k ≡ ls
+  pub factors : factorsFrom s h n k ≡ fs
+  pub pad : field s (bitsBehind h n k) (padFor (bitsBehind h n k)) ≡ 0
+
+module _ (hs : List Field) (h n k : ℕ) (starts : total hs ≡ h) where
+  abbrev whole : List ℕ → List ℤ → List Field
+  whole ls fs = hs ++ gridBody ls fs ++ bits (padFor (bitsBehind h n k)) 0 ∷ []
+
+  module _ (ls : List ℕ) (fs : List ℤ) (f : BodyFits n k ls fs) where
+    vs : List ℕ
+    vs = map (ofInt factorWidth) fs
+
+    each : length vs ≡ n * k
+    unfolding vs
+    each = length-map fs (ofInt factorWidth) ∙ f .one-factor-each
+
+    used : total (hs ++ coded ls vs) ≡ bitsBehind h n k
+    used = body-total hs h n k ls vs starts (f .one-limit-each) each
+
+    pub behind-total : total (hs ++ gridBody ls fs ++ bits (padFor (bitsBehind h n k)) 0 ∷ []) ≡ 8 * bytesFor (bitsBehind h n k)
+    unfolding gridBody coded vs
+    behind-total = padded-total (hs ++ coded ls vs) (bitsBehind h n k) used
+
+    found : (s : List ℕ) → Padded (hs ++ coded ls vs) (bitsBehind h n k) s → Behind hs h n k ls fs s
+    unfolding limitsFrom factorsFrom vs
+    found s p =
+        record {
+          size = p .size;
+          bytes = p .bytes;
+          header = parts .0;
+          limits = parts .1;
+          factors = rw (parts .2) (to-of-all factorWidth fs (omega arith) (f .factors-fit));
+          pad = p .pad;
+        }
+      where
+        parts : Holds s 0 hs × (fields s h limitWidth k ≡ ls) × (fields s (h + limitWidth * k) factorWidth (n * k) ≡ vs)
+        parts = body-parts hs h n k ls vs starts (f .one-limit-each) each s (omega (arith, p .size)) .0 (p .holds)
+
+    pub behind-written : Fit hs → Behind hs h n k ls fs (fileOf (hs ++ gridBody ls fs ++ bits (padFor (bitsBehind h n k)) 0 ∷ []))
+    unfolding gridBody coded vs
+    behind-written fit =
+        found (fileOf (whole ls fs))
+        (padded-written (hs ++ coded ls vs) (bitsBehind h n k) used
+        (body-fit hs h n k ls vs starts (f .one-limit-each) each fit (f .limits-fit) (of-below factorWidth fs (omega arith) (f .factors-fit))))
+
+  module _ (s : List ℕ) where
+    raw : List ℕ
+    raw = fields s (h + limitWidth * k) factorWidth (n * k)
+
+    each-read : length raw ≡ n * k
+    unfolding raw
+    each-read = length-fields s (h + limitWidth * k) factorWidth (n * k)
+
+    pub behind-read : Behind hs h n k (limitsFrom s h k) (factorsFrom s h n k) s
+        → fileOf (hs ++ gridBody (limitsFrom s h k) (factorsFrom s h n k) ++ bits (padFor (bitsBehind h n k)) 0 ∷ []) ≡ s
+    unfolding gridBody limitsFrom factorsFrom coded raw
+    behind-read p =
+        let ls = limitsFrom s h k in
+        let many = length-limits s h n k in
+        rw (of-to-all factorWidth raw (below-fields s (h + limitWidth * k) factorWidth (n * k)))
+        (padded-read (hs ++ coded ls raw) (bitsBehind h n k) (body-total hs h n k ls raw starts many each-read) s
+        (record {
+          size = p .size;
+          bytes = p .bytes;
+          holds = body-parts hs h n k ls raw starts many each-read s (omega (arith, p .size)) .1 (p .header, refl, refl);
+          pad = p .pad;
+        }))
+
 -- ---- written, then read
 
-header-total : (n k : ℕ) → total (gridHeader n k) ≡ gridHeaderBits
-unfolding gridHeader
-header-total n k = refl
+-- what the fields of a grid's file can hold
+pub record GridFits (f : Form) (n k : ℕ) (ls : List ℕ) (fs : List ℤ) : Type 0 where
+  pub nodes-fit : n < 2 ^ nodeWidth f
+  pub constraints-fit : k < 2 ^ 7
+  pub body-fits : BodyFits n k ls fs
 
-module _ (n k : ℕ) (ls : List ℕ) (fs : List ℤ) (f : GridFits n k ls fs) where
-  vs : List ℕ
-  vs = map (ofInt factorWidth) fs
+-- the bytes s are the file of a grid: what each reader finds in them
+pub record GridWritten (f : Form) (n k : ℕ) (ls : List ℕ) (fs : List ℤ) (s : List ℕ) : Type 0 where
+  pub size : length s ≡ gridBytes f n k
+  pub bytes : Below 8 s
+  pub form : gridFormIn s ≡ f
+  pub nodes : nodesIn s ≡ n
+  pub constraints : constraintsIn s ≡ k
+  pub spare : gridSpareIn s ≡ gridSpare f
+  pub limits : limitsIn s ≡ ls
+  pub factors : factorsIn s ≡ fs
+  pub pad : gridPadIn s ≡ 0
 
-  each : length vs ≡ n * k
-  unfolding vs
-  each = length-map fs (ofInt factorWidth) ∙ f .body-fits .one-factor-each
+module _ (f : Form) (n k : ℕ) (ls : List ℕ) (fs : List ℤ) (fit : GridFits f n k ls fs) where
+  pub total-grid : total (gridFields f n k ls fs) ≡ 8 * gridBytes f n k
+  unfolding gridFields
+  total-grid = behind-total (gridHeader f n k) (gridHeaderBits f) n k (header-total f n k) ls fs (fit .body-fits)
 
-  whole : total (gridHeader n k ++ coded ls vs) ≡ gridBits n k
-  whole = body-total (gridHeader n k) gridHeaderBits n k ls vs (header-total n k) (f .body-fits .one-limit-each) each
-
-  pub total-grid : total (gridFields n k ls fs) ≡ 8 * gridBytes n k
-  unfolding gridFields gridBody coded vs
-  total-grid = padded-total (gridHeader n k ++ coded ls vs) (gridBits n k) whole
-
-  found : (s : List ℕ) → Padded (gridHeader n k ++ coded ls vs) (gridBits n k) s → GridWritten n k ls fs s
-  unfolding limitsFrom factorsFrom gridHeader vs
-  found s p =
+  pub grid-written : GridWritten f n k ls fs (fileOf (gridFields f n k ls fs))
+  unfolding gridFields
+  grid-written =
+      let p = behind-written (gridHeader f n k) (gridHeaderBits f) n k (header-total f n k) ls fs (fit .body-fits) (header-fit f n k (fit .nodes-fit) (fit .constraints-fit)) in
+      let h = header-found f n k (fileOf (gridFields f n k ls fs)) (p .header) in
       record {
         size = p .size;
         bytes = p .bytes;
-        nodes = nodes;
-        constraints = constraints;
-        spare = parts .0 .1 .1 .0;
-        limits = rw constraints (parts .1);
-        factors = rw (nodes, constraints, parts .2) (to-of-all factorWidth fs (omega arith) (f .body-fits .factors-fit));
-        pad = rw (nodes, constraints) (p .pad);
+        form = h .form;
+        nodes = h .nodes;
+        constraints = h .constraints;
+        spare = h .spare;
+        limits = rw (h .form, h .constraints) (p .limits);
+        factors = rw (h .nodes, h .form, h .constraints) (p .factors);
+        pad = rw (h .nodes, h .form, h .constraints) (p .pad);
       }
-    where
-      parts : Holds s 0 (gridHeader n k) × (fields s gridHeaderBits limitWidth k ≡ ls) × (fields s (gridHeaderBits + limitWidth * k) factorWidth (n * k) ≡ vs)
-      parts = body-parts (gridHeader n k) gridHeaderBits n k ls vs (header-total n k) (f .body-fits .one-limit-each) each s (omega (arith, p .size)) .0 (p .holds)
-
-      nodes : nodesIn s ≡ n
-      nodes = parts .0 .0
-
-      constraints : constraintsIn s ≡ k
-      constraints = parts .0 .1 .0
-
-  header-fit : Fit (gridHeader n k)
-  unfolding gridHeader
-  header-fit = (f .nodes-fit, (f .constraints-fit, (omega arith, tt)))
-
-  pub grid-written : GridWritten n k ls fs (fileOf (gridFields n k ls fs))
-  unfolding gridFields gridBody coded vs
-  grid-written =
-      found (fileOf (gridFields n k ls fs))
-      (padded-written (gridHeader n k ++ coded ls vs) (gridBits n k) whole
-      (body-fit (gridHeader n k) gridHeaderBits n k ls vs (header-total n k) (f .body-fits .one-limit-each) each header-fit (f .body-fits .limits-fit)
-      (of-below factorWidth fs (omega arith) (f .body-fits .factors-fit))))
 
 -- ---- read, then written
 
 module _ (s : List ℕ) where
+  abbrev F : Form
+  F = gridFormIn s
+
   abbrev N : ℕ
   N = nodesIn s
 
@@ -194,33 +245,18 @@ module _ (s : List ℕ) where
   K = constraintsIn s
 
   -- what is read fits
-  pub grid-fits : GridFits N K (limitsIn s) (factorsIn s)
-  grid-fits = record { nodes-fit = field-lt s 0 8; constraints-fit = field-lt s 8 7; body-fits = body-fits-read s gridHeaderBits N K }
+  pub grid-fits : GridFits F N K (limitsIn s) (factorsIn s)
+  grid-fits = record { nodes-fit = nodes-fit-read s F; constraints-fit = field-lt s 8 7; body-fits = body-fits-read s (headerIn s) N K }
 
-  raw : List ℕ
-  raw = fields s (gridHeaderBits + limitWidth * K) factorWidth (N * K)
-
-  each-read : length raw ≡ N * K
-  unfolding raw
-  each-read = length-fields s (gridHeaderBits + limitWidth * K) factorWidth (N * K)
-
-  pub grid-read : Below 8 s → length s ≡ gridBytes N K → gridSpareIn s ≡ 0 → gridPadIn s ≡ 0 → fileOf (gridFields N K (limitsIn s) (factorsIn s)) ≡ s
-  unfolding gridFields gridBody limitsFrom factorsFrom gridHeader coded raw
+  pub grid-read : Below 8 s → length s ≡ gridBytes F N K → gridSpareIn s ≡ gridSpare F → gridPadIn s ≡ 0 → fileOf (gridFields F N K (limitsIn s) (factorsIn s)) ≡ s
+  unfolding gridFields
   grid-read b size spare pad =
-      rw (of-to-all factorWidth raw (below-fields s (gridHeaderBits + limitWidth * K) factorWidth (N * K)))
-      (padded-read (gridHeader N K ++ coded (limitsIn s) raw) (gridBits N K)
-      (body-total (gridHeader N K) gridHeaderBits N K (limitsIn s) raw (header-total N K) (length-limits s gridHeaderBits N K) each-read) s
-      (record {
-        size = size;
-        bytes = b;
-        holds = body-parts (gridHeader N K) gridHeaderBits N K (limitsIn s) raw (header-total N K) (length-limits s gridHeaderBits N K) each-read s (omega arith) .1
-            ((refl, (refl, (spare, tt))), refl, refl);
-        pad = pad;
-      }))
+      behind-read (gridHeader F N K) (headerIn s) N K (header-total F N K) s
+      (record { size = size; bytes = b; header = header-holds s spare; limits = refl; factors = refl; pad = pad })
 
   -- the same of the grid read, as a grid
-  pub grid-file-read : Below 8 s → length s ≡ gridBytes N K → gridSpareIn s ≡ 0 → gridPadIn s ≡ 0 → gridFile (gridIn s) ≡ s
+  pub grid-file-read : Below 8 s → length s ≡ gridBytes F N K → gridSpareIn s ≡ gridSpare F → gridPadIn s ≡ 0 → gridFile F (gridIn s) ≡ s
   unfolding gridFile
   grid-file-read b size spare pad =
-      rw (take-all K (limitsIn s) (omega (arith, length-limits s gridHeaderBits N K)), take-all (N * K) (factorsIn s) (omega (arith, length-factors s gridHeaderBits N K)))
+      rw (take-all K (limitsIn s) (omega (arith, length-limits s (headerIn s) N K)), take-all (N * K) (factorsIn s) (omega (arith, length-factors s (headerIn s) N K)))
       (grid-read b size spare pad)

@@ -1,3 +1,4 @@
+pub mod FormLaws
 pub mod Lists
 pub mod ContractBits
 pub mod Records
@@ -5,6 +6,7 @@ pub mod BookFile
 pub mod ContractNumber
 pub mod BookTable
 pub mod Padded
+pub mod GridHeader
 pub mod GridFile
 pub mod PriceFile
 pub mod Writing

@@ -18,13 +18,17 @@ padFor used = 8 * bytesFor used - used
 abbrev pub shortFile : List ℕ → ℕ → Check
 shortFile s header = record { fails = ltb (length s) header; refusal = ShortFile }
 
--- 4: a spare bit set
-abbrev pub spareBits : ℕ → Check
-spareBits spare = record { fails = not (eqb spare 0); refusal = SpareBits }
+-- 4: "spare bits other than the two patterns", so other than the pattern of the form found
+abbrev pub spareOther : ℕ → ℕ → Check
+spareOther pattern spare = record { fails = not (eqb spare pattern); refusal = SpareBits }
 
 -- 5: length differs from what the counts fix
 abbrev pub fileLength : List ℕ → ℕ → Check
 fileLength s size = record { fails = not (eqb (length s) size); refusal = FileLength }
+
+-- 5, of a file that may not have more bytes than so many
+abbrev pub fileTooLong : List ℕ → ℕ → Check
+fileTooLong s most = record { fails = ltb most (length s); refusal = FileLength }
 
 -- 8: a padding bit set
 abbrev pub padding : ℕ → Check

@@ -1,3 +1,4 @@
+pub mod Forms
 pub mod Files
 pub mod GridFile
 pub mod BookFile

@@ -18,7 +18,8 @@ use Rattle.tariff.specs.Checks.{shortTable, priceRange}
 use Rattle.tariff.proofs.Checks.{first-passes, same-of}
 use Rattle.layouts.specs.Files.{padFor}
 use Rattle.layouts.specs.PriceFile.{priceWidth, priceBits, priceBytes, priceFields, priceFile, priceCountIn, pricePadIn}
-use Rattle.runs.proofs.Penned.{Penned, penned-end}
+use Rattle.runs.specs.Inner.{Penned}
+use Rattle.runs.proofs.Penned.{penned-end}
 use Rattle.tables.specs.Inner.{GoodCells}
 use Rattle.tables.proofs.Cells.{good-cells}
 use Rattle.tables.proofs.Passing.{passed-all}

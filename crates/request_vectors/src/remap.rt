@@ -1,5 +1,6 @@
 // Retired nodes (02, paper 6): equal ends read and written, and books remapped.
 use book_file::BookAnswer;
+use layouts::Form;
 use printing::bytes;
 use printing::figure;
 
@@ -7,7 +8,10 @@ use printing::figure;
 fn read(name: &[u8], file: &[u8], number: u64, expected: [u64; 6]) {
     let mut book = [7u64; 12];
     match book_file::read_book(3, file, &mut book) {
-        BookAnswer::Read { contracts: _ } => figure(name, 0, number),
+        BookAnswer::Read {
+            contracts: _,
+            form: _,
+        } => figure(name, 0, number),
         BookAnswer::Refused(refusal) => figure(name, refusal.number(), number),
     }
     figure(name, book[0], expected[0]);
@@ -55,7 +59,7 @@ fn readings() {
 fn written() {
     let mut file = [238u8; 8];
     let mut length = 0;
-    let answer = book_file::write_book(3, 1, &[0, 1, 7, 1, 1, 10000], &mut file);
+    let answer = book_file::write_book(Form::Narrow, 3, 1, &[0, 1, 7, 1, 1, 10000], &mut file);
     figure(b"6.6, equal ends written", answer.into_cell(&mut length), 0);
     bytes(
         b"6.6, equal ends written",

@@ -6,6 +6,7 @@ use lib.ListN.{length, take}
 use lib.IntN.{ℤ}
 use Rattle.bits.proofs.Bytes.{Bytes}
 use Rattle.layouts.specs.declared.WriteAnswer.{WriteAnswer}
+use Rattle.layouts.specs.declared.forms.Form.{Form}
 use Rattle.layouts.specs.declared.WriteAnswer.the-variants.{Written}
 use Rattle.layouts.specs.BookTable.{contractCells}
 use Rattle.grid_file.specs.declared.GridAnswer.{GridAnswer}
@@ -28,13 +29,13 @@ use Rattle.round_trips.proofs.Prices.{PricesAre, prices-rewritten, pric
 -- ---- "an accepted file, read and then written, is the same bytes": the tables as the reader left them, written into any place that is long enough
 
 pub grid-read-then-written : (s : List ℕ) (ls₀ : List ℕ) (fs₀ : List ℤ) → Bytes s
-    → (n k : ℕ) (ls : List ℕ) (fs : List ℤ) → ReadsGrid (readGridCall s ls₀ fs₀) (grid.Read n k) ls fs → (place : List ℕ) → length s ≤ length place
-    → (answer : WriteAnswer) (exit : List ℕ) → WritesGrid (writeGridCall n k ls fs place) answer exit → IsWritten s place answer exit
+    → (n k : ℕ) (f : Form) (ls : List ℕ) (fs : List ℤ) → ReadsGrid (readGridCall s ls₀ fs₀) (grid.Read n k f) ls fs → (place : List ℕ) → length s ≤ length place
+    → (answer : WriteAnswer) (exit : List ℕ) → WritesGrid (writeGridCall f n k ls fs place) answer exit → IsWritten s place answer exit
 grid-read-then-written = grid-rewritten
 
 pub book-read-then-written : (n : ℕ) (s entry : List ℕ) → Bytes s
-    → (m : ℕ) (table : List ℕ) → ReadsBook (readBookCall n s entry) (book.Read m) table → (place : List ℕ) → length s ≤ length place
-    → (answer : WriteAnswer) (exit : List ℕ) → WritesBook (writeBookCall n m table place) answer exit → IsWritten s place answer exit
+    → (m : ℕ) (f : Form) (table : List ℕ) → ReadsBook (readBookCall n s entry) (book.Read m f) table → (place : List ℕ) → length s ≤ length place
+    → (answer : WriteAnswer) (exit : List ℕ) → WritesBook (writeBookCall f n m table place) answer exit → IsWritten s place answer exit
 book-read-then-written = book-rewritten
 
 pub prices-read-then-written : (k : ℕ) (s entry : List ℕ) → Bytes s
@@ -45,14 +46,14 @@ prices-read-then-written = prices-rewritten
 -- ---- "a grid, book or price list written and then read is the same": the first bytes of the writer's place, as many as it gives, read into any tables that
 -- are long enough
 
-pub grid-written-then-read : (n k : ℕ) (limits : List ℕ) (factors : List ℤ) (place : List ℕ) (size : ℕ) (exit : List ℕ)
-    → WritesGrid (writeGridCall n k limits factors place) (Written size) exit → (ls₀ : List ℕ) (fs₀ : List ℤ) → k ≤ length ls₀ → n * k ≤ length fs₀
-    → (answer : GridAnswer) (ls : List ℕ) (fs : List ℤ) → ReadsGrid (readGridCall (take size exit) ls₀ fs₀) answer ls fs → GridIs n k limits factors ls₀ fs₀ answer ls fs
+pub grid-written-then-read : (f : Form) (n k : ℕ) (limits : List ℕ) (factors : List ℤ) (place : List ℕ) (size : ℕ) (exit : List ℕ)
+    → WritesGrid (writeGridCall f n k limits factors place) (Written size) exit → (ls₀ : List ℕ) (fs₀ : List ℤ) → k ≤ length ls₀ → n * k ≤ length fs₀
+    → (answer : GridAnswer) (ls : List ℕ) (fs : List ℤ) → ReadsGrid (readGridCall (take size exit) ls₀ fs₀) answer ls fs → GridIs f n k limits factors ls₀ fs₀ answer ls fs
 grid-written-then-read = grid-reread
 
-pub book-written-then-read : (n m : ℕ) (rows place : List ℕ) (size : ℕ) (exit : List ℕ)
-    → WritesBook (writeBookCall n m rows place) (Written size) exit → (entry : List ℕ) → contractCells * m ≤ length entry
-    → (answer : BookAnswer) (table : List ℕ) → ReadsBook (readBookCall n (take size exit) entry) answer table → BookIs m rows entry answer table
+pub book-written-then-read : (f : Form) (n m : ℕ) (rows place : List ℕ) (size : ℕ) (exit : List ℕ)
+    → WritesBook (writeBookCall f n m rows place) (Written size) exit → (entry : List ℕ) → contractCells * m ≤ length entry
+    → (answer : BookAnswer) (table : List ℕ) → ReadsBook (readBookCall n (take size exit) entry) answer table → BookIs f m rows entry answer table
 book-written-then-read = book-reread
 
 pub prices-written-then-read : (t k : ℕ) (table place : List ℕ) (size : ℕ) (exit : List ℕ)

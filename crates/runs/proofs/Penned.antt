@@ -13,13 +13,7 @@ use Rattle.lists.proofs.Fill.{drop-later}
 use Rattle.bits.proofs.Files.{total-append, total-run, length-file}
 use Rattle.bits.proofs.Writing.{pen-start, pen-step, pen-end, run-packed}
 use Rattle.lists.specs.Lent.{overwrite}
-
--- the pen p has written the fields fs into buf, which was first before
-pub record Penned (fs : List Field) (first buf : List ℕ) (p : Pen) : Type 0 where
-  pub is : written buf p ≡ packed fs
-  pub end : place p ≡ total fs
-  pub ready : Ready p
-  pub rest : drop (p .at) buf ≡ drop (p .at) first
+use Rattle.runs.specs.Inner.{Penned}
 
 pub penned-start : (buf : List ℕ) (p : Pen) → Ready p → place p ≡ 0 → Penned [] buf buf p
 penned-start buf p ok at = record { is = pen-start buf p ok at; end = at; ready = ok; rest = refl }

@@ -7,7 +7,7 @@ ghost use Rattle.tariff.specs.declared.refusals.Checked.the-variants.{Passed};
 ghost use Rattle.tariff.specs.Units.{factorsOf, maxContracts};
 ghost use Rattle.tariff.specs.Refusals.{first};
 ghost use Rattle.tariff.specs.Inner.{InRange};
-ghost use Rattle.layouts.specs.BookFile.{bookBytes, contractCountIn, contractAt};
+ghost use Rattle.layouts.specs.BookFile.{bookBytes, contractCountIn, contractIn};
 ghost use Rattle.books.specs.BookChecks.{bookChecks};
 ghost use Rattle.settlement.specs.SettleHour.{hourCall, settleChecks, SettlesHour};
 ghost use Rattle.settlement.specs.Inner.{Hour, MccAt, MccTable, postedIn, AmountOf, HourAmount, SettlesFirst, Settles};
@@ -17,6 +17,7 @@ use crate::Totals;
 use crate::mcc::all_mccs;
 use crate::priced::posted_set;
 use crate::priced::priced_set;
+use layouts::Form;
 use tariff::Amount;
 use tariff::Checked;
 use tariff::Contract;
@@ -84,14 +85,15 @@ fn settle_contracts(
     mccs: [Mcc; MAX_NODES],
     period: Period,
     book: &[u8],
+    form: Form,
     count: usize,
     cents: &mut [i64],
     priced: &mut [u64],
 ) -> Totals
     requires { ⌜ Hour nodes constraints (now factors) (now prices) × MccTable nodes constraints (now factors) (now prices) mccs ⌝ }
-    requires { ⌜ ((i : ℕ) → i < count → InRange nodes (contractAt (now book) i)) ⌝ }
-    requires { ⌜ (count ≤ maxContracts) × (bookBytes count ≤ length (now book)) × (count ≤ length (now cents)) × (count ≤ length (now priced)) ⌝ }
-    ensures { λ r. ⌜ SettlesFirst (factorsOf nodes constraints (before factors)) (take constraints (before prices)) period count (contractAt (before book))
+    requires { ⌜ ((i : ℕ) → i < count → InRange nodes (contractIn form (now book) i)) ⌝ }
+    requires { ⌜ (count ≤ maxContracts) × (bookBytes form count ≤ length (now book)) × (count ≤ length (now cents)) × (count ≤ length (now priced)) ⌝ }
+    ensures { λ r. ⌜ SettlesFirst (factorsOf nodes constraints (before factors)) (take constraints (before prices)) period count (contractIn form (before book))
         (before cents) (after cents) (before priced) (after priced) r ⌝ }
 {
     let posted = posted_set(constraints, prices);
@@ -102,7 +104,7 @@ fn settle_contracts(
     };
     let mut i = 0;
     while i < count {
-        let c = books::contract_at(book, i);
+        let c = books::contract_at(book, form, i);
         let sink = c.sink;
         let source = c.source;
         let settled = hour_amount(
@@ -143,6 +145,7 @@ pub fn settle(
 {
     let mccs = all_mccs(nodes, constraints, factors, prices);
     let count = books::contract_count(book);
+    let form = books::book_form(book);
     settle_contracts(
         nodes,
         constraints,
@@ -151,6 +154,7 @@ pub fn settle(
         mccs,
         period,
         book,
+        form,
         count,
         cents,
         priced,

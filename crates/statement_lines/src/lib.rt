@@ -11,9 +11,10 @@ ghost use Rattle.text.specs.Decimal.{decimal, decimalZ};
 ghost use Rattle.text.specs.Inner.{Put};
 ghost use Rattle.tariff.specs.Units.{maxConstraints, maxContracts, maxHolder, perCent};
 ghost use Rattle.tariff.specs.Inner.{maxCents};
-ghost use Rattle.layouts.specs.BookFile.{bookBytes, contractAt};
+ghost use Rattle.layouts.specs.BookFile.{bookBytes, bookFormIn, contractIn, contractAt};
 ghost use Rattle.statement_lines.specs.Lines.{heading, kindWord, contractLine, lineOf, sumLine, exactLine, longestLine, longestSum, longestExact};
 ghost use Rattle.statement_lines.specs.Inner.{maxTotal, linesTo, settledLines, Sized};
+use layouts::Form;
 use settlement::Totals;
 use tariff::Contract;
 use tariff::Kind;
@@ -121,20 +122,21 @@ fn put_contracts(
     at: usize,
     period: Period,
     book: &[u8],
+    form: Form,
     count: usize,
     cents: &[i64],
     priced: &[u64],
 ) -> usize
-    requires { ⌜ (count ≤ maxContracts) × (bookBytes count ≤ length (now book)) × (count ≤ length (now cents)) × (count ≤ length (now priced)) ⌝ }
+    requires { ⌜ (count ≤ maxContracts) × (bookBytes form count ≤ length (now book)) × (count ≤ length (now cents)) × (count ≤ length (now priced)) ⌝ }
     requires { ⌜ ((i : ℕ) → i < count → natAbs (getD (now cents) i (pos 0)) ≤ maxCents) × ((i : ℕ) → i < count → ones (getD (now priced) i 0) ≤ maxConstraints) ⌝ }
     requires { ⌜ at + longestLine * count ≤ length (now buf) ⌝ }
-    ensures { λ r. ⌜ Put (before buf) at (linesTo period (contractAt (before book)) (before cents) (before priced) count) (after buf) r ⌝ }
+    ensures { λ r. ⌜ Put (before buf) at (linesTo period (contractIn form (before book)) (before cents) (before priced) count) (after buf) r ⌝ }
     ensures { λ r. ⌜ r ≤ at + longestLine * count ⌝ }
 {
     let mut next = at;
     let mut i = 0;
     while i < count {
-        let c = books::contract_at(book, i);
+        let c = books::contract_at(book, form, i);
         let set = priced[i];
         let size = u64::count_ones(set) as u64;
         next = put_own(buf, next, period, i as u64, c, cents[i], size);
@@ -177,12 +179,14 @@ pub fn put_lines(
     priced: &[u64],
     totals: Totals,
 ) -> usize
-    requires { ⌜ (count ≤ maxContracts) × (bookBytes count ≤ length (now book)) × (count ≤ length (now cents)) × (count ≤ length (now priced)) ⌝ }
+    requires { ⌜ (count ≤ maxContracts) × (bookBytes (bookFormIn (now book)) count ≤ length (now book))
+        × (count ≤ length (now cents)) × (count ≤ length (now priced)) ⌝ }
     requires { ⌜ Sized count (now cents) (now priced) totals × (length heading + longestLine * count + longestSum + longestExact ≤ length (now buf)) ⌝ }
     ensures { λ r. ⌜ Put (before buf) 0 (settledLines period (contractAt (before book)) (before cents) (before priced) count totals) (after buf) r ⌝ }
 {
+    let form = books::book_form(book);
     let first = text::put_text(buf, 0, &HEADING);
-    let second = put_contracts(buf, first, period, book, count, cents, priced);
+    let second = put_contracts(buf, first, period, book, form, count, cents, priced);
     let third = put_sum(buf, second, totals.sum);
     put_exact(buf, third, totals.whole, totals.parts)
 }

@@ -15,13 +15,14 @@ ghost use Rattle.statement_lines.specs.Lines.{lines, longestStatement};
 ghost use Rattle.statement_text.specs.WriteStatement.{statement, statementCall, WritesStatement};
 ghost use Rattle.statement_text.specs.Inner.{pricedText, bookedText};
 use grid_file::GridAnswer;
+use layouts::PROGRAM_FACTORS;
+use layouts::PROGRAM_GRID_BYTES;
 use layouts::WriteAnswer;
 use price_file::PriceAnswer;
 use statement_lines::LONGEST_STATEMENT;
 use tariff::Checked;
 use tariff::MAX_CONSTRAINTS;
 use tariff::MAX_CONTRACTS;
-use tariff::MAX_FACTORS;
 use tariff::Period;
 use tariff::Refusal;
 
@@ -104,12 +105,14 @@ fn put_statement(grid_file: &[u8], book_file: &[u8], price_file: &[u8], buf: &mu
     ensures { λ r. ⌜ Put (before buf) 0 (statement (before «grid_file») (before «book_file») (before «price_file»)) (after buf) r ⌝ }
 {
     let mut limits = [0u64; MAX_CONSTRAINTS];
-    let mut factors = [0i64; MAX_FACTORS];
-    match grid_file::read_grid(grid_file, &mut limits, &mut factors) {
+    let mut factors = [0i64; PROGRAM_FACTORS];
+    match grid_file::read_within(PROGRAM_GRID_BYTES, grid_file, &mut limits, &mut factors) {
         GridAnswer::Refused(refusal) => text::put_refused(buf, b"grid", refusal),
-        GridAnswer::Read { nodes, constraints } => {
-            put_booked(buf, nodes, constraints, &factors, book_file, price_file)
-        }
+        GridAnswer::Read {
+            nodes,
+            constraints,
+            form: _,
+        } => { put_booked(buf, nodes, constraints, &factors, book_file, price_file) }
     }
 }
 

@@ -20,7 +20,7 @@ use Rattle.tables.specs.Inner.{GoodFactors, fourBad}
 
 -- ---- places
 
-pub count-fits : (n k : ℕ) → n ≤ maxNodes → k ≤ maxConstraints → n * k ≤ 12800
+pub count-fits : (n k : ℕ) → n ≤ maxNodes → k ≤ maxConstraints → n * k ≤ maxNodes * maxConstraints
 count-fits n k h j = mul-le-mul h j
 
 -- the factor of node j on constraint c is one of them, and so is its row

@@ -12,7 +12,7 @@ use Rattle.tariff.specs.declared.refusals.Checked.{Checked}
 use Rattle.tariff.specs.declared.refusals.Checked.the-variants.{Passed, Refused}
 use Rattle.tariff.specs.Units.{maxNodes}
 use Rattle.tariff.specs.Refusals.{Check, first, decided}
-use Rattle.tariff.specs.Checks.{nodeCount}
+use Rattle.tariff.specs.Checks.{nodesOutside, nodeCount}
 
 -- ---- the first check
 
@@ -23,6 +23,11 @@ first-passes c cs e = rw e
 pub first-refuses : (c : Check) (cs : List Check) → c .fails ≡ true → first (c ∷ cs) ≡ Refused (c .refusal)
 unfolding first
 first-refuses c cs e = rw e
+
+-- lists that find the same, behind a check
+pub first-under : (c : Check) (xs ys : List Check) → first xs ≡ first ys → first (c ∷ xs) ≡ first (c ∷ ys)
+unfolding first
+first-under c xs ys e = ap (cond (c .fails) (Refused (c .refusal))) e
 
 pub first-append : (xs ys : List Check) → first (xs ++ ys) ≡ decided (first xs) Refused (first ys)
 unfolding first
@@ -72,8 +77,11 @@ passed-append (c ∷ cs) ys e = by (c .fails) refl (passed-append cs ys) e
 -- ---- the node count
 
 -- one that the check accepts
+pub nodes-within : (most n : ℕ) → nodesOutside most n .fails ≡ false → n ≤ most
+nodes-within most n e = ltb-false most n (neither (eqb n 0) (ltb most n) e .1)
+
 pub nodes-few-of : (n : ℕ) → nodeCount n .fails ≡ false → n ≤ maxNodes
-nodes-few-of n e = ltb-false maxNodes n (neither (eqb n 0) (ltb maxNodes n) e .1)
+nodes-few-of = nodes-within maxNodes
 
 pub nodes-some-of : (n : ℕ) → nodeCount n .fails ≡ false → 0 < n
 nodes-some-of n e = pos-of-ne-zero (eqb-false n 0 (neither (eqb n 0) (ltb maxNodes n) e .0))

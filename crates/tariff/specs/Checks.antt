@@ -10,9 +10,13 @@ use Rattle.tariff.specs.declared.refusals.Refusal.the-variants.{NodeNumb
 use Rattle.tariff.specs.Units.{maxNodes, maxConstraints, maxContracts, maxLimit, maxFactor, maxPrice, maxQuantity, maxHolder}
 use Rattle.tariff.specs.Refusals.{Check}
 
--- 2: nodes 0 or above 200
+-- 2: nodes 0 or above a bound
+abbrev pub nodesOutside : ℕ → ℕ → Check
+nodesOutside most n = record { fails = eqb n 0 || ltb most n; refusal = NodeCount }
+
+-- 2, "for any stated node count": "outside 1 to 4,000"
 abbrev pub nodeCount : ℕ → Check
-nodeCount n = record { fails = eqb n 0 || ltb maxNodes n; refusal = NodeCount }
+nodeCount n = nodesOutside maxNodes n
 
 -- 3: constraints above 64
 abbrev pub constraintCount : ℕ → Check

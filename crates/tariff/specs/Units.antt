@@ -20,9 +20,12 @@ maxLimit = 100000000
 abbrev pub maxPrice : ℕ
 maxPrice = 500000
 
--- 1 to 200 nodes, 0 to 64 constraints, 0 to 1,000 contracts, holders 0 to 1,023
+-- 1 to 4,000 nodes (document 02, request 9; a narrow grid's file has at most 200), 0 to 64 constraints, 0 to 1,000 contracts, holders 0 to 1,023
 abbrev pub maxNodes : ℕ
-maxNodes = 200
+maxNodes = 4000
+
+abbrev pub maxNarrowNodes : ℕ
+maxNarrowNodes = 200
 
 abbrev pub maxConstraints : ℕ
 maxConstraints = 64

@@ -11,6 +11,7 @@ pub use processes::Process;
 pub use refusals::Checked;
 pub use refusals::Refusal;
 pub use refusals::nodes_bad;
+pub use refusals::nodes_outside;
 pub use refusals::quantity_bad;
 pub use units::Amount;
 pub use units::Flow;
@@ -18,12 +19,12 @@ pub use units::Mcc;
 pub use units::Price;
 pub use units::Quantity;
 
-// Counts: 1 to 200 nodes, 0 to 64 constraints, 0 to 1,000 contracts.
-pub const MAX_NODES: usize = 200;
+// Counts: 1 to 4,000 nodes, 200 in a narrow file, 0 to 64 constraints, 0 to 1,000 contracts.
+pub const MAX_NODES: usize = 4000;
+
+pub const MAX_NARROW_NODES: usize = 200;
 
 pub const MAX_CONSTRAINTS: usize = 64;
-
-pub const MAX_FACTORS: usize = MAX_NODES * MAX_CONSTRAINTS;
 
 pub const MAX_CONTRACTS: usize = 1000;
 

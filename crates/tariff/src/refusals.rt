@@ -1,7 +1,7 @@
 // What input is turned down for ("When input is turned down"), by meaning and by the paper's number.
 ghost use mathlib.Core.Path.{_≡_};
 ghost use Rattle.tariff.specs.Refusals.{numberOf};
-ghost use Rattle.tariff.specs.Checks.{nodeCount, quantityRange};
+ghost use Rattle.tariff.specs.Checks.{nodesOutside, nodeCount, quantityRange};
 use crate::MAX_NODES;
 use crate::MAX_QUANTITY;
 
@@ -58,14 +58,21 @@ pub enum Checked {
     Refused(Refusal),
 }
 
-// 2: no node, or more than a grid may have.
-pub fn nodes_bad(nodes: usize) -> bool
-    ensures { λ r. ⌜ r ≡ nodeCount nodes .fails ⌝ }
+// 2: no node, or more than so many.
+pub fn nodes_outside(most: usize, nodes: usize) -> bool
+    ensures { λ r. ⌜ r ≡ nodesOutside most nodes .fails ⌝ }
 {
     if nodes == 0 {
         return true;
     }
-    MAX_NODES < nodes
+    most < nodes
+}
+
+// The same of a stated count.
+pub fn nodes_bad(nodes: usize) -> bool
+    ensures { λ r. ⌜ r ≡ nodeCount nodes .fails ⌝ }
+{
+    nodes_outside(MAX_NODES, nodes)
 }
 
 // 13: 0 or too large. A number is looked at before it becomes a quantity.

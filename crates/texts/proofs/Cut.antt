@@ -1,10 +1,10 @@
 -- A file that is cut one byte past its largest length is answered as the whole file is.
-use mathlib.Core.Path.{_≡_, refl, sym, ap}
+use mathlib.Core.Path.{_≡_, refl, sym, ap, _∙_}
 use mathlib.Core.Bool.{Bool, true, false}
 use mathlib.Core.List.{List, [], _∷_, _++_}
 use Prim.Native.Nat.{ℕ, _+_, _*_, _≤_, _<_}
 use native.Mathlib.Omega.{arith}
-use borrow.Author.Tests.{ltb-true, ltb-false, le-ltb}
+use borrow.Author.Tests.{ltb-true, ltb-false, lt-ltb, le-ltb}
 use lib.Dec.{ltb}
 use lib.ListN.{length, take}
 use lib.Seq.{take-all, length-take-le}
@@ -14,28 +14,35 @@ use Rattle.bits.proofs.Fields.{field-window}
 use Rattle.tariff.specs.declared.contracts.Contract.{Contract}
 use Rattle.tariff.specs.declared.contracts.Period.{Period}
 use Rattle.tariff.specs.declared.refusals.Refusal.{Refusal}
+use Rattle.tariff.specs.declared.refusals.Refusal.the-variants.{FileLength}
 use Rattle.tariff.specs.declared.refusals.Checked.{Checked}
 use Rattle.tariff.specs.declared.refusals.Checked.the-variants.{Passed, Refused}
-use Rattle.tariff.specs.Units.{Grid, maxNodes, maxConstraints, maxContracts}
+use Rattle.tariff.specs.Units.{Grid, maxConstraints, maxContracts}
 use Rattle.tariff.specs.Refusals.{Check, first, decided}
-use Rattle.tariff.specs.Checks.{nodeCount, constraintCount, contractCount}
-use Rattle.tariff.proofs.Checks.{first-append, first-refuses, passed-cons, nodes-few-of, differs}
-use Rattle.layouts.specs.Files.{shortFile, spareBits, fileLength}
-use Rattle.layouts.specs.GridFile.{gridBytes, nodesIn, constraintsIn, gridSpareIn}
-use Rattle.layouts.specs.BookFile.{bookBytes, contractCountIn, bookSpareIn}
+use Rattle.tariff.specs.Checks.{nodesOutside, constraintCount, contractCount}
+use Rattle.tariff.proofs.Checks.{first-append, first-passes, first-refuses, passed-cons, differs}
+use Rattle.layouts.specs.Files.{shortFile, spareOther, fileLength, fileTooLong}
+use Rattle.layouts.specs.declared.forms.Form.{Form}
+use Rattle.layouts.specs.declared.forms.Form.the-variants.{Narrow, Wide}
+use Rattle.layouts.specs.Forms.{gridHeaderBytes, gridSpare, mostNodes, sparePattern}
+use Rattle.layouts.specs.GridFile.{gridBytes, gridFormIn, nodesOf, nodesIn, constraintsIn, gridSpareIn, gridIn}
+use Rattle.layouts.proofs.FormLaws.{header-most}
+use Rattle.layouts.specs.BookFile.{bookBytes, contractCountIn, bookSpareIn, bookFormIn}
+use Rattle.layouts.proofs.BookFile.{book-bytes-most}
 use Rattle.layouts.specs.PriceFile.{priceBytes, priceCount}
-use Rattle.grid_file.specs.ReadGrid.{gridFileChecks}
-use Rattle.tables.proofs.Factors.{count-fits}
+use Rattle.grid_file.specs.ReadGrid.{gridSizeChecks, gridFigureChecks, cappedChecks, programBytes}
 use Rattle.books.specs.BookChecks.{bookChecks}
 use Rattle.price_file.specs.ReadPrices.{priceFileChecks}
+use Rattle.text.specs.Ascii.{ascii}
+use Rattle.text.specs.RefusedLine.{refusedLine}
 use Rattle.texts.specs.WithFiles.{withGrid, withBook, withPrices}
 
--- what a program reads of a file: one byte more than its largest length, `MAX_GRID_BYTES`, `MAX_BOOK_BYTES` and `MAX_PRICE_BYTES` of layouts
+-- what a program reads of a file: one byte more than the most that it takes, `PROGRAM_GRID_BYTES`, `MAX_BOOK_BYTES` and `MAX_PRICE_BYTES` of layouts
 abbrev pub gridCut : ℕ
-gridCut = 29018 + 1
+gridCut = programBytes + 1
 
 abbrev pub bookCut : ℕ
-bookCut = 6002 + 1
+bookCut = 7002 + 1
 
 abbrev pub priceCut : ℕ
 priceCut = 153 + 1
@@ -76,47 +83,89 @@ cut-or-whole {A} s m f cut = by (ltb (length s) m) refl
     by true e = ap f (take-all m s (omega (arith, ltb-true (length s) m e)))
     by false e = cut (ltb-false (length s) m e)
 
+-- ---- a grid's header in the first bytes
+
+-- the checks before its length
+headChecks : List ℕ → List Check
+headChecks s =
+    shortFile s (gridHeaderBytes (gridFormIn s))
+    ∷ nodesOutside (mostNodes (gridFormIn s)) (nodesIn s)
+    ∷ constraintCount (constraintsIn s)
+    ∷ spareOther (gridSpare (gridFormIn s)) (gridSpareIn s)
+    ∷ []
+
+module _ (s : List ℕ) (m : ℕ) (b : Bytes s) (le : m ≤ length s) (there : 4 ≤ m) where
+  form-cut : gridFormIn (take m s) ≡ gridFormIn s
+  unfolding gridFormIn
+  form-cut = rw (field-cut s m 0 8 b le (omega arith), field-cut s m 15 1 b le (omega arith))
+
+  nodes-cut : (f : Form) → nodesOf f (take m s) ≡ nodesOf f s
+  nodes-cut Narrow = field-cut s m 0 8 b le (omega arith)
+  nodes-cut Wide = field-cut s m 16 16 b le (omega arith)
+
+  head-cut : first (headChecks (take m s)) ≡ first (headChecks s)
+  unfolding headChecks
+  head-cut =
+      let f = gridFormIn s in
+      rw (
+        form-cut,
+        short-cut s m (gridHeaderBytes f) le (omega (arith, header-most f)),
+        nodes-cut f,
+        field-cut s m 8 7 b le (omega arith),
+        field-cut s m 15 1 b le (omega arith),
+      )
+
+-- a file that is too long is refused by its length, right or not
+capped-long : (s : List ℕ) → programBytes < length s → first (cappedChecks programBytes s) ≡ decided (first (headChecks s)) Refused (Refused FileLength)
+unfolding cappedChecks gridSizeChecks headChecks
+capped-long s long = first-append (headChecks s) behind ∙ ap (decided (first (headChecks s)) Refused) length-refuses
+  where
+    own : Check
+    own = fileLength s (gridBytes (gridFormIn s) (nodesIn s) (constraintsIn s))
+
+    behind : List Check
+    behind = own ∷ fileTooLong s programBytes ∷ gridFigureChecks s
+
+    by : (b : Bool) → own .fails ≡ b → first behind ≡ Refused FileLength
+    by true e = first-refuses own _ e
+    by false e = first-passes own _ e ∙ first-refuses (fileTooLong s programBytes) _ (lt-ltb programBytes (length s) long)
+
+    length-refuses : first behind ≡ Refused FileLength
+    length-refuses = by (own .fails) refl
+
 -- ---- the three files
 
 module _ (s : List ℕ) (m : ℕ) (b : Bytes s) where
   pub cut-grid : gridCut ≤ m → (text : Grid → List ℕ) → withGrid (take m s) text ≡ withGrid s text
-  unfolding withGrid gridFileChecks
+  unfolding withGrid
   cut-grid most text = cut-or-whole s m (λ x. withGrid x text) cut
     where
-      head : List Check
-      head = shortFile s 2 ∷ nodeCount (nodesIn s) ∷ constraintCount (constraintsIn s) ∷ spareBits (gridSpareIn s) ∷ []
-
-      size : first head ≡ Passed → gridBytes (nodesIn s) (constraintsIn s) < m
-      size e =
-          let two = passed-cons _ _ (passed-cons _ _ e .1) in
-          let three = passed-cons _ _ (two .1) in
-          let few : nodesIn s ≤ maxNodes = nodes-few-of (nodesIn s) (two .0) in
-          let some : constraintsIn s ≤ maxConstraints = ltb-false maxConstraints (constraintsIn s) (three .0) in
-          omega (arith, count-fits (nodesIn s) (constraintsIn s) few some)
+      refused : (c : Checked) (f : Refusal → List ℕ) (x y : List ℕ)
+          → decided (decided c Refused (Refused FileLength)) f x ≡ decided (decided c Refused (Refused FileLength)) f y
+      refused Passed f x y = refl
+      refused (Refused r) f x y = refl
 
       cut : m ≤ length s → withGrid (take m s) text ≡ withGrid s text
       cut long =
-          rw (
-            short-cut s m 2 long (omega arith),
-            field-cut s m 0 8 b long (omega arith),
-            field-cut s m 8 7 b long (omega arith),
-            field-cut s m 15 1 b long (omega arith),
-          ) (too-long head (gridBytes (nodesIn s) (constraintsIn s)) m s size long _ _ _ _ _)
+          rw (capped-long (take m s) (omega (arith, length-take-le m s long)), capped-long s (omega arith), head-cut s m b long (omega arith))
+          (refused (first (headChecks s)) _ _ _)
 
   pub cut-book : bookCut ≤ m → (n : ℕ) (text : List Contract → List ℕ) → withBook n (take m s) text ≡ withBook n s text
-  unfolding withBook bookChecks
+  unfolding withBook bookChecks bookFormIn
   cut-book most n text = cut-or-whole s m (λ x. withBook n x text) cut
     where
       head : List Check
-      head = shortFile s 2 ∷ contractCount (contractCountIn s) ∷ spareBits (bookSpareIn s) ∷ []
+      head = shortFile s 2 ∷ contractCount (contractCountIn s) ∷ spareOther (sparePattern (bookFormIn s)) (bookSpareIn s) ∷ []
 
-      size : first head ≡ Passed → bookBytes (contractCountIn s) < m
-      size e = omega (arith, ltb-false maxContracts (contractCountIn s) (passed-cons _ _ (passed-cons _ _ e .1) .0))
+      size : first head ≡ Passed → bookBytes (bookFormIn s) (contractCountIn s) < m
+      size e =
+          let few : contractCountIn s ≤ maxContracts = ltb-false maxContracts (contractCountIn s) (passed-cons _ _ (passed-cons _ _ e .1) .0) in
+          omega (arith, book-bytes-most (bookFormIn s) (contractCountIn s) few)
 
       cut : m ≤ length s → withBook n (take m s) text ≡ withBook n s text
       cut long =
           rw (short-cut s m 2 long (omega arith), field-cut s m 0 10 b long (omega arith), field-cut s m 10 6 b long (omega arith))
-          (too-long head (bookBytes (contractCountIn s)) m s size long _ _ _ _ _)
+          (too-long head (bookBytes (bookFormIn s) (contractCountIn s)) m s size long _ _ _ _ _)
 
   pub cut-prices : priceCut ≤ m → (k : ℕ) (text : Period → List ℕ → List ℕ) → withPrices k (take m s) text ≡ withPrices k s text
   unfolding withPrices priceFileChecks

@@ -1,20 +1,20 @@
 -- Files taken one after the other: a text from what a reader gave, or the refusal's line.
 use mathlib.Core.Path.{_≡_, sym, ap, _∙_}
 use mathlib.Core.List.{List}
-use Prim.Native.Nat.{ℕ, _*_}
+use Prim.Native.Nat.{ℕ}
 use lib.ListN.{length, take}
 use lib.IntN.{ℤ}
 use Rattle.tariff.specs.declared.contracts.Contract.{Contract}
 use Rattle.tariff.specs.declared.contracts.Period.{Period}
 use Rattle.tariff.specs.declared.refusals.Refusal.{Refusal}
 use Rattle.tariff.specs.declared.refusals.Checked.the-variants.{Passed, Refused}
-use Rattle.tariff.specs.Units.{Grid, gridOf, maxNodes, maxConstraints}
+use Rattle.tariff.specs.Units.{Grid, gridOf, maxConstraints}
 use Rattle.tariff.specs.Contracts.{periodOf}
 use Rattle.tariff.specs.Refusals.{first}
 use Rattle.layouts.specs.BookFile.{bookIn}
 use Rattle.grid_file.specs.declared.GridAnswer.the-variants.{Refused as NotRead}
-use Rattle.grid_file.specs.ReadGrid.{readGridCall, gridFileChecks, ReadsGrid}
-use Rattle.grid_file.proofs.Taken.{GridTaken, room-enough}
+use Rattle.grid_file.specs.ReadGrid.{readGridCall, cappedChecks, ReadsWithin, programBytes, programFactors}
+use Rattle.grid_file.proofs.Taken.{GridTaken, program-room}
 use Rattle.books.specs.BookChecks.{bookChecks}
 use Rattle.price_file.specs.declared.PriceAnswer.the-variants.{Refused as NotPriced}
 use Rattle.price_file.specs.ReadPrices.{readPricesCall, priceFileChecks, ReadsPrices}
@@ -24,16 +24,16 @@ use Rattle.text.specs.RefusedLine.{refusedLine}
 use Rattle.text.proofs.Answering.{refused-line}
 use Rattle.texts.specs.WithFiles.{withGrid, withBook, withPrices}
 
--- ---- the grid, read into the longest tables
+-- ---- the grid, read into the program's tables
 
 module _ (s : List ℕ) (text : Grid → List ℕ) where
-  pub grid-refused : (ls₀ : List ℕ) (fs₀ : List ℤ) → length ls₀ ≡ maxConstraints → length fs₀ ≡ maxNodes * maxConstraints
-      → (r : Refusal) (ls : List ℕ) (fs : List ℤ) → ReadsGrid (readGridCall s ls₀ fs₀) (NotRead r) ls fs → withGrid s text ≡ refusedLine (ascii "grid") r
+  pub grid-refused : (ls₀ : List ℕ) (fs₀ : List ℤ) → length ls₀ ≡ maxConstraints → length fs₀ ≡ programFactors
+      → (r : Refusal) (ls : List ℕ) (fs : List ℤ) → ReadsWithin programBytes (readGridCall s ls₀ fs₀) (NotRead r) ls fs → withGrid s text ≡ refusedLine (ascii "grid") r
   unfolding withGrid
   grid-refused ls₀ fs₀ cells places r ls fs h =
-      refused-line (first (gridFileChecks s)) _ r (rw (room-enough s ls₀ fs₀ cells places) at (h .counts-given)) (ascii "grid") _
+      refused-line (first (cappedChecks programBytes s)) _ r (rw (program-room s ls₀ fs₀ cells places) at (h .values-given)) (ascii "grid") _
 
-  pub grid-text : (n k : ℕ) (ls : List ℕ) (fs : List ℤ) → GridTaken s n k ls fs → withGrid s text ≡ text (gridOf n k ls fs)
+  pub grid-text : (n k : ℕ) (ls : List ℕ) (fs : List ℤ) → GridTaken (cappedChecks programBytes s) s n k ls fs → withGrid s text ≡ text (gridOf n k ls fs)
   unfolding withGrid
   grid-text n k ls fs t = rw (t .passes) (ap text (t .grid-is))
 

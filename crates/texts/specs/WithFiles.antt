@@ -10,14 +10,15 @@ use Rattle.tariff.specs.Refusals.{first, decided}
 use Rattle.layouts.specs.GridFile.{gridIn}
 use Rattle.layouts.specs.BookFile.{bookIn}
 use Rattle.layouts.specs.PriceFile.{periodIn, pricesIn}
-use Rattle.grid_file.specs.ReadGrid.{gridFileChecks}
+use Rattle.grid_file.specs.ReadGrid.{cappedChecks, programBytes}
 use Rattle.books.specs.BookChecks.{bookChecks}
 use Rattle.price_file.specs.ReadPrices.{priceFileChecks}
 use Rattle.text.specs.Ascii.{ascii}
 use Rattle.text.specs.RefusedLine.{refusedLine}
 
+-- "The program takes grids up to 32 KiB; a longer one draws 5 if no earlier check does." (document 02, request 9)
 unfoldable pub withGrid : List ℕ → (Grid → List ℕ) → List ℕ
-withGrid file text = decided (first (gridFileChecks file)) (refusedLine (ascii "grid")) (text (gridIn file))
+withGrid file text = decided (first (cappedChecks programBytes file)) (refusedLine (ascii "grid")) (text (gridIn file))
 
 -- for a grid of n nodes
 unfoldable pub withBook : ℕ → List ℕ → (List Contract → List ℕ) → List ℕ

@@ -1,6 +1,7 @@
 // The vectors of the three files by the proved readers and writers, each beside what is expected.
 use book_file::BookAnswer;
 use grid_file::GridAnswer;
+use layouts::Form;
 use layouts::WriteAnswer;
 use price_file::PriceAnswer;
 use printing::bytes;
@@ -14,6 +15,7 @@ fn grid_refusal(file: &[u8]) -> u64 {
         GridAnswer::Read {
             nodes: _,
             constraints: _,
+            form: _,
         } => 0,
         GridAnswer::Refused(refusal) => refusal.number(),
     }
@@ -60,7 +62,7 @@ fn edges() {
 // P10: an on-peak obligation 0 to 1 of 10,000, holder 7.
 fn p10() {
     let mut file = [0u8; 8];
-    let n = written(book_file::write_book(3, 1, &[0, 1, 7, 0, 1, 10000], &mut file));
+    let n = written(book_file::write_book(Form::Narrow, 3, 1, &[0, 1, 7, 0, 1, 10000], &mut file));
     figure(b"P10, length", n as u64, 8);
     bytes(b"P10", &file, b"\x00\x40\x40\x70\x00\x10\x27\x10");
 }
@@ -80,13 +82,18 @@ fn case_l_grid() {
     let mut limits = [0u64; 2];
     let mut factors = [0i64; 6];
     match grid_file::read_grid(file, &mut limits, &mut factors) {
-        GridAnswer::Read { nodes, constraints } => {
+        GridAnswer::Read {
+            nodes,
+            constraints,
+            form,
+        } => {
             figure(b"L, nodes", nodes as u64, 3);
             figure(b"L, constraints", constraints as u64, 2);
             figure(b"L, limit 0", limits[0], 100000);
             figure(b"L, limit 1", limits[1], 50000);
             let mut again = [0u8; 23];
             let n = written(grid_file::write_grid(
+                form,
                 nodes,
                 constraints,
                 &limits,
@@ -106,12 +113,12 @@ fn case_l_book() {
         b"\x01\x00\x40\x70\x00\x10\x27\x10\xc0\x80\x00\x20\x01\xf4\x40\x70\x00\x20\x00\x01\x00\x90\x00\x10\x00\x05";
     let mut book = [0u64; 24];
     match book_file::read_book(3, file, &mut book) {
-        BookAnswer::Read { contracts } => {
+        BookAnswer::Read { contracts, form } => {
             figure(b"L, contracts", contracts as u64, 4);
             figure(b"L, kind of contract 1", book[6], 1);
             figure(b"L, quantity of contract 1", book[11], 500);
             let mut again = [0u8; 26];
-            let n = written(book_file::write_book(3, contracts, &book, &mut again));
+            let n = written(book_file::write_book(form, 3, contracts, &book, &mut again));
             figure(b"L, book length", n as u64, 26);
             bytes(b"L, book", &again, file);
         }

@@ -1,4 +1,5 @@
 // The MCC and settlement: P1, P2 and P9 and case L by the code, congestion sums constraint by constraint, the manual's direction vector, and the extremes both ways.
+use layouts::Form;
 use printing::figure;
 use printing::signed_figure;
 use settlement::MccAnswer;
@@ -198,7 +199,7 @@ fn one_contract(
     parts_expected: u64,
 ) {
     let mut file = [0u8; 8];
-    book_file::write_book(2, 1, &[0, 1, 0, 0, 1, quantity], &mut file);
+    book_file::write_book(Form::Narrow, 2, 1, &[0, 1, 0, 0, 1, quantity], &mut file);
     let mut cents = [0i64; 1];
     let mut priced = [0u64; 1];
     match settlement::settle_hour(
@@ -257,7 +258,7 @@ fn end_factors() -> [i64; 12800] {
 fn extreme(name: &[u8], source: u64, sink: u64, cents_expected: i64, sum_expected: i64) {
     let mut file = [0u8; 6002];
     let cells = equal_rows(source, sink);
-    book_file::write_book(200, 1000, &cells, &mut file);
+    book_file::write_book(Form::Narrow, 200, 1000, &cells, &mut file);
     let factors = end_factors();
     let mut cents = [0i64; 1000];
     let mut priced = [0u64; 1000];

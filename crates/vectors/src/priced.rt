@@ -1,5 +1,6 @@
 // Which constraints priced a contract (02, paper 8), and the cells of the sets under the last 9.
 ghost use Prim.Native.Nat.{_≤_};
+use layouts::Form;
 use printing::figure;
 use printing::signed_figure;
 use settlement::SettleAnswer;
@@ -16,7 +17,7 @@ fn one_contract(
     set_expected: u64,
 ) {
     let mut file = [0u8; 8];
-    book_file::write_book(3, 1, &row, &mut file);
+    book_file::write_book(Form::Narrow, 3, 1, &row, &mut file);
     let mut cents = [7i64; 1];
     let mut priced = [7u64; 1];
     match settlement::settle_hour(3, 2, 1, &factors, &prices, &file, &mut cents, &mut priced) {

@@ -1,4 +1,5 @@
 // The feasibility report on the books of P4 to P7: case L's grid with another first limit, and one on-peak obligation.
+use layouts::Form;
 use layouts::WriteAnswer;
 use printing::figure;
 use printing::print;
@@ -6,6 +7,7 @@ use printing::print;
 fn reported(name: &[u8], first_limit: u64, quantity: u64) {
     let mut grid = [0u8; 23];
     grid_file::write_grid(
+        Form::Narrow,
         3,
         2,
         &[first_limit, 50000],
@@ -13,7 +15,7 @@ fn reported(name: &[u8], first_limit: u64, quantity: u64) {
         &mut grid,
     );
     let mut book = [0u8; 8];
-    book_file::write_book(3, 1, &[0, 1, 7, 0, 1, quantity], &mut book);
+    book_file::write_book(Form::Narrow, 3, 1, &[0, 1, 7, 0, 1, quantity], &mut book);
     let mut text = [0u8; 2048];
     print(name);
     match feasibility_report::write_report(&grid, &book, &mut text) {

@@ -11,8 +11,10 @@ mod c {
             factors_len: usize,
             nodes: *mut usize,
             constraints: *mut usize,
+            form: *mut u64,
         ) -> u64;
         pub fn crr_write_grid(
+            form: u64,
             nodes: usize,
             constraints: usize,
             limits: *const u64,
@@ -23,9 +25,17 @@ mod c {
             file_len: usize,
             bytes: *mut usize,
         ) -> u64;
-        pub fn crr_read_book(nodes: usize, file: *const u8, file_len: usize, book: *mut u64, book_len: usize, contracts: *mut usize)
-            -> u64;
+        pub fn crr_read_book(
+            nodes: usize,
+            file: *const u8,
+            file_len: usize,
+            book: *mut u64,
+            book_len: usize,
+            contracts: *mut usize,
+            form: *mut u64,
+        ) -> u64;
         pub fn crr_write_book(
+            form: u64,
             nodes: usize,
             contracts: usize,
             book: *const u64,
@@ -130,7 +140,7 @@ mod c {
     }
 }
 
-pub fn read_grid(file: &[u8], limits: &mut [u64], factors: &mut [i64], nodes: &mut usize, constraints: &mut usize) -> u64 {
+pub fn read_grid(file: &[u8], limits: &mut [u64], factors: &mut [i64], nodes: &mut usize, constraints: &mut usize, form: &mut u64) -> u64 {
     unsafe {
         c::crr_read_grid(
             file.as_ptr(),
@@ -141,13 +151,15 @@ pub fn read_grid(file: &[u8], limits: &mut [u64], factors: &mut [i64], nodes: &m
             factors.len(),
             nodes,
             constraints,
+            form,
         )
     }
 }
 
-pub fn write_grid(nodes: usize, constraints: usize, limits: &[u64], factors: &[i64], file: &mut [u8], bytes: &mut usize) -> u64 {
+pub fn write_grid(form: u64, nodes: usize, constraints: usize, limits: &[u64], factors: &[i64], file: &mut [u8], bytes: &mut usize) -> u64 {
     unsafe {
         c::crr_write_grid(
+            form,
             nodes,
             constraints,
             limits.as_ptr(),
@@ -161,12 +173,12 @@ pub fn write_grid(nodes: usize, constraints: usize, limits: &[u64], factors: &[i
     }
 }
 
-pub fn read_book(nodes: usize, file: &[u8], book: &mut [u64], contracts: &mut usize) -> u64 {
-    unsafe { c::crr_read_book(nodes, file.as_ptr(), file.len(), book.as_mut_ptr(), book.len(), contracts) }
+pub fn read_book(nodes: usize, file: &[u8], book: &mut [u64], contracts: &mut usize, form: &mut u64) -> u64 {
+    unsafe { c::crr_read_book(nodes, file.as_ptr(), file.len(), book.as_mut_ptr(), book.len(), contracts, form) }
 }
 
-pub fn write_book(nodes: usize, contracts: usize, book: &[u64], file: &mut [u8], bytes: &mut usize) -> u64 {
-    unsafe { c::crr_write_book(nodes, contracts, book.as_ptr(), book.len(), file.as_mut_ptr(), file.len(), bytes) }
+pub fn write_book(form: u64, nodes: usize, contracts: usize, book: &[u64], file: &mut [u8], bytes: &mut usize) -> u64 {
+    unsafe { c::crr_write_book(form, nodes, contracts, book.as_ptr(), book.len(), file.as_mut_ptr(), file.len(), bytes) }
 }
 
 pub fn remap_book(nodes: usize, book: &[u8], old: &[u64], new: &[u64], file: &mut [u8], bytes: &mut usize) -> u64 {

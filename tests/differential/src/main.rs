@@ -13,7 +13,7 @@ mod tally;
 mod vectors;
 
 use draw::{Draw, EXTREMES};
-use rounds::demand;
+use rounds::{demand, forms, headers, priced, text};
 use std::env;
 use std::process::ExitCode;
 use tally::{Entry, Round, Tally};
@@ -28,51 +28,39 @@ const BOOK: &[u64] = &[1, 4, 5, 10, 11, 13];
 const GRID: &[u64] = &[1, 2, 3, 4, 5, 6, 7, 8];
 const PRICES: &[u64] = &[1, 5, 8, 14, 15];
 
+const EXTREME_ROUNDS: u64 = EXTREMES.len() as u64;
+
+/// An entry with no files that it names.
+const fn plain(name: &'static str, refusals: &'static [u64], cases: &'static [&'static [&'static str]], round: fn(&mut Round)) -> Entry {
+    Entry { name, refusals, files: &[], cases, rounds: EXTREME_ROUNDS, round }
+}
+
 /// Each entry, with the refusals that the papers list for it, each to be drawn and no other, and the cases that the change requests name.
-const ENTRIES: [Entry; 12] = [
-    Entry { name: "read_grid", refusals: &[1, 2, 3, 4, 5, 6, 7, 8, 9], files: &[], cases: &[], round: rounds::grid::read },
-    Entry { name: "write_grid", refusals: &[2, 3, 6, 7, 9], files: &[], cases: &[], round: rounds::grid::write },
-    Entry { name: "read_book", refusals: &[1, 2, 4, 5, 9, 10, 11, 13], files: &[], cases: &[], round: rounds::book::read },
-    Entry { name: "write_book", refusals: &[2, 9, 10, 11, 13, 17, 18], files: &[], cases: &[], round: rounds::book::write },
+const ENTRIES: [Entry; 14] = [
+    plain("read_grid", &[1, 2, 3, 4, 5, 6, 7, 8, 9], &[&forms::GRIDS_READ], rounds::grid::read),
+    Entry { rounds: headers::FIRST_BYTES, ..plain("grid_headers", &[1, 2, 3, 4, 5, 6, 7, 8, 9], &[], headers::grid) },
+    plain("write_grid", &[2, 3, 6, 7, 9], &[&forms::GRIDS_WRITTEN], rounds::grid::write),
+    plain("read_book", &[1, 2, 4, 5, 9, 10, 11, 13], &[&forms::BOOKS, &forms::BOOKS_READ], rounds::book::read),
+    Entry { rounds: headers::FIRST_BYTES, ..plain("book_headers", &[1, 2, 4, 5, 9, 10, 11, 13], &[], headers::book) },
+    plain("write_book", &[2, 9, 10, 11, 13, 17, 18], &[&forms::BOOKS, &forms::BOOKS_WRITTEN], rounds::book::write),
+    plain("remap_book", &[1, 2, 4, 5, 9, 10, 11, 13], &[&rounds::remap::CASES], rounds::remap::round),
+    plain("read_prices", &[1, 3, 5, 8, 9, 14, 15], &[], rounds::prices::read),
+    plain("write_prices", &[3, 9, 15, 17], &[], rounds::prices::write),
+    plain("test_book", &[1, 2, 3, 4, 5, 6, 7, 9, 10, 11, 13, 16, 17], &[&forms::BOOKS], rounds::test::round),
+    plain("find_mcc", &[2, 3, 7, 9, 15], &[], rounds::settlement::mcc),
+    plain("settle_hour", &[1, 2, 3, 4, 5, 7, 9, 10, 11, 13, 15, 17], &[&priced::CASES, &forms::BOOKS], rounds::settlement::hour),
+    Entry { files: &[("grid", GRID), ("book", BOOK)], ..plain("write_report", &[9], &[&text::CASES], text::report) },
     Entry {
-        name: "remap_book",
-        refusals: &[1, 2, 4, 5, 9, 10, 11, 13],
-        files: &[],
-        cases: &rounds::remap::CASES,
-        round: rounds::remap::round,
-    },
-    Entry { name: "read_prices", refusals: &[1, 3, 5, 8, 9, 14, 15], files: &[], cases: &[], round: rounds::prices::read },
-    Entry { name: "write_prices", refusals: &[3, 9, 15, 17], files: &[], cases: &[], round: rounds::prices::write },
-    Entry {
-        name: "test_book",
-        refusals: &[1, 2, 3, 4, 5, 6, 7, 9, 10, 11, 13, 16, 17],
-        files: &[],
-        cases: &[],
-        round: rounds::test::round,
-    },
-    Entry { name: "find_mcc", refusals: &[2, 3, 7, 9, 15], files: &[], cases: &[], round: rounds::settlement::mcc },
-    Entry {
-        name: "settle_hour",
-        refusals: &[1, 2, 3, 4, 5, 7, 9, 10, 11, 13, 15, 17],
-        files: &[],
-        cases: &rounds::priced::CASES,
-        round: rounds::settlement::hour,
-    },
-    Entry { name: "write_report", refusals: &[9], files: &[("grid", GRID), ("book", BOOK)], cases: &[], round: rounds::text::report },
-    Entry {
-        name: "write_statement",
-        refusals: &[9],
         files: &[("grid", GRID), ("book", BOOK), ("prices", PRICES)],
-        cases: &rounds::priced::CASES,
-        round: rounds::text::statement,
+        ..plain("write_statement", &[9], &[&priced::CASES, &text::CASES], text::statement)
     },
 ];
 
-/// The rounds of an entry: the extremes, and then so many that there are enough calls.
+/// The rounds of an entry: those that it must have, and then so many that there are enough calls.
 fn run(entry: &Entry, seed: u64) -> Tally {
     let mut tally = Tally::default();
     let mut number = 0;
-    while tally.calls < CALLS || number < EXTREMES.len() as u64 {
+    while tally.calls < CALLS || number < entry.rounds {
         (entry.round)(&mut Round::new(entry.name, seed, number, &mut tally));
         number += 1;
     }

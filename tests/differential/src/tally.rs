@@ -11,7 +11,9 @@ pub struct Entry {
     pub name: &'static str,
     pub refusals: &'static [u64],
     pub files: &'static [(&'static str, &'static [u64])],
-    pub cases: &'static [&'static str],
+    pub cases: &'static [&'static [&'static str]],
+    /// So many rounds at least.
+    pub rounds: u64,
     pub round: fn(&mut Round),
 }
 
@@ -30,7 +32,7 @@ impl Tally {
         let answers = entry.refusals.iter().filter(|number| !self.refusals.contains_key(number)).map(u64::to_string);
         let named = entry.files.iter().flat_map(|&(file, numbers)| numbers.iter().map(move |&number| (file, number)));
         let lines = named.filter(|refused| !self.files.contains_key(refused)).map(|(file, number)| format!("{file} {number}"));
-        let cases = entry.cases.iter().filter(|case| !self.cases.contains_key(*case)).map(|case| case.to_string());
+        let cases = entry.cases.concat().into_iter().filter(|case| !self.cases.contains_key(case)).map(str::to_string);
         answers.chain(lines).chain(cases).collect()
     }
 
@@ -89,6 +91,14 @@ impl<'a> Round<'a> {
                 "FAILED {}: seed {}, round {}, call {}: proved answers {proved}, second {second}; {cells:?}",
                 self.entry, self.seed, self.number, self.call
             );
+        }
+    }
+
+    /// Two answers of the second implementation that must be the same; the proved ones were compared with them.
+    pub fn same(&mut self, holds: bool, what: &str) {
+        if !holds {
+            self.tally.failed += 1;
+            println!("FAILED {}: seed {}, round {}: {what}: the answers differ", self.entry, self.seed, self.number);
         }
     }
 

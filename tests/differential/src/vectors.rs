@@ -1,11 +1,14 @@
 //! The checked values of the scope document and of the change requests, asked of the second implementation, so that it is not trusted on its own word.
 
+mod forms;
+
 use crate::second::book::{self, Contract};
 use crate::second::grid::{self, Grid};
 use crate::second::prices;
 use crate::second::remap::remap;
 use crate::second::settlement::{amount, cents, hour, mcc, settle, Asked};
 use crate::second::test::{self, figures, flow, of_period};
+use crate::second::Form::Narrow;
 use crate::second::{set_of, text, Answer};
 
 /// Case L's book.
@@ -96,10 +99,10 @@ fn priced_values() -> [bool; 11] {
 fn room_values() -> [bool; 6] {
     let (grid, contracts, list) = case_l();
     let factors: Vec<i64> = grid.factor_cells().iter().map(|&factor| factor as i64).collect();
-    let book = book::file_of(&contracts);
+    let book = book::file_of(Narrow, &contracts);
     let asked = Asked { nodes: 3, constraints: 2, period: 1, factors: &factors, prices: &[1_000, 2_550], book: &book };
     let answer = |room: usize, priced_room: usize| settle(&asked, room, priced_room).map_or_else(|number| number, |_| 0);
-    let files = (grid::file_of(&grid), prices::file_of(1, &list));
+    let files = (grid::file_of(Narrow, &grid), prices::file_of(1, &list));
     let statement = |room: usize| text::statement(&files.0, &book, &files.1, room).map(|page| page.text);
     let page = "contract,holder,kind,cents,priced\n0,7,OBL,900,2\n1,8,OPT,0,2\n2,7,OBL,-1,2\nsum,899\nexact,899,17000000\n";
     [
@@ -129,10 +132,10 @@ fn test_values() -> [bool; 7] {
 fn file_values() -> [bool; 5] {
     let (grid, book, list) = case_l();
     [
-        hex(&grid::file_of(&grid)) == "03 04 00 30 d4 00 03 0d 40 ea 60 ec 78 00 00 00 00 03 d8 f0 27 10 00",
-        hex(&book::file_of(&book)) == BOOK,
+        hex(&grid::file_of(Narrow, &grid)) == "03 04 00 30 d4 00 03 0d 40 ea 60 ec 78 00 00 00 00 03 d8 f0 27 10 00",
+        hex(&book::file_of(Narrow, &book)) == BOOK,
         hex(&prices::file_of(1, &list)) == "82 00 7d 00 27 d8",
-        hex(&book::file_of(&book[..1])) == "00 40 40 70 00 10 27 10",
+        hex(&book::file_of(Narrow, &book[..1])) == "00 40 40 70 00 10 27 10",
         hex(&prices::file_of(1, &[1])) == "81 00 00 20",
     ]
 }
@@ -146,9 +149,9 @@ fn tested_file(limits: [u64; 2], process: u64, file: &str) -> Answer<[i128; 4]> 
 /// Ends that coincide: read, written, tested, and settled on case L's grid and prices.
 fn same_ends_values() -> [bool; 9] {
     let (grid, _, list) = case_l();
-    let read = |file: &str| book::read(3, &bytes(file), 12).map(|book| book.iter().map(Contract::row).collect::<Vec<_>>());
+    let read = |file: &str| book::read(3, &bytes(file), 12).map(|(_, book)| book.iter().map(Contract::row).collect::<Vec<_>>());
     let row = [0, 1, 7, 1, 1, 10_000];
-    let statement = text::statement(&grid::file_of(&grid), &bytes(SAME_AMONG), &prices::file_of(1, &list), 29_085);
+    let statement = text::statement(&grid::file_of(Narrow, &grid), &bytes(SAME_AMONG), &prices::file_of(1, &list), 29_085);
     let page = "contract,holder,kind,cents,priced\n0,7,OBL,0,0\n1,7,OBL,900,2\n2,3,OPT,0,0\nsum,900\nexact,900,0\n";
     [
         read(SAME) == Ok(vec![row.map(i128::from)]),
@@ -156,7 +159,7 @@ fn same_ends_values() -> [bool; 9] {
         read("00 40 40 70 10 10 00 00") == Err(13),
         read("00 40 40 70 30 30 00 05") == Err(11),
         read("00 80 40 70 10 10 00 05 40 70 00 30 00 05") == Err(11),
-        book::write(3, 1, &row, 8) == Ok(bytes(SAME)),
+        book::write(Narrow, 3, 1, &row, 8) == Ok(bytes(SAME)),
         tested_file([0, 0], 2, SAME) == Ok([0; 4]),
         tested_file([6_000, 0], 0, SAME_AMONG) == Ok([1, 1, 0, 210_000_000]),
         statement.map(|page| page.text) == Ok(page.to_string()),
@@ -205,7 +208,7 @@ fn remap_refusals() -> [bool; 8] {
 /// Prints how many hold; how many do not.
 pub fn check() -> usize {
     let base = [&settlement_values()[..], &priced_values(), &room_values(), &test_values(), &file_values()].concat();
-    let all = [&base[..], &same_ends_values(), &remap_values(), &remap_refusals()].concat();
+    let all = [&base[..], &same_ends_values(), &remap_values(), &remap_refusals(), &forms::values()].concat();
     let wrong = all.iter().filter(|holds| !**holds).count();
     println!("second implementation on the papers' checked values: {} hold, {wrong} do not", all.len() - wrong);
     wrong

@@ -12,26 +12,26 @@ use Rattle.book_file.proofs.check_rows.Statement.{statement}
 use Rattle.book_file.proofs.check_rows.Tie as tie
 
 abbrev Inv-loop : tie.InvT-loop
-Inv-loop nodes contracts cells i₀ i =
-    (i ≤ contracts) × (first (checksTo i (rowChecks nodes cells)) ≡ Passed)
+Inv-loop below contracts cells i₀ i =
+    (i ≤ contracts) × (first (checksTo i (rowChecks below cells)) ≡ Passed)
 
 abbrev μ-loop : tie.MeasureT-loop
-μ-loop nodes contracts cells i₀ i = contracts - i
+μ-loop below contracts cells i₀ i = contracts - i
 
 loop-holds : tie.Need-loop-holds Inv-loop μ-loop
-loop-holds c = (omega arith, checks-start (rowChecks (c .before .args .nodes) (c .before .args .cells .now)))
+loop-holds c = (omega arith, checks-start (rowChecks (c .before .args .below) (c .before .args .cells .now)))
 
 returns : tie.Need-returns Inv-loop μ-loop
 returns c =
     let l = c .before .before .before .before .before .loop in
     let a = c .before .before .before .before .before .before .before .args in
-    sym (checks-stop (rowChecks (a .nodes) (a .cells .now)) (a .contracts) (l .i) _ (omega arith) (l .inv .1) (sym (c .before .before .before .check-row .ensures) ∙ c .before .checked .given .1))
+    sym (checks-stop (rowChecks (a .below) (a .cells .now)) (a .contracts) (l .i) _ (omega arith) (l .inv .1) (sym (c .before .before .before .check-row .ensures) ∙ c .before .checked .given .1))
 
 loop-again : tie.Need-loop-again Inv-loop μ-loop
 loop-again c =
     let l = c .before .before .before .before .loop in
     let a = c .before .before .before .before .before .before .args in
-    (omega arith, checks-more (rowChecks (a .nodes) (a .cells .now)) (l .i) (l .inv .1) (sym (c .before .before .check-row .ensures) ∙ c .enum-told .given .1))
+    (omega arith, checks-more (rowChecks (a .below) (a .cells .now)) (l .i) (l .inv .1) (sym (c .before .before .check-row .ensures) ∙ c .enum-told .given .1))
 
 pub check-rows-spec : {M : Type 1} → statement M
 check-rows-spec =

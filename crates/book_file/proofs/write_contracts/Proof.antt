@@ -7,7 +7,8 @@ use lib.ListN.{length}
 use Rattle.lists.specs.Lists.{listTo}
 use Rattle.lists.specs.Lent.{overwrite}
 use Rattle.lists.proofs.Lists.{length-listTo, listTo-more, each-listTo}
-use Rattle.layouts.specs.BookFile.{endBits}
+use Rattle.layouts.specs.Forms.{endWidth}
+use Rattle.layouts.proofs.BookFile.{record-room}
 use Rattle.layouts.specs.Inner.{ContractFits}
 use Rattle.layouts.specs.BookTable.{rowAt, rowsIn}
 use Rattle.books.specs.Inner.{headerBytes, bookFront}
@@ -17,22 +18,24 @@ use Rattle.book_file.proofs.write_contracts.Statement.{statement}
 use Rattle.book_file.proofs.write_contracts.Tie as tie
 
 abbrev Inv-loop : tie.InvT-loop
-Inv-loop cells contracts file₀ i₀ file i =
-    (i ≤ contracts) × (length file ≡ length file₀) × ((f : List ℕ) → file₀ ≡ overwrite (headerBytes contracts) f → file ≡ overwrite (bookFront contracts (rowsIn i cells)) f)
+Inv-loop form cells contracts file₀ i₀ file i =
+    (i ≤ contracts) × (length file ≡ length file₀) × ((f : List ℕ) → file₀ ≡ overwrite (headerBytes form contracts) f → file ≡ overwrite (bookFront form contracts (rowsIn i cells)) f)
 
 abbrev μ-loop : tie.MeasureT-loop
-μ-loop cells contracts file₀ i₀ file i = contracts - i
+μ-loop form cells contracts file₀ i₀ file i = contracts - i
 
 loop-holds : tie.Need-loop-holds Inv-loop μ-loop
 unfolding listTo
 loop-holds c =
-    (omega arith, refl, λ f e. front-begins (c .before .before .before .before .before .before .args .contracts) f _ e)
+    let a = c .before .before .before .before .before .before .args in
+    (omega arith, refl, λ f e. front-begins (a .form) (a .contracts) f _ e)
 
 store-contract-requires : tie.Need-store-contract-requires Inv-loop μ-loop
 store-contract-requires c κs =
     let l = c .before .before .before .loop in
     let s = c .before .before .before .before .before .before .before .before .before .before in
-    ((omega arith, omega (arith, l .inv .1, c .before .before .before .before .before .before .store-header .kept .0)), rw (c .row-from .ensures) (s .pre .1 (l .i) (omega arith)))
+    let room = record-room (s .args .form) (l .i) (s .args .contracts) _ (omega arith) (s .pre .0 .2) in
+    ((omega arith, omega (arith, room, l .inv .1, c .before .before .before .before .before .before .store-header .kept .0)), rw (c .row-from .ensures) (s .pre .1 (l .i) (omega arith)))
 
 loop-again : tie.Need-loop-again Inv-loop μ-loop
 loop-again c =
@@ -45,7 +48,7 @@ loop-again c =
       stored .kept .0 ∙ l .inv .1,
       λ f e.
           rw (listTo-more (l .i) g, ← c .before .before .before .row-from .ensures)
-          (front-more (a .contracts) f (rowsIn (l .i) (a .cells .now)) _ (l .i) (l .file) _ (length-listTo (l .i) g) (l .inv .2 f e) (stored .ensures)),
+          (front-more (a .form) (a .contracts) f (rowsIn (l .i) (a .cells .now)) _ (l .i) (l .file) _ (length-listTo (l .i) g) (l .inv .2 f e) (stored .ensures)),
     )
 
 same-length : tie.Need-same-length Inv-loop μ-loop
@@ -58,7 +61,7 @@ returns c =
     let m = s .args .contracts in
     let g = rowAt (s .args .cells .now) in
     let last : l .i ≡ m = omega arith in
-    front-ends m (s .args .file .now) (listTo m g) (l .file) (length-listTo m g) (each-listTo (ContractFits endBits) m g (s .pre .1))
+    front-ends (s .args .form) m (s .args .file .now) (listTo m g) (l .file) (length-listTo m g) (each-listTo (ContractFits (endWidth (s .args .form))) m g (s .pre .1))
     (rw last at (l .inv .2 (s .args .file .now) (c .before .before .before .before .store-header .ensures)))
 
 pub write-contracts-spec : {M : Type 1} → statement M

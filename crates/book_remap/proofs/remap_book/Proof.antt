@@ -1,7 +1,12 @@
 -- `remap_book`: where no check refuses, the table has every end and the moved contracts fit.
 use mathlib.Core.Path.{refl, sym, _∙_}
+use Prim.Native.Nat.{_≤_}
+use native.Mathlib.Nat.{le-of-eq}
 use native.Mathlib.Omega.{arith}
+use lib.ListN.{length}
 use Rattle.tariff.proofs.Answers.{answer-refused, cells-refused, answer-passed, cells-passed}
+use Rattle.layouts.specs.BookFile.{bookFormIn, contractCountIn}
+use Rattle.layouts.proofs.BookFile.{book-bytes-least}
 use Rattle.books.proofs.Accepted.{book-accepted}
 use Rattle.book_remap.specs.RemapBook.{RemapBookCall, remapBookCall, bookRemapped}
 use Rattle.book_remap.proofs.Accepted.{Remappable, remappable, movable, looked-up-list, length-remade}
@@ -18,17 +23,22 @@ ok c = remappable (call c) (sym (c .before .before .check-remap .ensures (call c
 moved-ends-requires : tie.Need-moved-ends-requires
 moved-ends-requires c κs = ok c .listed
 
-contract-count-requires : tie.Need-contract-count-requires
-contract-count-requires c κs = let q = call (c .before) in omega (arith, book-accepted (q .nodes) (q .book) (ok (c .before) .accepted) .size)
+-- an accepted book has its header
+header-there : (c : tie.After-enum-told) → 2 ≤ length (call c .book)
+header-there c =
+    let q = call c in
+    book-bytes-least (bookFormIn (q .book)) (contractCountIn (q .book)) _ (omega (arith, book-accepted (q .nodes) (q .book) (ok c .accepted) .size))
 
 write-moved-requires : tie.Need-write-moved-requires
 write-moved-requires c κs =
-    let e = c .before .before .before .before in
+    let m = c .before .before .before .before in
+    let e = m .before in
     let q = call e in
     let own = book-accepted (q .nodes) (q .book) (ok e .accepted) in
+    let form = c .before .before .before .book-form .ensures in
     let count = c .before .before .contract-count .ensures .0 in (
-      (omega (arith, count, own .few), omega (arith, count, own .size), omega (arith, count, ok e .room)),
-      rw count (movable q (ok e) (c .before .before .before .moved-ends .result) (c .before .before .before .moved-ends .ensures)),
+      (omega (arith, count, own .few), rw (form, count) (le-of-eq (sym (own .size))), rw (form, count) (ok e .room)),
+      rw (form, count) (movable q (ok e) (m .moved-ends .result) (m .moved-ends .ensures)),
     )
 
 returns : tie.Need-returns
@@ -42,13 +52,13 @@ returns c =
 returns-2 : tie.Need-returns-2
 returns-2 c =
     let w = c .before .before in
-    let m = w .before .before .before .before in
+    let m = w .before .before .before .before .before in
     let e = m .before in
     let q = call e in
     let found = e .before .before .check-remap .ensures (q .place) refl in
     let told = e .enum-told .given .1 in
     let written = w .write-moved .ensures in
-    let stored = rw (w .before .before .before .contract-count .ensures .0, looked-up-list q (ok e) (m .moved-ends .result) (m .moved-ends .ensures)) at written in
+    let stored = rw (w .before .before .before .before .book-form .ensures, w .before .before .before .contract-count .ensures .0, looked-up-list q (ok e) (m .moved-ends .result) (m .moved-ends .ensures)) at written in
     record {
       length-given = rw (sym (length-remade q (ok e))) (answer-passed _ _ found told _);
       bytes-written = cells-passed _ _ found told (bookRemapped q) (q .place) _ stored;
@@ -57,4 +67,4 @@ returns-2 c =
 pub remap-book-spec : {M : Type 1} → statement M
 remap-book-spec =
     tie.close (tie.spec
-    (λ c κs. search needs) (λ c. search needs) (λ c. search needs) moved-ends-requires contract-count-requires (λ c. search needs) write-moved-requires returns (λ c. search needs) returns-2)
+    (λ c κs. search needs) (λ c. search needs) (λ c. search needs) moved-ends-requires (λ c κs. header-there (c .before)) (λ c κs. header-there (c .before .before)) (λ c. search needs) write-moved-requires returns (λ c. search needs) returns-2)

@@ -1,13 +1,43 @@
--- `bits_at`.
-use Rattle.layouts.proofs.ContractNumber.{contract-at-number}
+-- `bits_at`: six bytes or seven, by one law.
+use Prim.Native.Nat.{_+_, _*_, _≤_}
+use native.Mathlib.Omega.{arith}
+use lib.ListN.{length}
+use Rattle.layouts.specs.declared.forms.Form.the-variants.{Narrow, Wide}
+use Rattle.layouts.proofs.ContractNumber.{contract-in-number}
 use borrow.Author.Needs.{needs}
 use Rattle.books.proofs.bits_at.Statement.{statement}
 use Rattle.books.proofs.bits_at.Tie as tie
 
+window6-requires : tie.Need-window6-requires
+window6-requires c κs =
+    let s = c .before .before .before in
+    let room : 2 + 6 * s .args .i + 6 ≤ length (s .args .file .now) = rw (c .enum-told .given .1) at (s .pre .1) in
+    omega arith
+
+window7-requires : tie.Need-window7-requires
+window7-requires c κs =
+    let s = c .before .before .before in
+    let room : 2 + 7 * s .args .i + 7 ≤ length (s .args .file .now) = rw (c .enum-told2 .given .1) at (s .pre .1) in
+    omega arith
+
 returns : tie.Need-returns
 returns c =
-    let s = c .before .before in
-    contract-at-number (s .args .file .now) (s .args .i) (c .window6 .result) (λ i. c .before .shared-slice-known .given i .fits) (s .pre .1) (c .window6 .ensures)
+    let e = c .before in
+    let s = e .before .before .before in
+    rw (e .enum-told .given .1)
+    (contract-in-number Narrow (s .args .file .now) (s .args .i) (c .window6 .result) (λ i. e .before .before .shared-slice-known .given i .fits)
+    (rw (e .enum-told .given .1) at (s .pre .1)) (c .window6 .ensures))
+
+returns-2 : tie.Need-returns-2
+returns-2 c =
+    let e = c .before in
+    let s = e .before .before .before in
+    rw (e .enum-told2 .given .1)
+    (contract-in-number Wide (s .args .file .now) (s .args .i) (c .window7 .result) (λ i. e .before .before .shared-slice-known .given i .fits)
+    (rw (e .enum-told2 .given .1) at (s .pre .1)) (c .window7 .ensures))
 
 pub bits-at-spec : {M : Type 1} → statement M
-bits-at-spec = tie.close (tie.spec (λ c. search needs) (λ c. search needs) (λ c κs. search needs) returns)
+bits-at-spec =
+    tie.close (tie.spec
+    (λ c. search needs) (λ c. search needs) (λ c. search needs) window6-requires
+    (λ c. search needs) (λ c. search needs) (λ c. search needs) window7-requires returns returns-2)

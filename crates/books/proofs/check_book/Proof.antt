@@ -1,6 +1,6 @@
 -- `check_book`.
 use mathlib.Core.Path.{_∙_}
-use Rattle.books.proofs.Checking.{short-book, many-contracts, spare-set, wrong-length, right-header}
+use Rattle.books.proofs.Checking.{short-book, many-contracts, spare-other, wrong-length, right-header}
 use borrow.Author.Needs.{needs}
 use Rattle.books.proofs.check_book.Statement.{statement}
 use Rattle.books.proofs.check_book.Tie as tie
@@ -16,29 +16,39 @@ returns-2 c =
 
 returns-3 : tie.Need-returns-3
 returns-3 c =
-    let f = c .before .before in
+    let p = c .before in
+    let g = p .before .before in
+    let f = g .before in
     let e = f .before .before in
     let a = e .before .before .args in
-    spare-set (a .nodes) (a .file .now) (e .if1 .left) _ (f .before .contract-count .ensures .0) (f .if2 .left) _ (c .before .field .ensures .0) (c .if3 .taken)
+    spare-other (a .nodes) (a .file .now) (e .if1 .left) _ (f .before .contract-count .ensures .0) (f .if2 .left) _ (g .book-form .ensures)
+    _ (p .before .field .ensures .0) _ (p .spare-pattern .ensures .0) (c .if3 .taken)
 
 returns-4 : tie.Need-returns-4
 returns-4 c =
-    let g = c .before in
-    let f = g .before .before in
+    let h = c .before .before in
+    let p = h .before in
+    let g = p .before .before in
+    let f = g .before in
     let e = f .before .before in
     let a = e .before .before .args in
-    wrong-length (a .nodes) (a .file .now) (e .if1 .left) _ (f .before .contract-count .ensures .0) (f .if2 .left) _ (g .before .field .ensures .0) (g .if3 .left) (c .if4 .taken)
+    wrong-length (a .nodes) (a .file .now) (e .if1 .left) _ (f .before .contract-count .ensures .0) (f .if2 .left) _ (g .book-form .ensures)
+    _ (p .before .field .ensures .0) _ (p .spare-pattern .ensures .0) (h .if3 .left) _ (c .before .book-bytes .ensures) (c .if4 .taken)
 
 returns-5 : tie.Need-returns-5
 returns-5 c =
-    let g = c .before .before in
-    let f = g .before .before in
+    let h = c .before .before .before in
+    let p = h .before in
+    let g = p .before .before in
+    let f = g .before in
     let e = f .before .before in
     let a = e .before .before .args in
     c .check-contracts .ensures
-    ∙ right-header (a .nodes) (a .file .now) (e .if1 .left) _ (f .before .contract-count .ensures .0) (f .if2 .left) _ (g .before .field .ensures .0) (g .if3 .left) (c .before .if4 .left)
+    ∙ right-header (a .nodes) (a .file .now) (e .if1 .left) _ (f .before .contract-count .ensures .0) (f .if2 .left) _ (g .book-form .ensures)
+    _ (p .before .field .ensures .0) _ (p .spare-pattern .ensures .0) (h .if3 .left) _ (c .before .before .book-bytes .ensures) (c .before .if4 .left)
 
 pub check-book-spec : {M : Type 1} → statement M
 check-book-spec =
     tie.close (tie.spec
-    returns (λ c κs. search needs) returns-2 (λ c κs. search needs) returns-3 (λ c. search needs) (λ c. search needs) returns-4 (λ c κs. search needs) returns-5)
+    returns (λ c κs. search needs) returns-2 (λ c κs. search needs) (λ c κs. search needs) (λ c κs. search needs) returns-3 (λ c κs. search needs) returns-4
+    (λ c κs. search needs) returns-5)

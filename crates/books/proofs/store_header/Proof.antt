@@ -6,13 +6,12 @@ use borrow.Author.Needs.{needs}
 use Rattle.books.proofs.store_header.Statement.{statement}
 use Rattle.books.proofs.store_header.Tie as tie
 
-slice-write-file-2 : tie.Need-slice-write-file-2
-slice-write-file-2 c = simp length-set (omega arith)
-
 returns : tie.Need-returns
-returns c = header-stored (c .args .file .now) (c .args .contracts) (c .pre .1) (c .pre .0)
+returns c =
+    let s = c .before .before in
+    header-stored (s .args .form) (s .args .file .now) (s .args .contracts) _ (s .pre .1) (s .pre .0) (c .spare-pattern .ensures .0) (c .spare-pattern .ensures .1)
 
 pub store-header-spec : {M : Type 1} → statement M
 store-header-spec =
     tie.close (tie.spec
-    (λ c. search needs) (λ c. search needs) (λ c. search needs) (λ c. search needs) slice-write-file-2 (λ c. search needs) returns)
+    (λ c κs. search needs) (λ c. search needs) (λ c. search needs) (λ c. search needs) (λ c. search needs) (λ c. search needs) (λ c. simp length-set (omega arith)) (λ c. search needs) returns)

@@ -5,7 +5,9 @@ use Rattle.c_book.proofs.crr_write_book.Statement.{statement}
 use Rattle.c_book.proofs.crr_write_book.Tie as tie
 
 returns : tie.Need-returns
-returns c = writes-for-c _ _ _ _ _ (c .before .before .before .before .write-book .ensures) _ _ _ (c .into-cell .ensures .0) (c .into-cell .ensures .1)
+returns c =
+    let w = c .before .before .before .before in
+    rw (← w .before .before .from-number .ensures) (writes-for-c _ _ _ _ _ (w .write-book .ensures) _ _ _ (c .into-cell .ensures .0) (c .into-cell .ensures .1))
 
 pub crr-write-book-spec : {M : Type 1} → statement M
-crr-write-book-spec = tie.close (tie.spec (λ c κs. search needs) (λ c κs. search needs) (λ c. search needs) returns)
+crr-write-book-spec = tie.close (tie.spec (λ c κs. search needs) (λ c κs. search needs) (λ c κs. search needs) (λ c. search needs) returns)

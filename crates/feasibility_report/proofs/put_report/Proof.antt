@@ -1,14 +1,15 @@
 -- `put_report`.
 use mathlib.Core.Path.{_≡_}
 use mathlib.Core.List.{List}
-use Prim.Native.Nat.{ℕ, _*_}
+use Prim.Native.Nat.{ℕ}
 use native.Mathlib.Omega.{arith}
 use lib.ListN.{length, replicate, length-replicate}
 use lib.IntN.{ℤ, pos}
 use Rattle.text.proofs.Putting.{put-same}
-use Rattle.tariff.specs.Units.{maxNodes, maxConstraints}
+use Rattle.tariff.specs.Units.{maxConstraints}
 use Rattle.texts.proofs.WithFiles.{grid-refused, grid-text}
-use Rattle.grid_file.proofs.Taken.{GridTaken, grid-taken}
+use Rattle.grid_file.specs.ReadGrid.{cappedChecks, programBytes, programFactors}
+use Rattle.grid_file.proofs.Taken.{GridTaken, within-taken}
 use borrow.Author.Needs.{needs}
 use Rattle.feasibility_report.specs.WriteReport.{report}
 use Rattle.feasibility_report.proofs.put_report.Statement.{statement}
@@ -19,21 +20,21 @@ cells : List ℕ
 cells = replicate maxConstraints 0
 
 places : List ℤ
-places = replicate (maxNodes * maxConstraints) (pos 0)
+places = replicate programFactors (pos 0)
 
 cells-long : length cells ≡ maxConstraints
 unfolding cells
 cells-long = length-replicate {A = ℕ} maxConstraints 0
 
-places-long : length places ≡ maxNodes * maxConstraints
+places-long : length places ≡ programFactors
 unfolding places
-places-long = length-replicate {A = ℤ} (maxNodes * maxConstraints) (pos 0)
+places-long = length-replicate {A = ℤ} programFactors (pos 0)
 
 -- the tables as the reader left them
 taken : (c : tie.After-nodes) → let r = c .before .before .before .before in let s = r .before .before .before .before .before .before in
-    GridTaken (s .args .grid-file .now) (c .nodes .given .0 .0) (c .nodes .given .0 .1 .0) (r .read-grid .last .1 .0) (r .read-grid .last .1 .1 .0)
+    GridTaken (cappedChecks programBytes (s .args .grid-file .now)) (s .args .grid-file .now) (c .nodes .given .0 .0) (c .nodes .given .0 .1 .0) (r .read-within .last .1 .1 .0) (r .read-within .last .1 .1 .1 .0)
 unfolding cells places
-taken c = grid-taken _ cells places _ _ _ _ (rw (c .nodes .given .1) at (c .before .before .before .before .read-grid .ensures))
+taken c = within-taken _ cells places programBytes _ _ _ _ _ (rw (c .nodes .given .1) at (c .before .before .before .before .read-within .ensures))
 
 put-tested-requires : tie.Need-put-tested-requires
 put-tested-requires c κs =
@@ -44,7 +45,7 @@ returns : tie.Need-returns
 unfolding report cells places
 returns c =
     let f = c .before .before .before .before .before .before in
-    let r = f .before .before .before .before .read-grid in
+    let r = f .before .before .before .before .read-within in
     put-same (grid-refused _ _ cells places cells-long places-long _ _ _ (rw (f .refusal .given .1) at (r .ensures))) (c .before .before .put-refused .ensures)
 
 returns-2 : tie.Need-returns-2

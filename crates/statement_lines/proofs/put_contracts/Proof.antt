@@ -7,8 +7,8 @@ use borrow.Author.Needs.{needs}
 use lib.IntN.{pos}
 use Rattle.text.specs.Inner.{Put}
 use Rattle.text.proofs.Putting.{_then_, put-none, put-same}
-use Rattle.layouts.specs.BookFile.{endBits, contractBits, contractAt}
-use Rattle.layouts.proofs.BookFile.{contract-fits}
+use Rattle.layouts.specs.BookFile.{contractIn}
+use Rattle.layouts.proofs.BookFile.{record-room, contract-in-fits}
 use Rattle.statement_lines.specs.Lines.{longestLine}
 use Rattle.statement_lines.specs.Inner.{linesTo}
 use Rattle.statement_lines.proofs.Figures.{kept, kept-cents, lines-more}
@@ -16,11 +16,11 @@ use Rattle.statement_lines.proofs.put_contracts.Statement.{statement}
 use Rattle.statement_lines.proofs.put_contracts.Tie as tie
 
 abbrev Inv-loop : tie.InvT-loop
-Inv-loop buf₀ at period book count cents priced next₀ i₀ buf next i =
-    (i ≤ count) × (length buf ≡ length buf₀) × Put buf₀ at (linesTo period (contractAt book) cents priced i) buf next × (next ≤ at + longestLine * i)
+Inv-loop buf₀ at period book form count cents priced next₀ i₀ buf next i =
+    (i ≤ count) × (length buf ≡ length buf₀) × Put buf₀ at (linesTo period (contractIn form book) cents priced i) buf next × (next ≤ at + longestLine * i)
 
 abbrev μ-loop : tie.MeasureT-loop
-μ-loop buf₀ at period book count cents priced next₀ i₀ buf next i = count - i
+μ-loop buf₀ at period book form count cents priced next₀ i₀ buf next i = count - i
 
 loop-holds : tie.Need-loop-holds Inv-loop μ-loop
 unfolding linesTo
@@ -28,6 +28,11 @@ loop-holds c = (omega arith, omega arith, put-none (omega (arith, c .before .bef
 
 cast-size : tie.Need-cast-size Inv-loop μ-loop
 cast-size c = omega (arith, c .before .before .before .before .before .before .before .pre .1 .0 .1 (c .before .before .before .loop .i) (omega arith))
+
+contract-at-requires : tie.Need-contract-at-requires Inv-loop μ-loop
+contract-at-requires c κs =
+    let s = c .before .before .before .before .before in
+    (omega (arith, s .pre .0 .0), record-room (s .args .form) (c .before .loop .i) (s .args .count) _ (omega arith) (s .pre .0 .1))
 
 put-own-requires : tie.Need-put-own-requires Inv-loop μ-loop
 put-own-requires c κs =
@@ -37,7 +42,7 @@ put-own-requires c κs =
     let a = s .args in (
       (
         omega (arith, s .pre .0 .0),
-        rw (k .ensures) (omega (arith, contract-fits endBits (a .book .now) (16 + contractBits endBits * l .i) .holder-fits)),
+        rw (k .ensures) (omega (arith, contract-in-fits (a .form) (a .book .now) (l .i) .holder-fits)),
         kept-cents (getD (a .cents .now) (l .i) (pos 0)) (s .pre .1 .0 .0 (l .i) (omega arith)),
         s .pre .1 .0 .1 (l .i) (omega arith),
       ),
@@ -55,7 +60,7 @@ loop-again c =
     let x = kept z (omega (arith, s .pre .1 .0 .0 (l .i) (omega arith))) in (
       omega arith,
       m .kept .0 ∙ l .inv .1,
-      put-same (lines-more (a .period) (contractAt (a .book .now)) (a .cents .now) (a .priced .now) (l .i) _ _ _ (k .ensures) x refl) (l .inv .2 then m .ensures .0),
+      put-same (lines-more (a .period) (contractIn (a .form) (a .book .now)) (a .cents .now) (a .priced .now) (l .i) _ _ _ (k .ensures) x refl) (l .inv .2 then m .ensures .0),
       omega (arith, m .ensures .1, l .inv .3),
     )
 
@@ -69,5 +74,5 @@ returns c =
 pub put-contracts-spec : {M : Type 1} → statement M
 put-contracts-spec =
     tie.close (tie.spec
-    Inv-loop μ-loop loop-holds (λ c κs. search needs) (λ c. omega arith) (λ c. omega arith) cast-size (λ c. omega arith)
+    Inv-loop μ-loop loop-holds contract-at-requires (λ c. omega arith) (λ c. omega arith) cast-size (λ c. omega arith)
     (λ c. omega arith) put-own-requires (λ c. omega arith) (λ c. omega arith) loop-again (λ c. search needs) returns)

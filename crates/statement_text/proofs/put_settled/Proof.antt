@@ -22,7 +22,7 @@ put-lines-requires c κs =
     let t = c .before .before .before .before .before .before .settle in
     let s = c .before .before .before .before .before .before .before .before .before .before .before .before in
     let o = accepted s in (
-      (omega (arith, o .few, n), omega (arith, o .size, n), omega (arith, o .few, n), omega (arith, o .few, n)),
+      (omega (arith, o .few, n), rw n (omega (arith, o .size)), omega (arith, o .few, n), omega (arith, o .few, n)),
       (settled-sized (t .ensures) n, omega (arith, s .pre .0, o .few, n)),
     )
 

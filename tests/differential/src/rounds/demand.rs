@@ -5,7 +5,7 @@ use crate::library;
 use crate::second::book::{self, Contract};
 use crate::second::grid::Grid;
 use crate::second::test::{of_period, rent, shortfall};
-use crate::second::{first, Answer};
+use crate::second::{first, Answer, Form};
 
 const PRICE_LISTS: u64 = 12;
 
@@ -19,6 +19,7 @@ pub struct Counts {
 
 struct Case {
     grid: Grid,
+    form: Form,
     book: Vec<Contract>,
     process: u64,
     period: u64,
@@ -26,12 +27,14 @@ struct Case {
 
 impl Case {
     fn new(draw: &mut Draw) -> Self {
-        let size = Size { nodes: draw.within(1, 6), constraints: draw.within(1, 3), contracts: draw.within(0, 6) };
-        let (mut grid, book) = (draw::grid(draw, size), draw::book(draw, size));
+        let nodes = if draw.once_in(20) { draw.within(201, 400) } else { draw.within(1, 6) };
+        let size = Size { nodes, constraints: draw.within(1, 3), contracts: draw.within(0, 6) };
+        let form = draw.form();
+        let (mut grid, book) = (draw::grid(draw, size), draw::book(draw, size, form));
         if draw.once_in(2) {
             grid.limits.iter_mut().for_each(|limit| *limit /= 50);
         }
-        Case { grid, book, process: draw.below(3), period: draw.below(2) }
+        Case { grid, form, book, process: draw.below(3), period: draw.below(2) }
     }
 
     fn factors(&self) -> Vec<i64> {
@@ -41,7 +44,7 @@ impl Case {
     /// The proved test's answer: the lowest overloaded constraint and the excess there, or nothing. No case is to be refused.
     fn tested(&self) -> Answer<Option<(usize, i128)>> {
         let limits: Vec<u64> = self.grid.limits.iter().map(|&limit| limit as u64).collect();
-        let (factors, file) = (self.factors(), book::file_of(&self.book));
+        let (factors, file) = (self.factors(), book::file_of(self.form, &self.book));
         let (nodes, constraints, process, period) = (self.grid.nodes as usize, limits.len(), self.process, self.period);
         let (mut set, mut count, mut lowest, mut excess) = (0, 0, 0, 0);
         let lent = (&mut set, &mut count, &mut lowest, &mut excess);
@@ -53,7 +56,7 @@ impl Case {
     /// The shortfall at a price list, with the net payment as the proved settlement gives it.
     fn settled_shortfall(&self, prices: &[i128]) -> Answer<i128> {
         let cells: Vec<u64> = prices.iter().map(|&price| price as u64).collect();
-        let (factors, file) = (self.factors(), book::file_of(&self.book));
+        let (factors, file) = (self.factors(), book::file_of(self.form, &self.book));
         let (nodes, constraints) = (self.grid.nodes as usize, cells.len());
         let (mut cents, mut priced) = (vec![0; self.book.len()], vec![0; self.book.len()]);
         let (mut sum, mut whole, mut parts) = (0, 0, 0);

@@ -2,7 +2,9 @@
 
 pub mod book;
 pub mod demand;
+pub mod forms;
 pub mod grid;
+pub mod headers;
 pub mod priced;
 pub mod prices;
 pub mod remap;
@@ -11,9 +13,9 @@ pub mod test;
 pub mod text;
 
 use crate::draw::Draw;
-use crate::second::Answer;
+use crate::second::{Answer, Form};
 
-pub const WRONG_NODES: [usize; 7] = [0, 201, 255, 256, 1 << 32, 1 << 63, usize::MAX];
+pub const WRONG_NODES: [usize; 9] = [0, 4001, 4095, 4096, 65_535, 65_536, 1 << 32, 1 << 63, usize::MAX];
 pub const WRONG_CONSTRAINTS: [usize; 7] = [65, 127, 128, 256, 1 << 32, 1 << 63, usize::MAX];
 pub const WRONG_CONTRACTS: [usize; 6] = [1001, 1023, 1024, 1 << 32, 1 << 63, usize::MAX];
 pub const WRONG_PERIODS: [u64; 5] = [2, 256, 1 << 32, 1 << 63, u64::MAX];
@@ -60,6 +62,16 @@ pub fn grown(draw: &mut Draw, file: &[u8], count: usize) -> Vec<u8> {
     file
 }
 
+/// The cases that are shown, of a list of cases.
+pub fn names<const N: usize>(cases: &[&'static str; N], shown: [bool; N]) -> Vec<&'static str> {
+    (0..N).filter(|&case| shown[case]).map(|case| cases[case]).collect()
+}
+
+/// What is said where a check fails that is no lent cell's.
+pub fn unless(holds: bool, what: &str) -> Option<String> {
+    (!holds).then(|| what.to_string())
+}
+
 /// A valid file cut, grown, with each bit of its header flipped and some of its body's, and files that are no such file.
 pub fn damaged(draw: &mut Draw, file: &[u8], header: usize) -> Vec<Vec<u8>> {
     let mut files: Vec<Vec<u8>> = GROWTH.iter().map(|&count| grown(draw, file, count)).collect();
@@ -80,6 +92,11 @@ pub fn damaged(draw: &mut Draw, file: &[u8], header: usize) -> Vec<Vec<u8>> {
 /// Every length below the file's own.
 pub fn cuts(file: &[u8]) -> impl Iterator<Item = &[u8]> {
     (0..file.len()).map(move |length| &file[..length])
+}
+
+/// The first lengths and the last, and all of a short file.
+pub fn some_cuts(file: &[u8]) -> impl Iterator<Item = &[u8]> {
+    cuts(file).filter(|cut| cut.len() < 40 || cut.len() + 3 > file.len())
 }
 
 /// One less, where there is one.

@@ -1,9 +1,11 @@
 //! Hours drawn for the sets of constraints that price a contract: shares that are 0, that cancel, that no option is paid, and the last of 64 constraints.
 
+use super::names;
 use crate::draw::{self, Draw, Size};
 use crate::second::book::Contract;
 use crate::second::grid::Grid;
 use crate::second::settlement::{priced, share};
+use crate::second::Form;
 
 /// What contracts of the hour's period show.
 pub const CASES: [&str; 10] = [
@@ -54,7 +56,7 @@ pub struct Priced {
 impl Priced {
     pub fn new(draw: &mut Draw) -> Self {
         let size = Size { nodes: draw.within(2, 4), constraints: draw.pick(&[1, 2, 3, 63, 64]), contracts: draw.within(0, 8) };
-        let (mut grid, book) = (draw::grid(draw, size), draw::book(draw, size));
+        let (mut grid, book) = (draw::grid(draw, size), draw::book(draw, size, Form::Narrow));
         let style = draw.pick(&[Style::Mixed, Style::Last, Style::All]);
         let prices = (1..=size.constraints).map(|k| style.price(draw, k == size.constraints)).collect();
         for (node, factors) in (0..).zip(&mut grid.factors) {
@@ -87,5 +89,5 @@ fn shows(grid: &Grid, prices: &[i128], contract: &Contract) -> [bool; CASES.len(
 /// The cases that some of the contracts show.
 pub fn cases(grid: &Grid, prices: &[i128], contracts: &[Contract]) -> Vec<&'static str> {
     let shown: Vec<[bool; CASES.len()]> = contracts.iter().map(|contract| shows(grid, prices, contract)).collect();
-    (0..CASES.len()).filter(|&case| shown.iter().any(|own| own[case])).map(|case| CASES[case]).collect()
+    names(&CASES, std::array::from_fn(|case| shown.iter().any(|own| own[case])))
 }

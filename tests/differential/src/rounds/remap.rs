@@ -1,15 +1,15 @@
 //! Remapping the retired nodes of books.
 
 use super::*;
-use crate::draw::{self, Size};
+use crate::draw::{self, ends_below, Size};
 use crate::lent::Lent;
 use crate::library;
-use crate::second::book::{self, Contract};
+use crate::second::book::{self, record, Contract};
 use crate::second::remap::{remap, remapped, step};
 use crate::tally::Round;
 
 /// What the pairs do to the book.
-pub const CASES: [&str; 9] = [
+pub const CASES: [&str; 13] = [
     "no pairs",
     "a pair of equal numbers",
     "an old number again",
@@ -19,7 +19,18 @@ pub const CASES: [&str; 9] = [
     "ends made equal",
     "equal ends moved",
     "another order differs",
+    "a wide book",
+    "an end moved above 255",
+    "an old number above 255, of a narrow book",
+    "a new number above 255, of a narrow book, refused",
 ];
+
+/// What the book and the pairs are.
+struct Own {
+    size: Size,
+    form: Form,
+    book: Vec<Contract>,
+}
 
 #[derive(Clone)]
 struct Asked {
@@ -37,13 +48,24 @@ fn call(round: &mut Round, asked: &Asked) {
     let mut bytes = Lent::<usize>::new(&mut round.draw, "bytes", 1);
     let proved = library::remap_book(*nodes, book, old, new, file.slice(), bytes.figure());
     let (number, written) = written(&second);
+    // 11 by the form alone: every listed number is a node's
+    let listed = old.iter().chain(new).all(|&node| node < *nodes as u64);
+    if number == 11 && listed && book::parse(*nodes as i128, book).is_ok() {
+        round.shown(&CASES[12..]);
+    }
     let count = second.map(|file| vec![file.len() as i128]).unwrap_or_default();
     round.compare(proved, number, &[file.difference(&written), bytes.difference(&count)]);
 }
 
 /// Pairs along a walk from node to node: a chain, the chain from its end, a cycle, no move, one node retired again and again, all into one, or at random.
-fn run(draw: &mut Draw, nodes: i128) -> Vec<(u64, u64)> {
-    let walk: Vec<u64> = (0..draw.within(2, 6)).map(|_| draw.below(nodes as u64)).collect();
+/// New numbers fit the book's form, and the walk often starts at a contract's end.
+fn run(draw: &mut Draw, own: &Own) -> Vec<(u64, u64)> {
+    let nodes = own.size.nodes as u64;
+    let below = ends_below(own.form, own.size.nodes) as u64;
+    let mut walk: Vec<u64> = (0..draw.within(2, 6)).map(|_| draw.below(below)).collect();
+    if !own.book.is_empty() && draw.once_in(2) {
+        walk[0] = own.book[draw.below(own.book.len() as u64) as usize].source as u64;
+    }
     let chain = walk.windows(2).map(|step| (step[0], step[1]));
     let (start, others) = (walk[0], walk[1..].iter());
     match draw.below(7) {
@@ -53,16 +75,16 @@ fn run(draw: &mut Draw, nodes: i128) -> Vec<(u64, u64)> {
         3 => others.map(|&node| (node, node)).collect(),
         4 => others.map(|&node| (start, node)).collect(),
         5 => others.map(|&node| (node, start)).collect(),
-        _ => others.map(|&node| (node, draw.below(nodes as u64))).collect(),
+        _ => others.map(|&node| (draw.below(nodes), node)).collect(),
     }
 }
 
 /// Old and new numbers of up to `most` pairs.
-fn lists(draw: &mut Draw, nodes: i128, most: i128) -> (Vec<u64>, Vec<u64>) {
+fn lists(draw: &mut Draw, own: &Own, most: i128) -> (Vec<u64>, Vec<u64>) {
     let count = draw.within(0, most) as usize;
     let mut pairs = Vec::new();
     while pairs.len() < count {
-        pairs.extend(run(draw, nodes));
+        pairs.extend(run(draw, own));
     }
     pairs.into_iter().take(count).unzip()
 }
@@ -76,12 +98,13 @@ fn moves(old: &[u64], new: &[u64], end: i128) -> (usize, i128) {
 }
 
 /// The cases that a book and its lists show.
-fn cases(size: Size, book: &[Contract], old: &[u64], new: &[u64]) -> Vec<&'static str> {
+fn cases(own: &Own, old: &[u64], new: &[u64]) -> Vec<&'static str> {
+    let Own { size, form, book } = own;
     let after = remapped(book, old, new);
     let backwards = |list: &[u64]| -> Vec<u64> { list.iter().rev().copied().collect() };
     let moved: Vec<_> = book.iter().flat_map(|own| [own.source, own.sink]).map(|end| (end, moves(old, new, end))).collect();
     let both: Vec<_> = book.iter().zip(&after).collect();
-    let shown: [bool; CASES.len()] = [
+    let shown = [
         old.is_empty(),
         old.iter().zip(new).any(|(old, new)| old == new),
         (0..old.len()).any(|i| old[..i].contains(&old[i])),
@@ -91,14 +114,19 @@ fn cases(size: Size, book: &[Contract], old: &[u64], new: &[u64]) -> Vec<&'stati
         both.iter().any(|(before, after)| before.source != before.sink && after.source == after.sink),
         both.iter().any(|(before, after)| before.source == before.sink && after.source != before.source),
         after != remapped(book, &backwards(old), &backwards(new)),
+        *form == Form::Wide,
+        moved.iter().any(|(end, (_, last))| *end < 256 && *last > 255),
+        *form == Form::Narrow && old.iter().any(|&number| number > 255),
+        false,
     ];
-    (0..CASES.len()).filter(|&case| shown[case]).map(|case| CASES[case]).collect()
+    names(&CASES, shown)
 }
 
 /// One thing wrong.
-fn wrong(draw: &mut Draw, asked: &mut Asked, size: Size, book: &[Contract]) {
-    let far = [size.nodes as u64, 200, 255, 256, 1 << 32, 1 << 63, u64::MAX];
-    let bytes = 2 + 6 * book.len();
+fn wrong(draw: &mut Draw, asked: &mut Asked, own: &Own) {
+    let Own { size, form, book } = own;
+    let far = [size.nodes as u64, 200, 255, 256, 256, 3999, 4000, 4095, 4096, 1 << 32, 1 << 63, u64::MAX];
+    let bytes = 2 + record(*form) * book.len();
     let list = if draw.once_in(2) { &mut asked.old } else { &mut asked.new };
     let count = list.len();
     match draw.below(9) {
@@ -109,7 +137,7 @@ fn wrong(draw: &mut Draw, asked: &mut Asked, size: Size, book: &[Contract]) {
         5 => list.truncate(short(count)),
         6 => asked.room = draw.pick(&[bytes - 1, 0, 1, bytes / 2]),
         7 => asked.room = bytes + draw.below(9) as usize,
-        _ => asked.book = super::book::out_of_range(draw, book, size.nodes),
+        _ => asked.book = super::book::out_of_range(draw, *form, book, size.nodes),
     }
 }
 
@@ -123,15 +151,15 @@ fn wrong_books(draw: &mut Draw, file: &[u8]) -> Vec<Vec<u8>> {
 }
 
 /// A book's lists: places of all lengths, then what can go wrong.
-fn listed(round: &mut Round, size: Size, book: &[Contract], valid: &Asked) {
-    round.shown(&cases(size, book, &valid.old, &valid.new));
+fn listed(round: &mut Round, own: &Own, valid: &Asked) {
+    round.shown(&cases(own, &valid.old, &valid.new));
     for room in [valid.room, valid.room + 1, valid.room + 9, valid.room - 1, 0] {
         call(round, &Asked { room, ..valid.clone() });
     }
     for _ in 0..12 {
         let mut asked = valid.clone();
         for _ in 0..round.draw.within(1, 3) {
-            wrong(&mut round.draw, &mut asked, size, book);
+            wrong(&mut round.draw, &mut asked, own);
         }
         call(round, &asked);
     }
@@ -139,14 +167,17 @@ fn listed(round: &mut Round, size: Size, book: &[Contract], valid: &Asked) {
 
 pub fn round(round: &mut Round) {
     let size = draw::size(&mut round.draw, round.number);
-    let book = draw::book(&mut round.draw, size);
-    let file = book::file_of(&book);
+    let form = round.draw.form_of(round.number);
+    let book = draw::book(&mut round.draw, size, form);
+    let file = book::file_of(form, &book);
+    let own = Own { size, form, book };
     let mut asked = Asked { nodes: size.nodes as usize, room: file.len(), book: file, old: Vec::new(), new: Vec::new() };
-    for most in [0, 3, 6, 2 * size.nodes + 4] {
-        (asked.old, asked.new) = lists(&mut round.draw, size.nodes, most);
-        listed(round, size, &book, &asked);
+    let most = if round.number < 20 { 2 * size.nodes + 4 } else { (2 * size.nodes + 4).min(100) };
+    for most in [0, 3, most, 6] {
+        (asked.old, asked.new) = lists(&mut round.draw, &own, most);
+        listed(round, &own, &asked);
     }
-    for nodes in WRONG_NODES.into_iter().chain([asked.nodes - 1, asked.nodes + 1, 200]) {
+    for nodes in WRONG_NODES.into_iter().chain([asked.nodes - 1, asked.nodes + 1, 200, 4000]) {
         call(round, &Asked { nodes, ..asked.clone() });
     }
     for book in wrong_books(&mut round.draw, &asked.book) {

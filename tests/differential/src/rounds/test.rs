@@ -20,7 +20,8 @@ struct Tables {
     book: Vec<u8>,
 }
 
-fn call(round: &mut Round, asked: &Tables) {
+/// One call; gives the second implementation's answer.
+fn call(round: &mut Round, asked: &Tables) -> Answer<[i128; 4]> {
     let Tables { nodes, constraints, process, period, limits, factors, book } = asked;
     let (nodes, constraints, process, period) = (*nodes, *constraints, *process, *period);
     let second = test(&Asked { nodes, constraints, process, period, limits, factors, book });
@@ -37,6 +38,13 @@ fn call(round: &mut Round, asked: &Tables) {
     let differences =
         [set.difference(&figures[0]), count.difference(&figures[1]), lowest.difference(&figures[2]), excess.difference(&figures[3])];
     round.compare(proved, second.err().unwrap_or(0), &differences);
+    second
+}
+
+/// One book in both forms, where its ends fit both: the same answers.
+fn both_forms(round: &mut Round, asked: &Tables, book: &[Contract]) {
+    let [narrow, wide] = [Form::Narrow, Form::Wide].map(|form| call(round, &Tables { book: book::file_of(form, book), ..asked.clone() }));
+    round.same(narrow == wide, "one book in both forms");
 }
 
 /// Limits at, just below and just above the flows, so that equality and the smallest excess are met.
@@ -49,7 +57,7 @@ fn tight(draw: &mut Draw, grid: &mut Grid, book: &[Contract], process: u64, peri
 }
 
 /// One thing wrong.
-fn wrong(draw: &mut Draw, asked: &mut Tables, size: Size, book: &[Contract]) {
+fn wrong(draw: &mut Draw, asked: &mut Tables, size: Size, form: Form, book: &[Contract]) {
     let cells = asked.factors.len().min(asked.nodes.saturating_mul(asked.constraints));
     match draw.below(9) {
         0 => asked.nodes = draw.pick(&WRONG_NODES),
@@ -60,42 +68,47 @@ fn wrong(draw: &mut Draw, asked: &mut Tables, size: Size, book: &[Contract]) {
         5 => asked.factors.truncate(short(cells)),
         6 => spoil(draw, &mut asked.limits, asked.constraints, &WRONG_LIMITS),
         7 => spoil(draw, &mut asked.factors, cells, &WRONG_FACTORS),
-        _ => asked.book = super::book::out_of_range(draw, book, size.nodes),
+        _ => asked.book = super::book::out_of_range(draw, form, book, size.nodes),
     }
 }
 
-fn tables(draw: &mut Draw, grid: &Grid, book: &[Contract], process: u64, period: u64) -> Tables {
+fn tables(draw: &mut Draw, grid: &Grid, book: &[u8], process: u64, period: u64) -> Tables {
     let limits = table(draw, &grid.limits, |limit| limit as u64, u64::MAX);
     let factors = table(draw, &grid.factor_cells(), |factor| factor as i64, i64::MIN);
     let (nodes, constraints) = (grid.nodes as usize, grid.constraints as usize);
-    Tables { nodes, constraints, process, period, limits, factors, book: book::file_of(book) }
+    Tables { nodes, constraints, process, period, limits, factors, book: book.to_vec() }
 }
 
 pub fn round(round: &mut Round) {
     let size = draw::size(&mut round.draw, round.number);
+    let form = round.draw.form_of(round.number);
     let mut grid = draw::grid(&mut round.draw, size);
-    let book = draw::book(&mut round.draw, size);
+    let book = draw::book(&mut round.draw, size, form);
+    let file = book::file_of(form, &book);
+    round.shown(&forms::book(form, size.nodes, &book));
     for (process, period) in [(0, 0), (0, 1), (1, 0), (1, 1), (2, 0), (2, 1)] {
-        let asked = tables(&mut round.draw, &grid, &book, process, period);
-        call(round, &asked);
+        let asked = tables(&mut round.draw, &grid, &file, process, period);
+        let _ = call(round, &asked);
         tight(&mut round.draw, &mut grid, &book, process, period);
-        let asked = tables(&mut round.draw, &grid, &book, process, period);
-        call(round, &asked);
+        let asked = tables(&mut round.draw, &grid, &file, process, period);
+        let _ = call(round, &asked);
     }
     let (process, period) = (round.draw.below(3), round.draw.below(2));
-    let valid = tables(&mut round.draw, &grid, &book, process, period);
+    let valid = tables(&mut round.draw, &grid, &file, process, period);
+    let narrow = draw::book(&mut round.draw, size, Form::Narrow);
+    both_forms(round, &valid, &narrow);
     for _ in 0..20 {
         let mut asked = valid.clone();
         for _ in 0..round.draw.within(1, 3) {
-            wrong(&mut round.draw, &mut asked, size, &book);
+            wrong(&mut round.draw, &mut asked, size, form, &book);
         }
-        call(round, &asked);
+        let _ = call(round, &asked);
     }
     let mut files = damaged(&mut round.draw, &valid.book, 16);
     files.extend(super::book::too_many(&mut round.draw));
     let few = if valid.book.len() > 100 { 40 } else { valid.book.len() };
     files.extend(cuts(&valid.book).take(few).map(<[u8]>::to_vec));
     for book in files {
-        call(round, &Tables { book, ..valid.clone() });
+        let _ = call(round, &Tables { book, ..valid.clone() });
     }
 }

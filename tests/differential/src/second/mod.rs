@@ -20,8 +20,35 @@ pub fn first(checks: &[(bool, u64)]) -> Answer<()> {
     }
 }
 
+/// The two forms of a grid's file and of a book's (paper 9).
+#[derive(Clone, Copy, Debug, PartialEq, Eq)]
+pub enum Form {
+    Narrow,
+    Wide,
+}
+
+impl Form {
+    /// As a writer is told: 0 is narrow, any other number wide.
+    pub fn told(number: u64) -> Self {
+        if number == 0 {
+            Form::Narrow
+        } else {
+            Form::Wide
+        }
+    }
+
+    /// As a reader tells it.
+    pub fn number(self) -> i128 {
+        match self {
+            Form::Narrow => 0,
+            Form::Wide => 1,
+        }
+    }
+}
+
+/// A stated node count, or that of a wide grid.
 pub fn nodes_fail(nodes: i128) -> bool {
-    nodes == 0 || nodes > 200
+    nodes == 0 || nodes > 4000
 }
 
 pub fn constraints_fail(constraints: i128) -> bool {

@@ -1,6 +1,6 @@
 //! A book with its retired nodes remapped.
 
-use super::book::{file_of, parse, Contract};
+use super::book::{file_of, largest_end, parse, Contract};
 use super::{first, nodes_fail, Answer};
 
 /// An end after one pair: the new number where it is the old one.
@@ -26,10 +26,12 @@ pub fn remapped(book: &[Contract], old: &[u64], new: &[u64]) -> Vec<Contract> {
 pub fn remap(nodes: usize, file: &[u8], old: &[u64], new: &[u64], room: usize) -> Answer<Vec<u8>> {
     let nodes = nodes as i128;
     first(&[(nodes_fail(nodes), 2)])?;
-    let book = parse(nodes, file)?;
+    let (form, book) = parse(nodes, file)?;
     let no_node = |list: &[u64]| list.iter().any(|&number| i128::from(number) >= nodes);
-    first(&[(no_node(old), 11), (no_node(new), 11), (old.len() != new.len(), 9)])?;
-    let file = file_of(&remapped(&book, old, new));
+    // a new number must also fit the book's own form
+    let unheld = new.iter().any(|&number| i128::from(number) > largest_end(form));
+    first(&[(no_node(old), 11), (no_node(new) || unheld, 11), (old.len() != new.len(), 9)])?;
+    let file = file_of(form, &remapped(&book, old, new));
     first(&[(room < file.len(), 9)])?;
     Ok(file)
 }

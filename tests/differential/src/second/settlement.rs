@@ -48,6 +48,7 @@ pub fn whole_and_parts(total: i128) -> (i128, i128) {
 }
 
 /// An hour settled: of each contract of the book its cents and the constraints that priced it, 0 and none for the other period's; sum, whole cents and parts.
+#[derive(PartialEq)]
 pub struct Hour {
     pub cents: Vec<i128>,
     pub priced: Vec<Vec<usize>>,
@@ -100,7 +101,7 @@ pub fn settle(asked: &Asked, cents_room: usize, priced_room: usize) -> Answer<Ho
     first(&[(nodes_fail(asked.nodes as i128), 2), (constraints_fail(asked.constraints as i128), 3), (asked.period > 1, 17)])?;
     let (table, prices) = tables(asked)?;
     let grid = in_range(asked, &table, &prices)?;
-    let book = parse(asked.nodes as i128, asked.book)?;
+    let (_, book) = parse(asked.nodes as i128, asked.book)?;
     first(&[(cents_room < book.len(), 9), (priced_room < book.len(), 9)])?;
     Ok(hour(&grid, &prices, asked.period as i128, &book))
 }

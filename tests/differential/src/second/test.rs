@@ -58,7 +58,7 @@ pub fn checked(asked: &Asked) -> Answer<(Grid, Vec<Contract>)> {
     let table = cells(asked.factors, nodes * constraints)?;
     first(&[(limits.iter().any(|&limit| limit_fails(limit)), 6)])?;
     let factors = by_node(nodes, constraints, &table)?;
-    let book = parse(nodes, asked.book)?;
+    let (_, book) = parse(nodes, asked.book)?;
     Ok((Grid { nodes, constraints, limits, factors }, of_period(&book, asked.period)))
 }
 

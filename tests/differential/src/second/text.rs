@@ -9,6 +9,8 @@ use super::Answer;
 
 pub const REPORT_BYTES: usize = 2048;
 pub const STATEMENT_BYTES: usize = 29_085;
+/// The longest grid that a text takes: 32 KiB.
+pub const GRID_BYTES: usize = 32_768;
 
 /// A file that was refused, and its number.
 pub type Refused = (&'static str, u64);
@@ -30,9 +32,14 @@ fn report_line(grid: &Grid, contracts: &[Contract], period: &str, process: (u64,
     }
 }
 
+fn grid_and_book(grid_file: &[u8], book_file: &[u8]) -> Result<(Grid, Vec<Contract>), Refused> {
+    let (_, grid) = grid::parse(grid_file, GRID_BYTES).map_err(|number| ("grid", number))?;
+    let (_, book) = book::parse(grid.nodes, book_file).map_err(|number| ("book", number))?;
+    Ok((grid, book))
+}
+
 fn report_text(grid_file: &[u8], book_file: &[u8]) -> Result<String, Refused> {
-    let grid = grid::parse(grid_file).map_err(|number| ("grid", number))?;
-    let book = book::parse(grid.nodes, book_file).map_err(|number| ("book", number))?;
+    let (grid, book) = grid_and_book(grid_file, book_file)?;
     let mut text = String::from("period,process,verdict,overloaded,lowest,excess,constraints\n");
     for (period, name) in [(0, "off-peak"), (1, "on-peak")] {
         for process in [(0, "annual"), (1, "lt"), (2, "monthly")] {
@@ -66,8 +73,7 @@ fn contract_line(number: usize, contract: &Contract, cents: i128, priced: usize)
 }
 
 fn statement_text(grid_file: &[u8], book_file: &[u8], price_file: &[u8]) -> Result<String, Refused> {
-    let grid = grid::parse(grid_file).map_err(|number| ("grid", number))?;
-    let book = book::parse(grid.nodes, book_file).map_err(|number| ("book", number))?;
+    let (grid, book) = grid_and_book(grid_file, book_file)?;
     let read = prices::read(grid.constraints as usize, price_file, 64);
     let (period, prices) = read.map_err(|number| ("prices", number))?;
     let hour = hour(&grid, &prices, period, &book);

@@ -3,13 +3,13 @@
 use super::Answer;
 
 pub fn word(bytes: &[u8]) -> String {
-    bytes.iter().map(|byte| format!("{byte:08b}")).collect()
+    let digit = |byte: u8, place: u32| if byte / 2u8.pow(place) % 2 == 1 { '1' } else { '0' };
+    bytes.iter().flat_map(|&byte| (0..8).rev().map(move |place| digit(byte, place))).collect()
 }
 
 pub fn bytes(word: &str) -> Vec<u8> {
     assert!(word.len().is_multiple_of(8), "a file ends with its last byte");
-    let digits: Vec<char> = word.chars().collect();
-    digits.chunks(8).map(|byte| value(&byte.iter().collect::<String>()) as u8).collect()
+    (0..word.len()).step_by(8).map(|at| value(&word[at..at + 8]) as u8).collect()
 }
 
 /// Zeros up to the end of the last byte.

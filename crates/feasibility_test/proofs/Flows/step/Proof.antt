@@ -11,8 +11,9 @@ use Rattle.lists.specs.Lists.{listTo}
 use Rattle.tariff.specs.Units.{factorsOf, maxConstraints, maxContracts}
 use Rattle.tariff.specs.Contracts.{ofPeriod}
 use Rattle.tariff.specs.Inner.{InRange, maxFlow}
-use Rattle.layouts.specs.BookFile.{contractAt}
-use Rattle.books.proofs.Accepted.{Accepted, book-accepted}
+use Rattle.layouts.specs.declared.forms.Form.{Form}
+use Rattle.layouts.specs.BookFile.{contractIn, contractAt}
+use Rattle.books.proofs.Accepted.{Accepted, book-accepted, accepted-room}
 use Rattle.feasibility_test.specs.declared.Flows.{Flows}
 use Rattle.feasibility_test.specs.Inner.{Carries}
 use Rattle.feasibility_test.proofs.Checking.{ends-of}
@@ -21,18 +22,18 @@ use Rattle.feasibility_test.proofs.Flows.step.Statement.{statement}
 use Rattle.feasibility_test.proofs.Flows.step.Tie as tie
 
 abbrev Inv-loop : tie.InvT-loop
-Inv-loop nodes constraints factors period book from upto carried₀ i₀ carried i =
+Inv-loop nodes constraints factors period book form from upto carried₀ i₀ carried i =
     (i ≤ upto) × (length (carried .flows) ≡ maxConstraints)
     × Carries (factorsOf nodes constraints factors) (ofPeriod period (listTo i (contractAt book))) carried
 
 abbrev μ-loop : tie.MeasureT-loop
-μ-loop nodes constraints factors period book from upto carried₀ i₀ carried i = upto - i
+μ-loop nodes constraints factors period book form from upto carried₀ i₀ carried i = upto - i
 
 full : (c : tie.Start Inv-loop μ-loop) → length (c .args .self .flows) ≡ maxConstraints
 full c = sym (length-map (c .args .self .flows) (λ (z : ℤ). z)) ∙ c .good .0 .1 .1 .0 .1 .0 .1
 
 loop-holds : tie.Need-loop-holds Inv-loop μ-loop
-loop-holds c = let s = c .before in (s .pre .1 .0 .0, full s, s .pre .1 .1)
+loop-holds c = let s = c .before in (s .pre .1 .0 .1, full s, s .pre .1 .1)
 
 ok : (c : tie.Start Inv-loop μ-loop) → Accepted (c .args .nodes) (c .args .book .now)
 ok c = book-accepted (c .args .nodes) (c .args .book .now) (c .pre .0 .1)
@@ -40,16 +41,19 @@ ok c = book-accepted (c .args .nodes) (c .args .book .now) (c .pre .0 .1)
 contract-at-requires : tie.Need-contract-at-requires Inv-loop μ-loop
 contract-at-requires c κs =
     let s = c .before .before .before in
-    let a = ok s in
-    (omega (arith, a .few, s .pre .1 .0 .1), omega (arith, a .size, s .pre .1 .0 .1))
+    accepted-room (s .args .nodes) (s .args .book .now) (ok s) (s .args .form) (s .pre .1 .0 .0) (c .before .loop .i) (omega (arith, s .pre .1 .0 .2))
+
+-- contract i is the one that the bytes say
+read : (c : tie.After-contract-at Inv-loop μ-loop) → c .contract-at .result ≡ contractAt (c .before .before .before .before .args .book .now) (c .before .before .loop .i)
+read c = let s = c .before .before .before .before in c .contract-at .ensures ∙ ap (λ (f : Form). contractIn f (s .args .book .now) (c .before .before .loop .i)) (s .pre .1 .0 .0)
 
 -- the contracts up to the one that is read are in range
 up-to : (c : tie.After-contract-at Inv-loop μ-loop) (j : ℕ) → j ≤ c .before .before .loop .i
     → InRange (c .before .before .before .before .args .nodes) (contractAt (c .before .before .before .before .args .book .now) j)
-up-to c j h = let s = c .before .before .before .before in ok s .each j (omega (arith, s .pre .1 .0 .1))
+up-to c j h = let s = c .before .before .before .before in ok s .each j (omega (arith, s .pre .1 .0 .2))
 
 own : (c : tie.After-contract-at Inv-loop μ-loop) → InRange (c .before .before .before .before .args .nodes) (c .contract-at .result)
-own c = rw (c .contract-at .ensures) (search (up-to c, le-refl, zero≤))
+own c = rw (read c) (search (up-to c, le-refl, zero≤))
 
 -- what is carried there: a flow for each contract counted, and no more contracts than were read
 room : (c : tie.After-contract-at Inv-loop μ-loop) → let s = c .before .before .before .before in let l = c .before .before .loop in
@@ -62,7 +66,7 @@ room c =
     let each : (j : ℕ) → j < l .i → InRange (s .args .nodes) (at j) = λ j h. up-to c j (omega arith) in
     let most = count-most f (l .i) (s .args .period) at (l .carried) each (l .inv .2) in
     let sized = flow-most f (l .i) (s .args .period) at (l .carried) each (l .inv .2) (s .pre .0 .0 .in-range) in
-    (omega (arith, ok s .few, s .pre .1 .0 .1), λ j h. omega (arith, ok s .few, s .pre .1 .0 .1, sized j h))
+    (omega (arith, ok s .few, s .pre .1 .0 .2), λ j h. omega (arith, ok s .few, s .pre .1 .0 .2, sized j h))
 
 add-flow-requires : tie.Need-add-flow-requires Inv-loop μ-loop
 add-flow-requires c κs =
@@ -91,8 +95,9 @@ loop-again c =
     let k = s .args .constraints in
     let fs = s .args .factors .now in
     let at = contractAt (s .args .book .now) in
-    let more = carry-same n k fs (l .i) (s .args .period) at (r .result) (r .ensures) (l .carried .flows) (c .if1 .carried .flows) (l .carried .count) (c .if1 .carried .count) (l .inv .2) in
-    let same = carry-other n k fs (l .i) (s .args .period) at (r .result) (r .ensures) (l .carried .flows) (c .if1 .carried .flows) (l .carried .count) (c .if1 .carried .count) (l .inv .2) in (
+    let is = read (c .before .before) in
+    let more = carry-same n k fs (l .i) (s .args .period) at (r .result) is (l .carried .flows) (c .if1 .carried .flows) (l .carried .count) (c .if1 .carried .count) (l .inv .2) in
+    let same = carry-other n k fs (l .i) (s .args .period) at (r .result) is (l .carried .flows) (c .if1 .carried .flows) (l .carried .count) (c .if1 .carried .count) (l .inv .2) in (
       omega arith,
       ⊎-elim (λ w. ap length (flows-of (w .3)) ∙ w .2 .ensures .length-kept ∙ l .inv .1) (λ w. ap length (flows-of (w .1)) ∙ l .inv .1) (c .if1 .came),
       ⊎-elim

@@ -19,13 +19,13 @@ use Rattle.grid_file.proofs.reading.check_figures.Tie as tie
 limit : (c : tie.After-field-above) → c .field-above .result ≡ some limitBad (limitsIn (c .before .before .before .before .args .file .now))
 limit c =
     let s = c .before .before .before .before in
-    rw (limits-are (s .args .file .now) (s .args .nodes) (s .args .constraints) (s .pre)) at (c .field-above .ensures)
+    rw (limits-are (s .args .file .now) (s .args .header) (s .args .nodes) (s .args .constraints) (s .pre)) at (c .field-above .ensures)
 
 pad : (c : tie.After-field) → c .field .result ≡ gridPadIn (c .before .before .before .before .before .before .before .before .args .file .now)
 pad c =
     let u = c .before .before .before .before .before in
     let s = u .before .before .before in
-    c .field .ensures .0 ∙ pad-is (s .args .file .now) (s .args .nodes) (s .args .constraints) (s .pre) (u .used-bits .result) (u .used-bits .ensures .0)
+    c .field .ensures .0 ∙ pad-is (s .args .file .now) (s .args .header) (s .args .nodes) (s .args .constraints) (s .pre) (u .used-bits .result) (u .used-bits .ensures .0)
 
 -- past each test that did not hold, the checks behind it are left
 abbrev checks : tie.Start → List Check

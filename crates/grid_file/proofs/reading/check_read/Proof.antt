@@ -1,99 +1,53 @@
--- `check_read`: each return by the tests that led there.
-use mathlib.Core.Path.{_≡_, sym, _∙_}
-use mathlib.Core.List.{List}
-use Prim.Native.Nat.{ℕ}
+-- `check_read`: the checks up to the file's length, and then the figures'.
+use mathlib.Core.Path.{sym, _∙_}
+use native.Mathlib.Omega.{arith}
 use borrow.Author.Needs.{needs}
-use borrow.Author.Tests.{lt-ltb, le-ltb}
-use lib.ListN.{drop}
-use Rattle.tariff.specs.Refusals.{Check, first}
-use Rattle.tariff.specs.Checks.{nodeCount}
-use Rattle.tariff.proofs.Checks.{first-passes, first-refuses, nodes-few-of, differs, same}
-use Rattle.layouts.specs.GridFile.{nodesIn}
-use Rattle.grid_file.specs.ReadGrid.{readGridCall, gridFileChecks, readGridChecks}
-use Rattle.grid_file.specs.Inner.{GoodCounts, figureChecks}
+use Rattle.tariff.specs.declared.refusals.Checked.the-variants.{Passed}
+use Rattle.layouts.specs.GridFile.{gridFormIn}
+use Rattle.layouts.proofs.FormLaws.{header-least}
+use Rattle.grid_file.specs.ReadGrid.{ReadGridCall, readGridCall}
+use Rattle.grid_file.proofs.Passing.{Sized, sized, counted-by}
+use Rattle.grid_file.proofs.Sizing.{read-checks}
 use Rattle.grid_file.proofs.reading.check_read.Statement.{statement}
 use Rattle.grid_file.proofs.reading.check_read.Tie as tie
 
--- the count tested is the file's
-bad : (c : tie.After-nodes-bad) → c .nodes-bad .result ≡ nodeCount (nodesIn (c .before .before .before .before .before .before .args .file .now)) .fails
-bad c = rw (c .before .before .nodes-in .ensures) at (c .nodes-bad .ensures)
+abbrev call : tie.Start → ReadGridCall
+call s = readGridCall (s .args .file .now) (s .args .limits .now) (s .args .factors .now)
 
--- past each test that did not hold, the checks behind it are left
-abbrev checks : tie.Start → List Check
-checks s = readGridChecks (readGridCall (s .args .file .now) (s .args .limits .now) (s .args .factors .now))
+abbrev start : tie.After-enum-told → tie.Start
+start c = c .before .before .before .before .before
 
-abbrev Left : ℕ → tie.Start → Type 0
-Left n s = first (checks s) ≡ first (drop n (checks s))
+ok : (c : tie.After-enum-told) → Sized (start c .args .file .now)
+ok c = sized _ (sym (c .before .before .check-size .ensures) ∙ c .enum-told .given .1)
 
-past : (c : tie.Else1) → Left 1 (c .before .before .before)
-unfolding gridFileChecks readGridChecks
-past c = first-passes _ _ (le-ltb _ _ (c .if1 .left))
+form-in-requires : tie.Need-form-in-requires
+form-in-requires c κs = omega (arith, ok c .header-there, header-least (gridFormIn (start c .args .file .now)))
 
-past-2 : (c : tie.Else2) → Left 2 (c .before .before .before .before .before .before .before)
-unfolding gridFileChecks readGridChecks
-past-2 c = past (c .before .before .before .before) ∙ first-passes _ _ (sym (bad (c .before)) ∙ c .if2 .left)
+nodes-in-requires : tie.Need-nodes-in-requires
+nodes-in-requires c κs = rw (c .before .form-in .ensures) (ok (c .before .before) .header-there)
 
-past-3 : (c : tie.Else3) → Left 3 (c .before .before .before .before .before .before .before .before)
-unfolding gridFileChecks readGridChecks
-past-3 c = past-2 (c .before) ∙ first-passes _ _ (le-ltb _ _ (rw (c .before .before .before .constraints-in .ensures) at (c .if3 .left)))
-
-past-4 : (c : tie.Else4) → Left 4 (c .before .before .before .before .before .before .before .before .before .before)
-unfolding gridFileChecks readGridChecks
-past-4 c = past-3 (c .before .before) ∙ first-passes _ _ (same _ _ (sym (c .before .field .ensures .0) ∙ c .if4 .left))
-
--- counts that passed
-good : (c : tie.Else4) → GoodCounts (c .before .before .before .before .before .before .nodes-in .result) (c .before .before .before .before .before .constraints-in .result)
-good c =
-    let few = c .before .before in
-    let n = few .before in
-    record { nodes-few = nodes-few-of _ (sym (n .before .nodes-bad .ensures) ∙ n .if2 .left); few = few .if3 .left }
-
-returns : tie.Need-returns
-unfolding gridFileChecks readGridChecks
-returns c = sym (first-refuses _ _ (lt-ltb _ _ (c .if1 .taken)))
-
-returns-2 : tie.Need-returns-2
-unfolding gridFileChecks readGridChecks
-returns-2 c = sym (past (c .before .before .before .before) ∙ first-refuses _ _ (sym (bad (c .before)) ∙ c .if2 .taken))
-
-returns-3 : tie.Need-returns-3
-unfolding gridFileChecks readGridChecks
-returns-3 c = sym (past-2 (c .before) ∙ first-refuses _ _ (lt-ltb _ _ (rw (c .before .before .before .constraints-in .ensures) at (c .if3 .taken))))
-
-returns-4 : tie.Need-returns-4
-unfolding gridFileChecks readGridChecks
-returns-4 c = sym (past-3 (c .before .before) ∙ first-refuses _ _ (differs _ _ (rw (c .before .field .ensures .0) at (c .if4 .taken))))
-
-file-bytes-requires : tie.Need-file-bytes-requires
-file-bytes-requires c κs = good c
-
-returns-5 : tie.Need-returns-5
-unfolding gridFileChecks readGridChecks
-returns-5 c =
-    let n = c .before .before .before .before .before .before .before .before in
-    let k = c .before .before .before .before .before .before .before in
-    sym (past-4 (c .before .before) ∙ first-refuses _ _ (differs _ _ (rw (c .before .file-bytes .ensures .0, n .nodes-in .ensures, k .constraints-in .ensures) at (c .if5 .taken))))
+constraints-in-requires : tie.Need-constraints-in-requires
+constraints-in-requires c κs =
+    let e = c .before .before .before in
+    omega (arith, ok e .header-there, header-least (gridFormIn (start e .args .file .now)))
 
 check-figures-requires : tie.Need-check-figures-requires
 check-figures-requires c κs =
-    record {
-      nodes = c .before .before .before .before .before .before .before .before .nodes-in .ensures;
-      constraints = c .before .before .before .before .before .before .before .constraints-in .ensures;
-      good = good (c .before .before);
-      size = c .if5 .left ∙ c .before .file-bytes .ensures .0;
-    }
+    let h = c .before .before in
+    counted-by _ _ _ _ _ (h .before .form-in .ensures) (h .grid-header-bits .ensures) (c .before .nodes-in .ensures) (c .constraints-in .ensures) (ok (h .before .before))
 
-returns-6 : tie.Need-returns-6
-unfolding gridFileChecks readGridChecks figureChecks
-returns-6 c =
-    let e = c .before in
-    let n = e .before .before .before .before .before .before .before .before in
-    let k = e .before .before .before .before .before .before .before in
-    let size = rw (e .before .file-bytes .ensures .0, n .nodes-in .ensures, k .constraints-in .ensures) at (e .if5 .left) in
-    c .check-figures .ensures ∙ sym (past-4 (e .before .before) ∙ first-passes _ _ (same _ _ size))
+returns : tie.Need-returns
+returns c =
+    let t = c .before .before .before in
+    sym (read-checks (call (t .before .before .before)) _ (sym (t .check-size .ensures) ∙ c .before .refusal .given .1))
+
+returns-2 : tie.Need-returns-2
+returns-2 c =
+    let e = c .before .before .before .before .before in
+    c .check-figures .ensures ∙ sym (read-checks (call (start e)) Passed (sym (e .before .before .check-size .ensures) ∙ e .enum-told .given .1))
 
 pub check-read-spec : {M : Type 1} → statement M
 check-read-spec =
     tie.close (tie.spec
-    returns (λ c κs. search needs) (λ c κs. search needs) (λ c κs. search needs) returns-2 returns-3 (λ c κs. search needs) returns-4 file-bytes-requires
-    returns-5 check-figures-requires returns-6)
+    (λ c κs. search needs) (λ c. search needs) (λ c. search needs) form-in-requires (λ c κs. search needs) nodes-in-requires constraints-in-requires
+    check-figures-requires returns returns-2)

@@ -10,8 +10,8 @@ returns c =
     let m = run .before .before in
     let s = m .before .before .before in
     let a = s .args in (
-      rw (limits-are (a .file .now) (a .nodes) (a .constraints) (s .pre .0)) at (run .read-run .ensures),
-      rw (run-is (a .file .now) (a .nodes) (a .constraints) (s .pre .0) (m .factor-count .result) (m .factor-count .ensures .0)) at (c .before .read-factors .ensures),
+      rw (limits-are (a .file .now) (a .header) (a .nodes) (a .constraints) (s .pre .0)) at (run .read-run .ensures),
+      rw (run-is (a .file .now) (a .header) (a .nodes) (a .constraints) (s .pre .0) (m .factor-count .result) (m .factor-count .ensures .0)) at (c .before .read-factors .ensures),
     )
 
 pub read-tables-spec : {M : Type 1} → statement M

@@ -1,51 +1,74 @@
--- `fill`: the counts, the spare bit, the limits, the factors and the padding, one after the other.
-use mathlib.Core.Path.{_≡_, refl, sym, ap₂, _∙_}
-use mathlib.Core.List.{[], _∷_}
+-- `fill`: the header, the limits, the factors and the padding, one after the other.
+use mathlib.Core.Path.{_≡_, sym, ap, ap₂, _∙_}
 use Prim.Native.Nat.{ℕ, _+_, _-_, _*_}
 use native.Mathlib.Omega.{arith}
 use borrow.Author.Needs.{needs}
 use lib.ListN.{length, take}
 use lib.Pow.{pow-pos}
 use lib.Seq.{length-take-le}
-use Rattle.bits.specs.Fields.{bits}
 use Rattle.bits.specs.Inner.{place}
-use Rattle.layouts.specs.GridFile.{limitWidth, factorWidth, gridHeaderBits, gridBits}
-use Rattle.runs.proofs.Penned.{Penned, penned-start, penned-put, penned-last, penned-run}
+use Rattle.layouts.specs.Files.{bytesFor}
+use Rattle.layouts.specs.Forms.{gridHeaderBits}
+use Rattle.layouts.specs.GridFile.{limitWidth, factorWidth, bitsBehind, gridBits, gridBytes}
+use Rattle.layouts.proofs.FormLaws.{header-whole}
+use Rattle.layouts.proofs.GridHeader.{header-total}
+use Rattle.runs.proofs.Penned.{penned-last, penned-run}
 use Rattle.grid_file.specs.Inner.{coded}
 use Rattle.grid_file.proofs.Factors.{cell-small, length-coded}
-use Rattle.grid_file.proofs.Passing.{length-written}
+use Rattle.grid_file.proofs.Passing.{short-header, length-written}
 use Rattle.grid_file.proofs.Filling.{grid-penned}
 use Rattle.grid_file.proofs.writing.fill.Statement.{statement}
 use Rattle.grid_file.proofs.writing.fill.Tie as tie
 
 -- past the header: the counts found at first, and the function's entry
-abbrev sizes : tie.After-put3 → tie.After-factor-count
-sizes c = c .before .before .before .before .before .before .before .before .before .before
+abbrev sizes : tie.After-put-header → tie.After-factor-count
+sizes c = c .before .before
 
-abbrev entry : tie.After-put3 → tie.Start
-entry c = sizes c .before .before .before .before .before
+abbrev entry : tie.After-put-header → tie.Start
+entry c = sizes c .before .before .before .before .before .before
 
-header : (c : tie.After-put3)
-    → Penned (bits 8 (entry c .args .nodes) ∷ bits 7 (entry c .args .constraints) ∷ bits 1 0 ∷ []) (entry c .args .file .now) (c .put3 .last .0) (c .put3 .result)
-header c =
-    let b = c .before .before .before .before in
-    let a = b .before .before .before .before in
-    let one = penned-put (penned-start (entry c .args .file .now) _ (omega arith) refl) 8 _ _ (entry c .args .nodes) (a .put .ensures) in
-    penned-put (penned-put one 7 _ _ (entry c .args .constraints) (b .put2 .ensures)) 1 _ _ 0 (c .put3 .ensures)
+-- the bits of the header are the form's
+used : (c : tie.After-put-header) → let a = entry c .args in sizes c .before .before .used-bits .result ≡ gridBits (a .form) (a .nodes) (a .constraints)
+used c =
+    let a = entry c .args in
+    sizes c .before .before .used-bits .ensures .0 ∙ ap (λ (h : ℕ). bitsBehind h (a .nodes) (a .constraints)) (sizes c .before .before .before .grid-header-bits .ensures)
+
+size : (c : tie.After-put-header) → let a = entry c .args in sizes c .before .file-bytes .result ≡ gridBytes (a .form) (a .nodes) (a .constraints)
+size c =
+    let a = entry c .args in
+    sizes c .before .file-bytes .ensures .0 ∙ ap (λ (h : ℕ). bytesFor (bitsBehind h (a .nodes) (a .constraints))) (sizes c .before .before .before .grid-header-bits .ensures)
+
+header-end : (c : tie.After-put-header) → place (c .put-header .result) ≡ gridHeaderBits (entry c .args .form)
+header-end c = c .put-header .ensures .end ∙ header-total _ _ _
+
+used-bits-requires : tie.Need-used-bits-requires
+used-bits-requires c κs =
+    let s = c .before .before .before in
+    let g = s .pre .good-factors in
+    (rw (c .grid-header-bits .ensures) (short-header (s .args .form)), record { nodes-few = g .nodes-few; few = g .few })
+
+file-bytes-requires : tie.Need-file-bytes-requires
+file-bytes-requires c κs = used-bits-requires (c .before) κs
+
+put-header-requires : tie.Need-put-header-requires
+put-header-requires c κs =
+    let s = c .before .before .before .before .before .before .before in
+    (s .pre .nodes-fit, s .pre .good-factors .few, omega (arith, s .pre .room, header-whole (s .args .form)))
 
 -- where the pen stands behind the limits and behind the factors
-past-limits : (c : tie.After-write-run) → place (c .write-run .result) ≡ gridHeaderBits + limitWidth * entry (c .before .before .before .before) .args .constraints
-past-limits c = omega (arith, c .write-run .ensures .1 .0 .0, header (c .before .before .before .before) .end)
+past-limits : (c : tie.After-write-run) →
+    let a = entry (c .before .before .before .before) .args in place (c .write-run .result) ≡ gridHeaderBits (a .form) + limitWidth * a .constraints
+past-limits c = omega (arith, c .write-run .ensures .1 .0 .0, header-end (c .before .before .before .before))
 
 past-factors : (c : tie.After-write-factors) →
-    let a = entry (c .before .before .before .before .before .before .before .before) .args in place (c .write-factors .result) ≡ gridBits (a .nodes) (a .constraints)
+    let a = entry (c .before .before .before .before .before .before .before .before) .args in place (c .write-factors .result) ≡ gridBits (a .form) (a .nodes) (a .constraints)
 past-factors c =
     let r = c .before .before .before .before in
     omega (arith, c .write-factors .ensures .1 .0 .0, past-limits r, sizes (r .before .before .before .before) .factor-count .ensures .0)
 
 -- the place stays as long as it was
-long : (c : tie.After-put3) → length (c .put3 .last .0) ≡ length (entry c .args .file .now)
-long c = c .put3 .kept .0 ∙ c .before .before .before .before .put2 .kept .0 ∙ c .before .before .before .before .before .before .before .before .put .kept .0
+long : (c : tie.After-put-header) → length (c .put-header .last .0) ≡ length (entry c .args .file .now)
+long c = c .put-header .kept .0
 
 long-2 : (c : tie.After-write-factors) → length (c .write-factors .last .0) ≡ length (entry (c .before .before .before .before .before .before .before .before) .args .file .now)
 long-2 c = c .write-factors .kept .0 ∙ c .before .before .before .before .write-run .kept .0 ∙ long (c .before .before .before .before .before .before .before .before)
@@ -54,7 +77,7 @@ write-run-requires : tie.Need-write-run-requires
 write-run-requires c κs =
     let h = c .before .before .before in
     let ok = entry h .pre in
-    (header h .ready, ((omega arith, ok .good-limits .long, λ k l. omega (arith, ok .good-limits .sized k l)), omega (arith, ok .room, header h .end, long h)))
+    (h .put-header .ensures .ready, ((omega arith, ok .good-limits .long, λ k l. omega (arith, ok .good-limits .sized k l)), omega (arith, ok .room, header-end h, long h)))
 
 write-factors-requires : tie.Need-write-factors-requires
 write-factors-requires c κs =
@@ -70,16 +93,14 @@ mul-put-last c = omega (arith, sizes (c .before .before .before .before .before 
 
 sub-put-last : tie.Need-sub-put-last
 sub-put-last c =
-    let m = sizes (c .before .before .before .before .before .before .before .before .before .before .before) in
-    omega (arith, m .before .file-bytes .ensures .0, m .before .before .used-bits .ensures .0)
+    let h = c .before .before .before .before .before .before .before .before .before .before .before in
+    omega (arith, size h, used h)
 
 put-last-requires : tie.Need-put-last-requires
 put-last-requires c κs =
     let f = c .before .before .before in
     let h = f .before .before .before .before .before .before .before .before in
-    let size = sizes h .before .file-bytes .ensures .0 in
-    let used = sizes h .before .before .used-bits .ensures .0 in
-    (f .write-factors .ensures .1 .0 .1, ((pow-pos _, omega (arith, size, used)), omega (arith, size, used, entry h .pre .room, past-factors f, long-2 f)))
+    (f .write-factors .ensures .1 .0 .1, ((pow-pos _, omega (arith, size h, used h)), omega (arith, size h, used h, entry h .pre .room, past-factors f, long-2 f)))
 
 same-length : tie.Need-same-length
 same-length c = c .before .before .put-last .kept .0 ∙ long-2 (c .before .before .before .before .before .before)
@@ -94,19 +115,18 @@ returns c =
     let s = entry h in
     let a = s .args in
     let one-limit = length-take-le (a .constraints) (a .limits .now) (s .pre .good-limits .long) in
-    let limits = penned-run (header h) limitWidth _ _ (take (a .constraints) (a .limits .now)) _ one-limit (r .write-run .ensures) in
+    let limits = penned-run (h .put-header .ensures) limitWidth _ _ (take (a .constraints) (a .limits .now)) _ one-limit (r .write-run .ensures) in
     let one-factor = length-coded (a .factors .now) (m .result) (omega (arith, m .ensures .0, s .pre .good-factors .long)) in
     let factors = penned-run limits factorWidth _ _ (coded (m .result) (a .factors .now)) _ one-factor (f .write-factors .ensures) in
-    let all = penned-last factors _ _ _ 0 (p .ensures) in
-    let size = sizes h .before .file-bytes .ensures .0 in (
-      size ∙ sym (length-written (a .nodes) (a .constraints) (a .limits .now) (a .factors .now) (a .file .now) (s .pre)),
-      grid-penned (a .nodes) (a .constraints) (a .limits .now) (a .factors .now) (a .file .now) (s .pre) _ _ _ _
-          (m .ensures .0) (ap₂ (λ (x y : ℕ). 8 * x - y) size (sizes h .before .before .used-bits .ensures .0)) all (p .ensures .1 .0 .1)
-          (λ i. c .slice-known7 .given i .fits) (p .kept .0 ∙ long-2 f),
+    let all = penned-last factors _ _ _ 0 (p .ensures) in (
+      size h ∙ sym (length-written (a .form) (a .nodes) (a .constraints) (a .limits .now) (a .factors .now) (a .file .now) (s .pre)),
+      grid-penned (a .form) (a .nodes) (a .constraints) (a .limits .now) (a .factors .now) (a .file .now) (s .pre) _ _ _ _
+          (m .ensures .0) (ap₂ (λ (x y : ℕ). 8 * x - y) (size h) (used h)) all (p .ensures .1 .0 .1)
+          (λ i. c .slice-known5 .given i .fits) (p .kept .0 ∙ long-2 f),
     )
 
 pub fill-spec : {M : Type 1} → statement M
 fill-spec =
     tie.close (tie.spec
-    (λ c κs. search needs) (λ c κs. search needs) (λ c κs. search needs) (λ c κs. search needs) (λ c κs. search needs) (λ c κs. search needs) write-run-requires
+    (λ c κs. search needs) used-bits-requires file-bytes-requires (λ c κs. search needs) put-header-requires write-run-requires
     write-factors-requires mul-put-last sub-put-last put-last-requires same-length returns)

@@ -8,7 +8,7 @@ use Rattle.grid_file.proofs.writing.write_grid.Statement.{statement}
 use Rattle.grid_file.proofs.writing.write_grid.Tie as tie
 
 abbrev call : tie.Start → WriteGridCall
-call s = writeGridCall (s .args .nodes) (s .args .constraints) (s .args .limits .now) (s .args .factors .now) (s .args .file .now)
+call s = writeGridCall (s .args .form) (s .args .nodes) (s .args .constraints) (s .args .limits .now) (s .args .factors .now) (s .args .file .now)
 
 fill-requires : tie.Need-fill-requires
 fill-requires c κs =

@@ -11,23 +11,30 @@ contract-count-requires c κs =
     let s = c .before .before .before .before in
     omega (arith, book-accepted (s .args .nodes) (s .args .book .now) (s .pre .0 .1) .size)
 
+book-form-requires : tie.Need-book-form-requires
+book-form-requires c κs =
+    let s = c .before .before .before .before .before in
+    omega (arith, book-accepted (s .args .nodes) (s .args .book .now) (s .pre .0 .1) .size)
+
 settle-contracts-requires : tie.Need-settle-contracts-requires
 settle-contracts-requires c κs =
-    let s = c .before .before .before .before .before .before .before in
+    let s = c .before .before .before .before .before .before .before .before in
     let a = s .args in
     let o = book-accepted (a .nodes) (a .book .now) (s .pre .0 .1) in
-    let n = c .before .before .contract-count .ensures .0 in (
-      (s .pre .0 .0, c .before .before .before .all-mccs .ensures),
-      (rw n (o .each), (omega (arith, o .few, n), omega (arith, o .size, n), omega (arith, s .pre .1 .0, n), omega (arith, s .pre .1 .1, n))),
+    let f = c .before .before .book-form .ensures in
+    let n = c .before .before .before .contract-count .ensures .0 in (
+      (s .pre .0 .0, c .before .before .before .before .all-mccs .ensures),
+      (rw (f, n) (o .each), (omega (arith, o .few, n), rw (f, n) (omega (arith, o .size)), omega (arith, s .pre .1 .0, n), omega (arith, s .pre .1 .1, n))),
     )
 
 returns : tie.Need-returns
 returns c =
-    let s = c .before .before .before .before .before .before .before .before .before .before .before in
+    let s = c .before .before .before .before .before .before .before .before .before .before .before .before in
     let a = s .args in
-    let n = c .before .before .before .before .before .before .contract-count in
-    let by = c .before .before .before .settle-contracts .ensures in
+    let g = c .before .before .before .before .before .before in
+    let n = g .before .contract-count in
+    let by = rw (g .book-form .ensures) at (c .before .before .before .settle-contracts .ensures) in
     settled (a .nodes) (a .constraints) (a .factors .now) (a .prices .now) (s .pre .0 .0) (a .period) (a .book .now) (s .pre .0 .1) (n .result) (n .ensures .0) _ _ _ _ _ by
 
 pub settle-spec : {M : Type 1} → statement M
-settle-spec = tie.close (tie.spec (λ c κs. c .before .before .before .pre .0 .0) contract-count-requires settle-contracts-requires (λ c. search needs) (λ c. search needs) returns)
+settle-spec = tie.close (tie.spec (λ c κs. c .before .before .before .pre .0 .0) contract-count-requires book-form-requires settle-contracts-requires (λ c. search needs) (λ c. search needs) returns)

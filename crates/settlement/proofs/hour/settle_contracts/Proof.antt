@@ -13,10 +13,12 @@ use borrow.Author.Needs.{needs}
 use mathlib.Core.List.{List}
 use Rattle.integers.specs.Sums.{sumTo}
 use Rattle.tariff.specs.declared.contracts.Period.{Period}
-use Rattle.tariff.specs.Units.{factorsOf, maxContracts}
+use Rattle.tariff.specs.Units.{factorsOf, maxNodes, maxContracts}
 use Rattle.tariff.specs.Inner.{InRange}
 use Rattle.tariff.specs.Settlement.{cents as centsOf}
-use Rattle.layouts.specs.BookFile.{contractAt}
+use Rattle.layouts.specs.declared.forms.Form.{Form}
+use Rattle.layouts.specs.BookFile.{contractIn}
+use Rattle.layouts.proofs.BookFile.{record-room}
 use Rattle.settlement.specs.SettleHour.{pricedOf}
 use Rattle.settlement.specs.Inner.{hourAmount, exactOf, Bounded}
 use Rattle.settlement.proofs.HourSums.{sum-start, sum-more, bounded-most}
@@ -24,23 +26,23 @@ use Rattle.settlement.proofs.hour.settle_contracts.Statement.{statement
 use Rattle.settlement.proofs.hour.settle_contracts.Tie as tie
 
 -- what contract i adds, its cents, and what priced it
-abbrev amountAt : ℕ → ℕ → List ℤ → List ℕ → Period → List ℕ → ℕ → ℤ
-amountAt n k fs ps t s i = hourAmount (factorsOf n k fs) (take k ps) t (contractAt s i)
+abbrev amountAt : ℕ → ℕ → List ℤ → List ℕ → Period → Form → List ℕ → ℕ → ℤ
+amountAt n k fs ps t f s i = hourAmount (factorsOf n k fs) (take k ps) t (contractIn f s i)
 
-abbrev centsAt : ℕ → ℕ → List ℤ → List ℕ → Period → List ℕ → ℕ → ℤ
-centsAt n k fs ps t s i = centsOf (amountAt n k fs ps t s i)
+abbrev centsAt : ℕ → ℕ → List ℤ → List ℕ → Period → Form → List ℕ → ℕ → ℤ
+centsAt n k fs ps t f s i = centsOf (amountAt n k fs ps t f s i)
 
-abbrev setAt : ℕ → ℕ → List ℤ → List ℕ → Period → List ℕ → ℕ → ℕ
-setAt n k fs ps t s i = pricedOf (factorsOf n k fs) (take k ps) t (contractAt s i)
+abbrev setAt : ℕ → ℕ → List ℤ → List ℕ → Period → Form → List ℕ → ℕ → ℕ
+setAt n k fs ps t f s i = pricedOf (factorsOf n k fs) (take k ps) t (contractIn f s i)
 
 abbrev Inv-loop : tie.InvT-loop
-Inv-loop nodes constraints factors prices period book count cents₀ priced₀ mccs posted totals₀ i₀ cents priced totals i =
-    (i ≤ count) × (length cents ≡ length cents₀) × (take i cents ≡ take i (listTo count (centsAt nodes constraints factors prices period book))) × (drop i cents ≡ drop i cents₀)
-    × (length priced ≡ length priced₀) × (take i priced ≡ take i (listTo count (setAt nodes constraints factors prices period book))) × (drop i priced ≡ drop i priced₀)
-    × (totals .sum ≡ sumTo i (centsAt nodes constraints factors prices period book)) × (exactOf totals ≡ sumTo i (amountAt nodes constraints factors prices period book)) × Bounded i totals
+Inv-loop nodes constraints factors prices period book form count cents₀ priced₀ mccs posted totals₀ i₀ cents priced totals i =
+    (i ≤ count) × (length cents ≡ length cents₀) × (take i cents ≡ take i (listTo count (centsAt nodes constraints factors prices period form book))) × (drop i cents ≡ drop i cents₀)
+    × (length priced ≡ length priced₀) × (take i priced ≡ take i (listTo count (setAt nodes constraints factors prices period form book))) × (drop i priced ≡ drop i priced₀)
+    × (totals .sum ≡ sumTo i (centsAt nodes constraints factors prices period form book)) × (exactOf totals ≡ sumTo i (amountAt nodes constraints factors prices period form book)) × Bounded i totals
 
 abbrev μ-loop : tie.MeasureT-loop
-μ-loop nodes constraints factors prices period book count cents₀ priced₀ mccs posted totals₀ i₀ cents priced totals i = count - i
+μ-loop nodes constraints factors prices period book form count cents₀ priced₀ mccs posted totals₀ i₀ cents priced totals i = count - i
 
 posted-set-requires : tie.Need-posted-set-requires Inv-loop μ-loop
 posted-set-requires c κs = let h = c .before .before .before .pre .0 .0 in (h .good-factors .few, h .good-prices .long)
@@ -55,23 +57,28 @@ loop-holds c =
       refl,
       refl,
       refl,
-      sum-start (centsAt (a .nodes) (a .constraints) (a .factors .now) (a .prices .now) (a .period) (a .book .now)),
-      sum-start (amountAt (a .nodes) (a .constraints) (a .factors .now) (a .prices .now) (a .period) (a .book .now)),
+      sum-start (centsAt (a .nodes) (a .constraints) (a .factors .now) (a .prices .now) (a .period) (a .form) (a .book .now)),
+      sum-start (amountAt (a .nodes) (a .constraints) (a .factors .now) (a .prices .now) (a .period) (a .form) (a .book .now)),
       record { parts-small = omega arith; sum-sized = omega arith; whole-sized = omega arith },
     )
 
+contract-at-requires : tie.Need-contract-at-requires Inv-loop μ-loop
+contract-at-requires c κs =
+    let s = c .before .before .before .before .before .before in
+    (omega (arith, s .pre .1 .1 .0), record-room (s .args .form) (c .before .loop .i) (s .args .count) _ (omega arith) (s .pre .1 .1 .1))
+
 -- contract i is read, and is in range
 contract-is : (c : tie.After-contract-at Inv-loop μ-loop)
-    → c .contract-at .result ≡ contractAt (c .before .before .before .before .before .before .before .args .book .now) (c .before .before .loop .i)
+    → let a = c .before .before .before .before .before .before .before .args in c .contract-at .result ≡ contractIn (a .form) (a .book .now) (c .before .before .loop .i)
 contract-is c = c .contract-at .ensures
 
 in-range : (c : tie.After-contract-at Inv-loop μ-loop) → InRange (c .before .before .before .before .before .before .before .args .nodes) (c .contract-at .result)
 in-range c = rw (contract-is c) (c .before .before .before .before .before .before .before .pre .1 .0 (c .before .before .loop .i) (omega arith))
 
-sink-inside : (c : tie.After-contract-at Inv-loop μ-loop) → c .contract-at .result .sink < 200
+sink-inside : (c : tie.After-contract-at Inv-loop μ-loop) → c .contract-at .result .sink < maxNodes
 sink-inside c = omega (arith, in-range c .sink-below, c .before .before .before .before .before .before .before .pre .0 .0 .good-factors .nodes-few)
 
-source-inside : (c : tie.After-contract-at Inv-loop μ-loop) → c .contract-at .result .source < 200
+source-inside : (c : tie.After-contract-at Inv-loop μ-loop) → c .contract-at .result .source < maxNodes
 source-inside c = omega (arith, in-range c .source-below, c .before .before .before .before .before .before .before .pre .0 .0 .good-factors .nodes-few)
 
 mul-hour-amount : tie.Need-mul-hour-amount Inv-loop μ-loop
@@ -115,9 +122,9 @@ loop-again c =
     let a = s .args in
     let l = c .before .before .before .before .before .before .before .before .loop in
     let p = c .plus .ensures in
-    let A = amountAt (a .nodes) (a .constraints) (a .factors .now) (a .prices .now) (a .period) (a .book .now) in
-    let F = centsAt (a .nodes) (a .constraints) (a .factors .now) (a .prices .now) (a .period) (a .book .now) in
-    let G = setAt (a .nodes) (a .constraints) (a .factors .now) (a .prices .now) (a .period) (a .book .now) in
+    let A = amountAt (a .nodes) (a .constraints) (a .factors .now) (a .prices .now) (a .period) (a .form) (a .book .now) in
+    let F = centsAt (a .nodes) (a .constraints) (a .factors .now) (a .prices .now) (a .period) (a .form) (a .book .now) in
+    let G = setAt (a .nodes) (a .constraints) (a .factors .now) (a .prices .now) (a .period) (a .form) (a .book .now) in
     let h : l .i < a .count = omega arith in
     let o = c .before .before .before .hour-amount .ensures in
     let is = contract-is (c .before .before .before .before .before .before) in
@@ -141,8 +148,8 @@ returns : tie.Need-returns Inv-loop μ-loop
 returns c =
     let a = c .before .before .before .before .before .before .args in
     let l = c .before .loop in
-    let F = centsAt (a .nodes) (a .constraints) (a .factors .now) (a .prices .now) (a .period) (a .book .now) in
-    let G = setAt (a .nodes) (a .constraints) (a .factors .now) (a .prices .now) (a .period) (a .book .now) in
+    let F = centsAt (a .nodes) (a .constraints) (a .factors .now) (a .prices .now) (a .period) (a .form) (a .book .now) in
+    let G = setAt (a .nodes) (a .constraints) (a .factors .now) (a .prices .now) (a .period) (a .form) (a .book .now) in
     let last : l .i ≡ a .count = omega arith in
     record {
       cells = fill-front (listTo (a .count) F) (l .cents) (a .cents .now) (l .i) (l .inv .2) (l .inv .3) (rw (length-listTo (a .count) F) last);
@@ -155,6 +162,6 @@ returns c =
 pub settle-contracts-spec : {M : Type 1} → statement M
 settle-contracts-spec =
     tie.close (tie.spec
-    Inv-loop μ-loop posted-set-requires loop-holds (λ c κs. omega arith) mul-hour-amount sink-inside mul-hour-amount-2 (λ c. source-inside (c .before)) hour-amount-requires
+    Inv-loop μ-loop posted-set-requires loop-holds contract-at-requires mul-hour-amount sink-inside mul-hour-amount-2 (λ c. source-inside (c .before)) hour-amount-requires
     (λ c κs. c .before .hour-amount .ensures .amount-sized) (λ c. omega (arith, small c)) cents-inside (λ c. omega (arith, small c)) sets-inside plus-requires
     (λ c. omega (arith, small (c .before))) (λ c. omega arith) loop-again (λ c. search needs) (λ c. search needs) returns)

@@ -8,7 +8,7 @@ use Rattle.settlement.proofs.mcc.add_product.Statement.{statement}
 use Rattle.settlement.proofs.mcc.add_product.Tie as tie
 
 -- the factor's place
-place-fits : (c : tie.After-shared-slice-known2) → let a = c .before .before .args in a .node * a .constraints + a .k < 12800
+place-fits : (c : tie.After-shared-slice-known2) → let a = c .before .before .args in a .node * a .constraints + a .k < 256000
 place-fits c =
     let s = c .before .before in
     let a = s .args in

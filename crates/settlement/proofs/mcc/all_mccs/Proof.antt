@@ -5,6 +5,7 @@ use native.Mathlib.Omega.{arith}
 use lib.ListN.{length, getD, length-set}
 use lib.IntN.{pos}
 use borrow.Author.Needs.{needs}
+use Rattle.tariff.specs.Units.{maxNodes}
 use Rattle.settlement.specs.Inner.{MccAt}
 use Rattle.settlement.proofs.Congestion.{mcc-stored}
 use Rattle.settlement.proofs.mcc.all_mccs.Statement.{statement}
@@ -12,7 +13,7 @@ use Rattle.settlement.proofs.mcc.all_mccs.Tie as tie
 
 abbrev Inv-loop : tie.InvT-loop
 Inv-loop nodes constraints factors prices mccs₀ node₀ mccs node =
-    (node ≤ nodes) × (length mccs ≡ 200) × ((i : ℕ) → i < node → MccAt nodes constraints factors prices i (getD mccs i (record { 0 = pos 0 })))
+    (node ≤ nodes) × (length mccs ≡ maxNodes) × ((i : ℕ) → i < node → MccAt nodes constraints factors prices i (getD mccs i (record { 0 = pos 0 })))
 
 abbrev μ-loop : tie.MeasureT-loop
 μ-loop nodes constraints factors prices mccs₀ node₀ mccs node = nodes - node

@@ -1,0 +1,17 @@
+-- `wide_number`.
+use mathlib.Core.Path.{refl}
+use Rattle.layouts.specs.declared.forms.Form.the-variants.{Wide}
+use Rattle.books.proofs.Bytes.{contract-number}
+use borrow.Author.Needs.{needs}
+use Rattle.books.proofs.wide_number.Statement.{statement}
+use Rattle.books.proofs.wide_number.Tie as tie
+
+returns : tie.Need-returns
+returns c =
+    let t = c .before .before in
+    contract-number Wide (t .before .args .c) _ _ _ (t .terms-number .ensures .0) (c .cell .ensures) refl
+
+pub wide-number-spec : {M : Type 1} → statement M
+wide-number-spec =
+    tie.close (tie.spec
+    (λ c κs. search needs) (λ c. search needs) (λ c. search needs) (λ c. search needs) (λ c. search needs) (λ c. search needs) (λ c κs. search needs) (λ c. search needs) returns)
