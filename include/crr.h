@@ -2,9 +2,10 @@
  * crr.h: congestion revenue rights (CRRs), tested against a grid and settled
  * hour by hour.
  *
- * The library is libcrr.a (`./library` builds it), for 64-bit machines:
- * x86-64 Linux. It allocates nothing, keeps no state and does no input or output,
- * so any number of threads may call it at once. There is no floating point in it.
+ * The library is libcrr.a, and libcrr.so for programs that load it when they run
+ * (`./library` builds both), for 64-bit machines: x86-64 Linux. It allocates
+ * nothing, keeps no state and does no input or output, so any number of threads may
+ * call it at once. There is no floating point in it.
  * crr_write_report and crr_write_statement hold a grid's tables on the stack: 200,000
  * bytes are enough for either. 50,000 are enough for any other function.
  *
@@ -35,6 +36,7 @@
  *   book      six cells for each contract: kind (0 obligation, 1 option), period,
  *             holder (0 to 1,023), source, sink (up to 3,999; the sink may equal
  *             the source), quantity
+ *   flows     one cell for each constraint
  *   mcc       one cell for each node
  *   cents     one cell for each contract
  *   priced    one cell for each contract, a set of constraints: bit k is
@@ -286,6 +288,34 @@ uint64_t crr_test_book(size_t nodes, size_t constraints,
                        const uint8_t *book, size_t book_len,
                        uint64_t *set, size_t *count, size_t *lowest,
                        int64_t *excess);
+
+/*
+ * Finds the flow on each constraint of the contracts of one period, of a book's
+ * file, as the test counts them: an option only where its flow is positive.
+ *
+ * On success writes one flow for each constraint to the first cells of flows, and
+ * to *counted how many contracts the period has. The test finds constraint k
+ * overloaded in a process exactly when flows[k] is above limits[k] * percent *
+ * 1,000, with the percent that crr_released_percent gives.
+ *
+ * Refusals, in this order: 2, 3, 17, 9 (limits, factors), 6, 7, then the book's
+ * own: 1, 10, 4, 5, and contract by contract 11, 13; and 9 if the flows don't fit.
+ */
+uint64_t crr_find_flows(size_t nodes, size_t constraints, uint64_t period,
+                        const uint64_t *limits, size_t limits_len,
+                        const int64_t *factors, size_t factors_len,
+                        const uint8_t *book, size_t book_len,
+                        int64_t *flows, size_t flows_len,
+                        size_t *counted);
+
+/*
+ * Gives the share of each limit that a process releases.
+ *
+ * On success writes it to *percent: 65, 60 or 100.
+ *
+ * Refusals: 16.
+ */
+uint64_t crr_released_percent(uint64_t process, uint64_t *percent);
 
 /*
  * Finds the MCC of all nodes: minus the sum over constraints of factor * price.

@@ -12,7 +12,7 @@ pub struct Entry {
     pub run: fn(&Inputs) -> Result<Times, String>,
 }
 
-pub const ENTRIES: [Entry; 12] = [
+pub const ENTRIES: [Entry; 13] = [
     Entry { name: "read_grid", run: read_grid },
     Entry { name: "write_grid", run: write_grid },
     Entry { name: "read_book", run: read_book },
@@ -21,6 +21,7 @@ pub const ENTRIES: [Entry; 12] = [
     Entry { name: "read_prices", run: read_prices },
     Entry { name: "write_prices", run: write_prices },
     Entry { name: "test_book", run: test_book },
+    Entry { name: "find_flows", run: find_flows },
     Entry { name: "find_mcc", run: find_mcc },
     Entry { name: "settle_hour", run: settle_hour },
     Entry { name: "write_report", run: write_report },
@@ -200,6 +201,26 @@ fn test_book(inputs: &Inputs) -> Result<Times, String> {
         },
         &mut || {
             let _ = black_box(plain::test_book(nodes, constraints, 0, 1, limits, black_box(factors), book));
+        },
+    ))
+}
+
+fn find_flows(inputs: &Inputs) -> Result<Times, String> {
+    let Size { nodes, constraints, .. } = inputs.size;
+    let (limits, factors, book) = (&inputs.limits, &inputs.factors, &inputs.book_file);
+    let (mut flows, mut plain_flows, mut counted) = (vec![0; constraints], vec![0; constraints], 0);
+    for period in [0, 1] {
+        let proved = library::find_flows(nodes, constraints, period, limits, factors, book, &mut flows, &mut counted);
+        let plain = plain::find_flows(nodes, constraints, period, limits, factors, book, &mut plain_flows);
+        agree(&(proved, Ok(counted)), &(0, plain))?;
+        agree(&flows, &plain_flows)?;
+    }
+    Ok(side_by_side(
+        &mut || {
+            black_box(library::find_flows(nodes, constraints, 1, limits, black_box(factors), book, &mut flows, &mut counted));
+        },
+        &mut || {
+            let _ = black_box(plain::find_flows(nodes, constraints, 1, limits, black_box(factors), book, &mut plain_flows));
         },
     ))
 }

@@ -2,6 +2,8 @@
 
 mod entries;
 mod inputs;
+// `released_percent`, a choice among three figures, is not timed.
+#[allow(dead_code)]
 #[path = "../../tests/differential/src/library.rs"]
 mod library;
 mod plain;
@@ -25,13 +27,14 @@ const BY_WIDE_NODES: [&str; 8] =
     ["read_grid", "write_grid", "read_book", "write_book", "remap_book", "test_book", "find_mcc", "settle_hour"];
 
 /// The entries that take nodes or their numbers, by the largest inputs that they take in the wide form.
-const WIDE: [(&str, Size); 10] = [
+const WIDE: [(&str, Size); 11] = [
     ("read_grid", WIDEST),
     ("write_grid", WIDEST),
     ("read_book", WIDEST),
     ("write_book", WIDEST),
     ("remap_book", WIDEST),
     ("test_book", WIDEST),
+    ("find_flows", WIDEST),
     ("find_mcc", WIDEST),
     ("settle_hour", WIDEST),
     ("write_report", WIDEST_TEXT),

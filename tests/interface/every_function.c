@@ -1,7 +1,7 @@
 /*
  * Calls every function of crr.h, on case L of document 01: each file read and written
- * again, the grid and the book in both forms, a node retired, the test, the MCC, the
- * hour, the two texts. Also a C++ program.
+ * again, the grid and the book in both forms, a node retired, the test, the flows,
+ * the released shares, the MCC, the hour, the two texts. Also a C++ program.
  */
 #include <stdint.h>
 #include <stdio.h>
@@ -20,7 +20,7 @@ static const uint8_t wide_book[] = {0x01, 0x3f, 0x40, 0x70, 0x00, 0x00, 0x10, 0x
 /* Case L's book after node 2 was retired into node 1, and the cell after it. */
 static const uint8_t remapped[] = {0x01, 0x00, 0x40, 0x70, 0x00, 0x10, 0x27, 0x10, 0xc0, 0x80, 0x00, 0x10, 0x01, 0xf4,
                                    0x40, 0x70, 0x00, 0x10, 0x00, 0x01, 0x00, 0x90, 0x00, 0x10, 0x00, 0x05, 7};
-static int64_t factors[CRR_MAX_NODES * CRR_MAX_CONSTRAINTS], mcc[CRR_MAX_NODES], cents[CRR_MAX_CONTRACTS];
+static int64_t factors[CRR_MAX_NODES * CRR_MAX_CONSTRAINTS], flows[CRR_MAX_CONSTRAINTS], mcc[CRR_MAX_NODES], cents[CRR_MAX_CONTRACTS];
 static int passed, failed;
 
 static void expect(const char *what, int holds) {
@@ -47,8 +47,8 @@ int main(void) {
     size_t grid_len = load("grid.bin", grid_file, sizeof grid_file);
     size_t book_len = load("book.bin", book_file, sizeof book_file);
     size_t price_len = load("prices.bin", price_file, sizeof price_file);
-    size_t nodes = 0, constraints = 0, contracts = 0, bytes = 0, count = 7, lowest = 7;
-    uint64_t form = 7, period = 7, set = 7, parts = 0;
+    size_t nodes = 0, constraints = 0, contracts = 0, bytes = 0, count = 7, lowest = 7, counted = 7;
+    uint64_t form = 7, period = 7, set = 7, percent = 7, parts = 0;
     int64_t excess = 7, sum = 0, whole = 0;
 
     expect("crr_read_grid", crr_read_grid(grid_file, grid_len, limits, CRR_MAX_CONSTRAINTS, factors, CRR_MAX_NODES * CRR_MAX_CONSTRAINTS, &nodes, &constraints, &form) == CRR_OK
@@ -79,6 +79,16 @@ int main(void) {
                                    && bytes == price_len && memcmp(copy, price_file, bytes) == 0);
     expect("crr_test_book", crr_test_book(nodes, constraints, CRR_MONTHLY, period, limits, constraints, factors, nodes * constraints, book_file, book_len, &set, &count, &lowest, &excess) == CRR_OK
                                 && set == 0 && count == 0 && lowest == 0 && excess == 0);
+    flows[2] = 7;
+    expect("crr_find_flows", crr_find_flows(nodes, constraints, CRR_ON_PEAK, limits, constraints, factors, nodes * constraints, book_file, book_len, flows, 3, &counted) == CRR_OK
+                                 && flows[0] == 635070000 && flows[1] == -200060000 && flows[2] == 7 && counted == 3);
+    flows[1] = 7;
+    expect("crr_find_flows, too few cells", crr_find_flows(nodes, constraints, CRR_OFF_PEAK, limits, constraints, factors, nodes * constraints, book_file, book_len, flows, 1, &counted) == CRR_SHORT_TABLE
+                                                && flows[0] == 635070000 && flows[1] == 7 && counted == 3);
+    expect("crr_released_percent, annual", crr_released_percent(CRR_ANNUAL, &percent) == CRR_OK && percent == 65);
+    expect("crr_released_percent, Tier LT", crr_released_percent(CRR_TIER_LT, &percent) == CRR_OK && percent == 60);
+    expect("crr_released_percent, monthly", crr_released_percent(CRR_MONTHLY, &percent) == CRR_OK && percent == 100);
+    expect("crr_released_percent, 3", crr_released_percent(3, &percent) == CRR_PROCESS_NUMBER && percent == 100);
     expect("crr_find_mcc", crr_find_mcc(nodes, constraints, factors, nodes * constraints, prices, constraints, mcc, CRR_MAX_NODES) == CRR_OK
                                && mcc[0] == -9000000 && mcc[1] == 0 && mcc[2] == -92000000);
     cents[3] = cents[4] = 7;

@@ -12,7 +12,7 @@ pub use book::{read_book, remap_book, write_book};
 pub use grid::{read_grid, write_grid, Header};
 pub use prices::{read_prices, write_prices};
 pub use settlement::{find_mcc, settle_hour, Totals};
-pub use test::{test_book, Overload};
+pub use test::{find_flows, test_book, Overload};
 pub use text::{write_report, write_statement};
 
 /// A refusal's number ("When input is turned down").

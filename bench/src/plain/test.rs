@@ -29,19 +29,28 @@ fn add_flow(flows: &mut [i64], factors: &[i64], c: Contract) {
     }
 }
 
-fn carry_contracts<const BYTES: usize>(period: u64, factors: &[i64], book: &[u8], flows: &mut [i64]) {
+/// How many contracts the period has.
+fn carry_contracts<const BYTES: usize>(period: u64, factors: &[i64], book: &[u8], flows: &mut [i64]) -> usize {
+    let mut counted = 0;
     for c in contracts::<BYTES>(book).filter(|c| c.period == period) {
         add_flow(flows, factors, c);
+        counted += 1;
+    }
+    counted
+}
+
+/// Adds the flows of one period's contracts to the cells of the constraints; tables and book have been checked.
+fn carry_into(flows: &mut [i64], period: u64, factors: &[i64], form: Form, book: &[u8]) -> usize {
+    match form {
+        Form::Narrow => carry_contracts::<NARROW>(period, factors, book, flows),
+        Form::Wide => carry_contracts::<WIDE>(period, factors, book, flows),
     }
 }
 
 /// The flows of one period's contracts; tables and book have been checked.
 pub fn carry(constraints: usize, period: u64, factors: &[i64], form: Form, book: &[u8]) -> Flows {
     let mut flows = [0; MAX_CONSTRAINTS];
-    match form {
-        Form::Narrow => carry_contracts::<NARROW>(period, factors, book, &mut flows[..constraints]),
-        Form::Wide => carry_contracts::<WIDE>(period, factors, book, &mut flows[..constraints]),
-    }
+    carry_into(&mut flows[..constraints], period, factors, form, book);
     flows
 }
 
@@ -83,4 +92,28 @@ pub fn test_book(
     let (_, form) = check_book(nodes, book)?;
     let flows = carry(constraints, period, factors, form, book);
     Ok(verdict(process, limits, &flows))
+}
+
+/// The flow on each constraint, into the first cells of `flows`, and how many contracts were counted.
+#[inline(never)]
+pub fn find_flows(
+    nodes: usize,
+    constraints: usize,
+    period: u64,
+    limits: &[u64],
+    factors: &[i64],
+    book: &[u8],
+    flows: &mut [i64],
+) -> Result<usize, Refusal> {
+    check_nodes(nodes)?;
+    check_constraints(constraints)?;
+    demand(period <= 1, PERIOD_OR_KIND)?;
+    let limits = limits.get(..constraints).ok_or(SHORT_TABLE)?;
+    let factors = factors.get(..nodes * constraints).ok_or(SHORT_TABLE)?;
+    check_limits(limits)?;
+    check_factors(factors)?;
+    let (_, form) = check_book(nodes, book)?;
+    let flows = flows.get_mut(..constraints).ok_or(SHORT_TABLE)?;
+    flows.fill(0);
+    Ok(carry_into(flows, period, factors, form, book))
 }

@@ -187,7 +187,7 @@ pub fn verdict(constraints: usize, process: Process, limits: &[u64], flows: Flow
 }
 
 // The test's checks: those of the tables, then the book's own.
-fn check_test(
+pub fn check_test(
     nodes: usize,
     constraints: usize,
     process: u64,

@@ -89,6 +89,21 @@ mod c {
             lowest: *mut usize,
             excess: *mut i64,
         ) -> u64;
+        pub fn crr_find_flows(
+            nodes: usize,
+            constraints: usize,
+            period: u64,
+            limits: *const u64,
+            limits_len: usize,
+            factors: *const i64,
+            factors_len: usize,
+            book: *const u8,
+            book_len: usize,
+            flows: *mut i64,
+            flows_len: usize,
+            counted: *mut usize,
+        ) -> u64;
+        pub fn crr_released_percent(process: u64, percent: *mut u64) -> u64;
         pub fn crr_find_mcc(
             nodes: usize,
             constraints: usize,
@@ -238,6 +253,39 @@ pub fn test_book(
             excess,
         )
     }
+}
+
+#[allow(clippy::too_many_arguments)]
+pub fn find_flows(
+    nodes: usize,
+    constraints: usize,
+    period: u64,
+    limits: &[u64],
+    factors: &[i64],
+    book: &[u8],
+    flows: &mut [i64],
+    counted: &mut usize,
+) -> u64 {
+    unsafe {
+        c::crr_find_flows(
+            nodes,
+            constraints,
+            period,
+            limits.as_ptr(),
+            limits.len(),
+            factors.as_ptr(),
+            factors.len(),
+            book.as_ptr(),
+            book.len(),
+            flows.as_mut_ptr(),
+            flows.len(),
+            counted,
+        )
+    }
+}
+
+pub fn released_percent(process: u64, percent: &mut u64) -> u64 {
+    unsafe { c::crr_released_percent(process, percent) }
 }
 
 pub fn find_mcc(nodes: usize, constraints: usize, factors: &[i64], prices: &[u64], mcc: &mut [i64]) -> u64 {

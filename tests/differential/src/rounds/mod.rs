@@ -2,6 +2,7 @@
 
 pub mod book;
 pub mod demand;
+pub mod flows;
 pub mod forms;
 pub mod grid;
 pub mod headers;

@@ -10,21 +10,28 @@ use crate::second::test::{flow, of_period, test, Asked};
 use crate::tally::Round;
 
 #[derive(Clone)]
-struct Tables {
-    nodes: usize,
-    constraints: usize,
-    process: u64,
-    period: u64,
-    limits: Vec<u64>,
-    factors: Vec<i64>,
-    book: Vec<u8>,
+pub struct Tables {
+    pub nodes: usize,
+    pub constraints: usize,
+    pub process: u64,
+    pub period: u64,
+    pub limits: Vec<u64>,
+    pub factors: Vec<i64>,
+    pub book: Vec<u8>,
+}
+
+impl Tables {
+    pub fn asked(&self) -> Asked<'_> {
+        let Tables { nodes, constraints, process, period, limits, factors, book } = self;
+        Asked { nodes: *nodes, constraints: *constraints, process: *process, period: *period, limits, factors, book }
+    }
 }
 
 /// One call; gives the second implementation's answer.
 fn call(round: &mut Round, asked: &Tables) -> Answer<[i128; 4]> {
     let Tables { nodes, constraints, process, period, limits, factors, book } = asked;
     let (nodes, constraints, process, period) = (*nodes, *constraints, *process, *period);
-    let second = test(&Asked { nodes, constraints, process, period, limits, factors, book });
+    let second = test(&asked.asked());
     let mut set = Lent::<u64>::new(&mut round.draw, "set", 1);
     let mut count = Lent::<usize>::new(&mut round.draw, "count", 1);
     let mut lowest = Lent::<usize>::new(&mut round.draw, "lowest", 1);
@@ -57,7 +64,7 @@ fn tight(draw: &mut Draw, grid: &mut Grid, book: &[Contract], process: u64, peri
 }
 
 /// One thing wrong.
-fn wrong(draw: &mut Draw, asked: &mut Tables, size: Size, form: Form, book: &[Contract]) {
+pub fn wrong(draw: &mut Draw, asked: &mut Tables, size: Size, form: Form, book: &[Contract]) {
     let cells = asked.factors.len().min(asked.nodes.saturating_mul(asked.constraints));
     match draw.below(9) {
         0 => asked.nodes = draw.pick(&WRONG_NODES),
@@ -72,7 +79,7 @@ fn wrong(draw: &mut Draw, asked: &mut Tables, size: Size, form: Form, book: &[Co
     }
 }
 
-fn tables(draw: &mut Draw, grid: &Grid, book: &[u8], process: u64, period: u64) -> Tables {
+pub fn tables(draw: &mut Draw, grid: &Grid, book: &[u8], process: u64, period: u64) -> Tables {
     let limits = table(draw, &grid.limits, |limit| limit as u64, u64::MAX);
     let factors = table(draw, &grid.factor_cells(), |factor| factor as i64, i64::MIN);
     let (nodes, constraints) = (grid.nodes as usize, grid.constraints as usize);

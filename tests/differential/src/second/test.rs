@@ -6,7 +6,7 @@ use super::settlement::{exact_total, mcc};
 use super::{cells, constraints_fail, first, limit_fails, nodes_fail, set_of, Answer};
 
 /// Percent by process: annual (001, revision 23), Tier LT, monthly.
-const RELEASED: [i128; 3] = [65, 60, 100];
+pub const RELEASED: [i128; 3] = [65, 60, 100];
 
 pub fn released(grid: &Grid, process: u64, constraint: usize) -> i128 {
     grid.limits[constraint] * RELEASED[process as usize] * 1000

@@ -1,0 +1,68 @@
+-- The checks of finding the flows: the test's with process 0, which is never refused, then the place; and the cells of flows that are carried.
+use mathlib.Core.Path.{_≡_, refl, sym, _∙_}
+use mathlib.Core.List.{List, [], _∷_, _++_}
+use Prim.Native.Nat.{ℕ, _≤_, _<_}
+use borrow.Author.Tests.{ltb-false, lt-ltb, le-ltb}
+use lib.ListN.{length, getD}
+use lib.IntN.{pos}
+use Rattle.lists.specs.Lists.{listTo}
+use Rattle.lists.proofs.Lists.{listTo-cong}
+use Rattle.tariff.specs.declared.refusals.Refusal.{Refusal}
+use Rattle.tariff.specs.declared.refusals.Refusal.the-variants.{ShortTable}
+use Rattle.tariff.specs.declared.refusals.Checked.{Checked}
+use Rattle.tariff.specs.declared.refusals.Checked.the-variants.{Passed, Refused}
+use Rattle.tariff.specs.declared.contracts.Contract.{Contract}
+use Rattle.tariff.specs.Units.{Factors}
+use Rattle.tariff.specs.Refusals.{Check, first}
+use Rattle.tariff.specs.Checks.{shortTable}
+use Rattle.tariff.specs.Feasibility.{totalFlow}
+use Rattle.tariff.proofs.Checks.{append-refuses, append-passes, passed-append, passed-cons}
+use Rattle.tables.specs.TableChecks.{gridTableChecks}
+use Rattle.feasibility_test.specs.declared.Flows.{Flows}
+use Rattle.feasibility_test.specs.TestBook.{TestCall, testCall, testChecks, testChecked}
+use Rattle.feasibility_test.specs.Inner.{Carries}
+use Rattle.feasibility_test.proofs.Checking.{Tested, tested}
+use Rattle.flows.specs.FindFlows.{FlowsCall, findFlowsChecks, findFlowsChecked}
+
+-- the test of the same tables and book in a process
+abbrev pub testAs : ℕ → FlowsCall → TestCall
+testAs process q = testCall (q .nodes) (q .constraints) process (q .period) (q .limits) (q .factors) (q .book)
+
+module _ (q : FlowsCall) where
+  abbrev room : List Check
+  room = shortTable (length (q .place)) (q .constraints) ∷ []
+
+  in-parts : findFlowsChecked q ≡ first (testChecks (testAs 0 q) ++ room)
+  unfolding first testChecks gridTableChecks findFlowsChecks
+  in-parts = refl
+
+  -- x is what the test's checks found
+  module _ (x : Checked) (found : x ≡ testChecked (testAs 0 q)) where
+    pub test-refuses : (r : Refusal) → x ≡ Refused r → Refused r ≡ findFlowsChecked q
+    test-refuses r told = sym (in-parts ∙ append-refuses (testChecks (testAs 0 q)) room r (sym found ∙ told))
+
+    then-room : x ≡ Passed → findFlowsChecked q ≡ first room
+    then-room told = in-parts ∙ append-passes (testChecks (testAs 0 q)) room (sym found ∙ told)
+
+    pub no-room : x ≡ Passed → length (q .place) < q .constraints → Refused ShortTable ≡ findFlowsChecked q
+    unfolding first
+    no-room told h = sym (then-room told ∙ rw (lt-ltb (length (q .place)) (q .constraints) h))
+
+    pub all-fits : x ≡ Passed → q .constraints ≤ length (q .place) → Passed ≡ findFlowsChecked q
+    unfolding first
+    all-fits told h = sym (then-room told ∙ rw (le-ltb (length (q .place)) (q .constraints) h))
+
+  -- what holds where none refuses
+  pub record Ready : Type 0 where
+    pub as-tested : Tested (testAs 0 q)
+    pub room-enough : q .constraints ≤ length (q .place)
+
+  pub ready : findFlowsChecked q ≡ Passed → Ready
+  ready e =
+      let both = passed-append (testChecks (testAs 0 q)) room (sym in-parts ∙ e) in
+      record { as-tested = tested (testAs 0 q) (both .0); room-enough = ltb-false (length (q .place)) (q .constraints) (passed-cons _ _ (both .1) .0) }
+
+-- the flows carried are the contracts'
+pub cells-are : (f : Factors) (cs : List Contract) (carried : Flows) → Carries f cs carried
+    → listTo (f .constraints) (λ (k : ℕ). getD (carried .flows) k (pos 0)) ≡ listTo (f .constraints) (totalFlow f cs)
+cells-are f cs carried h = listTo-cong (f .constraints) (λ (k : ℕ). getD (carried .flows) k (pos 0)) (totalFlow f cs) (h .flows-are)

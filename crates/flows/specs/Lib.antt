@@ -1,0 +1,2 @@
+pub mod FindFlows
+pub mod ReleasedPercent

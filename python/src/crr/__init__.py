@@ -1,0 +1,60 @@
+"""Congestion revenue rights: the simultaneous feasibility test and hourly settlement, over a proved library.
+
+Every function of include/crr.h has one of its name here, without `crr_`; figures are whole numbers in that header's units. Input that is turned
+down raises `Refused`. CSV files are read and written by `crr.from_csv` and `crr.to_csv`, many hours settled by `crr.hours.settle_hours`.
+"""
+
+from .feasibility import PERIODS, PROCESSES, Flows, Verdict, find_flows, released_percent, test_book
+from .files import (
+    Contract,
+    Grid,
+    Prices,
+    read_book,
+    read_book_cells,
+    read_book_form,
+    read_grid,
+    read_prices,
+    remap_book,
+    write_book,
+    write_grid,
+    write_prices,
+)
+from .hours import PriceFile, Settled, settle_hours
+from .interface import MEANINGS
+from .native import Refused
+from .settlement import Hour, HourTotal, Settler, find_mcc, settle_hour
+from .texts import write_report, write_statement
+
+__all__ = [
+    "MEANINGS",
+    "PERIODS",
+    "PROCESSES",
+    "Contract",
+    "Flows",
+    "Grid",
+    "Hour",
+    "HourTotal",
+    "PriceFile",
+    "Prices",
+    "Refused",
+    "Settled",
+    "Settler",
+    "Verdict",
+    "find_flows",
+    "find_mcc",
+    "read_book",
+    "read_book_cells",
+    "read_book_form",
+    "read_grid",
+    "read_prices",
+    "released_percent",
+    "remap_book",
+    "settle_hour",
+    "settle_hours",
+    "test_book",
+    "write_book",
+    "write_grid",
+    "write_prices",
+    "write_report",
+    "write_statement",
+]

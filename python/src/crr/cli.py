@@ -1,0 +1,116 @@
+"""The command `crr`. Exit status: 0; 1 where `crr test` finds that the book fails; 2 where the input has faults, or something can't be read or written."""
+
+from __future__ import annotations
+
+import argparse
+import json
+import os
+import sys
+import time
+from pathlib import Path
+from typing import Callable, Dict, List, Optional
+
+from . import commands
+from .commands import FAULTY, Answer
+from .faults import Faults
+from .native import Refused
+
+_PERIODS = {"off": [0], "on": [1], "both": [0, 1]}
+_PROCESSES = {"annual": [0], "lt": [1], "monthly": [2], "all": [0, 1, 2]}
+
+
+class Bar:
+    """A progress line on standard error, if that is a terminal and the work is long enough to be watched."""
+
+    def __init__(self, what: str) -> None:
+        self._what, self._start, self._told = what, time.monotonic(), 0.0
+
+    def __call__(self, done: int, total: int) -> None:
+        now = time.monotonic()
+        if not sys.stderr.isatty() or now - self._start < 0.3 or (now - self._told < 0.1 and done < total):
+            return
+        self._told = now
+        width = 30 * done // total
+        left = (now - self._start) * (total - done) / done
+        line = f"\r{self._what} [{'#' * width}{'.' * (30 - width)}] {done:,} of {total:,} hours, {left:.0f} s left "
+        print(line, end="\n" if done == total else "", file=sys.stderr, flush=True)
+
+
+def _report(options: argparse.Namespace) -> Answer:
+    from .report import report  # the page is asked for by this command alone
+
+    return report(options.folder, options.out, options.round_prices, Bar("settle"))
+
+
+_COMMANDS: Dict[str, Callable[[argparse.Namespace], Answer]] = {
+    "check": lambda o: commands.check(o.folder, o.round_prices),
+    "pack": lambda o: commands.pack(o.folder, o.out or o.folder, o.round_prices),
+    "unpack": lambda o: commands.unpack(o.folder, o.out or o.folder, o.force),
+    "test": lambda o: commands.test(o.folder, _PERIODS[o.period], _PROCESSES[o.process]),
+    "settle": lambda o: commands.settle(o.folder, o.out, o.jobs, o.round_prices, Bar("settle")),
+    "report": _report,
+    "remap": lambda o: commands.remap(o.folder, o.pairs, o.out, o.round_prices),
+}
+_HELP = {
+    "check": "read everything and list every fault",
+    "pack": "CSV files to grid.bin, book.bin, names.csv and price files",
+    "unpack": "bin files to CSV files",
+    "test": "the simultaneous feasibility test",
+    "settle": "settle every hour: holder by month, hour by hour, contract by contract",
+    "report": "one HTML page: verdicts, loading of constraints, payments",
+    "remap": "move the ends of contracts from old nodes to new ones",
+}
+
+
+def _parser() -> argparse.ArgumentParser:
+    parser = argparse.ArgumentParser(prog="crr", description="Congestion revenue rights: feasibility test and hourly settlement.")
+    parser.epilog = "Exit status: 0; 1 the book fails (crr test); 2 the input has faults, or something can't be read or written."
+    adding = parser.add_subparsers(dest="command", required=True, metavar="COMMAND")
+    of = {name: adding.add_parser(name, help=text, description=text) for name, text in _HELP.items()}
+    for name, command in of.items():
+        command.add_argument("folder", type=Path, metavar="FOLDER", help="a folder of CSV files, or of bin files")
+        command.add_argument("--json", action="store_true", help="the answer, or the faults, as one JSON object")
+        if name in ("check", "pack", "settle", "report", "remap"):
+            command.add_argument("--round-prices", action="store_true", help="round prices of more than two decimals to the nearest cent")
+    of["remap"].add_argument("pairs", type=Path, metavar="PAIRS", help="a CSV file OLD_NODE,NEW_NODE")
+    places = {"pack": "a folder", "unpack": "a folder", "settle": "a folder for the result files", "report": "the HTML file", "remap": "a folder"}
+    for name, what in places.items():
+        of[name].add_argument("-o", "--out", type=Path, metavar="OUT", required=name == "remap", help=what)
+    of["unpack"].add_argument("--force", action="store_true", help="write over CSV files that differ")
+    of["test"].add_argument("--period", choices=list(_PERIODS), default="both")
+    of["test"].add_argument("--process", choices=list(_PROCESSES), default="all")
+    of["settle"].add_argument("-j", "--jobs", type=int, default=1, metavar="N", help="how many processes")
+    return parser
+
+
+def _faulty(options: argparse.Namespace, problem: Exception) -> Answer:
+    """The answer where something is wrong, all of it."""
+    if isinstance(problem, Faults):
+        count = len(problem.faults)
+        text = f"{problem}\ncrr: {count} fault{'' if count == 1 else 's'} in {options.folder}; nothing was written\n"
+        return Answer(FAULTY, text, {"faults": [fault._asdict() for fault in problem.faults]})
+    if isinstance(problem, Refused):
+        data: Dict[str, object] = {"file": problem.file, "line": 0, "column": "", "text": problem.meaning, "refusal": problem.number}
+        return Answer(FAULTY, f"crr: {problem}\n", {"faults": [data]})
+    return Answer(FAULTY, f"crr: {problem}\n", {"faults": [{"file": "", "line": 0, "column": "", "text": str(problem), "refusal": 0}]})
+
+
+def main(arguments: Optional[List[str]] = None) -> int:
+    """Runs the command and gives its exit status."""
+    options = _parser().parse_args(arguments)
+    try:
+        answer = _COMMANDS[options.command](options)
+    except (Faults, Refused, OSError) as problem:
+        answer = _faulty(options, problem)
+    told = json.dumps(answer.data, indent=1) + "\n" if options.json else answer.text
+    stream = sys.stderr if answer.status == FAULTY and not options.json else sys.stdout
+    try:
+        stream.write(told)
+        stream.flush()
+        sys.stderr.write("" if options.json else answer.note)
+    except BrokenPipeError:  # the reader, such as head, has seen enough
+        os.dup2(os.open(os.devnull, os.O_WRONLY), stream.fileno())
+    except OSError as error:
+        print(f"crr: the output can't be written: {error.strerror}", file=sys.stderr)
+        return FAULTY
+    return answer.status

@@ -1,0 +1,222 @@
+"""What each command of `crr` does. A command gives an answer, as text for people and as data for scripts; faults are raised."""
+
+from __future__ import annotations
+
+from concurrent.futures import Executor
+from pathlib import Path
+from typing import Dict, Iterable, List, NamedTuple, Optional, Sequence, Tuple
+
+from .case import TIMES_OF_USE, Case, Names
+from .decimals import decimal
+from .faults import Fault, raise_any
+from .feasibility import PROCESSES, Verdict, test_book
+from .files import Contract, read_book, read_grid, remap_book
+from .from_csv import load
+from .hours import Progress, Settled, settle_hours
+from .interface import FLOW_PLACES
+from .packed import Packed, hour_name, packed, read_packed, unpacked, write_bin, write_packed
+from .results import HOLDERS, HOURS, Time, dollars, exact_dollars, holder_months, hour_rows, result_files
+from .sheet import Sheet
+from .slices import settle_sliced
+from .to_csv import csv_text, write_csv, write_files
+
+PASSES, FAILS, FAULTY = 0, 1, 2  # exit statuses
+
+
+class Answer(NamedTuple):
+    """A command's answer: the exit status, what a person reads, the same for a script, and a note beside the text, for standard error."""
+
+    status: int
+    text: str
+    data: Dict[str, object]
+    note: str = ""
+
+
+class Opened(NamedTuple):
+    """A folder's case: names, contracts, the day and hour of each hour; its files where the library takes them whole, its tables where it is CSV."""
+
+    names: Names
+    book: List[Contract]
+    times: List[Time]
+    files: Optional[Packed]
+    case: Optional[Case]
+    rounded: int
+
+
+def is_csv(folder: Path) -> bool:
+    """Whether a folder is taken as CSV files; the bin files that `pack` puts beside them are then left alone."""
+    if not folder.is_dir():
+        raise_any([Fault(str(folder), 0, "", "no such folder")])
+    if any((folder / name).exists() for name in ("constraints.csv", "factors.csv", "book.csv")):
+        return True
+    if not (folder / "grid.bin").exists():
+        raise_any([Fault(str(folder), 0, "", "neither CSV files (constraints.csv, factors.csv, book.csv) nor grid.bin")])
+    return False
+
+
+def opened(folder: Path, round_prices: bool = False, any_size: bool = False, prices: bool = True) -> Opened:
+    """The case of a folder in either form."""
+    if is_csv(folder):
+        case, rounded = load(folder, any_size, round_prices, prices)
+        times = [(hour.day, hour.hour) for hour in case.hours]
+        return Opened(case.names, case.book, times, packed(case) if case.fits else None, case, rounded)
+    files = read_packed(folder)
+    times = [(hour.day, hour.hour) for hour in files.hours]
+    return Opened(files.names, read_book(read_grid(files.grid).nodes, files.book), times, files, None, 0)
+
+
+def files_of(found: Opened) -> Packed:
+    """The files of a folder that was opened at the library's sizes: a larger one is a fault then."""
+    assert found.files is not None
+    return found.files
+
+
+def _counted(number: int, what: str) -> str:
+    return f"{number:,} {what}{'' if number == 1 else 's'}"
+
+
+def _rounded(count: int) -> str:
+    return f"; {_counted(count, 'price')} rounded to cents" if count else ""
+
+
+def pack(folder: Path, out: Path, round_prices: bool) -> Answer:
+    """CSV files to bin files, read back and compared."""
+    case, rounded = load(folder, round_prices=round_prices)
+    written = write_packed(case, out)
+    text = f"{out}: grid.bin, book.bin, names.csv and {_counted(len(case.hours), 'hour')} of prices written and read back{_rounded(rounded)}\n"
+    return Answer(PASSES, text, {"out": str(out), "written": written, "rounded_prices": rounded})
+
+
+def unpack(folder: Path, out: Path, force: bool) -> Answer:
+    """Bin files to CSV files."""
+    files = read_packed(folder)
+    written = write_csv(unpacked(files), out, hour_name(files.hours), force)
+    return Answer(PASSES, f"{out}: {', '.join(sorted(written))} written\n", {"out": str(out), "written": written})
+
+
+def counts(found: Opened) -> Dict[str, int]:
+    """How many of what a case has."""
+    return {
+        "nodes": len(found.names.nodes),
+        "constraints": len(found.names.constraints),
+        "contracts": len(found.book),
+        "holders": len({contract.holder for contract in found.book}),
+        "hours": len(found.times),
+    }
+
+
+def counts_told(found: Opened) -> str:
+    """The counts in words."""
+    return ", ".join(_counted(number, what[:-1]) for what, number in counts(found).items())
+
+
+def check(folder: Path, round_prices: bool) -> Answer:
+    """Reads everything; every fault is raised."""
+    found = opened(folder, round_prices)
+    if not found.case:
+        unpacked(files_of(found))  # its price files too
+    form = "CSV" if found.case else "bin"
+    text = f"{folder}: {counts_told(found)}; {form} files without a fault{_rounded(found.rounded)}\n"
+    return Answer(PASSES, text, {"folder": str(folder), "form": form, **counts(found), "rounded_prices": found.rounded})
+
+
+VERDICTS = ("TIME_OF_USE", "PROCESS", "VERDICT", "OVERLOADED", "LOWEST", "EXCESS_MW", "CONSTRAINTS")
+
+
+def verdicts(files: Packed, periods: Sequence[int] = (0, 1), processes: Sequence[int] = (0, 1, 2)) -> Dict[Tuple[int, int], Verdict]:
+    """The test's answers by period and process."""
+    grid = read_grid(files.grid)
+    return {(period, process): test_book(grid, files.book, process, period) for period in periods for process in processes}
+
+
+def _verdict_row(names: Names, period: int, process: int, verdict: Verdict) -> Tuple[str, str, str, int, str, str, List[str]]:
+    told = (TIMES_OF_USE[period], PROCESSES[process])
+    if verdict.passed:
+        return (*told, "pass", 0, "", "", [])
+    overloaded = [names.constraints[k] for k in verdict.overloaded]
+    return (*told, "fail", verdict.count, names.constraints[verdict.lowest], decimal(verdict.excess, FLOW_PLACES), overloaded)
+
+
+def test(folder: Path, periods: Sequence[int], processes: Sequence[int]) -> Answer:
+    """The simultaneous feasibility test; status 1 where the book fails in one of the periods and processes asked for."""
+    found = opened(folder, prices=False)
+    answers = verdicts(files_of(found), periods, processes)
+    rows = [_verdict_row(found.names, period, process, verdict) for (period, process), verdict in answers.items()]
+    status = PASSES if all(verdict.passed for verdict in answers.values()) else FAILS
+    text = csv_text(VERDICTS, ((*row[:-1], "; ".join(row[-1])) for row in rows))
+    return Answer(status, text, {"passed": status == PASSES, "verdicts": _objects(VERDICTS, rows)})
+
+
+def settled(found: Opened, jobs: int, progress: Progress) -> Settled:
+    """All hours of a folder."""
+    if jobs <= 1:
+        return _settled(found, None, progress)
+    from concurrent.futures import ProcessPoolExecutor  # a tenth of a second that other commands do without
+
+    with ProcessPoolExecutor(jobs) as pool:
+        return _settled(found, pool, progress)
+
+
+def _settled(found: Opened, executor: Optional[Executor], progress: Progress) -> Settled:
+    """By slices where the library does not take the case whole."""
+    if found.files:
+        return settle_hours(found.files.grid, found.files.book, found.files.hours, executor, progress=progress)
+    assert found.case is not None
+    return settle_sliced(found.case, executor, progress=progress)
+
+
+def settle(folder: Path, out: Optional[Path], jobs: int, round_prices: bool, progress: Progress) -> Answer:
+    """Settles every hour; with `out` writes hours.csv, holders.csv and contracts.csv there."""
+    found = opened(folder, round_prices, any_size=True)
+    result = settled(found, jobs, progress)
+    if out:
+        files = result_files(result, found.names, found.book, found.times)
+        write_files(out, {name: text.encode() for name, text in files.items()})
+    rows = [(found.names.holder(holder), month, dollars(cents)) for (holder, month), cents in holder_months(result, found.book).items()]
+    told = f"{_counted(len(result.hours), 'hour')}: sum {dollars(result.sum)}, exact total {exact_dollars(result.exact)}{_rounded(found.rounded)}\n"
+    data: Dict[str, object] = {
+        "hours": len(result.hours),
+        "sum": dollars(result.sum),
+        "exact_total": exact_dollars(result.exact),
+        "by_holder": _objects(HOLDERS, rows),
+        "by_hour": _objects(HOURS, hour_rows(result, found.times)),
+        "rounded_prices": found.rounded,
+    }
+    text = f"{out}: hours.csv, holders.csv and contracts.csv written\n" if out else csv_text(HOLDERS, rows)
+    return Answer(PASSES, text, data, told)
+
+
+def _objects(heading: Sequence[str], rows: Iterable[Sequence[object]]) -> List[Dict[str, object]]:
+    return [{name.lower(): value for name, value in zip(heading, row)} for row in rows]
+
+
+def _pairs(path: Path, nodes: Sequence[str]) -> Tuple[List[int], List[int]]:
+    """Old and new node numbers of a file OLD_NODE,NEW_NODE."""
+    faults: List[Fault] = []
+    sheet = Sheet(path, ("OLD_NODE", "NEW_NODE"), faults)
+    numbers = {name: number for number, name in enumerate(nodes)}
+    lists: Dict[str, List[int]] = {ours: [] for ours in sheet.at}
+    for line, row in sheet.rows():
+        for ours, at in sheet.at.items():
+            if row[at] not in numbers:
+                sheet.fault(line, ours, f"no node {row[at]!r} in the grid", 11)
+            lists[ours].append(numbers.get(row[at], 0))
+    raise_any(faults)
+    return lists["OLD_NODE"], lists["NEW_NODE"]
+
+
+def remap(folder: Path, pairs: Path, out: Path, round_prices: bool) -> Answer:
+    """Moves the ends of a book's contracts, pair after pair, and writes the whole case to another folder in the form that it had."""
+    found = opened(folder, round_prices)
+    files = files_of(found)
+    nodes = read_grid(files.grid).nodes
+    old, new = _pairs(pairs, found.names.nodes)
+    moved = Packed(found.names, files.grid, remap_book(nodes, files.book, old, new), files.hours)
+    contracts = read_book(nodes, moved.book)
+    changed = sum(before != after for before, after in zip(found.book, contracts))
+    if found.case:
+        write_csv(unpacked(moved), out, hour_name(files.hours))
+    else:
+        write_bin(moved, out)
+    text = f"{out}: {_counted(len(old), 'pair')} applied, {_counted(changed, 'contract')} of {len(contracts):,} changed\n"
+    return Answer(PASSES, text, {"out": str(out), "pairs": len(old), "changed": changed, "contracts": len(contracts)})

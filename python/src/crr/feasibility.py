@@ -1,0 +1,72 @@
+"""The simultaneous feasibility test, the flows that it sums, and the share of each limit that a process releases."""
+
+from __future__ import annotations
+
+from ctypes import c_int64, c_uint64
+from dataclasses import dataclass
+from typing import List, NamedTuple, Optional, Tuple
+
+from .files import Grid
+from .native import Bytes, Entry, Lent, lend_bytes, lend_cells, zeros
+
+_test_book = Entry("crr_test_book")
+_find_flows = Entry("crr_find_flows")
+_released_percent = Entry("crr_released_percent")
+
+PERIODS = ("off-peak", "on-peak")  # by number
+PROCESSES = ("annual", "Tier LT", "monthly")  # by number
+
+
+@dataclass(frozen=True)
+class Verdict:
+    """The test's answer. `set` has bit k for overloaded constraint k and is 0 exactly on a pass; the other figures are 0 then."""
+
+    set: int
+    count: int
+    lowest: int
+    excess: int  # of the flow over the released limit at the lowest, in 10^-8 MW
+
+    @property
+    def passed(self) -> bool:
+        """Whether no list of shadow prices makes the net payment exceed the congestion rent."""
+        return self.set == 0
+
+    @property
+    def overloaded(self) -> Tuple[int, ...]:
+        """The overloaded constraints by number."""
+        return tuple(k for k in range(self.set.bit_length()) if self.set >> k & 1)
+
+    @property
+    def named(self) -> Optional[int]:
+        """The lowest overloaded constraint, or none on a pass."""
+        return None if self.passed else self.lowest
+
+
+class Flows(NamedTuple):
+    """The flow on each constraint of a period's contracts as they count, in 10^-8 MW, and how many contracts were counted."""
+
+    flows: List[int]
+    counted: int
+
+
+def test_book(grid: Grid, book: Bytes, process: int, period: int) -> Verdict:
+    """Whether the contracts of a period are feasible on the grid in a process."""
+    overloaded, count, lowest, excess = c_uint64(), c_uint64(), c_uint64(), c_int64()
+    limits, factors = lend_cells(grid.limits, "Q"), lend_cells(grid.factors, "q")
+    _test_book(grid.nodes, grid.constraints, process, period, limits, factors, lend_bytes(book), overloaded, count, lowest, excess)
+    return Verdict(overloaded.value, count.value, lowest.value, excess.value)
+
+
+def find_flows(grid: Grid, book: Bytes, period: int) -> Flows:
+    """The flow on each constraint, as the test sums it."""
+    flows, counted = zeros("q", grid.constraints), c_uint64()
+    limits, factors = lend_cells(grid.limits, "Q"), lend_cells(grid.factors, "q")
+    _find_flows(grid.nodes, grid.constraints, period, limits, factors, lend_bytes(book), Lent(flows, "q", True), counted)
+    return Flows(list(flows), counted.value)
+
+
+def released_percent(process: int) -> int:
+    """How much of each limit a process releases."""
+    percent = c_uint64()
+    _released_percent(process, percent)
+    return percent.value

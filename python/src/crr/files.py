@@ -1,0 +1,128 @@
+"""The three files, grid, book and prices: bytes to tables and back, and a book remapped. Figures are whole numbers in the units of crr.h."""
+
+from __future__ import annotations
+
+from array import array
+from ctypes import c_uint64
+from dataclasses import dataclass
+from typing import Iterable, List, NamedTuple, Sequence, Tuple, Union, cast
+
+from .interface import MAX_BOOK_BYTES, MAX_CONSTRAINTS, MAX_CONTRACTS, MAX_GRID_BYTES, MAX_NODES, MAX_PRICE_BYTES, NARROW
+from .native import Bytes, Cells, Entry, Given, Lent, lend_bytes, lend_cells, zeros
+
+_read_grid = Entry("crr_read_grid")
+_write_grid = Entry("crr_write_grid")
+_read_book = Entry("crr_read_book")
+_write_book = Entry("crr_write_book")
+_remap_book = Entry("crr_remap_book")
+_read_prices = Entry("crr_read_prices")
+_write_prices = Entry("crr_write_prices")
+
+
+@dataclass(frozen=True)
+class Grid:
+    """A grid's tables: limits, one for each constraint, and factors, that of node n on constraint k in cell n * constraints + k. Those that were
+    read from a file are arrays."""
+
+    nodes: int
+    constraints: int
+    limits: Cells
+    factors: Cells
+    form: int = NARROW
+
+
+class Contract(NamedTuple):
+    """A CRR: kind 0 obligation, 1 option; period 0 off-peak, 1 on-peak; quantity in thousandths of a MW."""
+
+    kind: int
+    period: int
+    holder: int
+    source: int
+    sink: int
+    quantity: int
+
+
+class Prices(NamedTuple):
+    """An hour's shadow prices, one for each constraint, in cents per MWh, and its period."""
+
+    period: int
+    prices: "array[int]"
+
+
+Book = Union[Iterable[Sequence[int]], Cells]
+
+
+def _written(entry: Entry, longest: int, given: Sequence[Given]) -> bytes:
+    """What a writer writes into a buffer that is long enough for its longest file."""
+    file, count = bytearray(longest), c_uint64()
+    entry(*given, Lent(file, "B", writable=True), count)
+    return bytes(memoryview(file)[: count.value])
+
+
+def read_grid(file: Bytes, name: str = "") -> Grid:
+    """The tables of a grid's file. `name` is what a refusal calls the file."""
+    limits, factors = zeros("Q", MAX_CONSTRAINTS), zeros("q", MAX_NODES * MAX_CONSTRAINTS)
+    nodes, constraints, form = c_uint64(), c_uint64(), c_uint64()
+    _read_grid(lend_bytes(file), Lent(limits, "Q", True), Lent(factors, "q", True), nodes, constraints, form, file=name)
+    n, k = nodes.value, constraints.value
+    return Grid(n, k, limits[:k], factors[: n * k], form.value)
+
+
+def write_grid(grid: Grid) -> bytes:
+    """The grid's file."""
+    tables = (lend_cells(grid.limits, "Q"), lend_cells(grid.factors, "q"))
+    return _written(_write_grid, MAX_GRID_BYTES, (grid.form, grid.nodes, grid.constraints, *tables))
+
+
+def _read_cells(nodes: int, file: Bytes, name: str) -> Tuple["array[int]", int]:
+    cells, contracts, form = zeros("Q", 6 * MAX_CONTRACTS), c_uint64(), c_uint64()
+    _read_book(nodes, lend_bytes(file), Lent(cells, "Q", True), contracts, form, file=name)
+    return cells[: 6 * contracts.value], form.value
+
+
+def read_book_cells(nodes: int, file: Bytes, name: str = "") -> "array[int]":
+    """A book's contracts as six cells each: kind, period, holder, source, sink, quantity."""
+    return _read_cells(nodes, file, name)[0]
+
+
+def read_book_form(nodes: int, file: Bytes, name: str = "") -> int:
+    """Whether a book's file is narrow or wide."""
+    return _read_cells(nodes, file, name)[1]
+
+
+def read_book(nodes: int, file: Bytes, name: str = "") -> List[Contract]:
+    """The contracts of a book's file, for a grid of so many nodes."""
+    cells = read_book_cells(nodes, file, name)
+    return list(map(Contract._make, zip(*[iter(cells)] * 6)))
+
+
+def book_cells(book: Book) -> Cells:
+    """A book as cells, six for each contract: a buffer as it is, else rows put one behind the other."""
+    if isinstance(book, array) or hasattr(book, "__array_interface__"):
+        return cast(Cells, book)
+    rows = cast(Iterable[Sequence[int]], book)
+    return array("Q", [value for row in rows for value in row])
+
+
+def write_book(nodes: int, book: Book, form: int = NARROW) -> bytes:
+    """The book's file, for a grid of so many nodes, from contracts or from a buffer of six cells for each."""
+    cells = lend_cells(book_cells(book), "Q")
+    return _written(_write_book, MAX_BOOK_BYTES, (form, nodes, cells.cells // 6, cells))
+
+
+def remap_book(nodes: int, book: Bytes, old_nodes: Cells, new_nodes: Cells) -> bytes:
+    """The book's file with both ends of every contract moved, one pair of old and new node after another."""
+    return _written(_remap_book, MAX_BOOK_BYTES, (nodes, lend_bytes(book), lend_cells(old_nodes, "Q"), lend_cells(new_nodes, "Q")))
+
+
+def read_prices(constraints: int, file: Bytes, name: str = "") -> Prices:
+    """The period and prices of a price file, for a grid of so many constraints."""
+    prices, period = zeros("Q", MAX_CONSTRAINTS), c_uint64()
+    _read_prices(constraints, lend_bytes(file), Lent(prices, "Q", True), period, file=name)
+    return Prices(period.value, prices[:constraints])
+
+
+def write_prices(period: int, prices: Cells) -> bytes:
+    """The price file of an hour, with as many constraints as there are prices."""
+    cells = lend_cells(prices, "Q")
+    return _written(_write_prices, MAX_PRICE_BYTES, (period, cells.cells, cells))

@@ -1,0 +1,254 @@
+"""A folder of CSV files as a case. Every fault is found, not only the first, and names its file, line and column.
+
+constraints.csv  CONSTRAINT_ID,LIMIT_MW
+factors.csv      NODE_ID, and a column for each constraint
+book.csv         CRR_ID,OWNER,HEDGE_TYPE,TIME_OF_USE,SOURCE,SINK,MW
+prices.csv       OPR_DT,OPR_HR,TIME_OF_USE,CONSTRAINT_ID,SHADOW_PRICE   (may be missing; a price that is not listed is 0)
+names.csv        TABLE,NUMBER,NAME                                      (may be missing; numbers that holders had before)
+"""
+
+from __future__ import annotations
+
+import re
+from array import array
+from datetime import date
+from pathlib import Path
+from typing import Dict, List, Optional, Set, Tuple
+
+from .case import FORMS, Case, Names, PricedHour, book_form, grid_form, holder_numbers
+from .faults import Fault, raise_any
+from .files import Contract
+from .interface import HOLDER, LIMIT, MAX_CONSTRAINTS, MAX_CONTRACTS, MAX_NODES, QUANTITY, SHADOW_PRICE, SHIFT_FACTOR
+from .names_csv import read_names
+from .sheet import Sheet
+
+_KINDS = {"OBL": 0, "OBLIGATION": 0, "OPT": 1, "OPTION": 1}
+_PERIODS = {"OFF": 0, "OFFPEAK": 0, "OFF-PEAK": 0, "OFF_PEAK": 0, "ON": 1, "ONPEAK": 1, "ON-PEAK": 1, "ON_PEAK": 1, "PEAK": 1}
+_BOTH_PERIODS = ("24H", "24HR", "24 HOUR", "24-HOUR", "FLAT")
+_DAY = re.compile(r"[0-9]{4}-[0-9]{2}-[0-9]{2}")
+_HOUR = re.compile(r"0?[1-9]|1[0-9]|2[0-5]")  # hour ending; the day on which clocks go back has 25
+
+PRICES = ("OPR_DT", "OPR_HR", "TIME_OF_USE", "CONSTRAINT_ID", "SHADOW_PRICE")
+BOOK = ("CRR_ID", "OWNER", "HEDGE_TYPE", "TIME_OF_USE", "SOURCE", "SINK", "MW")
+
+
+class Loaded:
+    """A folder while it is read: the tables so far and every fault found."""
+
+    def __init__(self, folder: Path, any_size: bool, round_prices: bool) -> None:
+        self.folder, self.any_size, self.round_prices = folder, any_size, round_prices
+        self.faults: List[Fault] = []
+        self.rounded = 0
+        self.constraints_read = False  # else nothing is said of names that would not be found
+        self.constraints: Dict[str, int] = {}
+        self.nodes: Dict[str, int] = {}
+        self.limits = array("Q")
+        self.factors = array("q")
+
+    def count(self, sheet: Sheet, line: int, ours: str, count: int, most: int, what: str, refusal: int) -> None:
+        """A fault at the first row beyond the library's size."""
+        if not self.any_size and count == most + 1:
+            sheet.fault(line, ours, f"more than {most} {what}", refusal)
+
+
+def load(folder: Path, any_size: bool = False, round_prices: bool = False, prices: bool = True) -> Tuple[Case, int]:
+    """The case of a folder, and how many of its prices were rounded. Raises `Faults`.
+
+    With `any_size` counts above the library's are taken, for settling by slices. With `round_prices` a price of more than two decimals is
+    rounded to the nearest cent; it is a fault otherwise. Without `prices` prices.csv is not looked at."""
+    loaded = Loaded(Path(folder), any_size, round_prices)
+    _read_constraints(loaded)
+    _read_factors(loaded)
+    told = read_names(loaded.folder, loaded.faults)
+    book, ids, holders = _read_book(loaded, told["holder"])
+    hours = _read_prices(loaded) if prices and (loaded.folder / "prices.csv").exists() else []
+    raise_any(loaded.faults)
+    names = Names(list(loaded.nodes), list(loaded.constraints), ids, holders)
+    forms = {number: FORMS.index(name) for number, name in told["form"].items()}
+    of_grid, of_book = forms.get(0, grid_form(len(names.nodes))), forms.get(1, book_form(book))
+    return Case(names, loaded.limits, loaded.factors, book, hours, of_grid, of_book), loaded.rounded
+
+
+def _new_name(sheet: Sheet, line: int, ours: str, name: str, known: Dict[str, int]) -> bool:
+    """Whether a name can be taken as a new one, which then has the next number."""
+    if not sheet.name_in(line, ours, name):
+        return False
+    if name in known:
+        sheet.fault(line, ours, f"{name} occurs twice")
+        return False
+    known[name] = len(known)
+    return True
+
+
+def _read_constraints(loaded: Loaded) -> None:
+    sheet = Sheet(loaded.folder / "constraints.csv", ("CONSTRAINT_ID", "LIMIT_MW"), loaded.faults)
+    if len(sheet.at) < 2:
+        return
+    loaded.constraints_read = True
+    name_at, limit_at = sheet.at["CONSTRAINT_ID"], sheet.at["LIMIT_MW"]
+    for line, fields in sheet.rows():
+        if _new_name(sheet, line, "CONSTRAINT_ID", fields[name_at], loaded.constraints):
+            loaded.limits.append(sheet.figure(line, limit_at, fields[limit_at], LIMIT))
+            loaded.count(sheet, line, "CONSTRAINT_ID", len(loaded.limits), MAX_CONSTRAINTS, "constraints", 3)
+
+
+def _factor_columns(loaded: Loaded, sheet: Sheet) -> List[int]:
+    """Where each constraint's factors stand: every column but the first is a constraint's."""
+    others = sheet.heading[1:]
+    for at, name in enumerate(others, start=1):
+        if name not in loaded.constraints:
+            loaded.faults.append(Fault(sheet.name, 1, sheet.column(at), "no such constraint in constraints.csv"))
+        elif name in others[: at - 1]:
+            loaded.faults.append(Fault(sheet.name, 1, name, "the constraint's column occurs twice"))
+    for name in loaded.constraints:
+        if name not in others:
+            loaded.faults.append(Fault(sheet.name, 1, name, "the constraint's column is missing"))
+    return [1 + others.index(name) for name in loaded.constraints if name in others]
+
+
+def _read_factors(loaded: Loaded) -> None:
+    sheet = Sheet(loaded.folder / "factors.csv", ("NODE_ID",), loaded.faults, first=True)
+    if not sheet.at:
+        return
+    columns = _factor_columns(loaded, sheet) if loaded.constraints_read else []
+    line = 1
+    for line, fields in sheet.rows():
+        if _new_name(sheet, line, "NODE_ID", fields[0], loaded.nodes):
+            loaded.factors.extend([sheet.figure(line, at, fields[at], SHIFT_FACTOR) for at in columns])
+            loaded.count(sheet, line, "NODE_ID", len(loaded.nodes), MAX_NODES, "nodes", 2)
+    if not loaded.nodes:
+        sheet.fault(line, "NODE_ID", "no node", 2)
+
+
+def _choice(sheet: Sheet, line: int, ours: str, text: str, choices: Dict[str, int], words: str) -> int:
+    """The number of a word; a fault is noted and gives 0."""
+    number = choices.get(text.upper())
+    if number is None:
+        both = "; split such a contract into an ON and an OFF row" if text.upper() in _BOTH_PERIODS else ""
+        sheet.fault(line, ours, f"{text!r} is neither {words}{both}", 17)
+        return 0
+    return number
+
+
+def _node(loaded: Loaded, sheet: Sheet, line: int, ours: str, name: str) -> int:
+    number = loaded.nodes.get(name)
+    if number is None:
+        if loaded.nodes:
+            sheet.fault(line, ours, f"no node {name!r} in factors.csv", 11)
+        return 0
+    return number
+
+
+def _read_book(loaded: Loaded, known: Dict[int, str]) -> Tuple[List[Contract], List[str], Dict[int, str]]:
+    sheet = Sheet(loaded.folder / "book.csv", BOOK, loaded.faults)
+    contracts: List[Contract] = []
+    ids: Dict[str, int] = {}
+    owners: List[str] = []
+    lines: List[int] = []
+    if len(sheet.at) == len(BOOK):
+        crr_id, owner, kind, period, source, sink, mw = (sheet.at[ours] for ours in BOOK)
+        for line, row in sheet.rows():
+            _new_name(sheet, line, "CRR_ID", row[crr_id], ids)
+            sheet.name_in(line, "OWNER", row[owner])
+            contract = Contract(
+                _choice(sheet, line, "HEDGE_TYPE", row[kind], _KINDS, "OBL nor OPT"),
+                _choice(sheet, line, "TIME_OF_USE", row[period], _PERIODS, "ON nor OFF"),
+                0,
+                _node(loaded, sheet, line, "SOURCE", row[source]),
+                _node(loaded, sheet, line, "SINK", row[sink]),
+                sheet.figure(line, mw, row[mw], QUANTITY),
+            )
+            contracts.append(contract)
+            owners.append(row[owner])
+            lines.append(line)
+            loaded.count(sheet, line, "CRR_ID", len(contracts), MAX_CONTRACTS, "contracts", 10)
+    numbers = holder_numbers(owners, known)
+    too_many = next((i for i, owner in enumerate(owners) if numbers[owner] > HOLDER.high), None)
+    if too_many is not None and not loaded.any_size:
+        sheet.fault(lines[too_many], "OWNER", f"more than {HOLDER.high + 1} owners", 18)
+    book = [contract._replace(holder=numbers[owner]) for contract, owner in zip(contracts, owners)]
+    return book, list(ids), {number: name for name, number in numbers.items() if name != str(number)}
+
+
+def _read_prices(loaded: Loaded) -> List[PricedHour]:
+    sheet = Sheet(loaded.folder / "prices.csv", PRICES, loaded.faults)
+    if len(sheet.at) < len(PRICES):
+        return []
+    day_at, hour_at, period_at, constraint_at, price_at = (sheet.at[ours] for ours in PRICES)
+    times = _Times(sheet, len(loaded.constraints))
+    listed: Set[Tuple[str, int, int]] = set()
+    for line, row in sheet.rows():
+        hour = times.hour(line, row[day_at], row[hour_at], row[period_at])
+        name, price = row[constraint_at], row[price_at]
+        if hour is None or not (name or price):  # a row of neither tells an hour without congestion
+            continue
+        k = loaded.constraints.get(name)
+        if k is None:
+            if loaded.constraints_read:
+                sheet.fault(line, "CONSTRAINT_ID", f"no constraint {name!r} in constraints.csv")
+            continue
+        key = (hour.day, hour.hour, k)
+        if key in listed:
+            sheet.fault(line, "CONSTRAINT_ID", f"{name} occurs twice in this hour")
+        listed.add(key)
+        hour.prices[k] = sheet.figure(line, price_at, price, SHADOW_PRICE, loaded.round_prices)
+        loaded.rounded += loaded.round_prices and len(price.partition(".")[2].rstrip("0")) > SHADOW_PRICE.places
+    return times.in_order()
+
+
+class _Times:
+    """The hours of prices.csv, each made when its first row comes."""
+
+    def __init__(self, sheet: Sheet, constraints: int) -> None:
+        self._sheet, self._constraints = sheet, constraints
+        self._hours: Dict[Tuple[str, int], PricedHour] = {}
+        self._seen: Dict[Tuple[str, str, str], Optional[PricedHour]] = {}
+
+    def hour(self, line: int, day: str, hour: str, time_of_use: str) -> Optional[PricedHour]:
+        """The hour of a row, or none where its time is a fault."""
+        key = (day, hour, time_of_use)
+        if self._seen.get(key) is None:
+            self._seen[key] = self._new(line, day, hour, time_of_use)
+        return self._seen[key]
+
+    def _new(self, line: int, day: str, hour: str, time_of_use: str) -> Optional[PricedHour]:
+        period = _PERIODS.get(time_of_use.upper())
+        if period is None:
+            self._sheet.fault(line, "TIME_OF_USE", f"{time_of_use!r} is neither ON nor OFF", 17)
+        if not self._is_time(line, day, hour) or period is None:
+            return None
+        number = int(hour or 0)
+        alone = not number or ("", 0) in self._hours
+        if alone and self._hours and (day, number) not in self._hours:
+            self._sheet.fault(line, "OPR_DT", "an hour without day and hour is the only one of its file")
+            return None
+        fresh = PricedHour(day, number, period, array("Q", bytes(8 * self._constraints)))
+        known = self._hours.setdefault((day, number), fresh)
+        if known.period != period:
+            self._sheet.fault(line, "TIME_OF_USE", f"{time_of_use}, and the other one in an earlier row of this hour")
+            return None
+        return known
+
+    def _is_time(self, line: int, day: str, hour: str) -> bool:
+        if not day and not hour:
+            return True
+        right = True
+        if not _DAY.fullmatch(day) or not _is_date(day):
+            self._sheet.fault(line, "OPR_DT", f"{day!r} is not a day, YYYY-MM-DD")
+            right = False
+        if not _HOUR.fullmatch(hour):
+            self._sheet.fault(line, "OPR_HR", f"{hour!r} is not an hour ending, 1 to 25")
+            right = False
+        return right
+
+    def in_order(self) -> List[PricedHour]:
+        """All hours by day and hour."""
+        return [self._hours[key] for key in sorted(self._hours)]
+
+
+def _is_date(day: str) -> bool:
+    try:
+        date.fromisoformat(day)
+        return True
+    except ValueError:
+        return False

@@ -1,0 +1,123 @@
+"""What include/crr.h says, in one place: sizes, units, refusals and declarations.
+
+A test holds every line of it against the header, in both directions, so a change of the header is a change of this module and of the function that it is about.
+"""
+
+from __future__ import annotations
+
+import re
+from typing import Dict, List, NamedTuple
+
+# Sizes: the most that is accepted, and the longest files and texts.
+MAX_NODES = 4000
+MAX_NARROW_NODES = 200
+MAX_CONSTRAINTS = 64
+MAX_CONTRACTS = 1000
+MAX_GRID_BYTES = 576220
+MAX_BOOK_BYTES = 7002
+MAX_PRICE_BYTES = 153
+MAX_TEXT_GRID_BYTES = 32768
+STATEMENT_BYTES = 29085
+REPORT_BYTES = 2048
+
+# Forms of a grid's and a book's file.
+NARROW = 0
+WIDE = 1
+
+# Periods and processes.
+OFF_PEAK = 0
+ON_PEAK = 1
+ANNUAL = 0
+TIER_LT = 1
+MONTHLY = 2
+
+
+class Unit(NamedTuple):
+    """How a figure is counted: a whole number of 10^-places, from low to high; another draws the refusal."""
+
+    places: int
+    low: int
+    high: int
+    refusal: int
+
+
+QUANTITY = Unit(3, 1, 1_000_000, 13)  # MW
+LIMIT = Unit(3, 0, 100_000_000, 6)  # MW
+SHIFT_FACTOR = Unit(5, -100_000, 100_000, 7)
+SHADOW_PRICE = Unit(2, 0, 500_000, 15)  # dollars per MWh
+HOLDER = Unit(0, 0, 1_023, 18)
+FLOW_PLACES = 8  # of a MW
+PART_PLACES = 8  # of a cent
+
+MEANINGS: Dict[int, str] = {
+    1: "a file of fewer bytes than its header: two (grid, book), four (wide grid) or one (prices)",
+    2: "nodes 0 or above 4,000; reading or writing a narrow grid, above 200",
+    3: "constraints above 64",
+    4: "the spare bits of a file's header have neither form's pattern",
+    5: "a file's length differs from what its form and counts fix; a text's grid, also above 32,768 bytes",
+    6: "a limit above 100,000,000",
+    7: "a factor below -100,000 or above 100,000",
+    8: "a padding bit at a file's end is set",
+    9: "a lent table, or a place for an answer, of too few cells; remapping, unequal lists",
+    10: "more than 1,000 contracts",
+    11: "a source, sink or listed node not below the node count; written to a narrow book, above 255",
+    13: "quantity 0 or above 1,000,000",
+    14: "the price file's constraint count differs from the one stated",
+    15: "a price above 500,000",
+    16: "process not 0 to 2",
+    17: "a period not 0 or 1; writing a book, a kind or period not 0 or 1",
+    18: "holder above 1,023",
+}
+
+# Every function returns uint64_t, the number of the refusal or 0.
+DECLARATIONS: Dict[str, str] = {
+    "crr_read_grid": "const uint8_t *file, size_t file_len, uint64_t *limits, size_t limits_len, "
+    "int64_t *factors, size_t factors_len, size_t *nodes, size_t *constraints, uint64_t *form",
+    "crr_write_grid": "uint64_t form, size_t nodes, size_t constraints, const uint64_t *limits, size_t limits_len, "
+    "const int64_t *factors, size_t factors_len, uint8_t *file, size_t file_len, size_t *bytes",
+    "crr_read_book": "size_t nodes, const uint8_t *file, size_t file_len, uint64_t *book, size_t book_len, size_t *contracts, uint64_t *form",
+    "crr_write_book": "uint64_t form, size_t nodes, size_t contracts, const uint64_t *book, size_t book_len, uint8_t *file, size_t file_len, size_t *bytes",
+    "crr_remap_book": "size_t nodes, const uint8_t *book, size_t book_len, const uint64_t *old_nodes, size_t old_len, "
+    "const uint64_t *new_nodes, size_t new_len, uint8_t *file, size_t file_len, size_t *bytes",
+    "crr_read_prices": "size_t constraints, const uint8_t *file, size_t file_len, uint64_t *prices, size_t prices_len, uint64_t *period",
+    "crr_write_prices": "uint64_t period, size_t constraints, const uint64_t *prices, size_t prices_len, uint8_t *file, size_t file_len, size_t *bytes",
+    "crr_test_book": "size_t nodes, size_t constraints, uint64_t process, uint64_t period, const uint64_t *limits, size_t limits_len, "
+    "const int64_t *factors, size_t factors_len, const uint8_t *book, size_t book_len, uint64_t *set, size_t *count, size_t *lowest, int64_t *excess",
+    "crr_find_flows": "size_t nodes, size_t constraints, uint64_t period, const uint64_t *limits, size_t limits_len, "
+    "const int64_t *factors, size_t factors_len, const uint8_t *book, size_t book_len, int64_t *flows, size_t flows_len, size_t *counted",
+    "crr_released_percent": "uint64_t process, uint64_t *percent",
+    "crr_find_mcc": "size_t nodes, size_t constraints, const int64_t *factors, size_t factors_len, "
+    "const uint64_t *prices, size_t prices_len, int64_t *mcc, size_t mcc_len",
+    "crr_settle_hour": "size_t nodes, size_t constraints, uint64_t period, const int64_t *factors, size_t factors_len, "
+    "const uint64_t *prices, size_t prices_len, const uint8_t *book, size_t book_len, int64_t *cents, size_t cents_len, "
+    "uint64_t *priced, size_t priced_len, int64_t *sum, int64_t *whole, uint64_t *parts",
+    "crr_write_report": "const uint8_t *grid_file, size_t grid_file_len, const uint8_t *book_file, size_t book_file_len, "
+    "uint8_t *text, size_t text_len, size_t *bytes",
+    "crr_write_statement": "const uint8_t *grid_file, size_t grid_file_len, const uint8_t *book_file, size_t book_file_len, "
+    "const uint8_t *price_file, size_t price_file_len, uint8_t *text, size_t text_len, size_t *bytes",
+}
+
+
+class Parameter(NamedTuple):
+    """A parameter as Python hands it over. A buffer stands for two in C: the pointer and the length in cells."""
+
+    name: str
+    code: str  # of its cells, as `array` names them: B, q or Q
+    form: str  # "number", "buffer" or "figure" (one lent cell)
+    writable: bool
+
+
+_CODES = {"uint8_t": "B", "int64_t": "q", "uint64_t": "Q", "size_t": "Q"}
+_PARAMETER = re.compile(r"(const )?(\w+) (\*?)(\w+)")
+
+
+def parameters(declaration: str) -> List[Parameter]:
+    """The parameters of a declaration. A pointer is a buffer where its length follows."""
+    found = [match.groups() for match in map(_PARAMETER.fullmatch, declaration.split(", ")) if match]
+    followed = [name.endswith("_len") for _, _, _, name in found[1:]] + [False]
+    taken = []
+    for (const, kind, star, name), has_length in zip(found, followed):
+        if not name.endswith("_len"):
+            form = "number" if not star else "buffer" if has_length else "figure"
+            taken.append(Parameter(name, _CODES[kind], form, bool(star) and not const))
+    return taken

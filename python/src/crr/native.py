@@ -1,0 +1,200 @@
+"""The shared library by ctypes: where it is, how buffers are lent to it, how its answers become exceptions.
+
+Nothing but the standard library is needed. A buffer is lent, never copied: bytes, array, memoryview, numpy arrays, pandas columns.
+"""
+
+from __future__ import annotations
+
+import ctypes
+import operator
+import os
+import struct
+from array import array
+from functools import cached_property, lru_cache
+from pathlib import Path
+from typing import TYPE_CHECKING, Any, Callable, Dict, List, Optional, Sequence, Tuple, Type, Union
+
+from .interface import DECLARATIONS, MEANINGS, Parameter, parameters
+
+if TYPE_CHECKING:
+    from typing import Protocol
+
+    class NumpyArray(Protocol):
+        """A numpy array."""
+
+        @property
+        def __array_interface__(self) -> Dict[str, Any]: ...
+
+    class PandasColumn(Protocol):
+        """A pandas Series or Index."""
+
+        def to_numpy(self) -> Any: ...
+
+
+if struct.calcsize("P") != 8:
+    raise ImportError("crr is for 64-bit machines")
+
+# Cells of 64 bits, lent as they are where they are a buffer of the right type; a list or tuple of whole numbers is put into one.
+Cells = Union[Sequence[int], "array[int]", "NumpyArray", "PandasColumn"]
+Bytes = Union[bytes, bytearray, memoryview, "NumpyArray"]
+
+
+class Refused(ValueError):
+    """Input was turned down: the refusal's number, its meaning in crr.h's words, the entry that refused, and the file where one is known."""
+
+    def __init__(self, number: int, entry: str, file: str = "") -> None:
+        self.number = number
+        self.meaning = MEANINGS.get(number, "a refusal that this package does not know")
+        self.entry = entry
+        self.file = file
+        super().__init__(f"{file + ': ' if file else ''}refused {number} by {entry}: {self.meaning}")
+
+    def __reduce__(self) -> Tuple[Type["Refused"], Tuple[int, str, str]]:
+        # A pool of processes hands an exception over by its arguments, and those of the base class are the message alone.
+        return (Refused, (self.number, self.entry, self.file))
+
+
+def library_path() -> Path:
+    """Where the shared library is: CRR_LIBRARY, else beside this module (installed), else in the clone that this module stands in."""
+    here = Path(__file__).resolve()
+    asked = os.environ.get("CRR_LIBRARY")
+    places = [Path(asked)] if asked else [here.with_name("libcrr.so"), here.parents[3] / "target" / "sharedlib" / "libcrr.so"]
+    for place in places:
+        if place.is_file():
+            return place
+    raise FileNotFoundError(f"no shared library at {' or '.join(map(str, places))}: ./library builds it, CRR_LIBRARY names another")
+
+
+@lru_cache(maxsize=1)
+def _library() -> ctypes.CDLL:
+    return ctypes.CDLL(str(library_path()))  # CDLL lets other threads run during a call
+
+
+class _PyBuffer(ctypes.Structure):
+    """Python's Py_buffer, the same since 3.3."""
+
+    _fields_ = [
+        ("buf", ctypes.c_void_p),
+        ("obj", ctypes.py_object),
+        ("len", ctypes.c_ssize_t),
+        ("itemsize", ctypes.c_ssize_t),
+        ("readonly", ctypes.c_int),
+        ("ndim", ctypes.c_int),
+        ("format", ctypes.c_char_p),
+        ("shape", ctypes.c_void_p),
+        ("strides", ctypes.c_void_p),
+        ("suboffsets", ctypes.c_void_p),
+        ("internal", ctypes.c_void_p),
+    ]
+
+
+_get_buffer = ctypes.pythonapi.PyObject_GetBuffer
+_get_buffer.argtypes, _get_buffer.restype = [ctypes.py_object, ctypes.POINTER(_PyBuffer), ctypes.c_int], ctypes.c_int
+_release_buffer = ctypes.pythonapi.PyBuffer_Release
+_release_buffer.argtypes, _release_buffer.restype = [ctypes.POINTER(_PyBuffer)], None
+_WRITABLE, _FORMAT, _C_CONTIGUOUS = 0x0001, 0x0004, 0x0020 | 0x0010 | 0x0008
+_CELLS = {b"q": "q", b"l": "q", b"Q": "Q", b"L": "Q", b"B": "B", None: "B"}
+_NOTHING = (ctypes.c_uint64 * 1)()
+
+
+class Lent:
+    """A buffer of cells of one type, its address and its length in cells. It keeps its owner alive and makes no copy."""
+
+    __slots__ = ("_buffer", "address", "cells", "code", "writable", "owner")
+
+    def __init__(self, owner: Any, code: str, writable: bool = False) -> None:
+        view = _PyBuffer()
+        _get_buffer(owner, ctypes.byref(view), _C_CONTIGUOUS | _FORMAT | (_WRITABLE if writable else 0))
+        self._buffer, self.owner, self.code, self.writable = view, owner, code, writable
+        size = 1 if code == "B" else 8
+        if _CELLS.get(view.format) != code or view.itemsize != size:
+            found = (view.format or b"B").decode()
+            raise TypeError(f"a buffer of cells {code!r} of {size} bytes is needed; this one has {found!r} of {view.itemsize}")
+        # An empty buffer's own address may be null or odd (an array's is odd), which the header rules out: any aligned place stands for it.
+        self.address: int = view.buf if view.len else ctypes.addressof(_NOTHING)
+        if self.address % size:
+            raise TypeError("the buffer's cells are not aligned")
+        self.cells: int = view.len // size
+
+    def __del__(self) -> None:
+        view: Optional[_PyBuffer] = getattr(self, "_buffer", None)
+        if view is not None:
+            _release_buffer(ctypes.byref(view))
+
+
+def zeros(code: str, cells: int) -> "array[int]":
+    """A fresh buffer of so many cells of 8 bytes."""
+    return array(code, bytes(8 * cells))
+
+
+def lend_cells(cells: Cells, code: str) -> Lent:
+    """Cells to be read: a buffer as it is, a pandas column by its numpy array, a list or tuple in a buffer of its own."""
+    owner: Any = cells
+    if hasattr(owner, "to_numpy"):
+        owner = owner.to_numpy()
+    return Lent(array(code, owner) if isinstance(owner, (list, tuple, range)) else owner, code)
+
+
+def lend_bytes(file: Bytes) -> Lent:
+    """A file's bytes to be read."""
+    return Lent(file, "B")
+
+
+Figure = Union[ctypes.c_uint64, ctypes.c_int64]
+Given = Union[Lent, Figure, int]
+_FIGURES = {"Q": ctypes.c_uint64, "q": ctypes.c_int64}
+
+
+class Entry:
+    """A function of crr.h, found in the library when it is first used."""
+
+    def __init__(self, name: str) -> None:
+        self.name = name
+        self.parameters = parameters(DECLARATIONS[name])
+
+    @cached_property
+    def function(self) -> Callable[..., int]:
+        """The function itself: addresses, lengths and numbers in, the refusal's number out."""
+        try:
+            found = _library()[self.name]
+        except AttributeError:
+            raise OSError(f"{library_path()} has no {self.name}: it is older than this package; ./library builds it anew") from None
+        found.restype = ctypes.c_uint64
+        found.argtypes = [kind for parameter in self.parameters for kind in _argument_types(parameter)]
+        return found
+
+    def arguments(self, *given: Given) -> List[Any]:
+        """The arguments for the function: a buffer's address and length, a number, a figure's address."""
+        if len(given) != len(self.parameters):
+            raise TypeError(f"{self.name} takes {len(self.parameters)} arguments, not {len(given)}")
+        out: List[Any] = []
+        for parameter, value in zip(self.parameters, given):
+            out += _argument(self.name, parameter, value)
+        return out
+
+    def __call__(self, *given: Given, file: str = "") -> None:
+        """Calls the function; a refusal is raised."""
+        number = self.function(*self.arguments(*given))
+        if number:
+            raise Refused(number, self.name, file)
+
+
+def _argument_types(parameter: Parameter) -> List[Any]:
+    if parameter.form == "number":
+        return [ctypes.c_uint64]
+    return [ctypes.c_void_p, ctypes.c_size_t] if parameter.form == "buffer" else [ctypes.c_void_p]
+
+
+def _argument(entry: str, parameter: Parameter, value: Given) -> List[Any]:
+    if isinstance(value, Lent):
+        if parameter.form == "buffer" and value.code == parameter.code and value.writable >= parameter.writable:
+            return [value.address, value.cells]
+    elif isinstance(value, (ctypes.c_uint64, ctypes.c_int64)):
+        if parameter.form == "figure" and isinstance(value, _FIGURES[parameter.code]):
+            return [ctypes.addressof(value)]
+    elif parameter.form == "number":
+        number = operator.index(value)
+        if not 0 <= number < 1 << 64:
+            raise OverflowError(f"{parameter.name} of {entry} is a number of 64 bits, not {number}")
+        return [number]
+    raise TypeError(f"{parameter.name} of {entry} is a {parameter.form} of {parameter.code!r}")

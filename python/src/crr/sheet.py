@@ -1,0 +1,191 @@
+"""One CSV file: its heading found under the names that markets use, its rows with their lines, and every fault with file, line and column.
+
+Understood: a byte order mark, quotes, CRLF, semicolons or tabs for commas, blank rows, columns in any order and columns that nobody asked for.
+"""
+
+from __future__ import annotations
+
+import csv
+import io
+from pathlib import Path
+from typing import Dict, Iterator, List, Sequence, Tuple
+
+from .decimals import decimal, whole
+from .faults import Fault
+from .interface import Unit
+
+# Our name of a column, and other names for it, in capitals with _ for a blank.
+ALIASES: Dict[str, Tuple[str, ...]] = {
+    "CRR_ID": ("FTR_ID", "ID"),
+    "OWNER": ("ACCOUNTHOLDER", "ACCOUNT_HOLDER", "MARKET_PARTICIPANT", "PARTICIPANT", "OWNER_NAME", "HOLDER"),
+    "HEDGE_TYPE": ("HEDGETYPE", "CRR_TYPE", "OPT_OBL"),
+    "TIME_OF_USE": ("TIMEOFUSE", "TOU", "CLASS_TYPE", "CLASS", "PEAK_TYPE"),
+    "SOURCE": ("SOURCE_NAME", "NODE_SOURCE", "FROM_NODE", "SOURCE_LOCATION_NAME"),
+    "SINK": ("SINK_NAME", "NODE_SINK", "TO_NODE", "SINK_LOCATION_NAME"),
+    "MW": ("CLEARED_MW", "AWARD_MW", "QUANTITY_MW"),
+    "CONSTRAINT_ID": ("CONSTRAINT", "NOMOGRAM_ID", "TI_ID", "DEVICENAME", "MONITORED_FACILITY"),
+    "LIMIT_MW": ("LIMIT", "RATING_MW"),
+    "NODE_ID": ("NODE", "PNODE_ID", "PNODE", "BUS", "SETTLEMENTPOINT"),
+    "OPR_DT": ("OPR_DATE", "DATE", "DELIVERYDATE"),
+    "OPR_HR": ("HOUR_ENDING", "HE", "HOURENDING"),
+    "SHADOW_PRICE": ("SHADOW_PRC", "PRC", "SHADOWPRICE"),
+    "OLD_NODE": ("OLD",),
+    "NEW_NODE": ("NEW",),
+    "TABLE": (),
+    "NUMBER": (),
+    "NAME": (),
+}
+_OURS = {alias: ours for ours, others in ALIASES.items() for alias in (ours, *others)}
+
+Row = Tuple[int, List[str]]  # the line, and the fields in the file's order
+
+
+def our_name(heading: str) -> str:
+    """Our name of a column, or the heading in capitals where it is none of ours."""
+    plain = heading.upper().replace(" ", "_")
+    return _OURS.get(plain, plain)
+
+
+class Sheet:
+    """A CSV file. Faults go to the list that it is given; `at` says where each column that is needed stands. With `first` the one that is needed
+    is the first column, whatever the others are called."""
+
+    def __init__(self, path: Path, need: Sequence[str], faults: List[Fault], first: bool = False) -> None:
+        self.name, self.faults = path.name, faults
+        self.heading: List[str] = []
+        self.at: Dict[str, int] = {}
+        self._text, self._doubtful = self._decoded(path, need)
+        self._delimiter = _delimiter(self._text)
+        self._reader = csv.reader(_lines(self._text), delimiter=self._delimiter, strict=True)
+        if self._text:
+            self._read_heading(need, first)
+
+    def _decoded(self, path: Path, need: Sequence[str]) -> Tuple[str, bool]:
+        try:
+            data = path.read_bytes()
+        except OSError as error:
+            self.faults.append(Fault(self.name, 0, "", f"{error.strerror}: {path}"))
+            return "", False
+        if data[:2] in (b"\xff\xfe", b"\xfe\xff"):
+            self.faults.append(Fault(self.name, 1, need[0], "UTF-16, as some spreadsheets save it; save as CSV UTF-8"))
+            return "", False
+        if not data.strip():
+            self.faults.append(Fault(self.name, 1, need[0], "the file is empty: its first line is the heading"))
+            return "", False
+        try:
+            return data.decode("utf-8-sig"), False
+        except UnicodeDecodeError:
+            return data.decode("utf-8-sig", "surrogateescape"), True
+
+    def _read_heading(self, need: Sequence[str], first: bool) -> None:
+        try:
+            self.heading = [field.strip() for field in next(self._reader, [])]
+        except csv.Error as error:
+            self.faults.append(Fault(self.name, 1, need[0], f"the heading can't be read: {error}"))
+            return
+        self._readable(1, self.heading)
+        names = [our_name(heading) for heading in self.heading[: 1 if first else None]]
+        for ours in need:
+            if ours not in names:
+                self.faults.append(Fault(self.name, 1, ours, "the first column must be this one" if first else "the column is missing"))
+            elif names.count(ours) > 1:
+                found = ", ".join(h for h, name in zip(self.heading, names) if name == ours)
+                self.faults.append(Fault(self.name, 1, ours, f"more than one column has this meaning: {found}"))
+            else:
+                self.at[ours] = names.index(ours)
+
+    def rows(self) -> Iterator[Row]:
+        """The rows that have a field for each heading; the others are faults."""
+        width, line = len(self.heading), self._reader.line_num
+        while self.heading:
+            try:
+                for row in self._reader:
+                    first, line = line + 1, self._reader.line_num
+                    fields = [field.strip() for field in row]
+                    if not any(fields):
+                        continue
+                    if len(fields) != width:
+                        self._wrong_width(first, len(fields))
+                    elif not self._doubtful or self._readable(first, fields):
+                        yield first, fields
+                return
+            except csv.Error as error:
+                first, line = line + 1, self._reader.line_num
+                self.faults.append(Fault(self.name, first, self._quoted_column(first), f"quotes: {error}"))
+
+    def column(self, at: int) -> str:
+        """A column's heading as it stands in the file, or its place where that can't be printed."""
+        heading = self.heading[at] if at < len(self.heading) else ""
+        return heading if heading and heading.isprintable() else f"column {at + 1}"
+
+    def fault(self, line: int, ours: str, text: str, refusal: int = 0) -> None:
+        """Notes a fault in a column that is one of ours."""
+        self.faults.append(Fault(self.name, line, self.column(self.at[ours]) if ours in self.at else ours, text, refusal))
+
+    def figure(self, line: int, at: int, text: str, unit: Unit, rounded: bool = False) -> int:
+        """A decimal as a whole number in its unit and range. A fault is noted and gives 0."""
+        try:
+            number = whole(text, unit.places, rounded)
+        except ValueError as error:
+            self.faults.append(Fault(self.name, line, self.column(at), str(error)))
+            return 0
+        if not unit.low <= number <= unit.high:
+            low, high = decimal(unit.low, unit.places), decimal(unit.high, unit.places)
+            self.faults.append(Fault(self.name, line, self.column(at), f"{text} is outside {low} to {high}", unit.refusal))
+            return 0
+        return number
+
+    def name_in(self, line: int, ours: str, text: str) -> bool:
+        """Whether a field can be a name; a fault is noted otherwise."""
+        if not text:
+            self.fault(line, ours, "empty")
+        elif not text.isprintable():
+            self.fault(line, ours, f"{text!r} has a control character")
+        else:
+            return True
+        return False
+
+    def _readable(self, line: int, fields: Sequence[str]) -> bool:
+        bad = [at for at, field in enumerate(fields) if any("\udc80" <= c <= "\udcff" for c in field)]
+        for at in bad:
+            byte = next(ord(c) - 0xDC00 for c in fields[at] if "\udc80" <= c <= "\udcff")
+            self.faults.append(Fault(self.name, line, self.column(at), f"not UTF-8: the byte {byte:#04x}; save as CSV UTF-8"))
+        return not bad
+
+    def _wrong_width(self, line: int, fields: int) -> None:
+        text = f"{fields} fields where the heading has {len(self.heading)}"
+        self.faults.append(Fault(self.name, line, self.column(min(fields, len(self.heading))), text))
+
+    def _quoted_column(self, line: int) -> str:
+        """The column of the first quote that is not closed, or not followed by a separator, in the lines from this one on."""
+        text = "".join(list(_lines(self._text))[line - 1 :])
+        at, column = 0, 0
+        while at < len(text) and text[at] not in "\r\n":
+            if text[at] == '"':
+                at = _behind_quotes(text, at)
+                if not at or text[at : at + 1] not in (self._delimiter, "\r", "\n", ""):
+                    break
+            else:
+                while at < len(text) and text[at] not in (self._delimiter, "\r", "\n"):
+                    at += 1
+            if text[at : at + 1] == self._delimiter:
+                at, column = at + 1, column + 1
+        return self.column(column)
+
+
+def _lines(text: str) -> io.StringIO:
+    """The lines as the csv module counts them."""
+    return io.StringIO(text, newline="")
+
+
+def _delimiter(text: str) -> str:
+    heading = text.split("\n", 1)[0]
+    return max(",;\t", key=heading.count)
+
+
+def _behind_quotes(text: str, at: int) -> int:
+    """The place behind the quotes that open at a place, with two for one within them; 0 where they are never closed."""
+    at = text.find('"', at + 1)
+    while at >= 0 and text[at + 1 : at + 2] == '"':
+        at = text.find('"', at + 2)
+    return at + 1

@@ -1,0 +1,87 @@
+"""A case as CSV files, in the one form that packing and unpacking give back byte by byte."""
+
+from __future__ import annotations
+
+import csv
+import io
+import os
+from pathlib import Path
+from typing import Dict, Iterable, List, Sequence
+
+from .case import HEDGE_TYPES, TIMES_OF_USE, Case, PricedHour
+from .decimals import decimal
+from .faults import Fault, raise_any
+from .from_csv import BOOK, PRICES
+from .interface import LIMIT, QUANTITY, SHADOW_PRICE, SHIFT_FACTOR
+from .names_csv import HEADING, name_rows
+
+
+def csv_text(heading: Sequence[str], rows: Iterable[Sequence[object]]) -> str:
+    """A CSV text: commas, line feeds, quotes only where they are needed."""
+    text = io.StringIO()
+    writer = csv.writer(text, lineterminator="\n")
+    writer.writerow(heading)
+    writer.writerows(rows)
+    return text.getvalue()
+
+
+def _price_rows(case: Case, hour: PricedHour) -> List[Sequence[object]]:
+    """A row for each price that is not 0, or one with neither constraint nor price for an hour that has none."""
+    time = (hour.day, hour.hour or "", TIMES_OF_USE[hour.period])
+    posted = [(*time, case.names.constraints[k], decimal(price, SHADOW_PRICE.places)) for k, price in enumerate(hour.prices) if price]
+    return list(posted) or [(*time, "", "")]
+
+
+def csv_files(case: Case, hour_name: str = "") -> Dict[str, str]:
+    """The text of each CSV file of a case."""
+    names, count = case.names, len(case.names.constraints)
+    limits = [decimal(limit, LIMIT.places) for limit in case.limits]
+    factors = [decimal(factor, SHIFT_FACTOR.places) for factor in case.factors]
+    book = [
+        (
+            crr_id,
+            names.holder(contract.holder),
+            HEDGE_TYPES[contract.kind],
+            TIMES_OF_USE[contract.period],
+            names.nodes[contract.source],
+            names.nodes[contract.sink],
+            decimal(contract.quantity, QUANTITY.places),
+        )
+        for crr_id, contract in zip(names.contracts, case.book)
+    ]
+    files = {
+        "constraints.csv": csv_text(("CONSTRAINT_ID", "LIMIT_MW"), zip(names.constraints, limits)),
+        "factors.csv": csv_text(
+            ("NODE_ID", *names.constraints), ((node, *factors[n * count : (n + 1) * count]) for n, node in enumerate(names.nodes))
+        ),
+        "book.csv": csv_text(BOOK, book),
+        "names.csv": csv_text(HEADING, name_rows(names, hour_name, (case.grid_form, case.book_form))),
+    }
+    if case.hours:
+        files["prices.csv"] = csv_text(PRICES, (row for hour in case.hours for row in _price_rows(case, hour)))
+    return files
+
+
+def write_files(folder: Path, files: Dict[str, bytes]) -> None:
+    """Writes files below a folder, each whole or not at all."""
+    for below in {os.path.dirname(os.path.join(folder, name)) for name in files}:
+        os.makedirs(below, exist_ok=True)
+    for name, data in files.items():
+        path = os.path.join(folder, name)
+        try:
+            with open(f"{path}.new", "wb") as file:
+                file.write(data)
+            os.replace(f"{path}.new", path)
+        finally:
+            if os.path.exists(f"{path}.new"):
+                os.remove(f"{path}.new")
+
+
+def write_csv(case: Case, folder: Path, hour_name: str = "", force: bool = False) -> List[str]:
+    """Writes a case's CSV files and gives their names. A file that is there and says something else is a fault, unless forced: it may be someone's work."""
+    files = {name: text.encode() for name, text in csv_files(case, hour_name).items()}
+    other = [name for name, data in files.items() if (folder / name).exists() and (folder / name).read_bytes() != data]
+    if other and not force:
+        raise_any([Fault(name, 0, "", f"{folder / name} is there and differs: choose another folder (-o), or --force") for name in other])
+    write_files(folder, files)
+    return list(files)

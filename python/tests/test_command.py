@@ -1,0 +1,177 @@
+"""The command: exit statuses, JSON, remapping, ./crr from any folder, pipes that close and disks that are full."""
+
+import io
+import json
+import os
+import shutil
+import subprocess
+import tempfile
+import unittest
+from contextlib import redirect_stderr
+from pathlib import Path
+from unittest import mock
+
+from support import CASE_L, IEEE14, ROOT, FolderTest, command, contents
+import crr
+from crr.cli import Bar
+
+CRR = ROOT / "crr"
+
+
+class Statuses(FolderTest):
+    def test_passes_and_fails(self):
+        self.assertEqual(command("test", CASE_L)[0], 0)
+        status, out, err = command("test", IEEE14)
+        self.assertEqual((status, err), (1, ""))
+        self.assertIn("ON,annual,fail,1,7-8 reverse,2.25000000,7-8 reverse\n", out)
+        self.assertEqual(command("test", IEEE14, "--process", "monthly")[0], 0)
+        self.assertEqual(command("test", IEEE14, "--period", "off")[0], 0)
+        self.assertEqual(command("test", IEEE14, "--period", "on", "--process", "lt")[0], 1)
+
+    def test_prices_are_not_tested(self):
+        shutil.copytree(IEEE14, self.folder / "case")
+        (self.folder / "case" / "prices.csv").write_text("damaged")
+        self.assertEqual(command("test", self.folder / "case"), command("test", IEEE14))
+        self.assertEqual(command("check", self.folder / "case")[0], 2)
+
+    def test_usage(self):
+        self.assertEqual(command()[0], 2)
+        self.assertEqual(command("tset", CASE_L)[0], 2)
+        self.assertEqual(command("remap", CASE_L, "pairs.csv")[0], 2)  # no -o
+        self.assertEqual(command("--help")[0], 0)
+
+    def test_json(self):
+        status, out, _ = command("test", IEEE14, "--json")
+        answer = json.loads(out)
+        self.assertEqual((status, answer["passed"], len(answer["verdicts"])), (1, False, 6))
+        failing = {"time_of_use": "ON", "process": "Tier LT", "verdict": "fail", "overloaded": 2, "lowest": "7-8 reverse"}
+        self.assertEqual(answer["verdicts"][4], {**failing, "excess_mw": "4.00000000", "constraints": ["7-8 reverse", "7-9"]})
+        answer = json.loads(command("settle", CASE_L, "--json")[1])
+        self.assertEqual((answer["sum"], answer["exact_total"], answer["hours"]), ("8.99", "8.9917000000", 1))
+        answer = json.loads(command("check", IEEE14, "--json")[1])
+        self.assertEqual((answer["form"], answer["nodes"], answer["hours"]), ("CSV", 14, 48))
+        for arguments in (("pack", IEEE14), ("unpack", CASE_L), ("report", CASE_L)):
+            status, out, err = command(*arguments, "-o", self.folder / arguments[0], "--json")
+            self.assertEqual((status, json.loads(out)["out"], err), (0, str(self.folder / arguments[0]), ""))
+
+    def test_the_answer_is_the_same_in_both_forms(self):
+        command("pack", IEEE14, "-o", self.folder)
+        for arguments in (("test",), ("settle",)):
+            self.assertEqual(command(*arguments, IEEE14), command(*arguments, self.folder))
+
+
+class Terminal(io.StringIO):
+    def isatty(self):
+        return True
+
+
+class Progress(unittest.TestCase):
+    def told(self, stream, seconds):
+        with redirect_stderr(stream), mock.patch("time.monotonic", side_effect=[0.0] + seconds):
+            bar = Bar("settle")
+            for done in range(1, len(seconds) + 1):
+                bar(done, len(seconds))
+        return stream.getvalue()
+
+    def test_on_a_terminal(self):
+        said = self.told(Terminal(), [0.1, 1.0, 1.05, 2.0])
+        self.assertEqual(said.split("\r")[1:], ["settle [###############...............] 2 of 4 hours, 1 s left ", f"settle [{'#' * 30}] 4 of 4 hours, 0 s left \n"])
+
+    def test_elsewhere(self):
+        self.assertEqual(self.told(io.StringIO(), [1.0, 2.0]), "")
+
+    def test_short_work(self):
+        self.assertEqual(self.told(Terminal(), [0.1, 0.2]), "")
+
+
+class Remap(FolderTest):
+    PAIRS = "OLD_NODE,NEW_NODE\nBus 14,Bus 13\nBus 13,Bus 12\n"
+
+    def remapped(self, source):
+        pairs, out = self.folder / "pairs.csv", self.folder / "out"
+        pairs.write_text(self.PAIRS)
+        status, said, _ = command("remap", source, pairs, "-o", out)
+        self.assertEqual((status, said), (0, f"{out}: 2 pairs applied, 3 contracts of 16 changed\n"))
+        return out
+
+    def test_csv(self):
+        out = self.remapped(IEEE14)
+        expected = (IEEE14 / "book.csv").read_text().replace(",Bus 14,", ",Bus 12,").replace(",Bus 13,", ",Bus 12,")
+        self.assertEqual((out / "book.csv").read_text(), expected)
+        for name in ("constraints.csv", "factors.csv", "prices.csv"):
+            self.assertEqual((out / name).read_bytes(), (IEEE14 / name).read_bytes())
+
+    def test_bin(self):
+        command("pack", IEEE14, "-o", self.folder / "bin")
+        before, after = contents(self.folder / "bin"), contents(self.remapped(self.folder / "bin"))
+        self.assertEqual([name for name in before if before[name] != after[name]], ["book.bin"])
+        ends = [row[3:5] for row in crr.read_book(14, after["book.bin"])]
+        self.assertEqual(ends[4], (0, 11))
+
+    def test_no_other_hours(self):
+        command("pack", IEEE14, "-o", self.folder / "bin")
+        shutil.copytree(self.folder / "bin", self.folder / "out")
+        (self.folder / "bin" / "prices" / "2026-08-01" / "HE24.bin").unlink()
+        (self.folder / "pairs.csv").write_text(self.PAIRS)
+        status, _, err = command("remap", self.folder / "bin", self.folder / "pairs.csv", "-o", self.folder / "out")
+        self.assertEqual((status, err.count("HE24.bin is there and not one of the hours written")), (2, 1))
+
+    def test_same_ends(self):
+        (self.folder / "pairs.csv").write_text("OLD_NODE,NEW_NODE\nBus 1,Bus 4\n")
+        self.assertEqual(command("remap", IEEE14, self.folder / "pairs.csv", "-o", self.folder / "out")[0], 0)
+        self.assertIn("OBL,ON,Bus 4,Bus 4,30.000\n", (self.folder / "out" / "book.csv").read_text())
+        self.assertEqual(command("check", self.folder / "out")[0], 0)
+
+    def test_faults(self):
+        (self.folder / "pairs.csv").write_text("OLD_NODE,NEW_NODE\nBus 15,Bus 13\nBus 1,\n")
+        status, _, err = command("remap", IEEE14, self.folder / "pairs.csv", "-o", self.folder / "out")
+        self.assertEqual(status, 2)
+        self.assertIn("pairs.csv:2:OLD_NODE: no node 'Bus 15' in the grid (refusal 11)\n", err)
+        self.assertIn("pairs.csv:3:NEW_NODE: no node '' in the grid (refusal 11)\n", err)
+        self.assertFalse((self.folder / "out").exists())
+
+
+class FromTheShell(FolderTest):
+    def run_crr(self, *arguments, **options):
+        return subprocess.run([str(CRR), *map(str, arguments)], stdout=subprocess.PIPE, stderr=subprocess.PIPE, **options)
+
+    def test_from_any_folder(self):
+        (self.folder / "csv.py").write_text("raise SystemExit('the wrong module')")
+        os.symlink(CRR, self.folder / "crr-link")
+        done = subprocess.run(["./crr-link", "check", str(CASE_L)], cwd=self.folder, stdout=subprocess.PIPE)
+        self.assertEqual((done.returncode, done.stdout.decode().count("without a fault")), (0, 1))
+
+    def test_status(self):
+        self.assertEqual([self.run_crr("test", folder).returncode for folder in (CASE_L, IEEE14, self.folder)], [0, 1, 2])
+
+    def test_older_library(self):
+        """A library without the functions of today is told, and so is none at all."""
+        with tempfile.TemporaryDirectory() as held:
+            older = Path(held) / "libcrr.so"
+            subprocess.run(["gcc", "-shared", "-o", str(older), "-x", "c", os.devnull], check=True)
+            done = self.run_crr("test", CASE_L, env={**os.environ, "CRR_LIBRARY": str(older)})
+            said = f"crr: {older} has no crr_read_grid: it is older than this package; ./library builds it anew\n"
+            self.assertEqual((done.returncode, done.stderr.decode()), (2, said))
+            done = self.run_crr("test", CASE_L, env={**os.environ, "CRR_LIBRARY": str(older) + ".gone"})
+            self.assertEqual((done.returncode, done.stderr.decode().count("no shared library at")), (2, 1))
+
+    def test_pipe_closed(self):
+        shell = f"{CRR} settle {IEEE14} --json | head -n 1"
+        done = subprocess.run(["bash", "-o", "pipefail", "-c", shell], stdout=subprocess.PIPE, stderr=subprocess.PIPE)
+        self.assertEqual((done.returncode, done.stdout, done.stderr), (0, b"{\n", b""))
+
+    def test_full_disk(self):
+        if not os.path.exists("/dev/full"):
+            self.skipTest("no /dev/full")
+        with open("/dev/full", "wb") as full:
+            done = subprocess.run([str(CRR), "test", str(CASE_L)], stdout=full, stderr=subprocess.PIPE)
+        self.assertEqual((done.returncode, done.stderr), (2, b"crr: the output can't be written: No space left on device\n"))
+
+    def test_unwritable(self):
+        shutil.copytree(CASE_L, self.folder / "case")
+        (self.folder / "file").write_text("")
+        self.assertEqual(command("unpack", self.folder / "case", "-o", self.folder / "file" / "below")[0], 2)
+
+
+if __name__ == "__main__":
+    unittest.main()

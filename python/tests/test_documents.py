@@ -1,0 +1,57 @@
+"""The documents: every command of the tutorial and of the README's first section is run, and what it prints is compared with what stands there."""
+
+import os
+import re
+import shutil
+import subprocess
+import unittest
+
+from support import ROOT, FolderTest
+
+
+def commands(text):
+    """(command, expected output) of each `$` line of the console blocks."""
+    out = []
+    for block in re.findall(r"^```console\n(.*?)^```$", text, re.S | re.M):
+        for part in re.split(r"^\$ ", block, flags=re.M)[1:]:
+            command, _, expected = part.partition("\n")
+            out.append((command, expected))
+    return out
+
+
+class Documents(FolderTest):
+    def setUp(self):
+        super().setUp()
+        for name in ("crr", "python"):
+            os.symlink(ROOT / name, self.folder / name)
+        # The example's script finds the package two folders above itself.
+        shutil.copytree(ROOT / "examples", self.folder / "examples")
+
+    def walk(self, text, at_least):
+        steps = commands(text)
+        self.assertGreaterEqual(len(steps), at_least)
+        for command, expected in steps:
+            done = subprocess.run(["bash", "-c", command], cwd=self.folder, stdout=subprocess.PIPE, stderr=subprocess.STDOUT)
+            self.assertEqual(done.stdout.decode(), expected, f"after $ {command}")
+
+    def test_tutorial(self):
+        self.walk((ROOT / "docs" / "TUTORIAL.md").read_text(), 25)
+
+    def test_readme(self):
+        text = (ROOT / "README.md").read_text()
+        files = re.findall(r"`(\w+\.csv)`[^\n]*\n\n```csv\n(.*?)```", text, re.S)
+        self.assertEqual([name for name, _ in files], ["constraints.csv", "factors.csv", "book.csv", "prices.csv"])
+        (self.folder / "first").mkdir()
+        for name, content in files:
+            (self.folder / "first" / name).write_text(content)
+        self.walk(text, 4)
+
+    def test_links(self):
+        for page in [ROOT / "README.md", ROOT / "CHANGELOG.md", *(ROOT / "docs").rglob("*.md")]:
+            for target in re.findall(r"\]\(([^)#]+?)(?:#[^)]*)?\)", page.read_text()):
+                if "://" not in target:
+                    self.assertTrue((page.parent / target).exists(), f"{page}: {target}")
+
+
+if __name__ == "__main__":
+    unittest.main()

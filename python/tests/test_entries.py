@@ -1,0 +1,165 @@
+"""Every entry: the refusals that it can give, and random cases against exact fractions and a second packing."""
+
+import pickle
+import random
+import unittest
+from array import array
+
+from support import CASE_L, SEED, amounts, bits, draw_book, draw_grid, draw_prices, flows, half_away
+import crr
+
+
+class Refusals(unittest.TestCase):
+    """Each by an input that differs from an accepted one in that alone."""
+
+    def refused(self, number, function, *arguments):
+        with self.assertRaises(crr.Refused) as caught:
+            function(*arguments)
+        refused = caught.exception
+        self.assertEqual((refused.number, refused.meaning), (number, crr.MEANINGS[number]))
+        self.assertTrue(refused.entry.startswith("crr_"))
+        again = pickle.loads(pickle.dumps(refused))
+        self.assertEqual((again.number, again.meaning, again.entry, again.file, str(again)), (number, refused.meaning, refused.entry, refused.file, str(refused)))
+
+    def test_read_grid(self):
+        fields = [(8, 1), (7, 1), (1, 0), (27, 5), (18, -7)]
+        self.assertEqual(list(crr.read_grid(bits(fields)).factors), [-7])
+
+        def changed(place, value):
+            return bits([(width, value if at == place else own) for at, (width, own) in enumerate(fields)])
+
+        self.refused(1, crr.read_grid, b"\1")
+        self.refused(2, crr.read_grid, changed(0, 0))
+        self.refused(3, crr.read_grid, changed(1, 65))
+        self.refused(4, crr.read_grid, changed(2, 1))
+        self.refused(5, crr.read_grid, bits(fields) + b"\0")
+        self.refused(6, crr.read_grid, changed(3, 100_000_001))
+        self.refused(7, crr.read_grid, changed(4, 100_001))
+        self.refused(8, crr.read_grid, bits(fields + [(3, 1)]))
+
+    def test_write_grid(self):
+        self.refused(2, crr.write_grid, crr.Grid(0, 0, [], []))
+        self.refused(3, crr.write_grid, crr.Grid(1, 65, [0] * 65, [0] * 65))
+        self.refused(9, crr.write_grid, crr.Grid(1, 1, [], [0]))
+        self.refused(6, crr.write_grid, crr.Grid(1, 1, [100_000_001], [0]))
+        self.refused(7, crr.write_grid, crr.Grid(1, 1, [0], [-100_001]))
+
+    def test_book(self):
+        row = (0, 1, 7, 0, 1, 10)
+        self.assertEqual(crr.read_book(2, crr.write_book(2, [row])), [row])
+
+        def changed(place, value):
+            return [tuple(value if at == place else own for at, own in enumerate(row))]
+
+        self.refused(2, crr.write_book, 0, [row])
+        self.refused(10, crr.write_book, 2, [row] * 1001)
+        self.refused(17, crr.write_book, 2, changed(0, 2))
+        self.refused(17, crr.write_book, 2, changed(1, 2))
+        self.refused(18, crr.write_book, 2, changed(2, 1024))
+        self.refused(11, crr.write_book, 2, changed(3, 2))
+        self.refused(13, crr.write_book, 2, changed(5, 0))
+        self.refused(13, crr.write_book, 2, changed(5, 1_000_001))
+        self.refused(1, crr.read_book, 2, b"")
+        self.refused(10, crr.read_book, 2, bits([(10, 1001), (6, 0)]))
+        self.refused(4, crr.read_book, 2, bits([(10, 0), (6, 1)]))
+        self.refused(5, crr.read_book, 2, bits([(10, 1), (6, 0)]))
+        self.refused(11, crr.read_book, 1, crr.write_book(2, [row]))
+
+    def test_remap(self):
+        book = crr.write_book(3, [(0, 1, 7, 0, 1, 10), (1, 0, 8, 2, 1, 20)])
+        self.assertEqual(crr.remap_book(3, book, [], []), book)
+        moved = crr.read_book(3, crr.remap_book(3, book, [1, 2], [2, 0]))  # 1 to 2, then 2 to 0: both end at 0
+        self.assertEqual([row[3:5] for row in moved], [(0, 0), (0, 0)])
+        self.refused(11, crr.remap_book, 3, book, [3], [0])
+        self.refused(11, crr.remap_book, 3, book, [0], [3])
+        self.refused(9, crr.remap_book, 3, book, [0, 1], [0])
+        self.refused(2, crr.remap_book, 0, book, [], [])
+
+    def test_same_ends(self):
+        self.assertEqual(len(crr.write_book(2, [(0, 1, 7, 1, 1, 10)])), 8)
+
+    def test_prices(self):
+        self.refused(14, crr.read_prices, 2, crr.write_prices(1, [1]))
+        self.refused(15, crr.write_prices, 1, [500_001])
+        self.refused(17, crr.write_prices, 2, [1])
+        self.refused(3, crr.write_prices, 1, [0] * 65)
+        self.refused(3, crr.read_prices, 65, b"\0")
+        self.refused(1, crr.read_prices, 0, b"")
+
+    def test_rules(self):
+        grid = crr.Grid(2, 1, array("Q", [5]), array("q", [1, 2]))
+        empty = b"\0\0"
+        self.refused(16, crr.test_book, grid, empty, 3, 1)
+        self.refused(16, crr.released_percent, 3)
+        for entry, arguments in ((crr.test_book, (2, 2)), (crr.find_flows, (2,))):
+            self.refused(17, entry, grid, empty, *arguments)
+        for entry, arguments in ((crr.test_book, (2, 1)), (crr.find_flows, (1,))):
+            self.refused(9, entry, crr.Grid(2, 1, array("Q"), grid.factors), empty, *arguments)
+            self.refused(6, entry, crr.Grid(2, 1, [100_000_001], grid.factors), empty, *arguments)
+            self.refused(7, entry, crr.Grid(2, 1, grid.limits, [100_001, 0]), empty, *arguments)
+            self.refused(4, entry, grid, b"\0\1", *arguments)
+        self.refused(9, crr.find_mcc, grid, [])
+        self.refused(15, crr.find_mcc, grid, [500_001])
+        self.refused(17, crr.settle_hour, grid, empty, 2, [1])
+        self.refused(15, crr.settle_hour, grid, empty, 1, [500_001])
+
+    def test_the_file_is_named(self):
+        with self.assertRaisesRegex(crr.Refused, "^here/grid.bin: refused 1 by crr_read_grid: a file of fewer bytes"):
+            crr.read_grid(b"", "here/grid.bin")
+
+
+class Figures(unittest.TestCase):
+    def one_case(self, rng, nodes, constraints, contracts):
+        file, limits, factors = draw_grid(rng, nodes, constraints)
+        book, rows = draw_book(rng, nodes, contracts)
+        price_file, period, prices = draw_prices(rng, constraints)
+        grid = crr.read_grid(file)
+        self.assertEqual((list(grid.limits), list(grid.factors), crr.write_grid(grid)), (limits, factors, file))
+        self.assertEqual((crr.read_book(nodes, book), crr.write_book(nodes, rows)), (rows, book))
+        read = crr.read_prices(constraints, price_file)
+        self.assertEqual((read.period, list(read.prices), crr.write_prices(period, prices)), (period, prices, price_file))
+        exact = amounts(rows, factors, constraints, period, prices)
+        hour = crr.settle_hour(grid, book, period, prices)
+        self.assertEqual(list(hour.cents), [half_away(amount) for amount in exact])
+        self.assertEqual((hour.total.sum, hour.total.exact), (sum(hour.cents), sum(exact)))
+        posted = {k for k in range(constraints) if prices[k]}
+        for row, priced in zip(rows, hour.priced):
+            differ = {k for k in posted if factors[row[3] * constraints + k] != factors[row[4] * constraints + k]}
+            self.assertEqual({k for k in range(constraints) if priced >> k & 1}, differ if row[1] == period else set())
+        settler = crr.Settler(grid, book, contracts)
+        self.assertEqual((settler.settle(price_file), settler.cents, settler.priced), (hour.total, hour.cents, hour.priced))
+        for own in (0, 1):
+            self.verdicts(grid, book, own, limits, flows(rows, factors, constraints, own), sum(row[1] == own for row in rows))
+
+    def verdicts(self, grid, book, period, limits, expected, counted):
+        self.assertEqual(crr.find_flows(grid, book, period), (expected, counted))
+        for process in range(3):
+            released = [limit * crr.released_percent(process) * 1000 for limit in limits]
+            over = tuple(k for k, flow in enumerate(expected) if flow > released[k])
+            verdict = crr.test_book(grid, book, process, period)
+            self.assertEqual((verdict.passed, verdict.overloaded, verdict.count), (not over, over, len(over)))
+            self.assertEqual((verdict.named, verdict.excess), (over[0], expected[over[0]] - released[over[0]]) if over else (None, 0))
+
+    def test_random_cases(self):
+        rng = random.Random(SEED)
+        for _ in range(4):
+            self.one_case(rng, 200, 64, 1000)
+        for _ in range(150):
+            self.one_case(rng, *rng.choice(((2, 0, 3), (5, 3, 20), (30, 12, 80), (9, 5, 0))))
+
+    def test_mcc(self):
+        grid = crr.read_grid((CASE_L / "grid.bin").read_bytes())
+        self.assertEqual(list(crr.find_mcc(grid, [1000, 2550])), [-9_000_000, 0, -92_000_000])
+
+    def test_released(self):
+        self.assertEqual([crr.released_percent(process) for process in range(3)], [65, 60, 100])
+
+    def test_texts(self):
+        files = [(CASE_L / name).read_bytes() for name in ("grid.bin", "book.bin", "prices.bin")]
+        self.assertEqual(crr.write_statement(*files).splitlines()[-1], "exact,899,17000000")
+        self.assertIn("on-peak,monthly,pass,0,,,\n", crr.write_report(*files[:2]))
+        self.assertEqual(crr.write_report(b"", b""), "refused,grid,1\n")
+
+
+if __name__ == "__main__":
+    unittest.main()

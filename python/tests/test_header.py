@@ -1,0 +1,60 @@
+"""crr/interface.py against include/crr.h, in both directions."""
+
+import re
+import unittest
+
+from support import ROOT
+from crr import interface
+import crr
+
+HEADER = (ROOT / "include" / "crr.h").read_text()
+CODE = re.sub(r"/\*.*?\*/", "", HEADER, flags=re.S)
+SIZES, REFUSALS = HEADER.split("Refusals, by number.")
+
+
+class Header(unittest.TestCase):
+    def test_declarations(self):
+        found = {}
+        for name, parameters in re.findall(r"\buint64_t (crr_\w+)\(([^;]*)\);", CODE):
+            found[name] = re.sub(r"\s+", " ", parameters)
+        self.assertGreater(len(found), 10)
+        self.assertEqual(found, interface.DECLARATIONS)
+
+    def test_every_entry_has_a_function(self):
+        for name in interface.DECLARATIONS:
+            self.assertTrue(callable(getattr(crr, name[len("crr_") :], None)), name)
+
+    def test_constants(self):
+        found = {name: int(value) for name, value in re.findall(r"#define CRR_(\w+) +(\d+)", SIZES)}
+        ours = {name: value for name, value in vars(interface).items() if name.isupper() and isinstance(value, int) and not name.endswith("_PLACES")}
+        self.assertEqual(found, ours)
+
+    def test_meanings(self):
+        found = {int(number): meaning for number, meaning in re.findall(r"#define CRR_\w+ +(\d+) +/\* (.*?) \*/", REFUSALS)}
+        self.assertEqual(sorted(found), sorted(map(int, re.findall(r"#define CRR_\w+ +(\d+)", REFUSALS))))  # none without its meaning
+        self.assertEqual(found.pop(0), "no refusal")
+        self.assertEqual(found, interface.MEANINGS)
+
+    def test_units(self):
+        for unit, words, places in (
+            (interface.QUANTITY, "quantity +thousandths of a MW", 3),
+            (interface.LIMIT, "limit +thousandths of a MW", 3),
+            (interface.SHIFT_FACTOR, "shift factor +hundred-thousandths", 5),
+            (interface.SHADOW_PRICE, "shadow price +cents per MWh", 2),
+            (interface.HOLDER, r"holder", 0),
+        ):
+            low, high = re.search(words + r"(?:, | \()(-?[\d,]*\d) to ([\d,]*\d)", HEADER).groups()
+            self.assertEqual((unit.places, unit.low, unit.high), (places, int(low.replace(",", "")), int(high.replace(",", ""))), words)
+            self.assertIn(unit.refusal, interface.MEANINGS)
+        self.assertRegex(HEADER, r"flow, excess +10\^-8 MW")
+        self.assertRegex(HEADER, r"parts +10\^-8 cents")
+        self.assertEqual((interface.FLOW_PLACES, interface.PART_PLACES), (8, 8))
+
+    def test_processes_and_periods(self):
+        self.assertRegex(HEADER, r"period +0 off-peak, 1 on-peak")
+        self.assertRegex(HEADER, r"process +0 annual, 1 Tier LT, 2 monthly")
+        self.assertEqual((crr.PERIODS, crr.PROCESSES), (("off-peak", "on-peak"), ("annual", "Tier LT", "monthly")))
+
+
+if __name__ == "__main__":
+    unittest.main()
