@@ -1,28 +1,27 @@
 -- What is known of a call that remapping's checks accept.
 use mathlib.Core.Path.{_≡_, sym, ap, _∙_}
 use mathlib.Core.Bool.{false}
-use mathlib.Core.List.{List, [], _∷_, _++_, map}
+use mathlib.Core.List.{List, [], _∷_, map}
 use Prim.Native.Nat.{ℕ, _^_, _≤_, _<_}
 use native.Mathlib.Omega.{arith}
 use borrow.Author.Tests.{ltb-false, leb-false, lt-leb}
 use lib.Dec.{leb}
 use lib.ListN.{length, getD}
-use Rattle.lists.specs.Lists.{Each, some, listTo}
+use Rattle.lists.specs.Lists.{some, listTo}
 use Rattle.lists.proofs.Lists.{length-listTo, listTo-cong, map-listTo, each-listTo}
 use Rattle.lists.proofs.Search.{none-bad}
 use Rattle.tariff.specs.declared.contracts.Contract.{Contract}
 use Rattle.tariff.specs.declared.refusals.Checked.the-variants.{Passed}
-use Rattle.tariff.specs.Inner.{InRange}
 use Rattle.tariff.specs.Refusals.{first}
 use Rattle.tariff.specs.Checks.{nodeNumber, shortTable}
 use Rattle.tariff.proofs.Checks.{first-passes, passed-cons, passed-append, nodes-few-of, same-of}
 use Rattle.layouts.specs.declared.forms.Form.{Form}
 use Rattle.layouts.specs.Forms.{endWidth, endsBelow}
-use Rattle.layouts.specs.BookFile.{bookBytes, bookFile, contractCountIn, bookFormIn, contractAt, bookIn}
+use Rattle.layouts.specs.BookFile.{bookBytes, contractCountIn, bookFormIn, contractAt, bookIn}
 use Rattle.layouts.specs.Inner.{ContractFits}
 use Rattle.layouts.proofs.BookFile.{contract-in-fits, ends-fewer, end-below, end-fits}
 use Rattle.books.specs.BookChecks.{contractChecks, bookChecks}
-use Rattle.books.proofs.Accepted.{Accepted, contract-in-range, contracts-pass, book-accepted}
+use Rattle.books.proofs.Accepted.{Accepted, contracts-pass, book-accepted}
 use Rattle.books.proofs.Making.{Made, book-made}
 use Rattle.book_remap.specs.RemapBook.{movedEnd, remapped, RemapBookCall, listedNodes, unequalLists, remapBookChecks, remapBookChecked, bookRemapped}
 use Rattle.book_remap.specs.Inner.{movedBy, Moves, Listed, Movable}

@@ -1,6 +1,6 @@
 // Remapping a book (document 02, paper 6): a list of old and new node numbers, applied to both ends of each contract, one pair after another.
 ghost use mathlib.Core.Path.{_≡_};
-ghost use mathlib.Core.List.{List, [], _∷_};
+ghost use mathlib.Core.List.{List, []};
 ghost use Prim.Native.Nat.{ℕ, _+_, _≤_, _<_};
 ghost use lib.ListN.{length, getD};
 ghost use Rattle.lists.specs.Lists.{listTo};

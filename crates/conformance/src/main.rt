@@ -1,4 +1,5 @@
-// Goes through document 01's checked values, the vectors of its sources and those of document 02's requests with the proved entries, and prints each beside what is expected.
+// Goes through document 01's checked values, the vectors of its sources and those of document 02's requests with the proved entries, and prints each
+// beside what is expected.
 fn main() {
     vectors::go_through();
     request_vectors::go_through();

@@ -1,7 +1,6 @@
 -- `check_remap`: each return by the tests that led there.
 use mathlib.Core.Path.{_≡_, sym, ap, _∙_}
 use native.Mathlib.Omega.{arith}
-use Rattle.tariff.specs.declared.refusals.Checked.{Checked}
 use Rattle.tariff.specs.Refusals.{first}
 use Rattle.tariff.proofs.Checks.{first-refuses, nodes-some-of}
 use Rattle.layouts.specs.declared.forms.Form.{Form}

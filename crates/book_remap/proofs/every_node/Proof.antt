@@ -1,6 +1,5 @@
 -- `every_node`: those passed stand for themselves.
 use mathlib.Core.Path.{_≡_, refl}
-use mathlib.Core.List.{[]}
 use Prim.Native.Nat.{ℕ, _-_, _≤_, _<_}
 use native.Mathlib.Omega.{arith}
 use lib.ListN.{length, getD, length-set}

@@ -1,6 +1,6 @@
 -- `moved_contract`.
 use mathlib.Core.Path.{ap, _∙_}
-use lib.ListN.{length, getD}
+use lib.ListN.{getD}
 use Rattle.tariff.specs.declared.contracts.Contract.{Contract}
 use Rattle.book_remap.specs.Inner.{movedBy}
 use borrow.Author.Needs.{needs}
