@@ -6,8 +6,10 @@ use lib.Dec.{leb, ltb, eqb}
 use lib.IntN.{ℤ, natAbs}
 use Rattle.lists.specs.Lists.{some, above}
 use Rattle.tariff.specs.declared.refusals.Refusal.the-variants.{NodeCount, ConstraintCount, LimitRange, FactorRange, ShortTable, ContractCount}
-use Rattle.tariff.specs.declared.refusals.Refusal.the-variants.{NodeNumber, QuantityRange, PriceRange, ProcessNumber, PeriodOrKind, HolderRange, ShareRange, NoDemand}
-use Rattle.tariff.specs.Units.{maxNodes, maxConstraints, maxContracts, maxLimit, maxFactor, maxPrice, maxQuantity, maxHolder, maxCoordinators, maxBalance, maxDemand}
+use Rattle.tariff.specs.declared.refusals.Refusal.the-variants.{NodeNumber, QuantityRange, PriceRange, ProcessNumber, PeriodOrKind, HolderRange}
+use Rattle.tariff.specs.declared.refusals.Refusal.the-variants.{ShareRange, NoDemand}
+use Rattle.tariff.specs.Units.{maxNodes, maxConstraints, maxContracts, maxLimit, maxFactor, maxPrice, maxQuantity, maxHolder}
+use Rattle.tariff.specs.Units.{maxCoordinators, maxBalance, maxDemand}
 use Rattle.tariff.specs.Refusals.{Check}
 
 -- 2: nodes 0 or above a bound
