@@ -1,1 +1,4 @@
 pub mod Signs
+pub mod Passing
+pub mod Sharing
+pub mod Fairness

@@ -29,9 +29,13 @@ threshold-law n key x l e i b = by (leb x (key i)) (λ t. leb→le x (key i) t) 
     -- those above key i are among those from x on, and i is not one of them
     fewer : x ≤ key i → countOf n (λ j. ltb (key i) (key j)) < l
     fewer h =
-        omega (arith, e, count-strict n (λ j. ltb (key i) (key j)) (λ j. leb x (key j)) i b
-        (λ j c t. le→leb x (key j) (omega (arith, ltb→lt (key i) (key j) t)))
-        (not-T (ltb (key i) (key i)) (λ t. never (key i) (ltb→lt (key i) (key i) t))) (le→leb x (key i) h))
+        omega (
+          arith,
+          e,
+          count-strict n (λ j. ltb (key i) (key j)) (λ j. leb x (key j)) i b
+              (λ j c t. le→leb x (key j) (omega (arith, ltb→lt (key i) (key j) t)))
+              (not-T (ltb (key i) (key i)) (λ t. never (key i) (ltb→lt (key i) (key i) t))) (le→leb x (key i) h),
+        )
       where
         never : (k : ℕ) → k < k → ⊥
         never k h = omega arith
