@@ -63,6 +63,7 @@ module _ (size sum : ℕ) (ds : List ℕ) (w : Weighed size sum ds) where
         let f = rest (length ds) (demandOf ds) size in
         record {
           cells = r .key-cells;
+          limited = omega (arith, w .sum-is, total-small ds (w .demands-in));
           small = λ i b. below (keyAt keys i) (keyOf f maxCoordinators i) (totalOf ds) (r .key-is i b) (top i b) (w .sum-is);
           apart = λ i j b c e. keys-apart f (length ds) maxCoordinators (w .demands-in .few) i j b c (sym (r .key-is i b) ∙ e ∙ r .key-is j c);
           enough = omega (arith, left-is, leftover-small (length ds) (demandOf ds) size some);

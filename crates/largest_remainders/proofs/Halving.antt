@@ -1,14 +1,14 @@
 -- Keys from a number on: from 0 on there are all, from above them none, and a step loses one at most, since they differ. So halving finds a number from which
 -- on there are exactly l.
-use mathlib.Core.Path.{_≡_, sym, ap, subst, _∙_}
-use mathlib.Core.Bool.{Bool, true, false}
+use mathlib.Core.Path.{_≡_, sym, subst, _∙_}
+use mathlib.Core.Bool.{Bool, true, false, not}
 use mathlib.Core.Logic.{⊎-elim}
-use Prim.Native.Nat.{ℕ, suc, _+_, _≤_, _<_}
+use Prim.Native.Nat.{ℕ, suc, _+_, _-_, _/_, _^_, _≤_, _<_}
 use native.Mathlib.Nat.{eq-or-lt-of-le}
 use native.Mathlib.Omega.{arith}
-use lib.Dec.{T, leb, ltb, eqb, leb→le, le→leb, ltb→lt, lt→ltb, eqb→eq, eqb-refl, not-T, nleb→lt}
+use lib.Dec.{T, leb, eqb, leb→le, le→leb, nleb→lt, eqb→eq, eqb-refl}
 use Rattle.lists.specs.Sets.{countOf}
-use Rattle.largest_remainders.specs.Inner.{Different, keysFrom}
+use Rattle.largest_remainders.specs.Inner.{Different, keyLimit, keysFrom}
 use Rattle.largest_remainders.proofs.Counting.{bit, addTo-mono, addTo-plus, count-is-sum, count-mono, count-all, count-none, count-le, count-one}
 
 -- what is x or above is above it, or it is x
@@ -20,6 +20,14 @@ step-bit k x = by (leb x k) (leb (suc x) k) (eqb k x) (leb→le x k) (le→leb (
     by true false true f g h = omega arith
     by true false false f g h = absurd (⊎-elim (λ e. h (sym e)) g (eq-or-lt-of-le (f tt)))
     by false b c f g h = omega arith
+
+-- bit 63 of a key that is lifted by 2^63 − x
+pub lifted-bit : (k x : ℕ) → k < keyLimit → x ≤ keyLimit → (k + (keyLimit - x)) / 2 ^ 63 ≡ bit (leb x k)
+lifted-bit k x h l = by (leb x k) (leb→le x k) (nleb→lt x k)
+  where
+    by : (b : Bool) → (T b → x ≤ k) → (T (not b) → k < x) → (k + (keyLimit - x)) / 2 ^ 63 ≡ bit b
+    by true f g = omega (arith, f tt)
+    by false f g = omega (arith, g tt)
 
 module _ (n : ℕ) (key : ℕ → ℕ) where
   pub from-zero : keysFrom n key 0 ≡ n

@@ -1,21 +1,23 @@
 // Sharing by largest remainders, free of what is shared: the definitions, their laws, and the search for the key from which on exactly so many keys are.
 ghost use mathlib.Core.Path.{_≡_};
-ghost use Prim.Native.Nat.{_≤_};
+ghost use Prim.Native.Nat.{ℕ, _≤_, _<_};
 ghost use lib.ListN.{length};
 ghost use Rattle.lists.specs.Lent.{before};
-ghost use Rattle.largest_remainders.specs.Inner.{keysFrom, keyAt, Searchable};
+ghost use Rattle.largest_remainders.specs.Inner.{keyLimit, keysFrom, keyAt, Searchable};
 
-// How many of the first `count` keys are `least` or above.
+// Keys are below this.
+const KEY_LIMIT: u64 = 1 << 63;
+
+// How many of the first `count` keys are `least` or above: with `lift` added, those and no others have bit 63. One addition and one shift a key, and no branch.
 fn keys_from(keys: &[u64], count: usize, least: u64) -> u64
-    requires { ⌜ count ≤ length (now keys) ⌝ }
+    requires { ⌜ (count ≤ length (now keys)) × (least ≤ keyLimit) × ((i : ℕ) → i < count → keyAt (now keys) i < keyLimit) ⌝ }
     ensures { λ r. ⌜ r ≡ keysFrom count (keyAt (before keys)) least ⌝ }
 {
+    let lift = KEY_LIMIT - least;
     let mut many = 0;
     let mut i = 0;
     while i < count {
-        if least <= keys[i] {
-            many += 1;
-        }
+        many += (keys[i] + lift) >> 63;
         i += 1;
     }
     many

@@ -39,7 +39,9 @@ add-middle : tie.Need-add-middle Inv-loop μ-loop
 add-middle c = omega arith
 
 keys-from-requires : tie.Need-keys-from-requires Inv-loop μ-loop
-keys-from-requires c κs = c .before .before .before .before .pre .cells
+keys-from-requires c κs =
+    let p = c .before .before .before .before .pre in
+    (p .cells, omega (arith, p .limited), λ i b. omega (arith, p .limited, p .small i b))
 
 returns-2 : tie.Need-returns-2 Inv-loop μ-loop
 returns-2 c = sym (c .before .keys-from .ensures) ∙ c .if2 .taken
