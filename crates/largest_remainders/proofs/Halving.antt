@@ -1,10 +1,10 @@
--- Keys from a number on: from 0 on there are all, from above them none, and a step loses one at most, since they differ. So halving finds a number from which
--- on there are exactly l.
-use mathlib.Core.Path.{_≡_, sym, subst, _∙_}
+-- Keys from a number on: from 0 on there are all, from above them none, and a step loses one at most, since they differ. So a search between finds a number from
+-- which on there are exactly l.
+use mathlib.Core.Path.{_≡_, sym, ap, subst, _∙_}
 use mathlib.Core.Bool.{Bool, true, false, not}
-use mathlib.Core.Logic.{⊎-elim}
-use Prim.Native.Nat.{ℕ, suc, _+_, _-_, _/_, _^_, _≤_, _<_}
-use native.Mathlib.Nat.{eq-or-lt-of-le}
+use mathlib.Core.Logic.{_⊎_, inl, inr, ⊎-elim}
+use Prim.Native.Nat.{ℕ, suc, _+_, _-_, _*_, _/_, _%_, _^_, _≤_, _<_}
+use native.Mathlib.Nat.{eq-or-lt-of-le, eq-zero-or-pos, div-add-mod', mul-le-mul-left, mul-suc, zero-mul}
 use native.Mathlib.Omega.{arith}
 use lib.Dec.{T, leb, eqb, leb→le, le→leb, nleb→lt, eqb→eq, eqb-refl}
 use Rattle.lists.specs.Sets.{countOf}
@@ -51,13 +51,22 @@ module _ (n : ℕ) (key : ℕ → ℕ) where
         addTo-mono n {f = λ j. bit (leb x (key j))} {g = λ j. bit (leb (suc x) (key j)) + bit (eqb (key j) x)} (λ j b. step-bit (key j) x),
       )
 
-  -- what halving keeps, and where it ends
-  pub record Between (l low high : ℕ) : Type 0 where
-    pub enough : l ≤ keysFrom n key low
-    pub fewer : keysFrom n key high < l
+  -- what the search keeps, and where it ends
+  pub record Between (l low enough high fewer : ℕ) : Type 0 where
+    pub enough-is : enough ≡ keysFrom n key low
+    pub fewer-is : fewer ≡ keysFrom n key high
+    pub is-enough : l ≤ enough
+    pub is-fewer : fewer < l
 
-  pub halved : Different n key → (l low high : ℕ) → Between l low high → high ≤ low + 1 → low < high → keysFrom n key low ≡ l
-  halved apart l low high b h g =
-      let e : high ≡ suc low = omega arith in
-      let f : keysFrom n key (suc low) < l = subst (λ (x : ℕ). keysFrom n key x < l) e (b .fewer) in
-      omega (arith, b .enough, f, from-step apart low)
+  pub met : Different n key → (l low enough high fewer : ℕ) → Between l low enough high fewer → low < high → high ≤ low + 1 → keysFrom n key low ≡ l
+  met apart l low enough high fewer b g h =
+      let next : keysFrom n key high ≡ keysFrom n key (suc low) = ap (keysFrom n key) (omega arith) in
+      omega (arith, b .enough-is, b .fewer-is, b .is-enough, b .is-fewer, next, from-step apart low)
+
+-- a step by how the keys are spread stays below the whole
+pub step-small : (x d e : ℕ) → 0 < x → e < d → x / d * e < x
+step-small x d e some h = by (x / d) (div-add-mod' x d) (eq-zero-or-pos (x / d))
+  where
+    by : (q : ℕ) → q * d + x % d ≡ x → (q ≡ 0) ⊎ (0 < q) → q * e < x
+    by q s (inl z) = rw z (omega (arith, zero-mul e))
+    by q s (inr p) = omega (arith, mul-le-mul-left q h, mul-suc q e)
