@@ -6,7 +6,7 @@ use mathlib.Core.List.{List}
 use Prim.Native.Nat.{ℕ, zero, suc, _+_, _*_, _≤_, _<_}
 use native.Mathlib.Omega.{arith}
 use lib.Dec.{T}
-use lib.ListN.{length, getD}
+use lib.ListN.{length}
 use lib.IntN.{ℤ, pos, negsuc, negℤ, natAbs, negℤ-negℤ, _+ℤ_, _-ℤ_, _*ℤ_}
 use Rattle.lists.specs.Lent.{overwrite}
 use Rattle.lists.proofs.Lists.{length-listTo, getD-listTo}
@@ -15,9 +15,9 @@ use Rattle.integers.specs.Sums.{sumTo}
 use Rattle.integers.proofs.Linear.{_⊖_, ⊖s}
 use Rattle.integers.proofs.Sums.{sumTo-cong}
 use Rattle.largest_remainders.specs.Ranks.{addTo}
-use Rattle.largest_remainders.specs.Shares.{beforeBy, whole, rest, given, share}
+use Rattle.largest_remainders.specs.Shares.{beforeBy, whole, given, share}
 use Rattle.largest_remainders.proofs.Theorems.{adds-up, near, no-weight, no-size, largest-first}
-use Rattle.balancing_account.specs.ShareBalance.{demandOf, totalOf, signedLike, shareOf, sharesOf, Fair}
+use Rattle.balancing_account.specs.ShareBalance.{demandOf, totalOf, signedLike, shareOf, sharesOf, wholeOf, restOf, cellOf}
 use Rattle.balancing_account.proofs.Signs.{signed-sized}
 
 -- ---- sums of one sign
@@ -71,49 +71,47 @@ module _ (n : ℕ) (weight : ℕ → ℕ) (size i : ℕ) where
 
 -- ---- the cells
 
-module _ (balance : ℤ) (ds : List ℕ) (some : 0 < totalOf ds) (entry : List ℤ) where
+module _ (balance : ℤ) (ds : List ℕ) (entry : List ℤ) where
   abbrev cells : List ℤ
   cells = overwrite (sharesOf balance ds) entry
 
   abbrev sized : ℕ → ℕ
   sized = share (length ds) (demandOf ds) (natAbs balance)
 
-  pub cell-is : (i : ℕ) → i < length ds → getD cells i (pos 0) ≡ shareOf balance ds i
+  pub cell-is : (i : ℕ) → i < length ds → cellOf cells i ≡ shareOf balance ds i
   cell-is i b =
       front-at (sharesOf balance ds) entry (length ds) (length-listTo (length ds) (shareOf balance ds)) i (pos 0) b
       ∙ getD-listTo (length ds) (shareOf balance ds) i (pos 0) b
 
-  cell-size : (i : ℕ) → i < length ds → natAbs (getD cells i (pos 0)) ≡ sized i
+  cell-size : (i : ℕ) → i < length ds → natAbs (cellOf cells i) ≡ sized i
   unfolding shareOf
   cell-size i b = ap natAbs (cell-is i b) ∙ signed-sized balance (sized i)
 
-  all-together : sumTo (length ds) (λ i. getD cells i (pos 0)) ≡ balance
-  unfolding shareOf
-  all-together =
-      sumTo-cong (length ds) cell-is
-      ∙ signed-sum balance (length ds) sized
-      ∙ ap (signedLike balance) (adds-up (length ds) (demandOf ds) (natAbs balance) some)
-      ∙ signed-size balance
+  module _ (some : 0 < totalOf ds) where
+    pub all-together : sumTo (length ds) (cellOf cells) ≡ balance
+    unfolding shareOf
+    all-together =
+        sumTo-cong (length ds) cell-is
+        ∙ signed-sum balance (length ds) sized
+        ∙ ap (signedLike balance) (adds-up (length ds) (demandOf ds) (natAbs balance) some)
+        ∙ signed-size balance
 
-  each-near : (i : ℕ) → i < length ds → natAbs (getD cells i (pos 0) *ℤ pos (totalOf ds) -ℤ balance *ℤ pos (demandOf ds i)) < totalOf ds
-  unfolding shareOf
-  each-near i b =
-      let h = near (length ds) (demandOf ds) (natAbs balance) some i in
-      rw (cell-is i b) (signed-near balance (sized i) (totalOf ds) (demandOf ds i) (h .0) (h .1))
+    pub each-near : (i : ℕ) → i < length ds → natAbs (cellOf cells i *ℤ pos (totalOf ds) -ℤ balance *ℤ pos (demandOf ds i)) < totalOf ds
+    unfolding shareOf
+    each-near i b =
+        let h = near (length ds) (demandOf ds) (natAbs balance) some i in
+        rw (cell-is i b) (signed-near balance (sized i) (totalOf ds) (demandOf ds i) (h .0) (h .1))
 
-  none-without : (i : ℕ) → i < length ds → demandOf ds i ≡ 0 → getD cells i (pos 0) ≡ pos 0
-  unfolding shareOf
-  none-without i b e = cell-is i b ∙ ap (signedLike balance) (no-weight (length ds) (demandOf ds) (natAbs balance) some i e) ∙ signed-none balance
+    pub none-without : (i : ℕ) → i < length ds → demandOf ds i ≡ 0 → cellOf cells i ≡ pos 0
+    unfolding shareOf
+    none-without i b e = cell-is i b ∙ ap (signedLike balance) (no-weight (length ds) (demandOf ds) (natAbs balance) some i e) ∙ signed-none balance
 
-  first-largest : (i j : ℕ) → i < length ds → j < length ds → whole (length ds) (demandOf ds) (natAbs balance) i < natAbs (getD cells i (pos 0))
-      → natAbs (getD cells j (pos 0)) ≤ whole (length ds) (demandOf ds) (natAbs balance) j → T (beforeBy (rest (length ds) (demandOf ds) (natAbs balance)) i j)
-  first-largest i j b c more kept =
-      largest-first (length ds) (demandOf ds) (natAbs balance) some i j b c
-      (more-given (length ds) (demandOf ds) (natAbs balance) i (omega (arith, cell-size i b)))
-      (kept-not-given (length ds) (demandOf ds) (natAbs balance) j (omega (arith, cell-size j c)))
-
-  pub fair-cells : Fair balance ds cells
-  fair-cells = record { adds-up = all-together; near = each-near; no-demand-no-cent = none-without; largest-first = first-largest }
+    pub first-largest : (i j : ℕ) → i < length ds → j < length ds → wholeOf balance ds i < natAbs (cellOf cells i) → natAbs (cellOf cells j) ≤ wholeOf balance ds j
+        → T (beforeBy (restOf balance ds) i j)
+    first-largest i j b c more kept =
+        largest-first (length ds) (demandOf ds) (natAbs balance) some i j b c
+        (more-given (length ds) (demandOf ds) (natAbs balance) i (omega (arith, cell-size i b)))
+        (kept-not-given (length ds) (demandOf ds) (natAbs balance) j (omega (arith, cell-size j c)))
 
 -- the shares of the opposite balance
 pub opposite : (balance : ℤ) (ds : List ℕ) → 0 < totalOf ds → (i : ℕ) → shareOf (negℤ balance) ds i ≡ negℤ (shareOf balance ds i)

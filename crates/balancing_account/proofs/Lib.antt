@@ -2,3 +2,4 @@ pub mod Signs
 pub mod Passing
 pub mod Sharing
 pub mod Fairness
+pub mod Theorems

@@ -65,27 +65,26 @@ shareOf balance demands i = signedLike balance (share (length demands) (demandOf
 abbrev pub sharesOf : ℤ → List ℕ → List ℤ
 sharesOf balance demands = listTo (length demands) (shareOf balance demands)
 
--- what makes cells fair shares of a balance
-module _ (balance : ℤ) (demands : List ℕ) (cells : List ℤ) where
-  abbrev pub cellOf : ℕ → ℤ
-  cellOf i = getD cells i (pos 0)
+-- the proportion in size rounded towards zero, and what that cuts off, in parts of the demands' total
+abbrev pub wholeOf : ℤ → List ℕ → ℕ → ℕ
+wholeOf balance demands i = whole (length demands) (demandOf demands) (natAbs balance) i
 
-  -- the proportion in size rounded towards zero, and what that cuts off
-  abbrev pub wholeOf : ℕ → ℕ
-  wholeOf i = whole (length demands) (demandOf demands) (natAbs balance) i
+abbrev pub restOf : ℤ → List ℕ → ℕ → ℕ
+restOf balance demands i = rest (length demands) (demandOf demands) (natAbs balance) i
 
-  abbrev pub restOf : ℕ → ℕ
-  restOf i = rest (length demands) (demandOf demands) (natAbs balance) i
+abbrev pub cellOf : List ℤ → ℕ → ℤ
+cellOf cells i = getD cells i (pos 0)
 
-  pub record Fair : Type 0 where
-    -- "Shares add up to the balance to the cent"
-    pub adds-up : sumTo (length demands) cellOf ≡ balance
-    -- "none is a cent or more from its exact proportion": both sides times the demands' total
-    pub near : (i : ℕ) → i < length demands → natAbs (cellOf i *ℤ pos (totalOf demands) -ℤ balance *ℤ pos (demandOf demands i)) < totalOf demands
-    pub no-demand-no-cent : (i : ℕ) → i < length demands → demandOf demands i ≡ 0 → cellOf i ≡ pos 0
-    -- who has more than the whole cents comes, by "the largest remainders in size, then the lower number", before who has not
-    pub largest-first : (i j : ℕ) → i < length demands → j < length demands → wholeOf i < natAbs (cellOf i) → natAbs (cellOf j) ≤ wholeOf j
-        → T (beforeBy restOf i j)
+-- cells that are fair shares of a balance
+pub record Fair (balance : ℤ) (demands : List ℕ) (cells : List ℤ) : Type 0 where
+  -- "Shares add up to the balance to the cent"
+  pub adds-up : sumTo (length demands) (cellOf cells) ≡ balance
+  -- "none is a cent or more from its exact proportion": both times the demands' total
+  pub near : (i : ℕ) → i < length demands → natAbs (cellOf cells i *ℤ pos (totalOf demands) -ℤ balance *ℤ pos (demandOf demands i)) < totalOf demands
+  pub no-demand-no-cent : (i : ℕ) → i < length demands → demandOf demands i ≡ 0 → cellOf cells i ≡ pos 0
+  -- who has more than the whole cents comes, by "the largest remainders in size, then the lower number", before who has not
+  pub largest-first : (i j : ℕ) → i < length demands → j < length demands
+      → wholeOf balance demands i < natAbs (cellOf cells i) → natAbs (cellOf cells j) ≤ wholeOf balance demands j → T (beforeBy (restOf balance demands) i j)
 
 -- the promise: the answer, the place at exit, and that the shares are fair
 pub record SharesBalance (q : ShareCall) (answer : ShareAnswer) (exit : List ℤ) : Type 0 where

@@ -15,7 +15,7 @@ use Rattle.balancing_account.specs.ShareBalance.{ShareCall, shareCall, s
 use Rattle.balancing_account.specs.Inner.{Weighed, leftoverOf}
 use Rattle.balancing_account.proofs.Passing.{refused-not, Ready, share-ready}
 use Rattle.balancing_account.proofs.Sharing.{searchable, cut}
-use Rattle.balancing_account.proofs.Fairness.{fair-cells}
+use Rattle.balancing_account.proofs.Theorems.{shares-are-fair}
 use borrow.Author.Needs.{needs}
 use Rattle.balancing_account.proofs.share_balance.Statement.{statement}
 use Rattle.balancing_account.proofs.share_balance.Tie as tie
@@ -105,7 +105,7 @@ returns-2 c =
     record {
       answer-given = answer-passed (f .check-share .result) (shareChecked q) (found f) passed _;
       shares-given = cells-passed (f .check-share .result) (shareChecked q) (found f) passed (sharesOf (q .balance) (q .demands)) (q .place) _ cells;
-      fair = λ e. subst (Fair (q .balance) (q .demands)) (sym cells) (fair-cells (q .balance) (q .demands) (ok told .positive) (q .place));
+      fair = λ e. subst (Fair (q .balance) (q .demands)) (sym cells) (shares-are-fair (q .balance) (q .demands) (ok told .positive) (q .place));
     }
 
 pub share-balance-spec : {M : Type 1} → statement M
