@@ -24,6 +24,8 @@ pub enum Refusal {
     ProcessNumber,
     PeriodOrKind,
     HolderRange,
+    ShareRange,
+    NoDemand,
 }
 
 impl Refusal {
@@ -48,6 +50,8 @@ impl Refusal {
             Refusal::ProcessNumber => 16,
             Refusal::PeriodOrKind => 17,
             Refusal::HolderRange => 18,
+            Refusal::ShareRange => 26,
+            Refusal::NoDemand => 27,
         }
     }
 }
