@@ -5,6 +5,7 @@ mod book;
 mod grid;
 mod prices;
 mod settlement;
+mod shares;
 mod test;
 mod text;
 
@@ -12,6 +13,7 @@ pub use book::{read_book, remap_book, write_book};
 pub use grid::{read_grid, write_grid, Header};
 pub use prices::{read_prices, write_prices};
 pub use settlement::{find_mcc, settle_hour, Totals};
+pub use shares::share_balance;
 pub use test::{find_flows, test_book, Overload};
 pub use text::{write_report, write_statement};
 
@@ -35,11 +37,14 @@ pub const PRICE_RANGE: Refusal = 15;
 pub const PROCESS_NUMBER: Refusal = 16;
 pub const PERIOD_OR_KIND: Refusal = 17;
 pub const HOLDER_RANGE: Refusal = 18;
+pub const SHARE_RANGE: Refusal = 26;
+pub const NO_DEMAND: Refusal = 27;
 
 pub const MAX_NODES: usize = 4000;
 pub const MAX_NARROW_NODES: usize = 200;
 pub const MAX_CONSTRAINTS: usize = 64;
 pub const MAX_CONTRACTS: usize = 1000;
+pub const MAX_COORDINATORS: usize = 256;
 
 /// The two forms of a grid's file and of a book's.
 #[derive(Clone, Copy, Debug, PartialEq, Eq)]

@@ -50,6 +50,7 @@ _COMMANDS: Dict[str, Callable[[argparse.Namespace], Answer]] = {
     "settle": lambda o: commands.settle(o.folder, o.out, o.jobs, o.round_prices, Bar("settle")),
     "report": _report,
     "remap": lambda o: commands.remap(o.folder, o.pairs, o.out, o.round_prices),
+    "share": lambda o: commands.share(o.balance, o.demands),
 }
 _HELP = {
     "check": "read everything and list every fault",
@@ -59,6 +60,7 @@ _HELP = {
     "settle": "settle every hour: holder by month, hour by hour, contract by contract",
     "report": "one HTML page: verdicts, loading of constraints, payments",
     "remap": "move the ends of contracts from old nodes to new ones",
+    "share": "a balance shared among coordinators by their demands, to the cent",
 }
 
 
@@ -68,7 +70,11 @@ def _parser() -> argparse.ArgumentParser:
     adding = parser.add_subparsers(dest="command", required=True, metavar="COMMAND")
     of = {name: adding.add_parser(name, help=text, description=text) for name, text in _HELP.items()}
     for name, command in of.items():
-        command.add_argument("folder", type=Path, metavar="FOLDER", help="a folder of CSV files, or of bin files")
+        if name == "share":
+            command.add_argument("balance", metavar="BALANCE", help="dollars, such as 1234.56 or -1234.56")
+            command.add_argument("demands", type=Path, metavar="DEMANDS", help="a CSV file COORDINATOR,MEASURED_DEMAND")
+        else:
+            command.add_argument("folder", type=Path, metavar="FOLDER", help="a folder of CSV files, or of bin files")
         command.add_argument("--json", action="store_true", help="the answer, or the faults, as one JSON object")
         if name in ("check", "pack", "settle", "report", "remap"):
             command.add_argument("--round-prices", action="store_true", help="round prices of more than two decimals to the nearest cent")
@@ -86,8 +92,8 @@ def _parser() -> argparse.ArgumentParser:
 def _faulty(options: argparse.Namespace, problem: Exception) -> Answer:
     """The answer where something is wrong, all of it."""
     if isinstance(problem, Faults):
-        count = len(problem.faults)
-        text = f"{problem}\ncrr: {count} fault{'' if count == 1 else 's'} in {options.folder}; nothing was written\n"
+        count, where = len(problem.faults), "" if options.command == "share" else f" in {options.folder}"
+        text = f"{problem}\ncrr: {count} fault{'' if count == 1 else 's'}{where}; nothing was written\n"
         return Answer(FAULTY, text, {"faults": [fault._asdict() for fault in problem.faults]})
     if isinstance(problem, Refused):
         data: Dict[str, object] = {"file": problem.file, "line": 0, "column": "", "text": problem.meaning, "refusal": problem.number}
