@@ -5,7 +5,7 @@ use Prim.Native.Nat.{ℕ, _+_, _-_, _*_, _/_, _%_}
 use native.Mathlib.Omega.{arith}
 use lib.Dec.{T}
 use Rattle.calendar.specs.Dates.{firstYear}
-use Rattle.calendar.specs.OnPeak.{entries}
+use Rattle.calendar.specs.OnPeak.{tableEntries}
 use Rattle.calendar.proofs.Months.{allBelow, below, MonthIn}
 
 abbrev yearAt : ℕ → ℕ
@@ -14,10 +14,10 @@ yearAt k = firstYear + k / 12
 abbrev monthAt : ℕ → ℕ
 monthAt k = 1 + k % 12
 
-pub all-months : (f : ℕ → ℕ → Bool) → T (allBelow entries (λ k. f (yearAt k) (monthAt k))) → (y m : ℕ) → MonthIn y m → T (f y m)
+pub all-months : (f : ℕ → ℕ → Bool) → T (allBelow tableEntries (λ k. f (yearAt k) (monthAt k))) → (y m : ℕ) → MonthIn y m → T (f y m)
 all-months f t y m i =
     let k = (y - firstYear) * 12 + (m - 1) in
     let a : yearAt k ≡ y = omega arith in
     let b : monthAt k ≡ m = omega arith in
-    let h : T (f (yearAt k) (monthAt k)) = below entries (λ k. f (yearAt k) (monthAt k)) t k (omega arith) in
+    let h : T (f (yearAt k) (monthAt k)) = below tableEntries (λ k. f (yearAt k) (monthAt k)) t k (omega arith) in
     rw (a, b) at h

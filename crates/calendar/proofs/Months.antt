@@ -4,7 +4,7 @@ use mathlib.Core.Bool.{Bool, true, false, _&&_}
 use mathlib.Core.List.{List, [], _∷_}
 use Prim.Native.Nat.{ℕ, zero, suc, _<_, _≤_}
 use native.Mathlib.Omega.{arith}
-use borrow.Author.Tests.{eqb-true, eqb-false, leb-true}
+use borrow.Author.Tests.{eqb-true, eqb-false, leb-true, le-leb}
 use lib.Dec.{T, leb, eqb, eqb→eq, leb→le}
 use lib.ListN.{getD}
 use Rattle.calendar.specs.Dates.{leap, monthLength, lengthBefore, monthDays, monthExists, dateExists}
@@ -95,6 +95,10 @@ month-in y m e =
     let b = both (leb 2010 y && leb y 2037) (leb 1 m) (a .0) in
     let d = both (leb 2010 y) (leb y 2037) (b .0) in
     record { year-low = leb-true 2010 y (d .0); year-high = leb-true y 2037 (d .1); month-low = leb-true 1 m (b .1); month-high = leb-true m 12 (a .1) }
+
+pub month-of : (y m : ℕ) → MonthIn y m → monthExists y m ≡ true
+unfolding monthExists
+month-of y m i = rw (le-leb 2010 y (i .year-low), le-leb y 2037 (i .year-high), le-leb 1 m (i .month-low), le-leb m 12 (i .month-high))
 
 pub record DateIn (y m d : ℕ) : Type 0 where
   pub month-there : MonthIn y m

@@ -12,7 +12,7 @@ use Rattle.calendar.specs.declared.dates.Date.{Date}
 use Rattle.calendar.specs.Dates.{leap, monthLength, lengthBefore, monthDays, dayNumber, weekdayOf, lastYear, monthExists, dateExists}
 use Rattle.calendar.specs.OnPeak.{between, holiday, observed, onPeakDay, hoursADay, onPeakHours}
 use Rattle.calendar.specs.MonthLater.{cutTo, laterYear, laterMonth, laterDay}
-use Rattle.calendar.proofs.Months.{MonthIn, month-in, date-in}
+use Rattle.calendar.proofs.Months.{MonthIn, month-in, month-of, date-in}
 use Rattle.calendar.proofs.AllMonths.{all-months}
 
 -- ---- the holidays of 001's exhibit A-1, 1 February 2008 to 31 January 2009
@@ -74,8 +74,8 @@ unfolding leap monthLength
 month-long y m i = leb→le 28 (monthDays y m) (all-months (λ y m. leb 28 (monthDays y m)) tt y m i)
 
 date-of : (y m d : ℕ) → MonthIn y m → 1 ≤ d → d ≤ monthDays y m → dateExists y m d ≡ true
-unfolding monthExists dateExists
-date-of y m d i a b = rw (le-leb 2010 y (i .year-low), le-leb y 2037 (i .year-high), le-leb 1 m (i .month-low), le-leb m 12 (i .month-high), le-leb 1 d a, le-leb d (monthDays y m) b)
+unfolding dateExists
+date-of y m d i a b = rw (month-of y m i, le-leb 1 d a, le-leb d (monthDays y m) b)
 
 cut : (last day : ℕ) → 1 ≤ last → 1 ≤ day → (1 ≤ cutTo last day) × (cutTo last day ≤ last)
 cut last day a b = by (leb day last) refl

@@ -48,9 +48,9 @@ hoursADay = 22 - 7 + 1
 unfoldable pub onPeakHours : ℕ → ℕ → ℕ
 onPeakHours y m = hoursADay * countOf (monthDays y m) (λ k. onPeakDay y m (suc k))
 
--- "a table of 336 counts, January 2010 to December 2037": entry k
-abbrev pub entries : ℕ
-entries = 336
+-- "a table of 336 counts, January 2010 to December 2037": entry k, from 0
+abbrev pub tableEntries : ℕ
+tableEntries = 336
 
-unfoldable pub entry : ℕ → ℕ
-entry k = onPeakHours (firstYear + k / 12) (1 + k % 12)
+unfoldable pub tableEntry : ℕ → ℕ
+tableEntry k = onPeakHours (firstYear + k / 12) (1 + k % 12)

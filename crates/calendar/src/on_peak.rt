@@ -1,9 +1,9 @@
 // The on-peak rule, day by day.
 ghost use mathlib.Core.Path.{_≡_};
 ghost use mathlib.Core.Bool.{true};
-ghost use Prim.Native.Nat.{_≤_};
+ghost use Prim.Native.Nat.{_*_, _≤_};
 ghost use Rattle.calendar.specs.Dates.{lastYear, monthExists};
-ghost use Rattle.calendar.specs.OnPeak.{between, holiday, onPeakDay, onPeakHours};
+ghost use Rattle.calendar.specs.OnPeak.{between, holiday, onPeakDay, hoursADay, onPeakHours};
 use crate::dates::month_days;
 use crate::dates::weekday_number;
 
@@ -71,7 +71,7 @@ fn on_peak_day(year: u64, month: u64, day: u64) -> bool
 // A month's on-peak hours by the rule. The table is not read.
 pub fn hours_by_rule(year: u64, month: u64) -> u64
     requires { ⌜ monthExists year month ≡ true ⌝ }
-    ensures { λ r. ⌜ r ≡ onPeakHours year month ⌝ }
+    ensures { λ r. ⌜ (r ≡ onPeakHours year month) × (r ≤ hoursADay * 31) ⌝ }
 {
     let days = month_days(year, month);
     let mut count: u64 = 0;

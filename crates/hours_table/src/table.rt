@@ -2,7 +2,7 @@
 ghost use mathlib.Core.Path.{_≡_};
 ghost use Prim.Native.Nat.{_<_};
 ghost use lib.ListN.{getD};
-ghost use Rattle.calendar.specs.OnPeak.{entries};
+ghost use Rattle.calendar.specs.OnPeak.{tableEntries};
 ghost use Rattle.hours_table.specs.Inner.{cells};
 
 const HOURS: [u64; 336] = [
@@ -345,7 +345,7 @@ const HOURS: [u64; 336] = [
 ];
 
 pub fn cell(k: usize) -> u64
-    requires { ⌜ k < entries ⌝ }
+    requires { ⌜ k < tableEntries ⌝ }
     ensures { λ r. ⌜ r ≡ getD cells k 0 ⌝ }
 {
     HOURS[k]

@@ -60,7 +60,7 @@ returns c =
     let s = c .before in
     let a = s .before .before .args in
     let all : s .loop .day ≡ monthDays (a .year) (a .month) = omega (arith, s .before .month-days .ensures) in
-    count-done (a .year) (a .month) (s .loop .day) (s .loop .count) (s .loop .inv .2) all
+    (count-done (a .year) (a .month) (s .loop .day) (s .loop .count) (s .loop .inv .2) all, omega (arith, s .before .month-days .ensures))
 
 pub hours-by-rule-spec : {M : Type 1} → statement M
 hours-by-rule-spec =
