@@ -35,8 +35,8 @@ pub extern "C" fn crr_month_later(
 ) -> u64
     ensures { λ r. ⌜ ReachesMonthLaterForC (dateOf year month day) r «later_year» «later_month» «later_day» ⌝ }
 {
-    let date = Date { year, month, day };
-    match date.month_later() {
+    let given = Date { year, month, day };
+    match given.month_later() {
         DateAnswer::Refused(refusal) => refusal.number(),
         DateAnswer::Reached(later) => {
             *later_year = later.year;

@@ -1,17 +1,15 @@
 -- The lines put so far, and how long a line is.
-use mathlib.Core.Path.{_≡_, refl}
-use mathlib.Core.Bool.{true}
+use mathlib.Core.Path.{_≡_}
 use mathlib.Core.List.{List, flatMap, _++_}
-use Prim.Native.Nat.{ℕ, _+_, _*_, _/_, _%_, _≤_, _<_}
+use Prim.Native.Nat.{ℕ, _+_, _*_, _/_, _%_, _≤_}
 use native.Mathlib.Omega.{arith}
 use lib.ListN.{length}
 use Rattle.lists.specs.Lists.{listTo}
 use Rattle.lists.proofs.Lists.{flatMap-more}
 use Rattle.text.specs.Decimal.{decimal}
 use Rattle.text.proofs.Digits.{decimal-below}
-use Rattle.calendar.specs.Dates.{firstYear, monthExists}
-use Rattle.calendar.specs.OnPeak.{hoursADay, onPeakHours, tableEntries, tableEntry}
-use Rattle.calendar.proofs.Months.{month-of}
+use Rattle.calendar.specs.Dates.{firstYear}
+use Rattle.calendar.specs.OnPeak.{hoursADay, onPeakHours, tableEntry}
 use Rattle.hours_text.specs.TableText.{countLine}
 
 -- the first k lines
@@ -20,9 +18,6 @@ linesTo k = flatMap countLine (listTo k tableEntry)
 
 pub hours-long : (n : ℕ) → n ≤ hoursADay * 31 → length (decimal n) ≤ 3
 hours-long n h = decimal-below 3 n (omega arith) (omega arith)
-
-pub entry-month : (k : ℕ) → k < tableEntries → monthExists (firstYear + k / 12) (1 + k % 12) ≡ true
-entry-month k h = month-of (firstYear + k / 12) (1 + k % 12) (record { year-low = omega arith; year-high = omega arith; month-low = omega arith; month-high = omega arith })
 
 -- a line more, where n is the count
 pub lines-more : (k n : ℕ) → n ≡ onPeakHours (firstYear + k / 12) (1 + k % 12) → linesTo (k + 1) ≡ linesTo k ++ countLine n

@@ -51,4 +51,5 @@ returns-2 c =
 pub month-hours-spec : {M : Type 1} → statement M
 month-hours-spec =
     tie.close (tie.spec
-    (λ c κs. search needs) returns (λ c. inside c .year-low) (λ c. omega (arith, inside c)) (λ c. inside c .month-low) (λ c. omega (arith, inside c)) (λ c κs. omega (arith, inside c)) returns-2)
+    (λ c κs. search needs) returns (λ c. omega (arith, inside c)) (λ c. omega (arith, inside c)) (λ c. omega (arith, inside c)) (λ c. omega (arith, inside c))
+    (λ c κs. omega (arith, inside c)) returns-2)

@@ -9,7 +9,8 @@ use Rattle.lists.specs.Lists.{listTo}
 use Rattle.text.specs.Inner.{Put}
 use Rattle.text.proofs.Putting.{_then_, put-none, put-same, put-front}
 use Rattle.calendar.specs.OnPeak.{tableEntries}
-use Rattle.hours_text.proofs.Lines.{linesTo, entry-month, lines-more}
+use Rattle.calendar.proofs.Months.{month-of}
+use Rattle.hours_text.proofs.Lines.{linesTo, lines-more}
 use Rattle.hours_text.proofs.put_table.Statement.{statement}
 use Rattle.hours_text.proofs.put_table.Tie as tie
 
@@ -25,7 +26,7 @@ unfolding listTo flatMap
 loop-holds c = (omega arith, omega arith, put-none (omega arith), omega arith)
 
 hours-by-rule-requires : tie.Need-hours-by-rule-requires Inv-loop μ-loop
-hours-by-rule-requires c κs = entry-month (c .before .loop .k) (omega arith)
+hours-by-rule-requires c κs = month-of _ _ (record { year-low = omega arith; year-high = omega arith; month-low = omega arith; month-high = omega arith })
 
 put-count-requires : tie.Need-put-count-requires Inv-loop μ-loop
 put-count-requires c κs = (c .before .hours-by-rule .ensures .1, omega (arith, c .before .before .before .loop .inv))

@@ -7,33 +7,6 @@ use borrow.Author.Needs.{needs}
 use Rattle.calendar.proofs.dates.day_number.Statement.{statement}
 use Rattle.calendar.proofs.dates.day_number.Tie as tie
 
-sub-p : tie.Need-sub-p
-sub-p c = search needs
-
-leap-year-requires : tie.Need-leap-year-requires
-leap-year-requires c κs = search needs
-
-length-before-requires : tie.Need-length-before-requires
-length-before-requires c κs = search needs
-
-mul-result : tie.Need-mul-result
-mul-result c = search needs
-
-add-result : tie.Need-add-result
-add-result c = search needs
-
-sub-result : tie.Need-sub-result
-sub-result c = search needs
-
-add-result-2 : tie.Need-add-result-2
-add-result-2 c = search needs
-
-add-result-3 : tie.Need-add-result-3
-add-result-3 c = search needs
-
-add-result-4 : tie.Need-add-result-4
-add-result-4 c = search needs
-
 returns : tie.Need-returns
 unfolding dayNumber
 returns c =
@@ -43,15 +16,6 @@ returns c =
 
 pub day-number-spec : {M : Type 1} → statement M
 day-number-spec =
-    tie.close
-    (tie.spec
-    sub-p
-    leap-year-requires
-    length-before-requires
-    mul-result
-    add-result
-    sub-result
-    add-result-2
-    add-result-3
-    add-result-4
+    tie.close (tie.spec
+    (λ c. search needs) (λ c κs. search needs) (λ c κs. search needs) (λ c. search needs) (λ c. search needs) (λ c. search needs) (λ c. search needs) (λ c. search needs) (λ c. search needs)
     returns)

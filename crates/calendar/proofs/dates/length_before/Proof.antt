@@ -4,18 +4,6 @@ use borrow.Author.Needs.{needs}
 use Rattle.calendar.proofs.dates.length_before.Statement.{statement}
 use Rattle.calendar.proofs.dates.length_before.Tie as tie
 
-mul-result : tie.Need-mul-result
-mul-result c = search needs
-
-array-read-result : tie.Need-array-read-result
-array-read-result c = search needs
-
-mul-result-2 : tie.Need-mul-result-2
-mul-result-2 c = search needs
-
-array-read-result-2 : tie.Need-array-read-result-2
-array-read-result-2 c = search needs
-
 returns : tie.Need-returns
 returns c = rw (c .if1 .taken) (leap-before (c .before .args .month) (c .before .pre))
 
@@ -23,6 +11,4 @@ returns-2 : tie.Need-returns-2
 returns-2 c = rw (c .if1 .left) (common-before (c .before .args .month) (c .before .pre))
 
 pub length-before-spec : {M : Type 1} → statement M
-length-before-spec =
-    tie.close
-    (tie.spec mul-result array-read-result mul-result-2 array-read-result-2 returns returns-2)
+length-before-spec = tie.close (tie.spec (λ c. search needs) (λ c. search needs) (λ c. search needs) (λ c. search needs) returns returns-2)

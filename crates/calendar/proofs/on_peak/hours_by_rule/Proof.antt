@@ -1,10 +1,10 @@
 -- `hours_by_rule`: the loop counts the on-peak days passed.
-use Rattle.calendar.specs.Dates.{monthDays}
 use mathlib.Core.Path.{_≡_, sym, _∙_}
 use mathlib.Core.Logic.{⊎-elim}
 use Prim.Native.Nat.{suc, _-_, _≤_}
 use native.Mathlib.Omega.{arith}
 use Rattle.lists.specs.Sets.{countOf}
+use Rattle.calendar.specs.Dates.{monthDays}
 use Rattle.calendar.specs.OnPeak.{onPeakDay}
 use Rattle.calendar.proofs.Months.{month-in}
 use Rattle.calendar.proofs.Rule.{count-none, count-on, count-off, count-done}
@@ -39,9 +39,6 @@ add-count c = omega (arith, c .before .before .before .before .month-days .ensur
 add-day : tie.Need-add-day Inv-loop μ-loop
 add-day c = omega (arith, c .before .before .before .before .month-days .ensures)
 
-loop-less : tie.Need-loop-less Inv-loop μ-loop
-loop-less c = omega arith
-
 loop-again : tie.Need-loop-again Inv-loop μ-loop
 loop-again c =
     let s = c .before .before .before in
@@ -64,17 +61,5 @@ returns c =
 
 pub hours-by-rule-spec : {M : Type 1} → statement M
 hours-by-rule-spec =
-    tie.close
-    (tie.spec
-    Inv-loop
-    μ-loop
-    month-days-requires
-    loop-holds
-    add-on-peak-day
-    on-peak-day-requires
-    add-count
-    add-day
-    loop-less
-    loop-again
-    mul-result
-    returns)
+    tie.close (tie.spec
+    Inv-loop μ-loop month-days-requires loop-holds add-on-peak-day on-peak-day-requires add-count add-day (λ c. omega arith) loop-again mul-result returns)

@@ -13,12 +13,11 @@ returns-2 : tie.Need-returns-2
 unfolding between
 returns-2 c = let a = c .before .before .args in rw (le-leb (a .from) (a .day) (c .before .if1 .left), lt-leb (a .day) (a .to) (c .if2 .taken))
 
-weekday-number-requires : tie.Need-weekday-number-requires
-weekday-number-requires c κs = search needs
-
 returns-3 : tie.Need-returns-3
 unfolding between
-returns-3 c = let a = c .before .before .before .args in rw (le-leb (a .from) (a .day) (c .before .before .if1 .left), le-leb (a .day) (a .to) (c .before .if2 .left), c .weekday-number .ensures)
+returns-3 c =
+    let a = c .before .before .before .args in
+    rw (le-leb (a .from) (a .day) (c .before .before .if1 .left), le-leb (a .day) (a .to) (c .before .if2 .left), c .weekday-number .ensures)
 
 pub is-between-spec : {M : Type 1} → statement M
-is-between-spec = tie.close (tie.spec returns returns-2 weekday-number-requires returns-3)
+is-between-spec = tie.close (tie.spec returns returns-2 (λ c κs. search needs) returns-3)

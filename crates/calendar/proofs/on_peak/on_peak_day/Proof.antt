@@ -5,14 +5,8 @@ use borrow.Author.Needs.{needs}
 use Rattle.calendar.proofs.on_peak.on_peak_day.Statement.{statement}
 use Rattle.calendar.proofs.on_peak.on_peak_day.Tie as tie
 
-weekday-number-requires : tie.Need-weekday-number-requires
-weekday-number-requires c κs = search needs
-
 returns : tie.Need-returns
 returns c = let a = c .before .before .args in sunday (a .year) (a .month) (a .day) (sym (c .before .weekday-number .ensures) ∙ c .if1 .taken)
-
-is-holiday-requires : tie.Need-is-holiday-requires
-is-holiday-requires c κs = search needs
 
 returns-2 : tie.Need-returns-2
 returns-2 c =
@@ -20,40 +14,30 @@ returns-2 c =
     let a = s .before .args in
     on-holiday (a .year) (a .month) (a .day) (λ e. c .before .before .if1 .left (s .weekday-number .ensures ∙ e)) (sym (c .before .is-holiday .ensures) ∙ c .if2 .taken)
 
-sub-is-holiday : tie.Need-sub-is-holiday
-sub-is-holiday c = search needs
-
-is-holiday-requires-2 : tie.Need-is-holiday-requires-2
-is-holiday-requires-2 c κs = search needs
-
 returns-3 : tie.Need-returns-3
 returns-3 c =
-    let s = c .before .before .before .before .before .before in
+    let i = c .before .before .before in
+    let s = i .before .before .before in
     let a = s .before .args in
-    moved (a .year) (a .month) (a .day) (sym (s .weekday-number .ensures) ∙ c .before .before .if3 .taken) (sym (c .before .before .before .before .is-holiday .ensures) ∙ c .before .before .before .if2 .left) (sym (c .before .is-holiday2 .ensures) ∙ c .if4 .taken)
+    moved (a .year) (a .month) (a .day) (sym (s .weekday-number .ensures) ∙ c .before .before .if3 .taken)
+    (sym (i .before .is-holiday .ensures) ∙ i .if2 .left) (sym (c .before .is-holiday2 .ensures) ∙ c .if4 .taken)
 
 returns-4 : tie.Need-returns-4
 returns-4 c =
-    let s = c .before .before .before .before .before .before in
+    let i = c .before .before .before in
+    let s = i .before .before .before in
     let a = s .before .args in
-    free-monday (a .year) (a .month) (a .day) (sym (s .weekday-number .ensures) ∙ c .before .before .if3 .taken) (sym (c .before .before .before .before .is-holiday .ensures) ∙ c .before .before .before .if2 .left) (sym (c .before .is-holiday2 .ensures) ∙ c .if4 .left)
+    free-monday (a .year) (a .month) (a .day) (sym (s .weekday-number .ensures) ∙ c .before .before .if3 .taken)
+    (sym (i .before .is-holiday .ensures) ∙ i .if2 .left) (sym (c .before .is-holiday2 .ensures) ∙ c .if4 .left)
 
 returns-5 : tie.Need-returns-5
 returns-5 c =
     let s = c .before .before .before .before in
     let a = s .before .args in
-    free-day (a .year) (a .month) (a .day) (λ e. c .before .before .before .if1 .left (s .weekday-number .ensures ∙ e)) (λ e. c .if3 .left (s .weekday-number .ensures ∙ e)) (sym (c .before .before .is-holiday .ensures) ∙ c .before .if2 .left)
+    free-day (a .year) (a .month) (a .day) (λ e. c .before .before .before .if1 .left (s .weekday-number .ensures ∙ e)) (λ e. c .if3 .left (s .weekday-number .ensures ∙ e))
+    (sym (c .before .before .is-holiday .ensures) ∙ c .before .if2 .left)
 
 pub on-peak-day-spec : {M : Type 1} → statement M
 on-peak-day-spec =
-    tie.close
-    (tie.spec
-    weekday-number-requires
-    returns
-    is-holiday-requires
-    returns-2
-    sub-is-holiday
-    is-holiday-requires-2
-    returns-3
-    returns-4
-    returns-5)
+    tie.close (tie.spec
+    (λ c κs. search needs) returns (λ c κs. search needs) returns-2 (λ c. search needs) (λ c κs. search needs) returns-3 returns-4 returns-5)
