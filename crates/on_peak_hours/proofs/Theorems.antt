@@ -1,6 +1,6 @@
 -- THE PROGRAM'S TEXT is the array's: the lines of the rule's counts are those of the figures that `month_hours` answers from.
 use mathlib.Core.Path.{_≡_, refl, sym, ap, _∙_}
-use mathlib.Core.List.{List, flatMap}
+use mathlib.Core.List.{flatMap}
 use lib.ListN.{length}
 use Rattle.text.specs.Decimal.{digitsIn, decimal}
 use Rattle.hours_table.specs.Inner.{cells}
