@@ -147,7 +147,7 @@ class Hours(unittest.TestCase):
         self.assertEqual(command("hours", "2010..2037")[2], "336 months: 8,598 on-peak days, 137,568 on-peak hours\n")
 
     def test_the_program_prints_the_same(self):
-        stored = (ROOT / "tests" / "programs" / "on_peak_hours" / "table" / "stdout").read_text()
+        stored = (ROOT / "crates" / "on_peak_hours" / "stdout").read_text()
         rows = command("hours", "2010..2037")[1].splitlines()[1:]
         self.assertEqual([row.split(",")[2] for row in rows], stored.splitlines())
 
