@@ -1,5 +1,6 @@
 //! Times each public entry of the proved library beside plain Rust, on the largest inputs of both forms, and how the cost grows with each count.
 
+mod calendar;
 mod entries;
 mod inputs;
 // `released_percent`, a choice among three figures, is not timed.
@@ -67,6 +68,16 @@ fn growth(count: &str, names: &[&str], form: Form, sizes: &[(usize, Size)]) -> R
     Ok(())
 }
 
+/// A call of these takes a few nanoseconds.
+fn calendar() -> Result<(), String> {
+    heading(&format!("entry, {} calls", calendar::CALLS));
+    for (name, run) in calendar::ENTRIES {
+        let times = run().map_err(|why| format!("{name}: {why}"))?;
+        row(name, &times);
+    }
+    Ok(())
+}
+
 /// Sharing a balance among so many coordinators.
 fn shared(label: &str, coordinators: usize) -> Result<(), String> {
     row(label, &shares::share_balance(coordinators).map_err(|why| format!("share_balance, {coordinators}: {why}"))?);
@@ -89,6 +100,7 @@ fn tables() -> Result<(), String> {
         line(entry.name, entry, LARGEST, Form::Narrow)?;
     }
     shared("share_balance", shares::MOST)?;
+    calendar()?;
     let narrow = Form::Narrow;
     growth("contracts", &BY_CONTRACTS, narrow, &[125, 250, 500, 1000].map(|contracts| (contracts, Size { contracts, ..LARGEST })))?;
     growth("constraints", &BY_CONSTRAINTS, narrow, &[8, 16, 32, 64].map(|constraints| (constraints, Size { constraints, ..LARGEST })))?;

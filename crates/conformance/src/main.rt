@@ -3,5 +3,6 @@
 fn main() {
     vectors::go_through();
     request_vectors::go_through();
+    calendar_vectors::go_through();
     share_vectors::go_through();
 }
