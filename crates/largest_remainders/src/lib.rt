@@ -36,7 +36,7 @@ fn between(low: u64, high: u64, enough: u64, fewer: u64, wanted: u64, turn: u64)
     if step == 0 {
         return low + (high - low) / 2;
     }
-    if SPREAD_TURNS < turn {
+    if SPREAD_TURNS <= turn {
         return low + (high - low) / 2;
     }
     low + step
