@@ -9,7 +9,7 @@ use mathlib.Core.Logic.{⊎-elim}
 use borrow.Author.Tests.{ltb-false, eqb-false, lt-ltb, le-ltb}
 use lib.Dec.{ltb, eqb}
 use lib.ListN.{length, take}
-use lib.IntN.{ℤ, natAbs}
+use lib.IntN.{natAbs}
 use lib.Seq.{take-length}
 use Rattle.lists.specs.Lists.{some, above}
 use Rattle.lists.proofs.Search.{neither, none-bad}
@@ -17,7 +17,6 @@ use Rattle.tariff.specs.declared.refusals.Refusal.{Refusal}
 use Rattle.tariff.specs.declared.refusals.Refusal.the-variants.{ShareRange, NoDemand, ShortTable}
 use Rattle.tariff.specs.declared.refusals.Checked.the-variants.{Passed, Refused}
 use Rattle.tariff.specs.Units.{maxCoordinators, maxBalance, maxDemand}
-use Rattle.tariff.specs.Refusals.{first}
 use Rattle.tariff.specs.Checks.{coordinatorCount, balanceRange, demandRange}
 use Rattle.tariff.proofs.Checks.{first-passes, first-refuses, last-passes, passed-cons}
 use Rattle.balancing_account.specs.ShareBalance.{ShareCall, shareChecks, shareChecked, demandOf, totalOf}

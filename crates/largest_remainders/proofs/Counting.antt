@@ -118,12 +118,6 @@ pub count-more : (i : ℕ) (f : ℕ → Bool) → countOf (i + 1) f ≡ countOf 
 unfolding countOf
 count-more i f = rw add-one
 
-pub count-taken : (i : ℕ) (f : ℕ → Bool) → f i ≡ true → countOf (i + 1) f ≡ countOf i f + 1
-count-taken i f e = count-more i f ∙ rw e
-
-pub count-left : (i : ℕ) (f : ℕ → Bool) → f i ≡ false → countOf (i + 1) f ≡ countOf i f
-count-left i f e = count-more i f ∙ rw e (omega arith)
-
 pub count-start : (f : ℕ → Bool) → countOf 0 f ≡ 0
 unfolding countOf
 count-start f = refl

@@ -51,7 +51,8 @@ module _ (rest : ℕ → ℕ) where
       trans x i y j z k (inr p) (inl q) = inl (omega arith)
       trans x i y j z k (inr p) (inr q) = inr (omega arith)
 
-      either-of : (i j : ℕ) → (rest j ≡ rest i) ⊎ (T (ltb (rest j) (rest i)) ⊎ T (ltb (rest i) (rest j))) → (i ≡ j) ⊎ (T (ltb i j) ⊎ T (ltb j i)) → (i ≡ j) ⊎ (T (beforeBy rest i j) ⊎ T (beforeBy rest j i))
+      either-of : (i j : ℕ) → (rest j ≡ rest i) ⊎ (T (ltb (rest j) (rest i)) ⊎ T (ltb (rest i) (rest j))) → (i ≡ j) ⊎ (T (ltb i j) ⊎ T (ltb j i))
+          → (i ≡ j) ⊎ (T (beforeBy rest i j) ⊎ T (beforeBy rest j i))
       either-of i j (inl e) (inl s) = inl s
       either-of i j (inl e) (inr (inl l)) = inr (inl (later i j (inr (sym e, ltb→lt i j l))))
       either-of i j (inl e) (inr (inr l)) = inr (inr (later j i (inr (e, ltb→lt j i l))))

@@ -51,7 +51,8 @@ module _ (n : ℕ) (weight : ℕ → ℕ) (size : ℕ) (some : 0 < total n weigh
         count-is-sum n (λ i. ltb 0 (rest n weight size i)),
         addTo-plus n (rest n weight size) (λ i. bit (ltb 0 (rest n weight size i))),
         addTo-times n (λ i. bit (ltb 0 (rest n weight size i))) (total n weight),
-        addTo-mono n {f = λ i. rest n weight size i + bit (ltb 0 (rest n weight size i))} {g = λ i. bit (ltb 0 (rest n weight size i)) * total n weight} (λ i b. one (rest n weight size i) (rest-lt i)),
+        addTo-mono n {f = λ i. rest n weight size i + bit (ltb 0 (rest n weight size i))} {g = λ i. bit (ltb 0 (rest n weight size i)) * total n weight}
+            (λ i b. one (rest n weight size i) (rest-lt i)),
         ap (λ (x : ℕ). x * total n weight) (count-is-sum n (λ i. ltb 0 (rest n weight size i))),
       )
     where

@@ -76,7 +76,9 @@ module _ (n : ℕ) (weight : ℕ → ℕ) (size : ℕ) (some : 0 < total n weigh
   unfolding share
   near i = by (given n weight size i) (to-positive i)
     where
-      by : (b : Bool) → (T b → 0 < rest n weight size i) → ((whole n weight size i + bit b) * total n weight < size * weight i + total n weight) × (size * weight i < (whole n weight size i + bit b) * total n weight + total n weight)
+      by : (b : Bool) → (T b → 0 < rest n weight size i)
+          → ((whole n weight size i + bit b) * total n weight < size * weight i + total n weight)
+          × (size * weight i < (whole n weight size i + bit b) * total n weight + total n weight)
       by true f = omega (arith, f tt, split n weight size some i, rest-lt n weight size some i, some)
       by false f = omega (arith, split n weight size some i, rest-lt n weight size some i, some)
 

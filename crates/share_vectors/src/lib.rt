@@ -26,7 +26,7 @@ fn shared(name: &[u8], balance: i64, demands: &[u64], number: u64, expected: [i6
     signed_figure(name, place[4], expected[4]);
 }
 
-fn small_1() {
+fn positive() {
     shared(
         b"100 over 1, 1, 1",
         100,
@@ -34,6 +34,17 @@ fn small_1() {
         0,
         [34, 33, 33, 77, 77],
     );
+    shared(b"10 over 5, 3, 1", 10, &[5, 3, 1], 0, [6, 3, 1, 77, 77]);
+    shared(b"7 over 2, 3, 5", 7, &[2, 3, 5], 0, [1, 2, 4, 77, 77]);
+}
+
+fn of_four() {
+    shared(b"2 over 1, 2, 3, 4", 2, &[1, 2, 3, 4], 0, [0, 0, 1, 1, 77]);
+    shared(b"6 over 1, 1, 1, 1", 6, &[1, 1, 1, 1], 0, [2, 2, 1, 1, 77]);
+    shared(b"1 over 0, 0, 5, 5", 1, &[0, 0, 5, 5], 0, [0, 0, 1, 0, 77]);
+}
+
+fn negative() {
     shared(
         b"-100 over 1, 1, 1",
         -100,
@@ -41,13 +52,6 @@ fn small_1() {
         0,
         [-34, -33, -33, 77, 77],
     );
-    shared(b"10 over 5, 3, 1", 10, &[5, 3, 1], 0, [6, 3, 1, 77, 77]);
-    shared(b"7 over 2, 3, 5", 7, &[2, 3, 5], 0, [1, 2, 4, 77, 77]);
-    shared(b"2 over 1, 2, 3, 4", 2, &[1, 2, 3, 4], 0, [0, 0, 1, 1, 77]);
-    shared(b"6 over 1, 1, 1, 1", 6, &[1, 1, 1, 1], 0, [2, 2, 1, 1, 77]);
-}
-
-fn small_2() {
     shared(
         b"-8 over 7, 1, 1, 1",
         -8,
@@ -55,7 +59,6 @@ fn small_2() {
         0,
         [-5, -1, -1, -1, 77],
     );
-    shared(b"1 over 0, 0, 5, 5", 1, &[0, 0, 5, 5], 0, [0, 0, 1, 0, 77]);
     shared(
         b"-1 over 0, 0, 5, 5",
         -1,
@@ -63,11 +66,11 @@ fn small_2() {
         0,
         [0, 0, -1, 0, 77],
     );
-    shared(b"5 over 0, 7, 0", 5, &[0, 7, 0], 0, [0, 5, 0, 77, 77]);
-    shared(b"0 over 4, 5", 0, &[4, 5], 0, [0, 0, 77, 77, 77]);
 }
 
-fn large() {
+fn without_leftover() {
+    shared(b"5 over 0, 7, 0", 5, &[0, 7, 0], 0, [0, 5, 0, 77, 77]);
+    shared(b"0 over 4, 5", 0, &[4, 5], 0, [0, 0, 77, 77, 77]);
     shared(
         b"3 over 10^9, 1",
         3,
@@ -75,6 +78,9 @@ fn large() {
         0,
         [3, 0, 77, 77, 77],
     );
+}
+
+fn largest() {
     shared(
         b"10^9 over 10^9, 999,999,999, 1",
         1000000000,
@@ -101,24 +107,17 @@ fn all_256() {
     signed_figure(b"10^9 over 256 times 10^9", place[256], 77);
 }
 
+// A call that is refused: the place is as it was.
+fn refused(name: &[u8], balance: i64, demands: &[u64], number: u64) {
+    shared(name, balance, demands, number, [77, 77, 77, 77, 77]);
+}
+
 fn refusals() {
-    shared(b"no demands", 5, &[], 26, [77, 77, 77, 77, 77]);
-    shared(b"257 demands", 5, &[1u64; 257], 26, [77, 77, 77, 77, 77]);
-    shared(
-        b"balance -2^63",
-        -9223372036854775808,
-        &[1],
-        26,
-        [77, 77, 77, 77, 77],
-    );
-    shared(
-        b"demand 10^9 + 1",
-        5,
-        &[1000000001],
-        26,
-        [77, 77, 77, 77, 77],
-    );
-    shared(b"0 over 0, 0", 0, &[0, 0], 27, [77, 77, 77, 77, 77]);
+    refused(b"no demands", 5, &[], 26);
+    refused(b"257 demands", 5, &[1u64; 257], 26);
+    refused(b"balance -2^63", -9223372036854775808, &[1], 26);
+    refused(b"demand 10^9 + 1", 5, &[1000000001], 26);
+    refused(b"0 over 0, 0", 0, &[0, 0], 27);
 }
 
 // A balance shared over one demand of 0, with no cell for the share.
@@ -139,9 +138,11 @@ fn places() {
 }
 
 pub fn go_through() {
-    small_1();
-    small_2();
-    large();
+    positive();
+    of_four();
+    negative();
+    without_leftover();
+    largest();
     all_256();
     refusals();
     places();

@@ -67,7 +67,8 @@ returns-4 : tie.Need-returns-4
 returns-4 c =
     let a = c .before .before .before .before .before .before .before .before .before .args in
     let p = c .before .before in
-    none-refuses (shareCall (a .balance) (a .demands .now) (a .place .now)) (one (p .before .before .before .before)) (two (p .before .before)) (three p) (eq-eqb _ 0 (sym (c .before .total-of .ensures .0) ∙ c .if4 .taken))
+    let none = eq-eqb _ 0 (sym (c .before .total-of .ensures .0) ∙ c .if4 .taken) in
+    none-refuses (shareCall (a .balance) (a .demands .now) (a .place .now)) (one (p .before .before .before .before)) (two (p .before .before)) (three p) none
 
 returns-5 : tie.Need-returns-5
 returns-5 c =

@@ -1,6 +1,6 @@
 -- `fill_shares`: the cells passed hold the shares passed, and those behind are as they were.
 use mathlib.Core.Path.{_≡_, sym, ap, _∙_, subst}
-use Prim.Native.Nat.{ℕ, _-_, _≤_, _<_}
+use Prim.Native.Nat.{_-_, _≤_, _<_}
 use native.Mathlib.Omega.{arith}
 use lib.ListN.{length, take, drop, length-set}
 use lib.IntN.{ℤ, pos}

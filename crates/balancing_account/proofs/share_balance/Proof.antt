@@ -1,6 +1,6 @@
 -- `share_balance`: where no check refuses, the demands are in range and the cells suffice; the shares are fair.
-use mathlib.Core.Path.{_≡_, refl, sym, ap, _∙_, subst}
-use Prim.Native.Nat.{ℕ, _-_, _*_, _≤_}
+use mathlib.Core.Path.{_≡_, sym, ap, _∙_, subst}
+use Prim.Native.Nat.{ℕ, _-_, _≤_}
 use native.Mathlib.Omega.{arith}
 use lib.ListN.{length}
 use lib.IntN.{ℤ, natAbs}
@@ -28,7 +28,9 @@ same : (c : tie.Start) → toZ w64 (ofZ w64 (c .args .balance)) ≡ c .args .bal
 same c = toZ-ofZ w64 (c .args .balance) (c .fits .balance)
 
 found : (c : tie.After-check-share) → c .check-share .result ≡ shareChecked (call (c .before .before .before))
-found c = c .check-share .ensures ∙ ap (λ (z : ℤ). shareChecked (shareCall z (c .before .before .before .args .demands .now) (c .before .before .before .args .shares .now))) (same (c .before .before .before))
+found c =
+    let s = c .before .before .before in
+    c .check-share .ensures ∙ ap (λ (z : ℤ). shareChecked (shareCall z (s .args .demands .now) (s .args .shares .now))) (same s)
 
 returns : tie.Need-returns
 returns c =
@@ -68,13 +70,15 @@ fill-wholes-requires : tie.Need-fill-wholes-requires
 fill-wholes-requires c κs = let few = ok (c .before .before .before .before) .demands .few in (weighed (c .before .before), (few, few))
 
 -- what is left over
-left-is : (c : tie.After-fill-wholes) → let s = c .before .before .before .before .before .before .before .before .before .before in
-    (c .fill-wholes .result ≤ c .before .before .before .before .size-of .result) × (c .before .before .before .before .size-of .result - c .fill-wholes .result ≡ leftoverOf (c .before .before .before .before .size-of .result) (s .args .demands .now))
+left-is : (c : tie.After-fill-wholes)
+    → let ds = c .before .before .before .before .before .before .before .before .before .before .args .demands .now in let size = c .before .before .before .before .size-of .result in
+    (c .fill-wholes .result ≤ size) × (size - c .fill-wholes .result ≡ leftoverOf size ds)
 unfolding leftover
 left-is c =
     let ds = c .before .before .before .before .before .before .before .before .before .before .args .demands .now in
     let size = c .before .before .before .before .size-of .result in
-    (omega (arith, c .fill-wholes .ensures .0, wholes-le (length ds) (demandOf ds) size (ok (c .before .before .before .before .before) .positive)), ap (λ (x : ℕ). size - x) (c .fill-wholes .ensures .0))
+    let few = wholes-le (length ds) (demandOf ds) size (ok (c .before .before .before .before .before) .positive) in
+    (omega (arith, c .fill-wholes .ensures .0, few), ap (λ (x : ℕ). size - x) (c .fill-wholes .ensures .0))
 
 sub-threshold : tie.Need-sub-threshold
 sub-threshold c = left-is (c .before .before .before) .0
@@ -83,15 +87,17 @@ threshold-requires : tie.Need-threshold-requires
 threshold-requires c κs =
     let f = c .before .before .before in
     let t = f .before .before .before in
-    searchable (t .before .size-of .result) (t .total-of .result) (f .before .before .before .before .before .before .before .before .before .before .args .demands .now) (weighed t) _ _ (f .fill-wholes .ensures .1) _ (left-is f .1)
+    let ds = f .before .before .before .before .before .before .before .before .before .before .args .demands .now in
+    searchable (t .before .size-of .result) (t .total-of .result) ds (weighed t) _ _ (f .fill-wholes .ensures .1) _ (left-is f .1)
 
 fill-shares-requires : tie.Need-fill-shares-requires
 fill-shares-requires c κs =
     let f = c .before .before .before .before .before .before .before in
     let t = f .before .before .before in
     let s = f .before .before .before .before .before .before .before .before .before .before in
-    let least = c .before .before .before .threshold in (
-      cut (t .before .size-of .result) (t .total-of .result) (s .args .demands .now) (weighed t) _ _ (f .fill-wholes .ensures .1) _ (left-is f .1) (s .args .balance) _ (least .result) (same s) (size-is (t .before)) (least .ensures),
+    let x = c .before .before .before .threshold in
+    let all = cut (t .before .size-of .result) (t .total-of .result) (s .args .demands .now) (weighed t) _ _ (f .fill-wholes .ensures .1) _ (left-is f .1) in (
+      all (s .args .balance) _ (x .result) (same s) (size-is (t .before)) (x .ensures),
       ok (t .before .before) .room,
     )
 

@@ -1,6 +1,6 @@
 -- `crr_share_balance`.
-use mathlib.Core.Path.{_≡_, sym, ap, _∙_, subst}
-use mathlib.Core.List.{List, []}
+use mathlib.Core.Path.{sym, ap, _∙_, subst}
+use mathlib.Core.List.{[]}
 use lib.IntN.{ℤ}
 use mir.Syntax.{w64}
 use mir.ValLaws.{toZ-ofZ}
@@ -17,7 +17,9 @@ call c = shareCall (c .args .balance) (c .args .demands .now) (c .args .shares .
 shared : (c : tie.After-share-balance) → SharesBalance (call (c .before .before .before)) (c .share-balance .result) (c .share-balance .last .1 .1 .0)
 shared c =
     let s = c .before .before .before in
-    subst (λ (z : ℤ). SharesBalance (shareCall z (s .args .demands .now) (s .args .shares .now)) (c .share-balance .result) (c .share-balance .last .1 .1 .0)) (toZ-ofZ w64 (s .args .balance) (s .fits .balance)) (c .share-balance .ensures)
+    let r = c .share-balance in
+    subst (λ (z : ℤ). SharesBalance (shareCall z (s .args .demands .now) (s .args .shares .now)) (r .result) (r .last .1 .1 .0))
+    (toZ-ofZ w64 (s .args .balance) (s .fits .balance)) (r .ensures)
 
 returns : tie.Need-returns
 returns c =
