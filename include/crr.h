@@ -22,6 +22,8 @@
  *   period         0 off-peak, 1 on-peak
  *   process        0 annual, 1 Tier LT, 2 monthly: 65, 60 and 100 percent of each
  *                  limit is released
+ *   date           year 2010 to 2037, month 1 to 12, day from 1 to the month's last
+ *   weekday        1 Monday to 7 Sunday
  *
  * Nodes, constraints and contracts are numbered from 0: nodes up to 3,999.
  *
@@ -111,6 +113,10 @@ extern "C" {
 #define CRR_STATEMENT_BYTES 29085
 #define CRR_REPORT_BYTES 2048
 
+/* The years of the calendar. */
+#define CRR_FIRST_YEAR 2010
+#define CRR_LAST_YEAR 2037
+
 /* Forms. */
 #define CRR_NARROW 0
 #define CRR_WIDE 1
@@ -144,6 +150,7 @@ extern "C" {
 #define CRR_PROCESS_NUMBER 16  /* process not 0 to 2 */
 #define CRR_PERIOD_OR_KIND 17  /* a period not 0 or 1; writing a book, a kind or period not 0 or 1 */
 #define CRR_HOLDER_RANGE 18    /* holder above 1,023 */
+#define CRR_NO_SUCH_DATE 19    /* a date or month that does not exist or is outside 2010 to 2037, given or reached */
 
 /*
  * Reads a grid's file, of either form.
@@ -393,6 +400,45 @@ uint64_t crr_write_statement(const uint8_t *grid_file, size_t grid_file_len,
                              const uint8_t *price_file, size_t price_file_len,
                              uint8_t *text, size_t text_len,
                              size_t *bytes);
+
+/*
+ * Gives the on-peak hours of a month: the hours ending 7 to 22, 16 of a day, on
+ * Mondays to Saturdays that are no holiday. Holidays are 1 January, the last Monday
+ * of May, 4 July, the first Monday of September, the fourth Thursday of November and
+ * 25 December. One that falls on a Sunday moves to the Monday after it; one that
+ * falls on a Saturday does not move, and the Friday before it is a day like others.
+ *
+ * On success writes their number to *hours: 384, 400, 416 or 432. January 2024 has
+ * 416.
+ *
+ * Refusals: 19 (a year not 2010 to 2037, a month not 1 to 12).
+ */
+uint64_t crr_month_hours(uint64_t year, uint64_t month, uint64_t *hours);
+
+/*
+ * Gives the weekday of a date.
+ *
+ * On success writes it to *weekday: 1 is Monday, 7 is Sunday.
+ *
+ * Refusals: 19 (a year not 2010 to 2037, a month not 1 to 12, a day that the month
+ * does not have).
+ */
+uint64_t crr_weekday(uint64_t year, uint64_t month, uint64_t day,
+                     uint64_t *weekday);
+
+/*
+ * Gives the date one month later: the same day of the next month, or that month's
+ * last day where it is a shorter one. 31 January 2024 gives 29 February 2024, and
+ * that gives 29 March 2024.
+ *
+ * On success writes the date to *later_year, *later_month and *later_day.
+ *
+ * Refusals, in this order: 19 (the date given, as for crr_weekday), 19 (the date
+ * reached: all of December 2037).
+ */
+uint64_t crr_month_later(uint64_t year, uint64_t month, uint64_t day,
+                         uint64_t *later_year, uint64_t *later_month,
+                         uint64_t *later_day);
 
 #ifdef __cplusplus
 }

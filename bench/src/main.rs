@@ -1,5 +1,6 @@
 //! Times each public entry of the proved library beside plain Rust, on the largest inputs of both forms, and how the cost grows with each count.
 
+mod calendar;
 mod entries;
 mod inputs;
 // `released_percent`, a choice among three figures, is not timed.
@@ -15,6 +16,7 @@ use entries::{Entry, ENTRIES};
 use inputs::{Inputs, Size, LARGEST, WIDEST, WIDEST_TEXT};
 use plain::Form;
 use std::process::ExitCode;
+use timing::Times;
 
 /// The entries whose cost grows with the contracts, the constraints and the nodes.
 const BY_CONTRACTS: [&str; 7] = ["read_book", "write_book", "remap_book", "test_book", "settle_hour", "write_report", "write_statement"];
@@ -43,8 +45,12 @@ const WIDE: [(&str, Size); 11] = [
 
 fn line(label: &str, entry: &Entry, size: Size, form: Form) -> Result<(), String> {
     let times = (entry.run)(&Inputs::new(size, form)).map_err(|why| format!("{}, {label}: {why}", entry.name))?;
-    println!("{label:<26} | {:>10.2} | {:>10.2} | {:>5.2}", times.proved, times.plain, times.proved / times.plain);
+    row(label, &times);
     Ok(())
+}
+
+fn row(label: &str, times: &Times) {
+    println!("{label:<26} | {:>10.2} | {:>10.2} | {:>5.2}", times.proved, times.plain, times.proved / times.plain);
 }
 
 fn heading(what: &str) {
@@ -57,6 +63,16 @@ fn growth(count: &str, names: &[&str], form: Form, sizes: &[(usize, Size)]) -> R
         for &(n, size) in sizes {
             line(&n.to_string(), entry, size, form)?;
         }
+    }
+    Ok(())
+}
+
+/// A call of these takes a few nanoseconds.
+fn calendar() -> Result<(), String> {
+    heading(&format!("entry, {} calls", calendar::CALLS));
+    for (name, run) in calendar::ENTRIES {
+        let times = run().map_err(|why| format!("{name}: {why}"))?;
+        row(name, &times);
     }
     Ok(())
 }
@@ -76,6 +92,7 @@ fn tables() -> Result<(), String> {
     for entry in &ENTRIES {
         line(entry.name, entry, LARGEST, Form::Narrow)?;
     }
+    calendar()?;
     let narrow = Form::Narrow;
     growth("contracts", &BY_CONTRACTS, narrow, &[125, 250, 500, 1000].map(|contracts| (contracts, Size { contracts, ..LARGEST })))?;
     growth("constraints", &BY_CONSTRAINTS, narrow, &[8, 16, 32, 64].map(|constraints| (constraints, Size { constraints, ..LARGEST })))?;

@@ -1,7 +1,8 @@
 /*
  * Calls every function of crr.h, on case L of document 01: each file read and written
  * again, the grid and the book in both forms, a node retired, the test, the flows,
- * the released shares, the MCC, the hour, the two texts. Also a C++ program.
+ * the released shares, the MCC, the hour, the two texts; and the calendar. Also a C++
+ * program.
  */
 #include <stdint.h>
 #include <stdio.h>
@@ -48,7 +49,7 @@ int main(void) {
     size_t book_len = load("book.bin", book_file, sizeof book_file);
     size_t price_len = load("prices.bin", price_file, sizeof price_file);
     size_t nodes = 0, constraints = 0, contracts = 0, bytes = 0, count = 7, lowest = 7, counted = 7;
-    uint64_t form = 7, period = 7, set = 7, percent = 7, parts = 0;
+    uint64_t form = 7, period = 7, set = 7, percent = 7, parts = 0, hours = 7, weekday = 0, year = 7, month = 7, day = 7;
     int64_t excess = 7, sum = 0, whole = 0;
 
     expect("crr_read_grid", crr_read_grid(grid_file, grid_len, limits, CRR_MAX_CONSTRAINTS, factors, CRR_MAX_NODES * CRR_MAX_CONSTRAINTS, &nodes, &constraints, &form) == CRR_OK
@@ -103,6 +104,15 @@ int main(void) {
                                       && starts_with("contract,holder,kind,cents,priced\n0,7,OBL,900,2\n1,8,OPT,0,2\n", bytes));
     expect("crr_write_statement, wide", crr_write_statement(wide_grid, 25, wide_book, 30, price_file, price_len, text, sizeof text, &bytes) == CRR_OK
                                             && starts_with("contract,holder,kind,cents,priced\n0,7,OBL,900,2\n1,8,OPT,0,2\n", bytes));
+    expect("crr_month_hours", crr_month_hours(2024, 1, &hours) == CRR_OK && hours == 416);
+    expect("crr_month_hours, month 13", crr_month_hours(2024, 13, &hours) == CRR_NO_SUCH_DATE && hours == 416);
+    expect("crr_month_hours, before the first year", crr_month_hours(CRR_FIRST_YEAR - 1, 12, &hours) == CRR_NO_SUCH_DATE && hours == 416);
+    expect("crr_weekday", crr_weekday(2024, 2, 29, &weekday) == CRR_OK && weekday == 4);
+    expect("crr_weekday, no such day", crr_weekday(2023, 2, 29, &weekday) == CRR_NO_SUCH_DATE && weekday == 4);
+    expect("crr_month_later", crr_month_later(2024, 1, 31, &year, &month, &day) == CRR_OK && year == 2024 && month == 2 && day == 29);
+    expect("crr_month_later, over the year's end", crr_month_later(2023, 12, 31, &year, &month, &day) == CRR_OK && year == 2024 && month == 1 && day == 31);
+    expect("crr_month_later, beyond the last year", crr_month_later(CRR_LAST_YEAR, 12, 1, &year, &month, &day) == CRR_NO_SUCH_DATE
+                                                        && year == 2024 && month == 1 && day == 31);
     /* A refusal is its number alone. */
     set = 7;
     expect("a refusal", crr_test_book(0, constraints, CRR_MONTHLY, period, limits, constraints, factors, nodes * constraints, book_file, book_len, &set, &count, &lowest, &excess) == CRR_NODE_COUNT

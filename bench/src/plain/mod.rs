@@ -2,6 +2,7 @@
 
 mod bits;
 mod book;
+mod calendar;
 mod grid;
 mod prices;
 mod settlement;
@@ -9,6 +10,7 @@ mod test;
 mod text;
 
 pub use book::{read_book, remap_book, write_book};
+pub use calendar::{month_hours, month_later, weekday};
 pub use grid::{read_grid, write_grid, Header};
 pub use prices::{read_prices, write_prices};
 pub use settlement::{find_mcc, settle_hour, Totals};
@@ -35,6 +37,7 @@ pub const PRICE_RANGE: Refusal = 15;
 pub const PROCESS_NUMBER: Refusal = 16;
 pub const PERIOD_OR_KIND: Refusal = 17;
 pub const HOLDER_RANGE: Refusal = 18;
+pub const NO_SUCH_DATE: Refusal = 19;
 
 pub const MAX_NODES: usize = 4000;
 pub const MAX_NARROW_NODES: usize = 200;

@@ -24,6 +24,7 @@ pub enum Refusal {
     ProcessNumber,
     PeriodOrKind,
     HolderRange,
+    NoSuchDate,
 }
 
 impl Refusal {
@@ -48,6 +49,7 @@ impl Refusal {
             Refusal::ProcessNumber => 16,
             Refusal::PeriodOrKind => 17,
             Refusal::HolderRange => 18,
+            Refusal::NoSuchDate => 19,
         }
     }
 }

@@ -4,6 +4,7 @@ Every function of include/crr.h has one of its name here, without `crr_`; figure
 down raises `Refused`. CSV files are read and written by `crr.from_csv` and `crr.to_csv`, many hours settled by `crr.hours.settle_hours`.
 """
 
+from .dates import month_hours, month_later, weekday
 from .feasibility import PERIODS, PROCESSES, Flows, Verdict, find_flows, released_percent, test_book
 from .files import (
     Contract,
@@ -42,6 +43,8 @@ __all__ = [
     "Verdict",
     "find_flows",
     "find_mcc",
+    "month_hours",
+    "month_later",
     "read_book",
     "read_book_cells",
     "read_book_form",
@@ -52,6 +55,7 @@ __all__ = [
     "settle_hour",
     "settle_hours",
     "test_book",
+    "weekday",
     "write_book",
     "write_grid",
     "write_prices",

@@ -5,13 +5,14 @@ from __future__ import annotations
 import argparse
 import json
 import os
+import re
 import sys
 import time
 from pathlib import Path
-from typing import Callable, Dict, List, Optional
+from typing import Callable, Dict, List, Optional, Tuple
 
 from . import commands
-from .commands import FAULTY, Answer
+from .commands import FAULTY, Answer, Month
 from .faults import Faults
 from .native import Refused
 
@@ -50,6 +51,7 @@ _COMMANDS: Dict[str, Callable[[argparse.Namespace], Answer]] = {
     "settle": lambda o: commands.settle(o.folder, o.out, o.jobs, o.round_prices, Bar("settle")),
     "report": _report,
     "remap": lambda o: commands.remap(o.folder, o.pairs, o.out, o.round_prices),
+    "hours": lambda o: commands.hours(*o.months),
 }
 _HELP = {
     "check": "read everything and list every fault",
@@ -59,7 +61,23 @@ _HELP = {
     "settle": "settle every hour: holder by month, hour by hour, contract by contract",
     "report": "one HTML page: verdicts, loading of constraints, payments",
     "remap": "move the ends of contracts from old nodes to new ones",
+    "hours": "the on-peak days and hours of months, 2010 to 2037",
 }
+_MONTHS = re.compile(r"([0-9]{4})(?:-([0-9]{2}))?")
+
+
+def _months(text: str) -> Tuple[Month, Month]:
+    """The first and the last month of a year, a month, or a span of them."""
+    start, _, end = text.partition("..")
+    found = [_MONTHS.fullmatch(part) for part in (start, end or start)]
+    if not all(found) or text.endswith("."):
+        raise argparse.ArgumentTypeError(f"{text!r} is neither a year, YYYY, nor a month, YYYY-MM, nor two of these as FROM..TO")
+    (first_year, first_month), (last_year, last_month) = [match.groups() for match in found if match]
+    first, last = (int(first_year), int(first_month or 1)), (int(last_year), int(last_month or 12))
+    if last < first:
+        raise argparse.ArgumentTypeError(f"{end} comes before {start}")
+    return first, last
+
 
 
 def _parser() -> argparse.ArgumentParser:
@@ -68,7 +86,10 @@ def _parser() -> argparse.ArgumentParser:
     adding = parser.add_subparsers(dest="command", required=True, metavar="COMMAND")
     of = {name: adding.add_parser(name, help=text, description=text) for name, text in _HELP.items()}
     for name, command in of.items():
-        command.add_argument("folder", type=Path, metavar="FOLDER", help="a folder of CSV files, or of bin files")
+        if name == "hours":
+            command.add_argument("months", type=_months, metavar="MONTHS", help="YYYY, YYYY-MM, or FROM..TO")
+        else:
+            command.add_argument("folder", type=Path, metavar="FOLDER", help="a folder of CSV files, or of bin files")
         command.add_argument("--json", action="store_true", help="the answer, or the faults, as one JSON object")
         if name in ("check", "pack", "settle", "report", "remap"):
             command.add_argument("--round-prices", action="store_true", help="round prices of more than two decimals to the nearest cent")

@@ -7,6 +7,7 @@ from pathlib import Path
 from typing import Dict, Iterable, List, NamedTuple, Optional, Sequence, Tuple
 
 from .case import TIMES_OF_USE, Case, Names
+from .dates import HOURS_A_DAY, month_hours
 from .decimals import decimal
 from .faults import Fault, raise_any
 from .feasibility import PROCESSES, Verdict, test_book
@@ -14,6 +15,7 @@ from .files import Contract, read_book, read_grid, remap_book
 from .from_csv import load
 from .hours import Progress, Settled, settle_hours
 from .interface import FLOW_PLACES
+from .native import Refused
 from .packed import Packed, hour_name, packed, read_packed, unpacked, write_bin, write_packed
 from .results import HOLDERS, HOURS, Time, dollars, exact_dollars, holder_months, hour_rows, result_files
 from .sheet import Sheet
@@ -220,3 +222,27 @@ def remap(folder: Path, pairs: Path, out: Path, round_prices: bool) -> Answer:
         write_bin(moved, out)
     text = f"{out}: {_counted(len(old), 'pair')} applied, {_counted(changed, 'contract')} of {len(contracts):,} changed\n"
     return Answer(PASSES, text, {"out": str(out), "pairs": len(old), "changed": changed, "contracts": len(contracts)})
+
+
+ON_PEAK = ("MONTH", "ON_PEAK_DAYS", "ON_PEAK_HOURS")
+Month = Tuple[int, int]  # the year, and 1 to 12
+
+
+def hours(first: Month, last: Month) -> Answer:
+    """The on-peak days and hours of each month, from the first to the last."""
+    for named in (first, last):
+        _on_peak(*named)  # refused as it was written, such as month 13
+    rows = [_on_peak(number // 12, number % 12 + 1) for number in range(12 * first[0] + first[1] - 1, 12 * last[0] + last[1])]
+    days, total = sum(row[1] for row in rows), sum(row[2] for row in rows)
+    told = f"{_counted(len(rows), 'month')}: {_counted(days, 'on-peak day')}, {_counted(total, 'on-peak hour')}\n"
+    data: Dict[str, object] = {"months": _objects(ON_PEAK, rows), "on_peak_days": days, "on_peak_hours": total}
+    return Answer(PASSES, csv_text(ON_PEAK, rows), data, told)
+
+
+def _on_peak(year: int, month: int) -> Tuple[str, int, int]:
+    name = f"{year:04}-{month:02}"
+    try:
+        found = month_hours(year, month)
+    except Refused as refused:
+        raise Refused(refused.number, refused.entry, name) from None
+    return name, found // HOURS_A_DAY, found

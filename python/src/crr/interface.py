@@ -20,6 +20,10 @@ MAX_TEXT_GRID_BYTES = 32768
 STATEMENT_BYTES = 29085
 REPORT_BYTES = 2048
 
+# The years of the calendar.
+FIRST_YEAR = 2010
+LAST_YEAR = 2037
+
 # Forms of a grid's and a book's file.
 NARROW = 0
 WIDE = 1
@@ -67,6 +71,7 @@ MEANINGS: Dict[int, str] = {
     16: "process not 0 to 2",
     17: "a period not 0 or 1; writing a book, a kind or period not 0 or 1",
     18: "holder above 1,023",
+    19: "a date or month that does not exist or is outside 2010 to 2037, given or reached",
 }
 
 # Every function returns uint64_t, the number of the refusal or 0.
@@ -95,6 +100,9 @@ DECLARATIONS: Dict[str, str] = {
     "uint8_t *text, size_t text_len, size_t *bytes",
     "crr_write_statement": "const uint8_t *grid_file, size_t grid_file_len, const uint8_t *book_file, size_t book_file_len, "
     "const uint8_t *price_file, size_t price_file_len, uint8_t *text, size_t text_len, size_t *bytes",
+    "crr_month_hours": "uint64_t year, uint64_t month, uint64_t *hours",
+    "crr_weekday": "uint64_t year, uint64_t month, uint64_t day, uint64_t *weekday",
+    "crr_month_later": "uint64_t year, uint64_t month, uint64_t day, uint64_t *later_year, uint64_t *later_month, uint64_t *later_day",
 }
 
 

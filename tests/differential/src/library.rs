@@ -152,6 +152,9 @@ mod c {
             text_len: usize,
             bytes: *mut usize,
         ) -> u64;
+        pub fn crr_month_hours(year: u64, month: u64, hours: *mut u64) -> u64;
+        pub fn crr_weekday(year: u64, month: u64, day: u64, weekday: *mut u64) -> u64;
+        pub fn crr_month_later(year: u64, month: u64, day: u64, later_year: *mut u64, later_month: *mut u64, later_day: *mut u64) -> u64;
     }
 }
 
@@ -350,4 +353,16 @@ pub fn write_statement(grid_file: &[u8], book_file: &[u8], price_file: &[u8], te
             bytes,
         )
     }
+}
+
+pub fn month_hours(year: u64, month: u64, hours: &mut u64) -> u64 {
+    unsafe { c::crr_month_hours(year, month, hours) }
+}
+
+pub fn weekday(year: u64, month: u64, day: u64, weekday: &mut u64) -> u64 {
+    unsafe { c::crr_weekday(year, month, day, weekday) }
+}
+
+pub fn month_later(year: u64, month: u64, day: u64, later_year: &mut u64, later_month: &mut u64, later_day: &mut u64) -> u64 {
+    unsafe { c::crr_month_later(year, month, day, later_year, later_month, later_day) }
 }
