@@ -33,7 +33,7 @@ below (suc n) f t k h = by (eqb k n) refl (below n f (and-left (allBelow n f) (f
 
 -- ---- the months' tables
 
-abbrev pub right : List ℕ → (ℕ → ℕ) → ℕ → ℕ → Bool
+abbrev right : List ℕ → (ℕ → ℕ) → ℕ → ℕ → Bool
 right xs f most k = eqb (getD xs k 0) (f k) && leb (getD xs k 0) most
 
 -- a table of months that is f, with no number above `most`

@@ -13,15 +13,15 @@ leap y = eqb (y % 400) 0 || (not (eqb (y % 100) 0) && eqb (y % 4) 0)
 
 -- the days of month m of a leap year, or of another; 0 where there is no such month
 unfoldable pub monthLength : Bool → ℕ → ℕ
-monthLength leaps m = getD (0 ∷ 31 ∷ cond leaps 29 28 ∷ 31 ∷ 30 ∷ 31 ∷ 30 ∷ 31 ∷ 31 ∷ 30 ∷ 31 ∷ 30 ∷ 31 ∷ []) m 0
+monthLength leapYear m = getD (0 ∷ 31 ∷ cond leapYear 29 28 ∷ 31 ∷ 30 ∷ 31 ∷ 30 ∷ 31 ∷ 31 ∷ 30 ∷ 31 ∷ 30 ∷ 31 ∷ []) m 0
 
 abbrev pub monthDays : ℕ → ℕ → ℕ
 monthDays y m = monthLength (leap y) m
 
 -- the days of the months before month m
 unfoldable pub lengthBefore : Bool → ℕ → ℕ
-lengthBefore leaps zero = 0
-lengthBefore leaps (suc m) = lengthBefore leaps m + monthLength leaps m
+lengthBefore leapYear zero = 0
+lengthBefore leapYear (suc m) = lengthBefore leapYear m + monthLength leapYear m
 
 -- the days of the first p years
 abbrev pub yearsLength : ℕ → ℕ

@@ -38,88 +38,94 @@ fn no_dates() {
     );
 }
 
-// The date one month later.
-fn later(name: &[u8], given: Date, expected: Date) {
-    match given.month_later() {
-        DateAnswer::Reached(date) => {
-            figure(name, date.year, expected.year);
-            figure(name, date.month, expected.month);
-            figure(name, date.day, expected.day);
+// The date one month later, year, month and day.
+fn later(name: &[u8], given: [u64; 3], expected: [u64; 3]) {
+    let date = Date {
+        year: given[0],
+        month: given[1],
+        day: given[2],
+    };
+    match date.month_later() {
+        DateAnswer::Reached(reached) => {
+            figure(name, reached.year, expected[0]);
+            figure(name, reached.month, expected[1]);
+            figure(name, reached.day, expected[2]);
         }
         DateAnswer::Refused(refusal) => figure(name, refusal.number(), 0),
     }
 }
 
-fn date(year: u64, month: u64, day: u64) -> Date {
-    Date { year, month, day }
-}
-
-fn laters() {
+fn laters_1() {
     later(
         b"1.44, a month after 2024-01-31",
-        date(2024, 1, 31),
-        date(2024, 2, 29),
+        [2024, 1, 31],
+        [2024, 2, 29],
     );
     later(
         b"1.45, a month after 2023-01-31",
-        date(2023, 1, 31),
-        date(2023, 2, 28),
+        [2023, 1, 31],
+        [2023, 2, 28],
     );
     later(
         b"1.46, a month after 2024-01-29",
-        date(2024, 1, 29),
-        date(2024, 2, 29),
+        [2024, 1, 29],
+        [2024, 2, 29],
     );
     later(
         b"1.47, a month after 2023-03-31",
-        date(2023, 3, 31),
-        date(2023, 4, 30),
+        [2023, 3, 31],
+        [2023, 4, 30],
     );
     later(
         b"1.48, a month after 2024-02-29",
-        date(2024, 2, 29),
-        date(2024, 3, 29),
+        [2024, 2, 29],
+        [2024, 3, 29],
     );
+}
+
+fn laters_2() {
     later(
         b"1.49, a month after 2023-12-31",
-        date(2023, 12, 31),
-        date(2024, 1, 31),
+        [2023, 12, 31],
+        [2024, 1, 31],
     );
     later(
         b"1.50, a month after 2010-12-15",
-        date(2010, 12, 15),
-        date(2011, 1, 15),
+        [2010, 12, 15],
+        [2011, 1, 15],
     );
     later(
         b"1.51, a month after 2037-10-31",
-        date(2037, 10, 31),
-        date(2037, 11, 30),
+        [2037, 10, 31],
+        [2037, 11, 30],
     );
     later(
         b"1.52, a month after 2037-11-30",
-        date(2037, 11, 30),
-        date(2037, 12, 30),
+        [2037, 11, 30],
+        [2037, 12, 30],
     );
 }
 
 // No date one month later.
-fn none_later(name: &[u8], given: Date) {
-    match given.month_later() {
+fn none_later(name: &[u8], year: u64, month: u64, day: u64) {
+    let date = Date { year, month, day };
+    match date.month_later() {
         DateAnswer::Reached(_) => figure(name, 0, 19),
         DateAnswer::Refused(refusal) => figure(name, refusal.number(), 19),
     }
 }
 
 fn none_laters() {
-    none_later(b"1.53, a month after 2037-12-01", date(2037, 12, 1));
-    none_later(b"1.54, a month after 2037-12-31", date(2037, 12, 31));
-    none_later(b"1.55, a month after 2009-12-31", date(2009, 12, 31));
-    none_later(b"1.56, a month after 2023-02-29", date(2023, 2, 29));
+    none_later(b"1.53, a month after 2037-12-01", 2037, 12, 1);
+    none_later(b"1.54, a month after 2037-12-31", 2037, 12, 31);
+    none_later(b"1.55, a month after 2009-12-31", 2009, 12, 31);
+    none_later(b"1.56, a month after 2023-02-29", 2023, 2, 29);
 }
 
 pub fn go_through() {
     weekdays();
     no_dates();
-    laters();
+    laters_1();
+    laters_2();
     none_laters();
 }
