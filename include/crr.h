@@ -19,17 +19,20 @@
  *   flow, excess   10^-8 MW
  *   MCC            10^-5 cents per MWh (marginal cost of congestion)
  *   parts          10^-8 cents, 0 to 99,999,999
+ *   balance        cents, -1,000,000,000 to 1,000,000,000
+ *   demand         units of any one kind, 0 to 1,000,000,000
  *   period         0 off-peak, 1 on-peak
  *   process        0 annual, 1 Tier LT, 2 monthly: 65, 60 and 100 percent of each
  *                  limit is released
  *   date           year 2010 to 2037, month 1 to 12, day from 1 to the month's last
  *   weekday        1 Monday to 7 Sunday
  *
- * Nodes, constraints and contracts are numbered from 0: nodes up to 3,999.
+ * Nodes, constraints, contracts and coordinators are numbered from 0: nodes up to
+ * 3,999.
  *
  *
  * TABLES. Each may be longer than is needed: only the first cells are read or
- * written.
+ * written. demands alone is read whole: its length says how many there are.
  *
  *   limits    one cell for each constraint
  *   factors   one cell for each node and constraint; the factor of node n on
@@ -43,6 +46,8 @@
  *   cents     one cell for each contract
  *   priced    one cell for each contract, a set of constraints: bit k is
  *             constraint k
+ *   demands   one cell for each coordinator, and no other
+ *   shares    one cell for each coordinator
  *
  *
  * FORMS. The file of a grid and that of a book have two forms each. The narrow one
@@ -100,6 +105,7 @@ extern "C" {
 #define CRR_MAX_NARROW_NODES 200 /* of a grid's file in the narrow form */
 #define CRR_MAX_CONSTRAINTS 64
 #define CRR_MAX_CONTRACTS 1000
+#define CRR_MAX_COORDINATORS 256
 
 /* The longest files. One byte more is never accepted. */
 #define CRR_MAX_GRID_BYTES 576220
@@ -151,6 +157,8 @@ extern "C" {
 #define CRR_PERIOD_OR_KIND 17  /* a period not 0 or 1; writing a book, a kind or period not 0 or 1 */
 #define CRR_HOLDER_RANGE 18    /* holder above 1,023 */
 #define CRR_NO_SUCH_DATE 19    /* a date or month that does not exist or is outside 2010 to 2037, given or reached */
+#define CRR_SHARE_RANGE 26     /* sharing a balance: no demands or more than 256, or a balance or demand outside its range */
+#define CRR_NO_DEMAND 27       /* sharing a balance: the demands total 0 */
 
 /*
  * Reads a grid's file, of either form.
@@ -361,6 +369,30 @@ uint64_t crr_settle_hour(size_t nodes, size_t constraints, uint64_t period,
                          int64_t *cents, size_t cents_len,
                          uint64_t *priced, size_t priced_len,
                          int64_t *sum, int64_t *whole, uint64_t *parts);
+
+/*
+ * Shares a balance, of either sign, among Scheduling Coordinators by their demands:
+ * cell i of demands is that of coordinator i. There are demands_len of them, 1 to
+ * CRR_MAX_COORDINATORS: here the list's length is the count, and no cell of it is
+ * left out.
+ *
+ * A coordinator's exact proportion is balance * demand / total of the demands. Each
+ * gets it rounded towards zero. The cents that are left over, of the balance's sign,
+ * go one each to the largest remainders in size, of equal ones to the lower number.
+ * So the shares add up to the balance, and none is a cent or more from its exact
+ * proportion. By demands 1, 1, 1 a balance of 100 is shared as 34, 33, 33, and one of
+ * -100 as -34, -33, -33.
+ *
+ * On success writes one share for each coordinator, in cents, to the first cells of
+ * shares.
+ *
+ * Refusals, in this order: 26 (not 1 to 256 demands; a balance below -1,000,000,000
+ * or above 1,000,000,000; a demand above 1,000,000,000), 27, and 9 if the shares
+ * don't fit.
+ */
+uint64_t crr_share_balance(int64_t balance,
+                           const uint64_t *demands, size_t demands_len,
+                           int64_t *shares, size_t shares_len);
 
 /*
  * Writes the feasibility report on a grid's file and a book's file: a heading and

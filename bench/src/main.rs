@@ -8,6 +8,7 @@ mod inputs;
 #[path = "../../tests/differential/src/library.rs"]
 mod library;
 mod plain;
+mod shares;
 #[path = "../../tests/differential/src/splitmix.rs"]
 mod splitmix;
 mod timing;
@@ -77,6 +78,12 @@ fn calendar() -> Result<(), String> {
     Ok(())
 }
 
+/// Sharing a balance among so many coordinators.
+fn shared(label: &str, coordinators: usize) -> Result<(), String> {
+    row(label, &shares::share_balance(coordinators).map_err(|why| format!("share_balance, {coordinators}: {why}"))?);
+    Ok(())
+}
+
 fn wide() -> Result<(), String> {
     heading("entry, wide");
     for (name, size) in WIDE {
@@ -92,11 +99,16 @@ fn tables() -> Result<(), String> {
     for entry in &ENTRIES {
         line(entry.name, entry, LARGEST, Form::Narrow)?;
     }
+    shared("share_balance", shares::MOST)?;
     calendar()?;
     let narrow = Form::Narrow;
     growth("contracts", &BY_CONTRACTS, narrow, &[125, 250, 500, 1000].map(|contracts| (contracts, Size { contracts, ..LARGEST })))?;
     growth("constraints", &BY_CONSTRAINTS, narrow, &[8, 16, 32, 64].map(|constraints| (constraints, Size { constraints, ..LARGEST })))?;
     growth("nodes", &BY_NODES, narrow, &[25, 50, 100, 200].map(|nodes| (nodes, Size { nodes, ..LARGEST })))?;
+    heading("share_balance, coordinators");
+    for coordinators in [4, 16, 64, shares::MOST] {
+        shared(&coordinators.to_string(), coordinators)?;
+    }
     wide()
 }
 

@@ -1,4 +1,4 @@
-"""The command: exit statuses, JSON, remapping, on-peak hours, ./crr from any folder, pipes that close and disks that are full."""
+"""The command: exit statuses, JSON, remapping, on-peak hours, sharing a balance, ./crr from any folder, pipes that close and disks that are full."""
 
 import io
 import json
@@ -172,6 +172,45 @@ class Hours(unittest.TestCase):
             self.assertEqual((status, out, err.count("is neither a year, YYYY, nor a month, YYYY-MM")), (2, "", 1), months)
         self.assertIn("error: argument MONTHS: 2024-01 comes before 2024-02\n", command("hours", "2024-02..2024-01")[2])
         self.assertEqual(command("hours")[0], 2)
+
+
+class Share(FolderTest):
+    def shared(self, balance, demands, *arguments):
+        (self.folder / "demands.csv").write_text(demands)
+        return command("share", balance, self.folder / "demands.csv", *arguments)
+
+    def test_either_sign(self):
+        demands = "COORDINATOR,MEASURED_DEMAND\nAlder,1\nBirch,1\nCedar,1\n"
+        for sign in ("", "-"):
+            out = f"COORDINATOR,MEASURED_DEMAND,SHARE\nAlder,1,{sign}0.34\nBirch,1,{sign}0.33\nCedar,1,{sign}0.33\n"
+            self.assertEqual(self.shared(f"{sign}1.00", demands), (0, out, f"3 coordinators: sum {sign}1.00\n"))
+
+    def test_decimals(self):
+        """Demands of decimals are shared as the same whole numbers of a smaller unit."""
+        told = self.shared("100", "COORDINATOR,MEASURED_DEMAND\nAlder,1.5\nBirch,2\nCedar,0.250\n")[1]
+        self.assertEqual(told, "COORDINATOR,MEASURED_DEMAND,SHARE\nAlder,1.5,40.00\nBirch,2,53.33\nCedar,0.250,6.67\n")
+        whole = self.shared("100", "COORDINATOR,MEASURED_DEMAND\nAlder,150\nBirch,200\nCedar,25\n")[1]
+        self.assertEqual([row.split(",")[2] for row in told.splitlines()], [row.split(",")[2] for row in whole.splitlines()])
+
+    def test_other_headings(self):
+        status, out, err = self.shared("-0.07", "\ufeffNote;SC ID;Demand MWh\r\nx;Alder;1000000000\r\n\r\ny;Birch;0\r\n")
+        self.assertEqual((status, out, err), (0, "COORDINATOR,MEASURED_DEMAND,SHARE\nAlder,1000000000,-0.07\nBirch,0,0.00\n", "2 coordinators: sum -0.07\n"))
+
+    def test_largest(self):
+        demands = "COORDINATOR,MEASURED_DEMAND\n" + "".join(f"S{i},1000000000\n" for i in range(256))
+        status, out, err = self.shared("10000000.00", demands)
+        self.assertEqual((status, out.count(",39062.50\n"), err), (0, 256, "256 coordinators: sum 10000000.00\n"))
+
+    def test_json(self):
+        answer = {"balance": "0.05", "shares": [{"coordinator": "Alder", "measured_demand": "7", "share": "0.05"}]}
+        status, out, err = self.shared(".05", "COORDINATOR,MEASURED_DEMAND\nAlder,7\n", "--json")
+        self.assertEqual((status, json.loads(out), err), (0, answer, ""))
+        status, out, err = self.shared("1", "COORDINATOR,MEASURED_DEMAND\nAlder,0\n", "--json")
+        fault = {"file": "demands.csv", "line": 2, "column": "MEASURED_DEMAND", "text": "the demands total 0", "refusal": 27}
+        self.assertEqual((status, json.loads(out), err), (2, {"faults": [fault]}, ""))
+
+    def test_usage(self):
+        self.assertEqual(command("share", "1.00")[0], 2)
 
 
 class FromTheShell(FolderTest):

@@ -1,8 +1,8 @@
 /*
  * Calls every function of crr.h, on case L of document 01: each file read and written
  * again, the grid and the book in both forms, a node retired, the test, the flows,
- * the released shares, the MCC, the hour, the two texts; and the calendar. Also a C++
- * program.
+ * the released shares, the MCC, the hour, the two texts; the calendar; and a balance
+ * shared. Also a C++ program.
  */
 #include <stdint.h>
 #include <stdio.h>
@@ -22,6 +22,8 @@ static const uint8_t wide_book[] = {0x01, 0x3f, 0x40, 0x70, 0x00, 0x00, 0x10, 0x
 static const uint8_t remapped[] = {0x01, 0x00, 0x40, 0x70, 0x00, 0x10, 0x27, 0x10, 0xc0, 0x80, 0x00, 0x10, 0x01, 0xf4,
                                    0x40, 0x70, 0x00, 0x10, 0x00, 0x01, 0x00, 0x90, 0x00, 0x10, 0x00, 0x05, 7};
 static int64_t factors[CRR_MAX_NODES * CRR_MAX_CONSTRAINTS], flows[CRR_MAX_CONSTRAINTS], mcc[CRR_MAX_NODES], cents[CRR_MAX_CONTRACTS];
+static const uint64_t demands[] = {5, 3, 1}, no_demands[] = {0, 0};
+static int64_t shares[4];
 static int passed, failed;
 
 static void expect(const char *what, int holds) {
@@ -98,6 +100,14 @@ int main(void) {
                                               cents, CRR_MAX_CONTRACTS, priced, CRR_MAX_CONTRACTS, &sum, &whole, &parts) == CRR_OK
                                   && cents[0] == 900 && cents[1] == 0 && cents[2] == -1 && cents[3] == 0 && cents[4] == 7 && sum == 899 && whole == 899 && parts == 17000000
                                   && priced[0] == 3 && priced[1] == 3 && priced[2] == 3 && priced[3] == 0 && priced[4] == 7);
+    shares[3] = 7;
+    expect("crr_share_balance", crr_share_balance(10, demands, 3, shares, 4) == CRR_OK && shares[0] == 6 && shares[1] == 3 && shares[2] == 1 && shares[3] == 7);
+    expect("crr_share_balance, negative", crr_share_balance(-10, demands, 3, shares, 3) == CRR_OK && shares[0] == -6 && shares[1] == -3 && shares[2] == -1);
+    expect("crr_share_balance, no coordinators", crr_share_balance(10, demands, 0, shares, 4) == CRR_SHARE_RANGE);
+    expect("crr_share_balance, balance too large", crr_share_balance(INT64_MIN, no_demands, 2, shares, 1) == CRR_SHARE_RANGE);
+    expect("crr_share_balance, no demand", crr_share_balance(10, no_demands, 2, shares, 1) == CRR_NO_DEMAND);
+    expect("crr_share_balance, too few cells", crr_share_balance(10, demands, 3, shares, 2) == CRR_SHORT_TABLE
+                                                   && shares[0] == -6 && shares[1] == -3 && shares[2] == -1 && shares[3] == 7);
     expect("crr_write_report", crr_write_report(grid_file, grid_len, book_file, book_len, text, sizeof text, &bytes) == CRR_OK
                                    && starts_with("period,process,verdict,overloaded,lowest,excess,constraints\n", bytes));
     expect("crr_write_statement", crr_write_statement(grid_file, grid_len, book_file, book_len, price_file, price_len, text, sizeof text, &bytes) == CRR_OK

@@ -4,4 +4,5 @@ fn main() {
     vectors::go_through();
     request_vectors::go_through();
     calendar_vectors::go_through();
+    share_vectors::go_through();
 }

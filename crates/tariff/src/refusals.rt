@@ -25,6 +25,8 @@ pub enum Refusal {
     PeriodOrKind,
     HolderRange,
     NoSuchDate,
+    ShareRange,
+    NoDemand,
 }
 
 impl Refusal {
@@ -50,6 +52,8 @@ impl Refusal {
             Refusal::PeriodOrKind => 17,
             Refusal::HolderRange => 18,
             Refusal::NoSuchDate => 19,
+            Refusal::ShareRange => 26,
+            Refusal::NoDemand => 27,
         }
     }
 }

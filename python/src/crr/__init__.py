@@ -24,6 +24,7 @@ from .hours import PriceFile, Settled, settle_hours
 from .interface import MEANINGS
 from .native import Refused
 from .settlement import Hour, HourTotal, Settler, find_mcc, settle_hour
+from .shares import share_balance
 from .texts import write_report, write_statement
 
 __all__ = [
@@ -54,6 +55,7 @@ __all__ = [
     "remap_book",
     "settle_hour",
     "settle_hours",
+    "share_balance",
     "test_book",
     "weekday",
     "write_book",

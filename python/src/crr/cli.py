@@ -52,6 +52,7 @@ _COMMANDS: Dict[str, Callable[[argparse.Namespace], Answer]] = {
     "report": _report,
     "remap": lambda o: commands.remap(o.folder, o.pairs, o.out, o.round_prices),
     "hours": lambda o: commands.hours(*o.months),
+    "share": lambda o: commands.share(o.balance, o.demands),
 }
 _HELP = {
     "check": "read everything and list every fault",
@@ -62,6 +63,7 @@ _HELP = {
     "report": "one HTML page: verdicts, loading of constraints, payments",
     "remap": "move the ends of contracts from old nodes to new ones",
     "hours": "the on-peak days and hours of months, 2010 to 2037",
+    "share": "a balance shared among coordinators by their demands, to the cent",
 }
 _MONTHS = re.compile(r"([0-9]{4})(?:-([0-9]{2}))?")
 
@@ -88,6 +90,9 @@ def _parser() -> argparse.ArgumentParser:
     for name, command in of.items():
         if name == "hours":
             command.add_argument("months", type=_months, metavar="MONTHS", help="YYYY, YYYY-MM, or FROM..TO")
+        elif name == "share":
+            command.add_argument("balance", metavar="BALANCE", help="dollars, such as 1234.56 or -1234.56")
+            command.add_argument("demands", type=Path, metavar="DEMANDS", help="a CSV file COORDINATOR,MEASURED_DEMAND")
         else:
             command.add_argument("folder", type=Path, metavar="FOLDER", help="a folder of CSV files, or of bin files")
         command.add_argument("--json", action="store_true", help="the answer, or the faults, as one JSON object")
@@ -107,8 +112,8 @@ def _parser() -> argparse.ArgumentParser:
 def _faulty(options: argparse.Namespace, problem: Exception) -> Answer:
     """The answer where something is wrong, all of it."""
     if isinstance(problem, Faults):
-        count = len(problem.faults)
-        text = f"{problem}\ncrr: {count} fault{'' if count == 1 else 's'} in {options.folder}; nothing was written\n"
+        count, where = len(problem.faults), "" if options.command == "share" else f" in {options.folder}"
+        text = f"{problem}\ncrr: {count} fault{'' if count == 1 else 's'}{where}; nothing was written\n"
         return Answer(FAULTY, text, {"faults": [fault._asdict() for fault in problem.faults]})
     if isinstance(problem, Refused):
         data: Dict[str, object] = {"file": problem.file, "line": 0, "column": "", "text": problem.meaning, "refusal": problem.number}

@@ -8,16 +8,17 @@ from typing import Dict, Iterable, List, NamedTuple, Optional, Sequence, Tuple
 
 from .case import TIMES_OF_USE, Case, Names
 from .dates import HOURS_A_DAY, month_hours
-from .decimals import decimal
+from .decimals import decimal, whole
 from .faults import Fault, raise_any
 from .feasibility import PROCESSES, Verdict, test_book
 from .files import Contract, read_book, read_grid, remap_book
-from .from_csv import load
+from .from_csv import DEMANDS, load, read_demands
 from .hours import Progress, Settled, settle_hours
-from .interface import FLOW_PLACES
+from .interface import BALANCE, FLOW_PLACES
 from .native import Refused
 from .packed import Packed, hour_name, packed, read_packed, unpacked, write_bin, write_packed
 from .results import HOLDERS, HOURS, Time, dollars, exact_dollars, holder_months, hour_rows, result_files
+from .shares import share_balance
 from .sheet import Sheet
 from .slices import settle_sliced
 from .to_csv import csv_text, write_csv, write_files
@@ -246,3 +247,29 @@ def _on_peak(year: int, month: int) -> Tuple[str, int, int]:
     except Refused as refused:
         raise Refused(refused.number, refused.entry, name) from None
     return name, found // HOURS_A_DAY, found
+
+
+def _balance(text: str, faults: List[Fault]) -> int:
+    """Dollars as cents; a fault is noted and gives 0."""
+    try:
+        cents = whole(text, BALANCE.places)
+    except ValueError as error:
+        faults.append(Fault("BALANCE", 0, "", str(error)))
+        return 0
+    if not BALANCE.low <= cents <= BALANCE.high:
+        faults.append(Fault("BALANCE", 0, "", f"{text} is outside {dollars(BALANCE.low)} to {dollars(BALANCE.high)}", BALANCE.refusal))
+    return cents
+
+
+SHARES = (*DEMANDS, "SHARE")
+
+
+def share(balance: str, demands: Path) -> Answer:
+    """Shares a balance of dollars among the coordinators of a file by their demands."""
+    faults: List[Fault] = []
+    cents, asked = _balance(balance, faults), read_demands(demands, faults)
+    raise_any(faults)
+    shares = share_balance(cents, asked.units)
+    rows = [(name, text, dollars(own)) for name, text, own in zip(asked.names, asked.texts, shares)]
+    told = f"{_counted(len(rows), 'coordinator')}: sum {dollars(sum(shares))}\n"
+    return Answer(PASSES, csv_text(SHARES, rows), {"balance": dollars(cents), "shares": _objects(SHARES, rows)}, told)

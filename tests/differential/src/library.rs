@@ -132,6 +132,7 @@ mod c {
             whole: *mut i64,
             parts: *mut u64,
         ) -> u64;
+        pub fn crr_share_balance(balance: i64, demands: *const u64, demands_len: usize, shares: *mut i64, shares_len: usize) -> u64;
         pub fn crr_write_report(
             grid_file: *const u8,
             grid_file_len: usize,
@@ -331,6 +332,10 @@ pub fn settle_hour(
             parts,
         )
     }
+}
+
+pub fn share_balance(balance: i64, demands: &[u64], shares: &mut [i64]) -> u64 {
+    unsafe { c::crr_share_balance(balance, demands.as_ptr(), demands.len(), shares.as_mut_ptr(), shares.len()) }
 }
 
 pub fn write_report(grid_file: &[u8], book_file: &[u8], text: &mut [u8], bytes: &mut usize) -> u64 {

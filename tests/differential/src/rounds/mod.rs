@@ -11,6 +11,7 @@ pub mod priced;
 pub mod prices;
 pub mod remap;
 pub mod settlement;
+pub mod shares;
 pub mod test;
 pub mod text;
 

@@ -8,6 +8,7 @@ pub mod grid;
 pub mod prices;
 pub mod remap;
 pub mod settlement;
+pub mod shares;
 pub mod test;
 pub mod text;
 pub mod word;
