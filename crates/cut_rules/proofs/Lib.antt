@@ -1,0 +1,6 @@
+pub mod Lowest
+pub mod Needs
+pub mod Flows
+pub mod Cuts
+pub mod Rows
+pub mod Theorems
