@@ -4,3 +4,4 @@ pub mod Flows
 pub mod Cuts
 pub mod Rows
 pub mod Theorems
+pub mod Keys

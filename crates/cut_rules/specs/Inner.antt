@@ -1,8 +1,8 @@
 -- The closed form, which code goes by and nobody must believe: it is proved to be the search. And a row as one number, to sort by.
 use mathlib.Core.Bool.{Bool, true, false, cond, _&&_}
-use mathlib.Core.List.{List}
+use mathlib.Core.List.{List, [], _∷_, _++_}
 use Prim.Native.Nat.{ℕ, zero, suc, _+_, _-_, _*_, _/_, _<_, max}
-use lib.Dec.{leb}
+use lib.Dec.{ltb, leb}
 use lib.IntN.{ℤ, pos, negsuc, _-ℤ_, _*ℤ_}
 use lib.Signed.{_≤ℤ_, leZ}
 use Rattle.tariff.specs.declared.contracts.Contract.{Contract}
@@ -54,6 +54,22 @@ module _ (g : Grid) (process : Process) (period : Period) (cs : List Contract) w
   closedCut i =
       closed (g .factors .constraints) (excess g process (ofPeriod period cs)) (slope (g .factors) period (contractOf cs i)) (quantityOf cs i) (suc (quantityOf cs i))
 
+  -- as code gives it: 0 for none, which no cut from a failing book is, and for a contract of the other period
+  unfoldable pub cutOr0 : ℕ → ℕ
+  cutOr0 i =
+      cond (samePeriod (contractOf cs i .period) period)
+      (closed (g .factors .constraints) (excess g process (ofPeriod period cs)) (slope (g .factors) period (contractOf cs i)) (quantityOf cs i) 0)
+      0
+
 -- ---- a row as one number, which compares as rows are ordered: numbers are below 1,024
+
+abbrev pub keyOf : ℕ → ℕ → ℕ
+keyOf cut number = cut * 1024 + number
+
 abbrev pub rowKey : Row → ℕ
-rowKey r = r .cut * 1024 + r .number
+rowKey r = keyOf (r .cut) (r .number)
+
+-- those of the numbers below m that have a cut
+unfoldable pub keysTo : (ℕ → ℕ) → ℕ → List ℕ
+keysTo cutOf zero = []
+keysTo cutOf (suc m) = keysTo cutOf m ++ cond (ltb 0 (cutOf m)) (keyOf (cutOf m) m ∷ []) []
