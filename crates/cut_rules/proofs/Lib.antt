@@ -1,5 +1,6 @@
 pub mod Lowest
 pub mod Needs
+pub mod Turns
 pub mod Flows
 pub mod Cuts
 pub mod Rows

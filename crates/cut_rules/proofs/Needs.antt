@@ -51,7 +51,7 @@ and-both true true e = (refl, refl)
 and-both true false e = (refl, e)
 and-both false b e = (e, absurd (true≢false (sym e)))
 
-is-true : (a : Bool) → T a → a ≡ true
+pub is-true : (a : Bool) → T a → a ≡ true
 is-true true h = refl
 is-true false h = absurd h
 

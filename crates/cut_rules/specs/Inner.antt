@@ -27,6 +27,10 @@ unfoldable pub need : ℕ → (ℕ → ℤ) → (ℕ → ℤ) → ℕ
 need zero e w = 0
 need (suc n) e w = max (need n e w) (needAt (e n) (w n))
 
+-- the need n raised to what an overload e asks at slope w, and 0 where no cut up to q is enough there
+abbrev pub raisedTo : ℤ → ℤ → ℕ → ℕ → ℕ
+raisedTo e w q n = cond (ltb 0 (needAt e w) && leb (needAt e w) q) (max n (needAt e w)) 0
+
 -- the cut t is enough at every constraint below n
 abbrev pub Enough : ℕ → (ℕ → ℤ) → (ℕ → ℤ) → ℕ → Type 0
 Enough n e w t = (k : ℕ) → k < n → (e k -ℤ w k *ℤ pos t) ≤ℤ pos 0
