@@ -4,6 +4,7 @@ use Prim.Native.Nat.{ℕ, _+_, _*_, _^_, _≤_, _<_}
 use lib.ListN.{length, getD}
 use lib.IntN.{ℤ, pos, natAbs, _-ℤ_}
 use Rattle.tariff.specs.declared.contracts.Contract.{Contract}
+use Rattle.tariff.specs.declared.contracts.Kind.{Kind}
 use Rattle.tariff.specs.Contracts.{counted}
 use Rattle.cut_rules.specs.Inner.{closed}
 
@@ -15,9 +16,13 @@ pub record Excesses (k : ℕ) (cells : List ℤ) : Type 0 where
   pub long : k ≤ length cells
   pub sized : (j : ℕ) → j < k → natAbs (cellAt cells j) < 2 ^ 63
 
--- the flow of one thousandth of contract c on constraint j, by a table with k factors a node
-unfoldable pub slopeIn : ℕ → List ℤ → Contract → ℕ → ℤ
-slopeIn k table c j = counted (c .kind) (cellAt table (c .source * k + j) -ℤ cellAt table (c .sink * k + j))
+-- the flow of one thousandth on constraint j, as it counts, where the factors of source and sink begin at these cells of a table
+unfoldable pub slopeFrom : List ℤ → ℕ → ℕ → Kind → ℕ → ℤ
+slopeFrom table source sink kind j = counted kind (cellAt table (source + j) -ℤ cellAt table (sink + j))
+
+-- that of contract c, by a table with k factors a node
+abbrev pub slopeIn : ℕ → List ℤ → Contract → ℕ → ℤ
+slopeIn k table c = slopeFrom table (c .source * k) (c .sink * k) (c .kind)
 
 -- the least cut of contract c, and 0 for none
 unfoldable pub cutIn : ℕ → List ℤ → List ℤ → Contract → ℕ
