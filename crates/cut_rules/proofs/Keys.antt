@@ -8,6 +8,7 @@ use native.Mathlib.Omega.{arith}
 use borrow.Author.Tests.{leb-true, lt-ltb, le-leb, lt-leb}
 use lib.Arith.{digits-div, digits-mod}
 use lib.Dec.{ltb, leb}
+use lib.ListN.{length}
 use lib.IntN.{ℤ}
 use Rattle.lists.specs.Lists.{Each}
 use Rattle.sorting.specs.Sorted.{insert, merged, sorted}
@@ -17,11 +18,11 @@ use Rattle.tariff.specs.declared.processes.Process.{Process}
 use Rattle.tariff.specs.Units.{Grid}
 use Rattle.tariff.specs.Contracts.{samePeriod, ofPeriod}
 use Rattle.tariff.specs.Feasibility.{excess}
-use Rattle.cut_rules.specs.Cuts.{contractOf, quantityOf, Row, precedes, putRow, inOrder, passing, leastCut, hasCut, rowOf, rowsTo}
+use Rattle.cut_rules.specs.Cuts.{contractOf, quantityOf, Row, precedes, putRow, inOrder, passing, leastCut, hasCut, rowOf, rowsTo, leastCuts}
 use Rattle.cut_rules.specs.Inner.{need, enough, closed, slope, closedCut, cutOr0, keyOf, rowKey, keysTo}
 use Rattle.cut_rules.proofs.Needs.{and-both}
 use Rattle.cut_rules.proofs.Cuts.{passing-is, least-is-closed, least-positive}
-use Rattle.cut_rules.proofs.Rows.{of-precedes, precedes-other, each-inOrder, NumbersRise}
+use Rattle.cut_rules.proofs.Rows.{of-precedes, precedes-other, each-inOrder, each-row, NumbersRise}
 
 -- ---- the order of keys is that of rows
 
@@ -54,6 +55,18 @@ keys-in-order [] h f = refl
 keys-in-order (r ∷ rows) h f =
     keys-put r (inOrder rows) (each-inOrder (λ s. r .number < s .number) rows (h .0)) (each-inOrder (λ s. s .number < 1024) rows (f .1))
     ∙ ap (insert (rowKey r)) (keys-in-order rows (h .1) (f .1))
+
+-- a book of no more contracts has such rows alone
+pub few-rows : (g : Grid) (process : Process) (period : Period) (cs : List Contract) → length cs ≤ 1024 → Few (leastCuts g process period cs)
+unfolding leastCuts
+few-rows g process period cs h = by (passing g process period cs)
+  where
+    own : Few (rowsTo g process period cs (length cs))
+    own = each-row g process period cs (λ r. r .number < 1024) (length cs) (λ i b c. omega arith)
+
+    by : (b : Bool) → Few (cond b [] (inOrder (rowsTo g process period cs (length cs))))
+    by true = tt
+    by false = each-inOrder (λ r. r .number < 1024) (rowsTo g process period cs (length cs)) own
 
 -- ---- a row from its key
 

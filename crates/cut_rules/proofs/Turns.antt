@@ -141,3 +141,20 @@ module _ (e w : ℕ → ℤ) where
 
   pub enough-end : (K k t : ℕ) → k ≡ K → enough k e w t ≡ true → true ≡ enough K e w t
   enough-end K k t is h = sym (ap (λ (x : ℕ). enough x e w t) (sym is) ∙ h)
+
+-- ---- nothing hangs on the constraints from n on
+
+module _ (e w e' w' : ℕ → ℤ) where
+  need-cong : (n : ℕ) → ((k : ℕ) → k < n → e k ≡ e' k) → ((k : ℕ) → k < n → w k ≡ w' k) → need n e w ≡ need n e' w'
+  unfolding need
+  need-cong zero he hw = refl
+  need-cong (suc n) he hw = λ i. max (need-cong n (λ k b. he k (omega arith)) (λ k b. hw k (omega arith)) i) (needAt (he n (omega arith) i) (hw n (omega arith) i))
+
+  enough-cong : (n t : ℕ) → ((k : ℕ) → k < n → e k ≡ e' k) → ((k : ℕ) → k < n → w k ≡ w' k) → enough n e w t ≡ enough n e' w' t
+  unfolding enough
+  enough-cong zero t he hw = refl
+  enough-cong (suc n) t he hw = λ i. enough-cong n t (λ k b. he k (omega arith)) (λ k b. hw k (omega arith)) i && leZ (he n (omega arith) i -ℤ hw n (omega arith) i *ℤ pos t) (pos 0)
+
+  pub closed-cong : (n q none : ℕ) → ((k : ℕ) → k < n → e k ≡ e' k) → ((k : ℕ) → k < n → w k ≡ w' k) → closed n e w q none ≡ closed n e' w' q none
+  unfolding closed
+  closed-cong n q none he hw = rw (need-cong n he hw, enough-cong n (need n e' w') he hw)
