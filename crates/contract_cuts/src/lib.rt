@@ -65,7 +65,14 @@ fn least_need(c: Contract, constraints: usize, factors: &[i64], excesses: &[i64]
     while k < constraints {
         let excess = excesses[k];
         if 0 < excess {
-            need = raised(Flow(excess), kind, factors[source + k], factors[sink + k], most, need);
+            need = raised(
+                Flow(excess),
+                kind,
+                factors[source + k],
+                factors[sink + k],
+                most,
+                need,
+            );
             if need == 0 {
                 return 0;
             }

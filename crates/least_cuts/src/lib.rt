@@ -175,7 +175,15 @@ pub fn find_cuts(
 ) -> CutsAnswer
     ensures { λ r. ⌜ FindsCuts (testCall nodes constraints process period (before limits) (before factors) (before book)) numbers cuts r ⌝ }
 {
-    let checked = feasibility_test::check_test(nodes, constraints, process, period, limits, factors, book);
+    let checked = feasibility_test::check_test(
+        nodes,
+        constraints,
+        process,
+        period,
+        limits,
+        factors,
+        book,
+    );
     if let Checked::Refused(refusal) = checked {
         return CutsAnswer::Refused(refusal);
     }

@@ -125,14 +125,14 @@ loop-again c =
     let is = c .before .before .before .before .cell .ensures in
     let most : l .need ≤ q = rw is at (l .inv .1) in
     let next : (c .if1 .need ≤ q) × (c .if1 .need ≡ need (l .k + 1) e w) =
-        ⊎-elim
-        (λ v.
-            let x : tie.After-raised Inv-loop μ-loop =
-                record { before = record { before = record { before = record { before = c .before; if1 = v .0 }; raised-arg = v .1 }; raised-arg2 = v .2 }; raised = v .3 } in
-            let r = need-raised e w (l .k) (l .need) q (v .3 .result) (raised-is x) (l .inv .2) most (v .4 .left) in
-            (rw (v .5) (r .1), v .5 ∙ r .0))
-        (λ v. (rw (v .1) most, v .1 ∙ need-kept e w (l .k) (l .need) (l .inv .2) (rw (back (e (l .k)) (s .pre .1 .sized (l .k) h)) at (ltZ-no {a = pos 0} {b = kept (e (l .k))} (rw (v .0 .left) tt)))))
-        (c .if1 .came) in
+    ⊎-elim
+    (λ v.
+    let x : tie.After-raised Inv-loop μ-loop =
+    record { before = record { before = record { before = record { before = c .before; if1 = v .0 }; raised-arg = v .1 }; raised-arg2 = v .2 }; raised = v .3 } in
+    let r = need-raised e w (l .k) (l .need) q (v .3 .result) (raised-is x) (l .inv .2) most (v .4 .left) in
+    (rw (v .5) (r .1), v .5 ∙ r .0))
+    (λ v. (rw (v .1) most, v .1 ∙ need-kept e w (l .k) (l .need) (l .inv .2) (rw (back (e (l .k)) (s .pre .1 .sized (l .k) h)) at (ltZ-no {a = pos 0} {b = kept (e (l .k))} (rw (v .0 .left) tt)))))
+    (c .if1 .came) in
     (omega arith, rw is (next .0), next .1)
 
 returns-2 : tie.Need-returns-2 Inv-loop μ-loop
@@ -141,9 +141,11 @@ returns-2 c =
     let s = c .before .before .before .before .before .before in
     let l = c .before .loop in
     let most : l .need ≤ s .args .c .quantity .0 = rw (c .before .before .cell .ensures) at (l .inv .1) in
-    let last : l .k ≡ s .args .constraints = omega arith in
-    (most, need-end (cellAt (s .args .excesses .now)) (slopeIn (s .args .constraints) (s .args .factors .now) (s .args .c)) (s .args .constraints) (l .need) (s .args .c .quantity .0)
-      (l .inv .2 ∙ ap (λ (x : ℕ). need x (cellAt (s .args .excesses .now)) (slopeIn (s .args .constraints) (s .args .factors .now) (s .args .c))) last) most)
+    let last : l .k ≡ s .args .constraints = omega arith in (
+      most,
+      need-end (cellAt (s .args .excesses .now)) (slopeIn (s .args .constraints) (s .args .factors .now) (s .args .c)) (s .args .constraints) (l .need) (s .args .c .quantity .0)
+          (l .inv .2 ∙ ap (λ (x : ℕ). need x (cellAt (s .args .excesses .now)) (slopeIn (s .args .constraints) (s .args .factors .now) (s .args .c))) last) most,
+    )
 
 pub least-need-spec : {M : Type 1} → statement M
 least-need-spec =

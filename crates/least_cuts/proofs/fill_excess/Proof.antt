@@ -73,7 +73,7 @@ loop-again c =
     let h : l .k < s .args .constraints = omega arith in
     let r = c .before .before .released in
     let is = excess-kept (s .args .limits .now) (s .args .process) (s .args .carried .flows) (l .k) (r .result .0) (c .before .minus .result .0)
-        (s .pre .0 .flows-sized (l .k) h) (s .pre .0 .good-limits .sized (l .k) h) (r .ensures) (c .before .minus .ensures) in
+    (s .pre .0 .flows-sized (l .k) h) (s .pre .0 .good-limits .sized (l .k) h) (r .ensures) (c .before .minus .ensures) in
     let v = is ∙ sym (getD-listTo (s .args .constraints) f (l .k) (pos 0) h) in (
       omega arith,
       simp length-set (l .inv .1),

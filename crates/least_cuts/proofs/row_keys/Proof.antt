@@ -43,8 +43,11 @@ collect-keys-requires c κs =
     let s = f .before .before .before .before in
     let a = s .args in (
       (s .pre .0 .1, s .pre .0 .2),
-      (excesses (a .nodes) (a .constraints) (a .limits .now) (a .factors .now) (a .process) (a .period) (a .book .now) (s .pre .0 .0) (s .pre .0 .1) (s .pre .0 .2) (f .carry .result) (f .carry .ensures)
-        _ _ (c .before .before .before .fill-excess .ensures), s .pre .1),
+      (
+        excesses (a .nodes) (a .constraints) (a .limits .now) (a .factors .now) (a .process) (a .period) (a .book .now) (s .pre .0 .0) (s .pre .0 .1) (s .pre .0 .2) (f .carry .result) (f .carry .ensures)
+            _ _ (c .before .before .before .fill-excess .ensures),
+        s .pre .1,
+      ),
     )
 
 sort-requires : tie.Need-sort-requires
@@ -62,7 +65,7 @@ returns-2 c =
     let sort = c .before .before .sort .ensures in
     let room : k .collect-keys .result ≤ length (k .collect-keys .last .1 .1 .1 .1 .1 .1 .0) = omega (arith, h .0 .0, h .0 .1) in
     let out = fails (a .nodes) (a .constraints) (a .limits .now) (a .factors .now) (a .process) (a .period) (a .book .now) (s .pre .0 .0) (s .pre .0 .1) (s .pre .0 .2) (f .carry .result) (f .carry .ensures)
-        (o .overload-set .result) (o .overload-set .ensures) (x .before .before .if1 .left) in (
+    (o .overload-set .result) (o .overload-set .ensures) (x .before .before .if1 .left) in (
       (h .0 .0, cells-long (k .collect-keys .result) _ _ room sort ∙ h .0 .1),
       listed-keys (a .nodes) (a .constraints) (a .limits .now) (a .factors .now) (a .process) (a .period) (a .book .now) (s .pre .0 .0) (s .pre .0 .1) (s .pre .0 .2) (f .carry .result) (f .carry .ensures)
           _ _ (x .fill-excess .ensures) out (k .collect-keys .result) _ _ room (h .1) sort,
