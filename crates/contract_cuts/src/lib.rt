@@ -16,7 +16,7 @@ use tariff::Flow;
 use tariff::Kind;
 use tariff::Quantity;
 
-// The cut that an overload needs: so many times the slope is at least the overload. 0 where the slope is not above 0, or that is more than `most`.
+// The cut that an overload needs: so many times the slope is at least the overload. 0 where the slope is not above 0, or where that is more than `most`.
 fn cut_needed(over: Flow, slope: Flow, most: u64) -> u64
     requires { ⌜ (pos 0 <ℤ over .0) × (natAbs (over .0) < 2 ^ 63) × (natAbs (slope .0) < 2 ^ 63) ⌝ }
     ensures { λ r. ⌜ r ≡ cond (leb (needAt (over .0) (slope .0)) most) (needAt (over .0) (slope .0)) 0 ⌝ }
@@ -33,7 +33,7 @@ fn cut_needed(over: Flow, slope: Flow, most: u64) -> u64
     cut
 }
 
-// The need raised to what an overload asks of a contract between two factors, and 0 where no cut up to `most` is enough. It divides only where the need is short.
+// The need raised to what an overload asks at two factors, and 0 where no cut up to `most` is enough. It divides only where the need is short.
 fn raised(over: Flow, kind: Kind, source: i64, sink: i64, most: u64, need: u64) -> u64
     requires { ⌜ (natAbs source ≤ maxFactor) × (natAbs sink ≤ maxFactor) × (need ≤ most) × (most ≤ maxQuantity) ⌝ }
     requires { ⌜ (pos 0 <ℤ over .0) × (natAbs (over .0) < 2 ^ 63) ⌝ }
@@ -49,7 +49,8 @@ fn raised(over: Flow, kind: Kind, source: i64, sink: i64, most: u64, need: u64) 
     need
 }
 
-// The cut that a contract's overloads need, up to its quantity: it is the least cut where it is enough at every constraint. A contract that relieves no overload is left at once, with 0.
+// The cut that a contract's overloads need, up to its quantity: the least, where it is enough at every constraint.
+// A contract that does not relieve an overload is left at once, with 0.
 fn least_need(c: Contract, constraints: usize, factors: &[i64], excesses: &[i64]) -> u64
     requires { ⌜ Ends constraints (now factors) c × Excesses constraints (now excesses) ⌝ }
     ensures { λ r. ⌜ (r ≤ c .quantity .0) × (cutIn constraints (before factors) (before excesses) c

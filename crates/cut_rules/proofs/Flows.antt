@@ -62,30 +62,41 @@ module _ (f : Factors) where
     pub cut-none : (c : Contract) (k : ℕ) → cutFlow f period c 0 k ≡ pos 0
     cut-none c k = cut-times c 0 k ∙ *ℤ-zero (slope f period c k)
 
+    -- the total of a book's contracts of the period
+    abbrev total : List Contract → ℕ → ℤ
+    total cs k = totalFlow f (ofPeriod period cs) k
+
     -- a contract adds the flow of its quantity
-    pub total-cons : (c : Contract) (cs : List Contract) (k : ℕ) → totalFlow f (ofPeriod period (c ∷ cs)) k ≡ cutFlow f period c (c .quantity .0) k +ℤ totalFlow f (ofPeriod period cs) k
+    total-cons : (c : Contract) (cs : List Contract) (k : ℕ) → total (c ∷ cs) k ≡ cutFlow f period c (c .quantity .0) k +ℤ total cs k
     unfolding totalFlow sumOver ofPeriod cutFlow flow
     total-cons c cs k = by (samePeriod (c .period) period)
       where
-        by : (s : Bool) → totalFlow f (cond s (c ∷ ofPeriod period cs) (ofPeriod period cs)) k ≡ cond s (flow f (withQuantity (c .quantity .0) c) k) (pos 0) +ℤ totalFlow f (ofPeriod period cs) k
+        by : (s : Bool) → totalFlow f (cond s (c ∷ ofPeriod period cs) (ofPeriod period cs)) k ≡ cond s (flow f (withQuantity (c .quantity .0) c) k) (pos 0) +ℤ total cs k
         by true = refl
-        by false = sym (+ℤ-idl (totalFlow f (ofPeriod period cs) k))
+        by false = sym (+ℤ-idl (total cs k))
 
     -- THE FLOW OF A LOWERED BOOK, for every cut up to the contract's quantity, of either period
-    pub lowered-flow : (i t : ℕ) (cs : List Contract) (k : ℕ) → t ≤ quantityOf cs i → totalFlow f (ofPeriod period (lowered i t cs)) k ≡ totalFlow f (ofPeriod period cs) k -ℤ cutFlow f period (contractOf cs i) t k
+    pub lowered-flow : (i t : ℕ) (cs : List Contract) (k : ℕ) → t ≤ quantityOf cs i
+        → totalFlow f (ofPeriod period (lowered i t cs)) k ≡ totalFlow f (ofPeriod period cs) k -ℤ cutFlow f period (contractOf cs i) t k
     unfolding lowered cutFlow
-    lowered-flow i t [] k h = same (totalFlow f (ofPeriod period []) k) (cutFlow f period noContract t k) (ap (λ (x : ℕ). cutFlow f period noContract x k) {x = t} {y = 0} (omega arith) ∙ cut-none noContract k)
+    lowered-flow i t [] k h =
+        same (total [] k) (cutFlow f period noContract t k) (ap (λ (x : ℕ). cutFlow f period noContract x k) {x = t} {y = 0} (omega arith) ∙ cut-none noContract k)
     lowered-flow zero t (c ∷ cs) k h = rw (total-cons c cs k) (by (ltb t (c .quantity .0)) refl)
       where
-        by : (b : Bool) → ltb t (c .quantity .0) ≡ b → totalFlow f (ofPeriod period (cond b (withQuantity (c .quantity .0 - t) c ∷ cs) cs)) k ≡ cutFlow f period c (c .quantity .0) k +ℤ totalFlow f (ofPeriod period cs) k -ℤ cutFlow f period c t k
+        by : (b : Bool) → ltb t (c .quantity .0) ≡ b
+            → totalFlow f (ofPeriod period (cond b (withQuantity (c .quantity .0 - t) c ∷ cs) cs)) k ≡ cutFlow f period c (c .quantity .0) k +ℤ total cs k -ℤ cutFlow f period c t k
         by true e =
-            let whole : cutFlow f period c (c .quantity .0) k ≡ cutFlow f period c (c .quantity .0 - t) k +ℤ cutFlow f period c t k = ap (λ (x : ℕ). cutFlow f period c x k) {y = c .quantity .0 - t + t} (omega arith) ∙ cut-plus c (c .quantity .0 - t) t k in
-            total-cons (withQuantity (c .quantity .0 - t) c) cs k
-            ∙ lower (cutFlow f period c (c .quantity .0) k) (cutFlow f period c (c .quantity .0 - t) k) (cutFlow f period c t k) (totalFlow f (ofPeriod period cs) k) whole
+            let left = cutFlow f period c (c .quantity .0 - t) k in
+            let cut = cutFlow f period c t k in
+            let whole : cutFlow f period c (c .quantity .0) k ≡ left +ℤ cut =
+            ap (λ (x : ℕ). cutFlow f period c x k) {y = c .quantity .0 - t + t} (omega arith) ∙ cut-plus c (c .quantity .0 - t) t k in
+            total-cons (withQuantity (c .quantity .0 - t) c) cs k ∙ lower (cutFlow f period c (c .quantity .0) k) left cut (total cs k) whole
         by false e =
             let l : c .quantity .0 ≤ t = ltb-false t (c .quantity .0) e in
-            remove (cutFlow f period c t k) (totalFlow f (ofPeriod period cs) k) ∙ ap (λ (x : ℕ). cutFlow f period c x k +ℤ totalFlow f (ofPeriod period cs) k -ℤ cutFlow f period c t k) {y = c .quantity .0} (omega arith)
+            let cut = cutFlow f period c t k in
+            remove cut (total cs k) ∙ ap (λ (x : ℕ). cutFlow f period c x k +ℤ total cs k -ℤ cut) {y = c .quantity .0} (omega arith)
     lowered-flow (suc i) t (c ∷ cs) k h =
+        let cut = cutFlow f period (contractOf cs i) t k in
         total-cons c (lowered i t cs) k
-        ∙ keep (cutFlow f period c (c .quantity .0) k) (totalFlow f (ofPeriod period cs) k) (totalFlow f (ofPeriod period (lowered i t cs)) k) (cutFlow f period (contractOf cs i) t k) (lowered-flow i t cs k h)
-        ∙ ap (λ (z : ℤ). z -ℤ cutFlow f period (contractOf cs i) t k) (sym (total-cons c cs k))
+        ∙ keep (cutFlow f period c (c .quantity .0) k) (total cs k) (total (lowered i t cs) k) cut (lowered-flow i t cs k h)
+        ∙ ap (λ (z : ℤ). z -ℤ cut) (sym (total-cons c cs k))

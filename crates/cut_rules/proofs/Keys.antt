@@ -19,7 +19,7 @@ use Rattle.tariff.specs.Units.{Grid}
 use Rattle.tariff.specs.Contracts.{samePeriod, ofPeriod}
 use Rattle.tariff.specs.Feasibility.{excess}
 use Rattle.cut_rules.specs.Cuts.{contractOf, quantityOf, Row, precedes, putRow, inOrder, passing, leastCut, hasCut, rowOf, rowsTo, leastCuts}
-use Rattle.cut_rules.specs.Inner.{need, enough, closed, slope, closedCut, cutOr0, keyOf, rowKey, keysTo}
+use Rattle.cut_rules.specs.Inner.{need, enough, closed, slope, closedOr, closedCut, cutOr0, keyOf, rowKey, keysTo}
 use Rattle.cut_rules.proofs.Needs.{and-both}
 use Rattle.cut_rules.proofs.Cuts.{passing-is, least-is-closed, least-positive}
 use Rattle.cut_rules.proofs.Rows.{of-precedes, precedes-other, each-inOrder, each-row, NumbersRise}
@@ -103,8 +103,8 @@ module _ (g : Grid) (process : Process) (period : Period) (cs : List Contract) (
   above : (i : ℕ) → 0 < leastCut g process period cs i
   above i = least-positive g process period cs i (λ p. true≢false (sym (passing-is g process period cs .1 p) ∙ failing))
 
-  closed-row : (i : ℕ) → let q = quantityOf cs i in let C = closed (g .factors .constraints) (excess g process (ofPeriod period cs)) (slope (g .factors) period (contractOf cs i)) q 0 in
-      cond (ltb 0 C) (keyOf C i ∷ []) [] ≡ map rowKey (cond (leb (leastCut g process period cs i) q) (rowOf g process period cs i ∷ []) [])
+  closed-row : (i : ℕ) → let C = closedOr g process period cs 0 i in
+      cond (ltb 0 C) (keyOf C i ∷ []) [] ≡ map rowKey (cond (leb (leastCut g process period cs i) (quantityOf cs i)) (rowOf g process period cs i ∷ []) [])
   unfolding closedCut
   closed-row i =
       closed-key (g .factors .constraints) (excess g process (ofPeriod period cs)) (slope (g .factors) period (contractOf cs i)) (quantityOf cs i) i (leastCut g process period cs i)

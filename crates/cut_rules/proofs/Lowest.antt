@@ -24,7 +24,8 @@ unfolding lowestOf
 lowest-has zero f h = absurd (omega arith)
 lowest-has (suc n) f h = by (f 0) refl h (lowest-has n (λ k. f (suc k)))
   where
-    by : (b : Bool) → f 0 ≡ b → cond b 0 (suc (lowestOf n (λ k. f (suc k)))) < suc n → (lowestOf n (λ k. f (suc k)) < n → f (suc (lowestOf n (λ k. f (suc k)))) ≡ true) → f (cond b 0 (suc (lowestOf n (λ k. f (suc k))))) ≡ true
+    by : (b : Bool) → f 0 ≡ b → cond b 0 (suc (lowestOf n (λ k. f (suc k)))) < suc n → (lowestOf n (λ k. f (suc k)) < n → f (suc (lowestOf n (λ k. f (suc k)))) ≡ true)
+        → f (cond b 0 (suc (lowestOf n (λ k. f (suc k))))) ≡ true
     by true e l rest = e
     by false e l rest = rest (omega arith)
 

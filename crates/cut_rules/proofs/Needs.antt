@@ -15,11 +15,11 @@ use Rattle.cut_rules.specs.Inner.{needAt, need, Enough, enough, closed}
 use Rattle.cut_rules.proofs.Lowest.{lowest-is, lowest-none}
 
 -- ---- the division rounded up: the least t with e ≤ w × t
-pub ceil-least : (e w t : ℕ) → 0 < w → e ≤ t * w → (e + (w - 1)) / w ≤ t
-ceil-least e w t h b = omega (arith, div-lt-iff-lt-mul {k = w} {x = e + (w - 1)} {y = suc t} h .1 (omega arith))
-
-pub ceil-enough : (e w t : ℕ) → 0 < w → (e + (w - 1)) / w ≤ t → e ≤ t * w
+pub ceil-enough : (e w t : ℕ) → 0 < w → needAt (pos e) (pos w) ≤ t → e ≤ t * w
 ceil-enough e w t h b = omega (arith, div-lt-iff-lt-mul {k = w} {x = e + (w - 1)} {y = suc t} h .0 (omega arith))
+
+ceil-least : (e w t : ℕ) → 0 < w → e ≤ t * w → needAt (pos e) (pos w) ≤ t
+ceil-least e w t h b = omega (arith, div-lt-iff-lt-mul {k = w} {x = e + (w - 1)} {y = suc t} h .1 (omega arith))
 
 -- ---- one constraint
 pos-enough : (e w t : ℕ) → ((pos e -ℤ pos w *ℤ pos t) ≤ℤ pos 0) ↔ (e ≤ t * w)

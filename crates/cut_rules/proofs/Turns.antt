@@ -40,7 +40,7 @@ short : (e w : ℤ) (n : ℕ) → 0 < needAt e w → (w *ℤ pos n) <ℤ e → n
 short (pos a) (pos zero) n p h = absurd (omega (arith, div-zero (a + (0 - 1))))
 short (pos a) (pos (suc b)) n p h =
     let l = plain a (suc b) n h in
-    let out : ¬ ((a + (suc b - 1)) / suc b ≤ n) = λ le. clash (ceil-enough a (suc b) n (omega arith) le) l in
+    let out : ¬ (needAt (pos a) (pos (suc b)) ≤ n) = λ le. clash (ceil-enough a (suc b) n (omega arith) le) l in
     omega arith
   where
     clash : {x y : ℕ} → x ≤ y → y < x → ⊥
@@ -62,7 +62,7 @@ less-within e x = rw (⊖of e, ⊖of x) (simp ⊖s (omega arith))
 some-need : (e w : ℤ) (n : ℕ) → pos 0 <ℤ e → e ≤ℤ (w *ℤ pos n) → 0 < needAt e w
 some-need (pos a) (pos zero) n o h = absurd (never (pos a) (pos 0) n o (leZ-yes tt) h)
 some-need (pos a) (pos (suc b)) n o h =
-    let out : ¬ ((a + (suc b - 1)) / suc b ≤ 0) = λ le. none a (suc b) (ceil-enough a (suc b) 0 (omega arith) le) o in
+    let out : ¬ (needAt (pos a) (pos (suc b)) ≤ 0) = λ le. none a (suc b) (ceil-enough a (suc b) 0 (omega arith) le) o in
     omega arith
   where
     none : (a b : ℕ) → a ≤ 0 * b → pos 0 <ℤ pos a → ⊥

@@ -54,16 +54,17 @@ abbrev pub slope : Factors → Period → Contract → ℕ → ℤ
 slope f period c k = cutFlow f period c 1 k
 
 module _ (g : Grid) (process : Process) (period : Period) (cs : List Contract) where
+  -- contract i's cut by the closed form, with what is said for none
+  abbrev pub closedOr : ℕ → ℕ → ℕ
+  closedOr none i = closed (g .factors .constraints) (excess g process (ofPeriod period cs)) (slope (g .factors) period (contractOf cs i)) (quantityOf cs i) none
+
+  -- one more than its quantity for none, as the search says
   unfoldable pub closedCut : ℕ → ℕ
-  closedCut i =
-      closed (g .factors .constraints) (excess g process (ofPeriod period cs)) (slope (g .factors) period (contractOf cs i)) (quantityOf cs i) (suc (quantityOf cs i))
+  closedCut i = closedOr (suc (quantityOf cs i)) i
 
   -- as code gives it: 0 for none, which no cut from a failing book is, and for a contract of the other period
   unfoldable pub cutOr0 : ℕ → ℕ
-  cutOr0 i =
-      cond (samePeriod (contractOf cs i .period) period)
-      (closed (g .factors .constraints) (excess g process (ofPeriod period cs)) (slope (g .factors) period (contractOf cs i)) (quantityOf cs i) 0)
-      0
+  cutOr0 i = cond (samePeriod (contractOf cs i .period) period) (closedOr 0 i) 0
 
 -- ---- a row as one number, which compares as rows are ordered: numbers are below 1,024
 

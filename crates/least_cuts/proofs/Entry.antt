@@ -15,10 +15,9 @@ use Rattle.tariff.specs.declared.refusals.Refusal.{Refusal}
 use Rattle.tariff.specs.declared.refusals.Refusal.the-variants.{ShortTable}
 use Rattle.tariff.specs.declared.refusals.Checked.{Checked}
 use Rattle.tariff.specs.declared.refusals.Checked.the-variants.{Passed, Refused}
-use Rattle.tariff.specs.Refusals.{Check, first, given, answered, cellsAfter}
+use Rattle.tariff.specs.Refusals.{first, given, answered, cellsAfter}
 use Rattle.tariff.proofs.Answers.{answer-refused, cells-refused, answer-passed, cells-passed}
 use Rattle.tariff.specs.Units.{maxContracts}
-use Rattle.tariff.specs.Checks.{shortTable}
 use Rattle.tariff.proofs.Checks.{append-refuses, append-passes, first-passes, first-refuses, last-passes}
 use Rattle.layouts.specs.BookFile.{bookIn, contractCountIn, contractAt}
 use Rattle.feasibility_test.specs.TestBook.{TestCall, testChecks, testChecked, testedGrid, testedProcess}
@@ -29,20 +28,18 @@ use Rattle.cut_rules.proofs.Keys.{Few, few-rows, key-numbers, key-cuts}
 use Rattle.cut_rules.proofs.Theorems.{least-cuts}
 use Rattle.least_cuts.specs.declared.CutsAnswer.{CutsAnswer}
 use Rattle.least_cuts.specs.declared.CutsAnswer.the-variants as is
-use Rattle.least_cuts.specs.FindCuts.{CutsCall, cutsCall, cutsOutcome, rowsIn, testedPeriod, listedRows, findCutsChecks, findCutsChecked, numberCells, cutCells, HoldLeastCuts, FindsCuts}
+use Rattle.least_cuts.specs.FindCuts.{CutsCall, cutsCall, cutsOutcome, rowsIn, testedPeriod, listedRows, roomChecks, findCutsChecks, findCutsChecked}
+use Rattle.least_cuts.specs.FindCuts.{numberCells, cutCells, HoldLeastCuts, FindsCuts}
 
 -- ---- the checks: x is what the test's found
 module _ (q : CutsCall) (x : Checked) (found : x ≡ testChecked (q .test)) where
-  abbrev room : List Check
-  room = shortTable (length (q .numbers)) (length (listedRows q)) ∷ shortTable (length (q .cuts)) (length (listedRows q)) ∷ []
-
   pub test-refuses : (r : Refusal) → x ≡ Refused r → Refused r ≡ findCutsChecked q
   unfolding findCutsChecks
-  test-refuses r told = sym (append-refuses (testChecks (q .test)) room r (sym found ∙ told))
+  test-refuses r told = sym (append-refuses (testChecks (q .test)) (roomChecks q) r (sym found ∙ told))
 
-  then-room : x ≡ Passed → findCutsChecked q ≡ first room
+  then-room : x ≡ Passed → findCutsChecked q ≡ first (roomChecks q)
   unfolding findCutsChecks
-  then-room told = append-passes (testChecks (q .test)) room (sym found ∙ told)
+  then-room told = append-passes (testChecks (q .test)) (roomChecks q) (sym found ∙ told)
 
   module _ (told : x ≡ Passed) (listed : ℕ) (many : listed ≡ length (listedRows q)) where
     pub no-room-numbers : length (q .numbers) < listed → Refused ShortTable ≡ findCutsChecked q
@@ -63,7 +60,9 @@ module _ (q : CutsCall) (x : Checked) (found : x ≡ testChecked (q .test)) wher
 -- ---- keys taken apart
 
 pub few-listed : (q : CutsCall) → contractCountIn (q .test .book) ≤ maxContracts → Few (listedRows q)
-few-listed q h = few-rows (testedGrid (q .test)) (testedProcess (q .test)) (testedPeriod q) (bookIn (q .test .book)) (omega (arith, length-listTo (contractCountIn (q .test .book)) (contractAt (q .test .book))))
+few-listed q h =
+    few-rows (testedGrid (q .test)) (testedProcess (q .test)) (testedPeriod q) (bookIn (q .test .book))
+    (omega (arith, length-listTo (contractCountIn (q .test .book)) (contractAt (q .test .book))))
 
 module _ (rows : List Row) (few : Few rows) (keys : List ℕ) (listed : ℕ) (long : listed ≤ length keys) (are : take listed keys ≡ map rowKey rows) where
   pub how-many : listed ≡ length rows
@@ -92,7 +91,8 @@ rows-stand rows numbers cuts = listTo-is rows _ (record { number = 0; cut = 0 })
         front-at (map f rows) entry (length rows) (length-map rows f) i 0 h ∙ ap (getD (map f rows) i) (sym z) ∙ List·getD-map f rows i none
 
     at : (i : ℕ) → i < length rows
-        → record { number = getD (overwrite (map (λ (r : Row). r .number) rows) numbers) i 0; cut = getD (overwrite (map (λ (r : Row). r .cut) rows) cuts) i 0 } ≡ getD rows i (record { number = 0; cut = 0 })
+        → record { number = getD (overwrite (map (λ (r : Row). r .number) rows) numbers) i 0; cut = getD (overwrite (map (λ (r : Row). r .cut) rows) cuts) i 0 }
+        ≡ getD rows i (record { number = 0; cut = 0 })
     at i h = λ t. record { number = cell (λ r. r .number) numbers i h refl t; cut = cell (λ r. r .cut) cuts i h refl t }
 
 -- the theorem of paper 12, of the rows in the tables where no check refuses
@@ -121,7 +121,8 @@ module _ (test : TestCall) (numbers cuts : Lent (List ℕ)) where
       promised (is.Refused r) (answer-refused _ (findCutsChecked q) found r refl _)
       (kn ∙ cells-refused _ (findCutsChecked q) found r refl (numberCells q) (before numbers)) (kc ∙ cells-refused _ (findCutsChecked q) found r refl (cutCells q) (before cuts))
 
-  pub finds : (listed : ℕ) → Passed ≡ findCutsChecked q → listed ≡ length (listedRows q) → after numbers ≡ overwrite (numberCells q) (before numbers) → after cuts ≡ overwrite (cutCells q) (before cuts)
+  pub finds : (listed : ℕ) → Passed ≡ findCutsChecked q → listed ≡ length (listedRows q) → after numbers ≡ overwrite (numberCells q) (before numbers)
+      → after cuts ≡ overwrite (cutCells q) (before cuts)
       → FindsCuts test numbers cuts (is.Found listed)
   finds listed found many en ec =
       promised (is.Found listed) (ap (λ (n : ℕ). given (pos n ∷ [])) many ∙ answer-passed _ (findCutsChecked q) found refl _)

@@ -42,9 +42,13 @@ module _ (q : CutsCall) where
   abbrev pub listedRows : List Row
   listedRows = leastCuts (testedGrid (q .test)) (testedProcess (q .test)) testedPeriod (bookIn (q .test .book))
 
-  -- "It checks as the test does, then 9": a place with fewer cells than there are rows
+  -- "then 9": a place with fewer cells than there are rows
+  abbrev pub roomChecks : List Check
+  roomChecks = shortTable (length (q .numbers)) (length listedRows) ∷ shortTable (length (q .cuts)) (length listedRows) ∷ []
+
+  -- "It checks as the test does, then 9."
   unfoldable pub findCutsChecks : List Check
-  findCutsChecks = testChecks (q .test) ++ shortTable (length (q .numbers)) (length listedRows) ∷ shortTable (length (q .cuts)) (length listedRows) ∷ []
+  findCutsChecks = testChecks (q .test) ++ roomChecks
 
   abbrev pub findCutsChecked : Checked
   findCutsChecked = first findCutsChecks

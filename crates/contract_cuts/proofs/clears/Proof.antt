@@ -107,7 +107,8 @@ loop-again c =
     let x = c .before in
     let e = cellAt (s x .args .excesses .now) in
     let within = within-so (e (k x)) _ _ _ (back (e (k x)) (excess-small x)) (relief x) (x .exceeds .result) (x .exceeds .ensures) (c .if1 .left) in
-    (omega arith, enough-turn e (slopeIn (s x .args .constraints) (s x .args .factors .now) (s x .args .c)) (k x) (s x .args .cut) (x .before .before .before .before .before .before .loop .inv .1) within)
+    let so-far = x .before .before .before .before .before .before .loop .inv .1 in
+    (omega arith, enough-turn e (slopeIn (s x .args .constraints) (s x .args .factors .now) (s x .args .c)) (k x) (s x .args .cut) so-far within)
 
 returns-2 : tie.Need-returns-2 Inv-loop μ-loop
 returns-2 c =

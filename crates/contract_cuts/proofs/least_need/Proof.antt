@@ -106,7 +106,8 @@ returns c =
     let x = c .before in
     let q = s x .args .c .quantity .0 in
     let n = x .before .before .before .before .before .before .loop .need in
-    (omega arith, need-none (e x) (w x) (k x) n q (x .raised .result) (raised-is x) (s x .args .constraints) (near x) (overloaded x) (c .if2 .taken) ∙ nothing (enough (s x .args .constraints) (e x) (w x) 0))
+    let none = need-none (e x) (w x) (k x) n q (x .raised .result) (raised-is x) (s x .args .constraints) (near x) (overloaded x) (c .if2 .taken) in
+    (omega arith, none ∙ nothing (enough (s x .args .constraints) (e x) (w x) 0))
 
 add-k : tie.Need-add-k Inv-loop μ-loop
 add-k c = search needs

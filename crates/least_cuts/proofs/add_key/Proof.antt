@@ -16,7 +16,8 @@ P s = periodCut (s .args .constraints) (s .args .factors .now) (s .args .excesse
 own : (c : tie.After-least-cut) → c .least-cut .result ≡ P (c .before .before .before .before)
 own c =
     let s = c .before .before .before .before in
-    own-cut (s .args .constraints) (s .args .factors .now) (s .args .excesses .now) (s .args .period) (s .args .c) (c .least-cut .result) (sym (c .before .before .same .ensures) ∙ c .before .if1 .taken) (c .least-cut .ensures .0)
+    let of-period = sym (c .before .before .same .ensures) ∙ c .before .if1 .taken in
+    own-cut (s .args .constraints) (s .args .factors .now) (s .args .excesses .now) (s .args .period) (s .args .c) (c .least-cut .result) of-period (c .least-cut .ensures .0)
 
 returns : tie.Need-returns
 returns c =

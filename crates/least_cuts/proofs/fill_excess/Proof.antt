@@ -94,4 +94,5 @@ returns c =
 pub fill-excess-spec : {M : Type 1} → statement M
 fill-excess-spec =
     tie.close (tie.spec
-    Inv-loop μ-loop loop-holds mul-t13 array-copy-out-t16 mul-released shared-slice-read-released released-requires minus-requires mul-cell slice-set-from-cell add-k loop-less loop-again same-length returns)
+    Inv-loop μ-loop loop-holds mul-t13 array-copy-out-t16 mul-released shared-slice-read-released released-requires minus-requires mul-cell slice-set-from-cell
+    add-k loop-less loop-again same-length returns)

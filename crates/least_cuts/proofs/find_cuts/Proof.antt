@@ -55,7 +55,8 @@ module _ (x : tie.After-row-keys) where
   keys : take (x .row-keys .result) (x .row-keys .last .1 .1 .1 .1 .1 .1 .1 .0) ≡ map rowKey (listedRows q)
   keys =
       x .row-keys .ensures .1
-      ∙ ap₂ (λ (p : Process) (t : Period). map rowKey (leastCuts (testedGrid (q .test)) p t (bookIn (q .test .book)))) (x .before .before .before .from-number .ensures) (x .before .before .from-number2 .ensures)
+      ∙ ap₂ (λ (p : Process) (t : Period). map rowKey (leastCuts (testedGrid (q .test)) p t (bookIn (q .test .book))))
+      (x .before .before .before .from-number .ensures) (x .before .before .from-number2 .ensures)
 
   room : x .row-keys .result ≤ length (x .row-keys .last .1 .1 .1 .1 .1 .1 .1 .0)
   room = let h = x .row-keys .ensures .0 in omega (arith, h .0, h .1)

@@ -18,7 +18,8 @@ judged : (c : tie.After-carry) → let s = c .before .before .before .before in 
 judged c =
     let s = c .before .before .before .before in
     let a = s .args in
-    carried-judgeable (a .nodes) (a .constraints) (a .limits .now) (a .factors .now) (a .period) (a .book .now) (s .pre .0 .0) (s .pre .0 .1) (s .pre .0 .2) (c .carry .result) (c .carry .ensures)
+    let p = s .pre .0 in
+    carried-judgeable (a .nodes) (a .constraints) (a .limits .now) (a .factors .now) (a .period) (a .book .now) (p .0) (p .1) (p .2) (c .carry .result) (c .carry .ensures)
 
 overload-set-requires : tie.Need-overload-set-requires
 overload-set-requires c κs = judged c
@@ -28,9 +29,10 @@ returns c =
     let f = c .before .before in
     let s = f .before .before .before .before in
     let a = s .args in
+    let p = s .pre .0 in
     let o = c .before .overload-set in (
       (omega arith, s .pre .1),
-      passes (a .nodes) (a .constraints) (a .limits .now) (a .factors .now) (a .process) (a .period) (a .book .now) (s .pre .0 .0) (s .pre .0 .1) (s .pre .0 .2) (f .carry .result) (f .carry .ensures)
+      passes (a .nodes) (a .constraints) (a .limits .now) (a .factors .now) (a .process) (a .period) (a .book .now) (p .0) (p .1) (p .2) (f .carry .result) (f .carry .ensures)
           (o .result) (o .ensures) (c .if1 .taken),
     )
 
@@ -41,10 +43,11 @@ collect-keys-requires : tie.Need-collect-keys-requires
 collect-keys-requires c κs =
     let f = c .before .before .before .before .before .before .before in
     let s = f .before .before .before .before in
-    let a = s .args in (
-      (s .pre .0 .1, s .pre .0 .2),
+    let a = s .args in
+    let p = s .pre .0 in (
+      (p .1, p .2),
       (
-        excesses (a .nodes) (a .constraints) (a .limits .now) (a .factors .now) (a .process) (a .period) (a .book .now) (s .pre .0 .0) (s .pre .0 .1) (s .pre .0 .2) (f .carry .result) (f .carry .ensures)
+        excesses (a .nodes) (a .constraints) (a .limits .now) (a .factors .now) (a .process) (a .period) (a .book .now) (p .0) (p .1) (p .2) (f .carry .result) (f .carry .ensures)
             _ _ (c .before .before .before .fill-excess .ensures),
         s .pre .1,
       ),
@@ -61,13 +64,14 @@ returns-2 c =
     let f = o .before in
     let s = f .before .before .before .before in
     let a = s .args in
+    let p = s .pre .0 in
     let h = k .collect-keys .ensures in
     let sort = c .before .before .sort .ensures in
     let room : k .collect-keys .result ≤ length (k .collect-keys .last .1 .1 .1 .1 .1 .1 .0) = omega (arith, h .0 .0, h .0 .1) in
-    let out = fails (a .nodes) (a .constraints) (a .limits .now) (a .factors .now) (a .process) (a .period) (a .book .now) (s .pre .0 .0) (s .pre .0 .1) (s .pre .0 .2) (f .carry .result) (f .carry .ensures)
+    let out = fails (a .nodes) (a .constraints) (a .limits .now) (a .factors .now) (a .process) (a .period) (a .book .now) (p .0) (p .1) (p .2) (f .carry .result) (f .carry .ensures)
     (o .overload-set .result) (o .overload-set .ensures) (x .before .before .if1 .left) in (
       (h .0 .0, cells-long (k .collect-keys .result) _ _ room sort ∙ h .0 .1),
-      listed-keys (a .nodes) (a .constraints) (a .limits .now) (a .factors .now) (a .process) (a .period) (a .book .now) (s .pre .0 .0) (s .pre .0 .1) (s .pre .0 .2) (f .carry .result) (f .carry .ensures)
+      listed-keys (a .nodes) (a .constraints) (a .limits .now) (a .factors .now) (a .process) (a .period) (a .book .now) (p .0) (p .1) (p .2) (f .carry .result) (f .carry .ensures)
           _ _ (x .fill-excess .ensures) out (k .collect-keys .result) _ _ room (h .1) sort,
     )
 
