@@ -3,4 +3,5 @@
 fn main() {
     vectors::go_through();
     request_vectors::go_through();
+    cut_vectors::go_through();
 }
