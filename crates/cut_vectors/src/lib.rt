@@ -50,140 +50,63 @@ fn listed(
     figure(name, cuts[2], 7);
 }
 
-// A to D: one constraint, its factor of node 1 changed; P5; P6 and P7.
-fn one_overload() {
-    let pair = b"\x00\x80\x40\x00\x00\x21\x86\xa0\x40\x00\x10\x20\xc3\x50";
-    listed(
-        b"12.A",
-        3,
-        1,
-        2,
-        1,
-        &[50000],
-        &[50000, 20000, 0],
-        pair,
-        2,
-        [0, 20000, 1, 50000],
-    );
-    listed(
-        b"12.B",
-        3,
-        1,
-        2,
-        1,
-        &[50000],
-        &[50000, 49000, 0],
-        pair,
-        2,
-        [0, 49000, 1, 50000],
-    );
+// A and B: one constraint, by the factor of node 1.
+fn pair(name: &[u8], second: i64, expected: [u64; 4]) {
+    let book = b"\x00\x80\x40\x00\x00\x21\x86\xa0\x40\x00\x10\x20\xc3\x50";
+    let factors = [50000, second, 0];
+    listed(name, 3, 1, 2, 1, &[50000], &factors, book, 2, expected);
+}
+
+// Case L's nodes and factors, on-peak.
+fn on_l(name: &[u8], process: u64, limits: &[u64], book: &[u8], rows: u64, expected: [u64; 4]) {
     let factors = [60000, -20000, 0, 0, -10000, 40000];
-    let larger = b"\x00\x40\x40\x00\x00\x10\x27\x11";
     listed(
-        b"12.C",
+        name,
         3,
         2,
-        2,
+        process,
         1,
-        &[6000, 50000],
-        &factors,
-        larger,
-        1,
-        [0, 1, 7, 7],
-    );
-    let book = b"\x00\x40\x40\x00\x00\x10\x27\x10";
-    listed(
-        b"12.D, P6",
-        3,
-        2,
-        0,
-        1,
-        &[8000, 50000],
+        limits,
         &factors,
         book,
-        1,
-        [0, 1334, 7, 7],
-    );
-    listed(
-        b"12.D, P7",
-        3,
-        2,
-        0,
-        1,
-        &[7999, 50000],
-        &factors,
-        book,
-        1,
-        [0, 1335, 7, 7],
+        rows,
+        expected,
     );
 }
 
-// E to G: a cut that takes counter-flow away, an option, and two overloads with no contract in both.
-fn counter_flows() {
+// Two constraints in which node 0 counts both ways, monthly, on-peak.
+fn on_two(name: &[u8], limits: &[u64], book: &[u8], rows: u64, expected: [u64; 4]) {
     let factors = [1000, -1000, 0, 0, 0, 1000];
+    listed(name, 3, 2, 2, 1, limits, &factors, book, rows, expected);
+}
+
+// A to D: one overload; P5; P6 and P7.
+fn one_overload() {
+    pair(b"12.A", 20000, [0, 20000, 1, 50000]);
+    pair(b"12.B", 49000, [0, 49000, 1, 50000]);
+    let larger = b"\x00\x40\x40\x00\x00\x10\x27\x11";
+    on_l(b"12.C", 2, &[6000, 50000], larger, 1, [0, 1, 7, 7]);
+    let book = b"\x00\x40\x40\x00\x00\x10\x27\x10";
+    on_l(b"12.D, P6", 0, &[8000, 50000], book, 1, [0, 1334, 7, 7]);
+    on_l(b"12.D, P7", 0, &[7999, 50000], book, 1, [0, 1335, 7, 7]);
+}
+
+// E and F: a cut that takes counter-flow away, and an option.
+fn counter_flows() {
     let two = b"\x00\x80\x40\x00\x00\x10\x03\xe8\xc0\x00\x20\x10\x04\xb0";
-    listed(
-        b"12.E",
-        3,
-        2,
-        2,
-        1,
-        &[6, 6],
-        &factors,
-        two,
-        1,
-        [0, 400, 7, 7],
-    );
-    listed(
-        b"12.E'",
-        3,
-        2,
-        2,
-        1,
-        &[6, 5],
-        &factors,
-        two,
-        0,
-        [7, 7, 7, 7],
-    );
+    on_two(b"12.E", &[6, 6], two, 1, [0, 400, 7, 7]);
+    on_two(b"12.E'", &[6, 5], two, 0, [7, 7, 7, 7]);
     let three = b"\x00\xc0\x40\x00\x00\x10\x01\x90\xc0\x00\x00\x10\x01\x90\x40\x00\x20\x10\x02\x58";
-    listed(
-        b"12.F",
-        3,
-        2,
-        2,
-        1,
-        &[6, 2],
-        &factors,
-        three,
-        1,
-        [1, 200, 7, 7],
-    );
-    listed(
-        b"12.F'",
-        3,
-        2,
-        2,
-        1,
-        &[6, 4],
-        &factors,
-        three,
-        2,
-        [0, 200, 1, 200],
-    );
-    let apart = b"\x00\x80\x40\x00\x00\x20\x01\x2c\x40\x00\x10\x20\x01\x2c";
-    listed(
-        b"12.G",
-        3,
-        2,
-        2,
-        1,
-        &[1, 1],
-        &[1000, 0, 0, 1000, 0, 0],
-        apart,
-        0,
-        [7, 7, 7, 7],
-    );
+    on_two(b"12.F", &[6, 2], three, 1, [1, 200, 7, 7]);
+    on_two(b"12.F'", &[6, 4], three, 2, [0, 200, 1, 200]);
+}
+
+// G and I: two overloads with no contract in both, and the second contract first.
+fn two_contracts() {
+    let book = b"\x00\x80\x40\x00\x00\x20\x01\x2c\x40\x00\x10\x20\x01\x2c";
+    let apart = [1000, 0, 0, 1000, 0, 0];
+    listed(b"12.G", 3, 2, 2, 1, &[1, 1], &apart, book, 0, [7, 7, 7, 7]);
+    let factors = [1000, 3000, 0];
     listed(
         b"12.I",
         3,
@@ -191,8 +114,8 @@ fn counter_flows() {
         2,
         1,
         &[10],
-        &[1000, 3000, 0],
-        apart,
+        &factors,
+        book,
         2,
         [1, 67, 0, 200],
     );
@@ -202,6 +125,7 @@ fn counter_flows() {
 fn periods() {
     let both =
         b"\x01\x40\x00\x00\x00\x10\x03\x84\x40\x00\x00\x10\x01\x2c\xc0\x00\x00\x10\x01\x2c\x40\x00\x10\x00\x00\x32\x40\x00\x00\x00\x00\x07";
+    let factors = [1000, 0];
     listed(
         b"12.H, on-peak",
         2,
@@ -209,7 +133,7 @@ fn periods() {
         2,
         1,
         &[5],
-        &[1000, 0],
+        &factors,
         both,
         2,
         [1, 50, 2, 50],
@@ -221,26 +145,15 @@ fn periods() {
         2,
         0,
         &[5],
-        &[1000, 0],
+        &factors,
         both,
         1,
         [0, 400, 7, 7],
     );
     let case_l =
         b"\x01\x00\x40\x70\x00\x10\x27\x10\xc0\x80\x00\x20\x01\xf4\x40\x70\x00\x20\x00\x01\x00\x90\x00\x10\x00\x05";
-    let factors = [60000, -20000, 0, 0, -10000, 40000];
-    listed(
-        b"12.J",
-        3,
-        2,
-        2,
-        1,
-        &[100000, 50000],
-        &factors,
-        case_l,
-        0,
-        [7, 7, 7, 7],
-    );
+    on_l(b"12.J", 2, &[100000, 50000], case_l, 0, [7, 7, 7, 7]);
+    let smallest = b"\x00\x40\x40\x00\x00\x10\x00\x01";
     listed(
         b"12.K",
         2,
@@ -249,7 +162,7 @@ fn periods() {
         1,
         &[0],
         &[1, 0],
-        b"\x00\x40\x40\x00\x00\x10\x00\x01",
+        smallest,
         1,
         [0, 1, 7, 7],
     );
@@ -392,6 +305,7 @@ fn thousand() {
 pub fn go_through() {
     one_overload();
     counter_flows();
+    two_contracts();
     periods();
     wide();
     no_room();

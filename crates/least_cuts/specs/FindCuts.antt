@@ -69,17 +69,24 @@ module _ (test : TestCall) (numbers cuts : Lent (List ℕ)) where
   abbrev pub cutsCall : CutsCall
   cutsCall = record { test = test; numbers = before numbers; cuts = before cuts }
 
-  -- the promise: the answer, and both places at exit
+  -- both places at exit
+  abbrev pub numbersAfter : List ℕ
+  numbersAfter = cellsAfter (findCutsChecked cutsCall) (numberCells cutsCall) (before numbers)
+
+  abbrev pub cutsAfter : List ℕ
+  cutsAfter = cellsAfter (findCutsChecked cutsCall) (cutCells cutsCall) (before cuts)
+
+  -- the promise: the answer, and both places
   pub record FindsCuts (answer : CutsAnswer) : Type 0 where
     pub listed-given : cutsOutcome answer ≡ answered (findCutsChecked cutsCall) (pos (length (listedRows cutsCall)) ∷ [])
-    pub numbers-listed : after numbers ≡ cellsAfter (findCutsChecked cutsCall) (numberCells cutsCall) (before numbers)
-    pub cuts-listed : after cuts ≡ cellsAfter (findCutsChecked cutsCall) (cutCells cutsCall) (before cuts)
+    pub numbers-listed : after numbers ≡ numbersAfter
+    pub cuts-listed : after cuts ≡ cutsAfter
     pub least-cuts : findCutsChecked cutsCall ≡ Passed → HoldLeastCuts cutsCall (length (listedRows cutsCall)) (after numbers) (after cuts)
 
   -- the same for C
   pub record FindsCutsForC (number : ℕ) (listed : Lent ℕ) : Type 0 where
     pub refusal-number : number ≡ numberAfter (findCutsChecked cutsCall)
     pub listed-given : after listed ≡ cellAfter (findCutsChecked cutsCall) (length (listedRows cutsCall)) (before listed)
-    pub numbers-listed : after numbers ≡ cellsAfter (findCutsChecked cutsCall) (numberCells cutsCall) (before numbers)
-    pub cuts-listed : after cuts ≡ cellsAfter (findCutsChecked cutsCall) (cutCells cutsCall) (before cuts)
+    pub numbers-listed : after numbers ≡ numbersAfter
+    pub cuts-listed : after cuts ≡ cutsAfter
     pub least-cuts : findCutsChecked cutsCall ≡ Passed → HoldLeastCuts cutsCall (after listed) (after numbers) (after cuts)
