@@ -1,4 +1,7 @@
-"""The command `crr`. Exit status: 0; 1 where `crr test` or `crr cuts` finds that the book fails; 2 where the input has faults, or something can't be read or written."""
+"""The command `crr`.
+
+Exit status: 0; 1 where `crr test` or `crr cuts` finds that the book fails; 2 where the input has faults, or something can't be read or written.
+"""
 
 from __future__ import annotations
 
