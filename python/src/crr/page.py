@@ -6,7 +6,7 @@ Bars are drawn in percent of the picture's width, so that text keeps its size on
 from __future__ import annotations
 
 from html import escape
-from typing import Callable, Dict, List, NamedTuple, Sequence, Tuple
+from typing import Callable, Dict, List, Mapping, NamedTuple, Sequence, Tuple
 
 from .decimals import decimal
 from .feasibility import PERIODS, PROCESSES, Flows, Verdict
@@ -36,6 +36,9 @@ class Month(NamedTuple):
     exact: str
 
 
+CutRow = Tuple[str, str, str, str, str]  # contract, holder, quantity, cut, and what is left, in MW
+
+
 class Figures(NamedTuple):
     """All that the page shows."""
 
@@ -45,7 +48,7 @@ class Figures(NamedTuple):
     limits: Sequence[int]
     percents: Sequence[int]  # by process
     verdicts: Dict[Tuple[int, int], Verdict]  # by period and process
-    cuts: Dict[Tuple[int, int], Sequence[Tuple[str, str, str, str, str]]]  # where it fails: contract, holder, quantity, cut and what is left, in MW
+    cuts: Mapping[Tuple[int, int], Sequence[CutRow]]  # where the book fails
     flows: Sequence[Flows]  # by period
     holders: Sequence[Tuple[str, int]]  # cents
     months: Sequence[Month]  # the last one: all of them
@@ -80,7 +83,7 @@ def _verdict_card(figures: Figures, period: int, process: int) -> str:
     )
 
 
-def _cut_table(rows: Sequence[Tuple[str, str, str, str, str]]) -> str:
+def _cut_table(rows: Sequence[CutRow]) -> str:
     """The contracts each of which clears the book by a cut of its own, the smallest cut first."""
     if not rows:
         return "<p>No cut of a single contract clears it.</p>"

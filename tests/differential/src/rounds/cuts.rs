@@ -72,7 +72,7 @@ fn sampled(draw: &mut Draw, tested: &Tested, rows: &[Row]) -> bool {
     none && least
 }
 
-/// What a listed contract shows: the cases from 2, 3, 5, 8, 9, 10 and 11 on.
+/// What a listed contract shows of cases 2, 3, 5 and 8 to 11.
 fn listed(tested: &Tested, over: &[usize], row: &Row) -> [bool; 7] {
     let (number, contract) = (row.number as usize, &tested.book[row.number as usize]);
     let contracts = of_period(&tested.book, tested.period);
