@@ -50,7 +50,7 @@ fn need(found: &Excesses, source: &[i64], sink: &[i64], c: &Contract) -> Option<
 #[inline]
 fn clears(cells: &[i64], source: &[i64], sink: &[i64], option: bool, cut: i64) -> bool {
     let rows = cells.iter().zip(source).zip(sink);
-    rows.fold(true, |clear, ((&excess, &from), &to)| clear & (excess <= slope(option, from, to) * cut))
+    rows.fold(0, |signs, ((&excess, &from), &to)| signs | (slope(option, from, to) * cut - excess)) >= 0
 }
 
 /// The keys of the contracts that have a cut, in book order; how many there are.
