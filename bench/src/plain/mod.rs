@@ -2,6 +2,7 @@
 
 mod bits;
 mod book;
+mod cuts;
 mod grid;
 mod prices;
 mod settlement;
@@ -9,6 +10,7 @@ mod test;
 mod text;
 
 pub use book::{read_book, remap_book, write_book};
+pub use cuts::find_cuts;
 pub use grid::{read_grid, write_grid, Header};
 pub use prices::{read_prices, write_prices};
 pub use settlement::{find_mcc, settle_hour, Totals};

@@ -4,7 +4,7 @@ Every function of include/crr.h has one of its name here, without `crr_`; figure
 down raises `Refused`. CSV files are read and written by `crr.from_csv` and `crr.to_csv`, many hours settled by `crr.hours.settle_hours`.
 """
 
-from .feasibility import PERIODS, PROCESSES, Flows, Verdict, find_flows, released_percent, test_book
+from .feasibility import PERIODS, PROCESSES, Cut, Flows, Verdict, find_cuts, find_flows, released_percent, test_book
 from .files import (
     Contract,
     Grid,
@@ -30,6 +30,7 @@ __all__ = [
     "PERIODS",
     "PROCESSES",
     "Contract",
+    "Cut",
     "Flows",
     "Grid",
     "Hour",
@@ -40,6 +41,7 @@ __all__ = [
     "Settled",
     "Settler",
     "Verdict",
+    "find_cuts",
     "find_flows",
     "find_mcc",
     "read_book",

@@ -1,6 +1,7 @@
 //! The rounds of each entry: a valid input, then what can go wrong with it, alone and together.
 
 pub mod book;
+pub mod cuts;
 pub mod demand;
 pub mod flows;
 pub mod forms;

@@ -2,6 +2,7 @@
 //! proved code. Each operation gives what is written, or the number of the refusal.
 
 pub mod book;
+pub mod cuts;
 pub mod flows;
 pub mod grid;
 pub mod prices;
