@@ -20,15 +20,20 @@
  *   flow, excess   10^-8 MW
  *   MCC            10^-5 cents per MWh (marginal cost of congestion)
  *   parts          10^-8 cents, 0 to 99,999,999
+ *   balance        cents, -1,000,000,000 to 1,000,000,000
+ *   demand         units of any one kind, 0 to 1,000,000,000
  *   period         0 off-peak, 1 on-peak
  *   process        0 annual, 1 Tier LT, 2 monthly: 65, 60 and 100 percent of each
  *                  limit is released
+ *   date           year 2010 to 2037, month 1 to 12, day from 1 to the month's last
+ *   weekday        1 Monday to 7 Sunday
  *
- * Nodes, constraints and contracts are numbered from 0: nodes up to 3,999.
+ * Nodes, constraints, contracts and coordinators are numbered from 0: nodes up to
+ * 3,999.
  *
  *
  * TABLES. Each may be longer than is needed: only the first cells are read or
- * written.
+ * written. demands alone is read whole: its length says how many there are.
  *
  *   limits    one cell for each constraint
  *   factors   one cell for each node and constraint; the factor of node n on
@@ -45,6 +50,8 @@
  *   cents     one cell for each contract
  *   priced    one cell for each contract, a set of constraints: bit k is
  *             constraint k
+ *   demands   one cell for each coordinator, and no other
+ *   shares    one cell for each coordinator
  *
  *
  * FORMS. The file of a grid and that of a book have two forms each. The narrow one
@@ -102,6 +109,7 @@ extern "C" {
 #define CRR_MAX_NARROW_NODES 200 /* of a grid's file in the narrow form */
 #define CRR_MAX_CONSTRAINTS 64
 #define CRR_MAX_CONTRACTS 1000
+#define CRR_MAX_COORDINATORS 256
 
 /* The longest files. One byte more is never accepted. */
 #define CRR_MAX_GRID_BYTES 576220
@@ -114,6 +122,10 @@ extern "C" {
 /* What crr_write_statement and crr_write_report ask for, whatever they write. */
 #define CRR_STATEMENT_BYTES 29085
 #define CRR_REPORT_BYTES 2048
+
+/* The years of the calendar. */
+#define CRR_FIRST_YEAR 2010
+#define CRR_LAST_YEAR 2037
 
 /* Forms. */
 #define CRR_NARROW 0
@@ -148,6 +160,9 @@ extern "C" {
 #define CRR_PROCESS_NUMBER 16  /* process not 0 to 2 */
 #define CRR_PERIOD_OR_KIND 17  /* a period not 0 or 1; writing a book, a kind or period not 0 or 1 */
 #define CRR_HOLDER_RANGE 18    /* holder above 1,023 */
+#define CRR_NO_SUCH_DATE 19    /* a date or month that does not exist or is outside 2010 to 2037, given or reached */
+#define CRR_SHARE_RANGE 26     /* sharing a balance: no demands or more than 256, or a balance or demand outside its range */
+#define CRR_NO_DEMAND 27       /* sharing a balance: the demands total 0 */
 
 /*
  * Reads a grid's file, of either form.
@@ -393,6 +408,30 @@ uint64_t crr_settle_hour(size_t nodes, size_t constraints, uint64_t period,
                          int64_t *sum, int64_t *whole, uint64_t *parts);
 
 /*
+ * Shares a balance, of either sign, among Scheduling Coordinators by their demands:
+ * cell i of demands is that of coordinator i. There are demands_len of them, 1 to
+ * CRR_MAX_COORDINATORS: here the list's length is the count, and no cell of it is
+ * left out.
+ *
+ * A coordinator's exact proportion is balance * demand / total of the demands. Each
+ * gets it rounded towards zero. The cents that are left over, of the balance's sign,
+ * go one each to the largest remainders in size, of equal ones to the lower number.
+ * So the shares add up to the balance, and none is a cent or more from its exact
+ * proportion. By demands 1, 1, 1 a balance of 100 is shared as 34, 33, 33, and one of
+ * -100 as -34, -33, -33.
+ *
+ * On success writes one share for each coordinator, in cents, to the first cells of
+ * shares.
+ *
+ * Refusals, in this order: 26 (not 1 to 256 demands; a balance below -1,000,000,000
+ * or above 1,000,000,000; a demand above 1,000,000,000), 27, and 9 if the shares
+ * don't fit.
+ */
+uint64_t crr_share_balance(int64_t balance,
+                           const uint64_t *demands, size_t demands_len,
+                           int64_t *shares, size_t shares_len);
+
+/*
  * Writes the feasibility report on a grid's file and a book's file: a heading and
  * a line for each period and process, or the one line `refused,grid,N` or
  * `refused,book,N`. ASCII, each line ended by one line feed, no 0 byte at the end.
@@ -430,6 +469,45 @@ uint64_t crr_write_statement(const uint8_t *grid_file, size_t grid_file_len,
                              const uint8_t *price_file, size_t price_file_len,
                              uint8_t *text, size_t text_len,
                              size_t *bytes);
+
+/*
+ * Gives the on-peak hours of a month: the hours ending 7 to 22, 16 of a day, on
+ * Mondays to Saturdays that are no holiday. Holidays are 1 January, the last Monday
+ * of May, 4 July, the first Monday of September, the fourth Thursday of November and
+ * 25 December. One that falls on a Sunday moves to the Monday after it; one that
+ * falls on a Saturday does not move, and the Friday before it is a day like others.
+ *
+ * On success writes their number to *hours: 384, 400, 416 or 432. January 2024 has
+ * 416.
+ *
+ * Refusals: 19 (a year not 2010 to 2037, a month not 1 to 12).
+ */
+uint64_t crr_month_hours(uint64_t year, uint64_t month, uint64_t *hours);
+
+/*
+ * Gives the weekday of a date.
+ *
+ * On success writes it to *weekday: 1 is Monday, 7 is Sunday.
+ *
+ * Refusals: 19 (a year not 2010 to 2037, a month not 1 to 12, a day that the month
+ * does not have).
+ */
+uint64_t crr_weekday(uint64_t year, uint64_t month, uint64_t day,
+                     uint64_t *weekday);
+
+/*
+ * Gives the date one month later: the same day of the next month, or that month's
+ * last day where it is a shorter one. 31 January 2024 gives 29 February 2024, and
+ * that gives 29 March 2024.
+ *
+ * On success writes the date to *later_year, *later_month and *later_day.
+ *
+ * Refusals, in this order: 19 (the date given, as for crr_weekday), 19 (the date
+ * reached: all of December 2037).
+ */
+uint64_t crr_month_later(uint64_t year, uint64_t month, uint64_t day,
+                         uint64_t *later_year, uint64_t *later_month,
+                         uint64_t *later_day);
 
 #ifdef __cplusplus
 }

@@ -29,7 +29,7 @@ pub const ENTRIES: [Entry; 14] = [
     Entry { name: "write_statement", run: write_statement },
 ];
 
-fn agree<T: PartialEq>(proved: &T, plain: &T) -> Result<(), String> {
+pub fn agree<T: PartialEq>(proved: &T, plain: &T) -> Result<(), String> {
     if proved == plain {
         Ok(())
     } else {

@@ -1,5 +1,6 @@
 //! Times each public entry of the proved library beside plain Rust, on the largest inputs of both forms, and how the cost grows with each count.
 
+mod calendar;
 mod entries;
 mod inputs;
 // `released_percent`, a choice among three figures, is not timed.
@@ -7,6 +8,7 @@ mod inputs;
 #[path = "../../tests/differential/src/library.rs"]
 mod library;
 mod plain;
+mod shares;
 #[path = "../../tests/differential/src/splitmix.rs"]
 mod splitmix;
 mod timing;
@@ -15,6 +17,7 @@ use entries::{Entry, ENTRIES};
 use inputs::{Inputs, Size, LARGEST, WIDEST, WIDEST_TEXT};
 use plain::Form;
 use std::process::ExitCode;
+use timing::Times;
 
 /// The entries whose cost grows with the contracts, the constraints and the nodes.
 const BY_CONTRACTS: [&str; 8] =
@@ -45,8 +48,12 @@ const WIDE: [(&str, Size); 12] = [
 
 fn line(label: &str, entry: &Entry, size: Size, form: Form) -> Result<(), String> {
     let times = (entry.run)(&Inputs::new(size, form)).map_err(|why| format!("{}, {label}: {why}", entry.name))?;
-    println!("{label:<26} | {:>10.2} | {:>10.2} | {:>5.2}", times.proved, times.plain, times.proved / times.plain);
+    row(label, &times);
     Ok(())
+}
+
+fn row(label: &str, times: &Times) {
+    println!("{label:<26} | {:>10.2} | {:>10.2} | {:>5.2}", times.proved, times.plain, times.proved / times.plain);
 }
 
 fn heading(what: &str) {
@@ -60,6 +67,22 @@ fn growth(count: &str, names: &[&str], form: Form, sizes: &[(usize, Size)]) -> R
             line(&n.to_string(), entry, size, form)?;
         }
     }
+    Ok(())
+}
+
+/// A call of these takes a few nanoseconds.
+fn calendar() -> Result<(), String> {
+    heading(&format!("entry, {} calls", calendar::CALLS));
+    for (name, run) in calendar::ENTRIES {
+        let times = run().map_err(|why| format!("{name}: {why}"))?;
+        row(name, &times);
+    }
+    Ok(())
+}
+
+/// Sharing a balance among so many coordinators.
+fn shared(label: &str, coordinators: usize) -> Result<(), String> {
+    row(label, &shares::share_balance(coordinators).map_err(|why| format!("share_balance, {coordinators}: {why}"))?);
     Ok(())
 }
 
@@ -78,10 +101,16 @@ fn tables() -> Result<(), String> {
     for entry in &ENTRIES {
         line(entry.name, entry, LARGEST, Form::Narrow)?;
     }
+    shared("share_balance", shares::MOST)?;
+    calendar()?;
     let narrow = Form::Narrow;
     growth("contracts", &BY_CONTRACTS, narrow, &[125, 250, 500, 1000].map(|contracts| (contracts, Size { contracts, ..LARGEST })))?;
     growth("constraints", &BY_CONSTRAINTS, narrow, &[8, 16, 32, 64].map(|constraints| (constraints, Size { constraints, ..LARGEST })))?;
     growth("nodes", &BY_NODES, narrow, &[25, 50, 100, 200].map(|nodes| (nodes, Size { nodes, ..LARGEST })))?;
+    heading("share_balance, coordinators");
+    for coordinators in [4, 16, 64, shares::MOST] {
+        shared(&coordinators.to_string(), coordinators)?;
+    }
     wide()
 }
 

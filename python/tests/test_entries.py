@@ -4,7 +4,10 @@ import pickle
 import random
 import unittest
 from array import array
+from calendar import monthrange
 from ctypes import c_uint64
+from datetime import date, timedelta
+from fractions import Fraction
 
 from support import CASE_L, SEED, amounts, bits, draw_book, draw_grid, draw_prices, flows, half_away
 from crr.native import Entry, Lent
@@ -122,6 +125,31 @@ class Refusals(unittest.TestCase):
         self.assertEqual(figure.value, 7)
         self.assertEqual((listed(figure, 1, 2), figure.value), ([[0], [10, 7]], 1))
 
+    def test_calendar(self):
+        for year, month in ((2009, 12), (2038, 1), (2024, 0), (2024, 13), (2**64 - 1, 1)):
+            self.refused(19, crr.month_hours, year, month)
+            self.refused(19, crr.weekday, year, month, 1)
+            self.refused(19, crr.month_later, year, month, 1)
+        for month, day in ((2, 30), (4, 31), (4, 0), (1, 32), (1, 2**64 - 1)):
+            self.refused(19, crr.weekday, 2024, month, day)
+            self.refused(19, crr.month_later, 2024, month, day)
+        self.refused(19, crr.month_later, 2037, 12, 1)  # reached
+        with self.assertRaises(OverflowError):
+            crr.month_hours(-1, 1)
+
+    def test_share_balance(self):
+        most = 10**9
+        self.assertEqual(list(crr.share_balance(-most, [most] * 3)), [-333_333_334, -333_333_333, -333_333_333])
+        self.refused(26, crr.share_balance, 5, [])
+        self.refused(26, crr.share_balance, 5, [1] * 257)
+        self.refused(26, crr.share_balance, 5, [1, most + 1])
+        for balance in (most + 1, -most - 1, 2**63 - 1, -(2**63)):
+            self.refused(26, crr.share_balance, balance, [0])
+        self.refused(27, crr.share_balance, 0, [0, 0])
+        for balance in (2**63, -(2**63) - 1):
+            with self.assertRaisesRegex(OverflowError, "balance of crr_share_balance is a number of 64 bits with its sign"):
+                crr.share_balance(balance, [1])
+
     def test_the_file_is_named(self):
         with self.assertRaisesRegex(crr.Refused, "^here/grid.bin: refused 1 by crr_read_grid: a file of fewer bytes"):
             crr.read_grid(b"", "here/grid.bin")
@@ -204,6 +232,42 @@ class Figures(unittest.TestCase):
 
     def test_released(self):
         self.assertEqual([crr.released_percent(process) for process in range(3)], [65, 60, 100])
+
+    def test_every_date(self):
+        """Each against Python's own calendar, with the holidays named by the day and moved by their weekday."""
+        days = [date(2010, 1, 1) + timedelta(number) for number in range(10_227)]
+        self.assertEqual(days[-1], date(2037, 12, 31))
+        off, hours = set(), {}
+        for day in days:
+            place = (day.month, (day.day + 6) // 7, day.isoweekday())  # such as the fourth Thursday of November
+            last = (day + timedelta(7)).month != day.month
+            if (day.month, day.day) in ((1, 1), (7, 4), (12, 25)) or place in ((9, 1, 1), (11, 4, 4)) or (last and place[::2] == (5, 1)):
+                off.add(day + timedelta(day.isoweekday() == 7))
+        for day in days:
+            self.assertEqual(crr.weekday(day.year, day.month, day.day), day.isoweekday())
+            month = (day.year, day.month)
+            hours[month] = hours.get(month, 0) + (16 if day.isoweekday() < 7 and day not in off else 0)
+            if month < (2037, 12):
+                year, number = (day.year, day.month + 1) if day.month < 12 else (day.year + 1, 1)
+                self.assertEqual(crr.month_later(day.year, day.month, day.day), date(year, number, min(day.day, monthrange(year, number)[1])))
+        self.assertEqual({month: crr.month_hours(*month) for month in hours}, hours)
+        self.assertEqual((len(hours), sum(hours.values()), hours[2024, 1]), (336, 137_568, 416))
+
+    def test_shares(self):
+        """By fractions; each leftover cent goes to the coordinator that is the furthest below its proportion in size."""
+        rng = random.Random(SEED)
+        for _ in range(500):
+            count, largest = rng.choice((1, 2, 3, 10, 256)), rng.choice((1, 3, 1000, 10**9))
+            demands = [rng.randint(0, largest) for _ in range(count)] + [1] * (count < 256)
+            balance = rng.choice((-1, 1)) * rng.choice((rng.randint(0, 2 * count), rng.randint(0, 10**9), 10**9))
+            exact = [Fraction(balance * demand, sum(demands) or 1) for demand in demands]
+            shares = [int(proportion) for proportion in exact]
+            missing = balance - sum(shares)
+            by_size = sorted(range(len(demands)), key=lambda own: abs(shares[own] - exact[own]), reverse=True)  # equal ones stay in order
+            for own in by_size[: abs(missing)]:
+                shares[own] += 1 if missing > 0 else -1
+            self.assertEqual(list(crr.share_balance(balance, array("Q", demands))), shares)
+            self.assertTrue(sum(shares) == balance and all(abs(share - own) < 1 for share, own in zip(shares, exact)))
 
     def test_texts(self):
         files = [(CASE_L / name).read_bytes() for name in ("grid.bin", "book.bin", "prices.bin")]

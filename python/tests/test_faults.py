@@ -148,6 +148,54 @@ class Damaged(FolderTest):
         self.assertEqual(json.loads(out), {"faults": [fault]})
 
 
+# What is wrong with a balance or a file of demands, and what is said, line by line.
+SHARES = [
+    ("1.005", "Alder,1", ["BALANCE: 1.005 has more than 2 decimals"]),
+    ("1,000", "Alder,1", ["BALANCE: '1,000': a decimal point and no thousands separators, please"]),
+    ("", "Alder,1", ["BALANCE: empty"]),
+    ("10000000.01", "Alder,1", ["BALANCE: 10000000.01 is outside -10000000.00 to 10000000.00 (refusal 26)"]),
+    ("-10000000.01", "Alder,1", ["BALANCE: -10000000.01 is outside -10000000.00 to 10000000.00 (refusal 26)"]),
+    ("-99999999999999999999", "Alder,1", ["BALANCE: -99999999999999999999 is outside -10000000.00 to 10000000.00 (refusal 26)"]),
+    ("1", "Alder,1000000001", ["demands.csv:2:MEASURED_DEMAND: 1000000001 is outside 0 to 1000000000 (refusal 26)"]),
+    ("1", "Alder,0.001\nBirch,1000001", ["demands.csv:3:MEASURED_DEMAND: 1000001 is outside 0.000 to 1000000.000 (refusal 26)"]),
+    ("1", "Alder,-1", ["demands.csv:2:MEASURED_DEMAND: -1 is outside 0 to 1000000000 (refusal 26)"]),
+    ("1", "Alder,", ["demands.csv:2:MEASURED_DEMAND: empty"]),
+    ("1", "Alder,1 MWh\nBirch,2", ["demands.csv:2:MEASURED_DEMAND: '1 MWh' is not a decimal number"]),
+    ("1", "Alder,1\nAlder,2", ["demands.csv:3:COORDINATOR: Alder occurs twice"]),
+    ("1", ",1", ["demands.csv:2:COORDINATOR: empty"]),
+    ("1", "", ["demands.csv:1:COORDINATOR: no coordinator (refusal 26)"]),
+    ("1", "\n".join(f"S{i},1" for i in range(257)), ["demands.csv:258:COORDINATOR: more than 256 coordinators (refusal 26)"]),
+    ("1", "Alder,0\nBirch,0.00", ["demands.csv:3:MEASURED_DEMAND: the demands total 0 (refusal 27)"]),
+    ("1", "Alder,0\nBirch", ["demands.csv:3:MEASURED_DEMAND: 1 fields where the heading has 2"]),
+    ("x", "Alder,y\nBirch\nAlder,1", [
+        "BALANCE: 'x' is not a decimal number",
+        "demands.csv:2:MEASURED_DEMAND: 'y' is not a decimal number",
+        "demands.csv:3:MEASURED_DEMAND: 1 fields where the heading has 2",
+        "demands.csv:4:COORDINATOR: Alder occurs twice",
+    ]),
+]
+
+
+class DamagedDemands(FolderTest):
+    def said(self, balance, text):
+        (self.folder / "demands.csv").write_text(text)
+        status, out, err = command("share", balance, self.folder / "demands.csv")
+        self.assertEqual((status, out), (2, ""))
+        return err.splitlines()
+
+    def test_each_is_told_where_it_is(self):
+        for balance, rows, faults in SHARES:
+            with self.subTest(faults=faults):
+                end = f"crr: {len(faults)} fault{'s' * (len(faults) > 1)}; nothing was written"
+                self.assertEqual(self.said(balance, f"COORDINATOR,MEASURED_DEMAND\n{rows}\n"), [*faults, end])
+
+    def test_whole_files(self):
+        self.assertEqual(self.said("1", "")[0], "demands.csv:1:COORDINATOR: the file is empty: its first line is the heading")
+        self.assertEqual(self.said("1", "COORDINATOR,MW\nAlder,1\n")[0], "demands.csv:1:MEASURED_DEMAND: the column is missing")
+        missing = self.folder / "nowhere.csv"
+        self.assertEqual(command("share", "1", missing)[2].splitlines()[0], f"nowhere.csv: No such file or directory: {missing}")
+
+
 class Drawn(FolderTest):
     """Files damaged at random: each is read, or gives faults that have a line; nothing else comes out."""
 

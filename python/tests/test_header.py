@@ -42,6 +42,8 @@ class Header(unittest.TestCase):
             (interface.SHIFT_FACTOR, "shift factor +hundred-thousandths", 5),
             (interface.SHADOW_PRICE, "shadow price +cents per MWh", 2),
             (interface.HOLDER, r"holder", 0),
+            (interface.BALANCE, "balance +cents", 2),
+            (interface.DEMAND, "demand +units of any one kind", 0),
         ):
             low, high = re.search(words + r"(?:, | \()(-?[\d,]*\d) to ([\d,]*\d)", HEADER).groups()
             self.assertEqual((unit.places, unit.low, unit.high), (places, int(low.replace(",", "")), int(high.replace(",", ""))), words)

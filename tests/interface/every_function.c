@@ -1,7 +1,8 @@
 /*
  * Calls every function of crr.h, on case L of document 01: each file read and written
  * again, the grid and the book in both forms, a node retired, the test, the flows,
- * the cuts, the released shares, the MCC, the hour, the two texts. Also a C++ program.
+ * the cuts, the released shares, the MCC, the hour, the two texts; the calendar; and a
+ * balance shared. Also a C++ program.
  */
 #include <stdint.h>
 #include <stdio.h>
@@ -24,6 +25,8 @@ static const uint8_t wide_book[] = {0x01, 0x3f, 0x40, 0x70, 0x00, 0x00, 0x10, 0x
 static const uint8_t remapped[] = {0x01, 0x00, 0x40, 0x70, 0x00, 0x10, 0x27, 0x10, 0xc0, 0x80, 0x00, 0x10, 0x01, 0xf4,
                                    0x40, 0x70, 0x00, 0x10, 0x00, 0x01, 0x00, 0x90, 0x00, 0x10, 0x00, 0x05, 7};
 static int64_t factors[CRR_MAX_NODES * CRR_MAX_CONSTRAINTS], flows[CRR_MAX_CONSTRAINTS], mcc[CRR_MAX_NODES], cents[CRR_MAX_CONTRACTS];
+static const uint64_t demands[] = {5, 3, 1}, no_demands[] = {0, 0};
+static int64_t shares[4];
 static int passed, failed;
 
 static void expect(const char *what, int holds) {
@@ -51,7 +54,7 @@ int main(void) {
     size_t book_len = load("book.bin", book_file, sizeof book_file);
     size_t price_len = load("prices.bin", price_file, sizeof price_file);
     size_t nodes = 0, constraints = 0, contracts = 0, bytes = 0, count = 7, lowest = 7, counted = 7, listed = 7;
-    uint64_t form = 7, period = 7, set = 7, percent = 7, parts = 0;
+    uint64_t form = 7, period = 7, set = 7, percent = 7, parts = 0, hours = 7, weekday = 0, year = 7, month = 7, day = 7;
     int64_t excess = 7, sum = 0, whole = 0;
 
     expect("crr_read_grid", crr_read_grid(grid_file, grid_len, limits, CRR_MAX_CONSTRAINTS, factors, CRR_MAX_NODES * CRR_MAX_CONSTRAINTS, &nodes, &constraints, &form) == CRR_OK
@@ -110,12 +113,29 @@ int main(void) {
                                               cents, CRR_MAX_CONTRACTS, priced, CRR_MAX_CONTRACTS, &sum, &whole, &parts) == CRR_OK
                                   && cents[0] == 900 && cents[1] == 0 && cents[2] == -1 && cents[3] == 0 && cents[4] == 7 && sum == 899 && whole == 899 && parts == 17000000
                                   && priced[0] == 3 && priced[1] == 3 && priced[2] == 3 && priced[3] == 0 && priced[4] == 7);
+    shares[3] = 7;
+    expect("crr_share_balance", crr_share_balance(10, demands, 3, shares, 4) == CRR_OK && shares[0] == 6 && shares[1] == 3 && shares[2] == 1 && shares[3] == 7);
+    expect("crr_share_balance, negative", crr_share_balance(-10, demands, 3, shares, 3) == CRR_OK && shares[0] == -6 && shares[1] == -3 && shares[2] == -1);
+    expect("crr_share_balance, no coordinators", crr_share_balance(10, demands, 0, shares, 4) == CRR_SHARE_RANGE);
+    expect("crr_share_balance, balance too large", crr_share_balance(INT64_MIN, no_demands, 2, shares, 1) == CRR_SHARE_RANGE);
+    expect("crr_share_balance, no demand", crr_share_balance(10, no_demands, 2, shares, 1) == CRR_NO_DEMAND);
+    expect("crr_share_balance, too few cells", crr_share_balance(10, demands, 3, shares, 2) == CRR_SHORT_TABLE
+                                                   && shares[0] == -6 && shares[1] == -3 && shares[2] == -1 && shares[3] == 7);
     expect("crr_write_report", crr_write_report(grid_file, grid_len, book_file, book_len, text, sizeof text, &bytes) == CRR_OK
                                    && starts_with("period,process,verdict,overloaded,lowest,excess,constraints\n", bytes));
     expect("crr_write_statement", crr_write_statement(grid_file, grid_len, book_file, book_len, price_file, price_len, text, sizeof text, &bytes) == CRR_OK
                                       && starts_with("contract,holder,kind,cents,priced\n0,7,OBL,900,2\n1,8,OPT,0,2\n", bytes));
     expect("crr_write_statement, wide", crr_write_statement(wide_grid, 25, wide_book, 30, price_file, price_len, text, sizeof text, &bytes) == CRR_OK
                                             && starts_with("contract,holder,kind,cents,priced\n0,7,OBL,900,2\n1,8,OPT,0,2\n", bytes));
+    expect("crr_month_hours", crr_month_hours(2024, 1, &hours) == CRR_OK && hours == 416);
+    expect("crr_month_hours, month 13", crr_month_hours(2024, 13, &hours) == CRR_NO_SUCH_DATE && hours == 416);
+    expect("crr_month_hours, before the first year", crr_month_hours(CRR_FIRST_YEAR - 1, 12, &hours) == CRR_NO_SUCH_DATE && hours == 416);
+    expect("crr_weekday", crr_weekday(2024, 2, 29, &weekday) == CRR_OK && weekday == 4);
+    expect("crr_weekday, no such day", crr_weekday(2023, 2, 29, &weekday) == CRR_NO_SUCH_DATE && weekday == 4);
+    expect("crr_month_later", crr_month_later(2024, 1, 31, &year, &month, &day) == CRR_OK && year == 2024 && month == 2 && day == 29);
+    expect("crr_month_later, over the year's end", crr_month_later(2023, 12, 31, &year, &month, &day) == CRR_OK && year == 2024 && month == 1 && day == 31);
+    expect("crr_month_later, beyond the last year", crr_month_later(CRR_LAST_YEAR, 12, 1, &year, &month, &day) == CRR_NO_SUCH_DATE
+                                                        && year == 2024 && month == 1 && day == 31);
     /* A refusal is its number alone. */
     set = 7;
     expect("a refusal", crr_test_book(0, constraints, CRR_MONTHLY, period, limits, constraints, factors, nodes * constraints, book_file, book_len, &set, &count, &lowest, &excess) == CRR_NODE_COUNT

@@ -2,18 +2,22 @@
 
 mod bits;
 mod book;
+mod calendar;
 mod cuts;
 mod grid;
 mod prices;
 mod settlement;
+mod shares;
 mod test;
 mod text;
 
 pub use book::{read_book, remap_book, write_book};
+pub use calendar::{month_hours, month_later, weekday};
 pub use cuts::find_cuts;
 pub use grid::{read_grid, write_grid, Header};
 pub use prices::{read_prices, write_prices};
 pub use settlement::{find_mcc, settle_hour, Totals};
+pub use shares::share_balance;
 pub use test::{find_flows, test_book, Overload};
 pub use text::{write_report, write_statement};
 
@@ -37,11 +41,15 @@ pub const PRICE_RANGE: Refusal = 15;
 pub const PROCESS_NUMBER: Refusal = 16;
 pub const PERIOD_OR_KIND: Refusal = 17;
 pub const HOLDER_RANGE: Refusal = 18;
+pub const NO_SUCH_DATE: Refusal = 19;
+pub const SHARE_RANGE: Refusal = 26;
+pub const NO_DEMAND: Refusal = 27;
 
 pub const MAX_NODES: usize = 4000;
 pub const MAX_NARROW_NODES: usize = 200;
 pub const MAX_CONSTRAINTS: usize = 64;
 pub const MAX_CONTRACTS: usize = 1000;
+pub const MAX_COORDINATORS: usize = 256;
 
 /// The two forms of a grid's file and of a book's.
 #[derive(Clone, Copy, Debug, PartialEq, Eq)]

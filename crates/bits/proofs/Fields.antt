@@ -50,12 +50,6 @@ field-window s o w f k b lo hi le =
         ap (number 8) (sym (take-append-drop (f + k) s)) ∙ number-append 8 (take (f + k) s) rest
         ∙ rw (long, take-add, number-append, mid)
 
--- the field a bits into a record of c bytes that starts at byte f
-pub field-part : (s : List ℕ) (f c a w : ℕ) → Below 8 s → f + c ≤ length s → a + w ≤ 8 * c
-    → field s (8 * f + a) w ≡ number 8 (take c (drop f s)) / 2 ^ (8 * c - (a + w)) % 2 ^ w
-field-part s f c a w b le fit =
-    field-window s (8 * f + a) w f c b (omega arith) (omega arith) le ∙ ap (λ (x : ℕ). number 8 (take c (drop f s)) / 2 ^ x % 2 ^ w) (omega arith)
-
 -- bytes gathered one by one
 pub window-more : (s : List ℕ) (f i acc : ℕ) → f + i < length s → acc ≡ number 8 (take i (drop f s))
     → acc * 256 + getD s (f + i) 0 ≡ number 8 (take (i + 1) (drop f s))
@@ -81,6 +75,14 @@ pub field-code : (s : List ℕ) (o w k acc : ℕ) → Below 8 s → o % 8 + w �
 field-code s o w k acc b hi le e =
     let same : 8 * k - o % 8 - w ≡ 8 * (o / 8 + k) - (o + w) = omega arith in
     rw (e, same) (sym (field-window s o w (o / 8) k b (omega arith) (omega arith) le))
+
+-- the eight bytes that end with the field's last one, shifted and masked
+pub late-code : (s : List ℕ) (o w acc : ℕ) → Below 8 s → 57 ≤ o + w → o + w ≤ 8 * length s → w ≤ 32 → acc ≡ number 8 (take 8 (drop ((o + w - 1) / 8 - 7) s))
+    → acc / 2 ^ (7 - (o + w - 1) % 8) % 2 ^ w ≡ field s o w
+late-code s o w acc b late le few e =
+    let f = (o + w - 1) / 8 - 7 in
+    let same : 7 - (o + w - 1) % 8 ≡ 8 * (f + 8) - (o + w) = omega arith in
+    rw (e, same) (sym (field-window s o w f 8 b (omega arith) (omega arith) (omega arith)))
 
 -- field i of a run is the field at its own bit
 pub field-of-run : (s : List ℕ) (o w n i : ℕ) → i < n → o + w * n ≤ 8 * length s → getD (fields s o w n) i 0 ≡ field s (o + w * i) w

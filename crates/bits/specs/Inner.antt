@@ -1,6 +1,6 @@
--- What inner functions and proofs say: fields that fit and fields that bytes hold; a pen that writes fields one after the other into bytes.
+-- What inner functions and proofs say: fields that fit and fields that bytes hold; a pen that writes fields one after the other; digits the other way round.
 use mathlib.Core.Path.{_≡_}
-use Prim.Native.Nat.{ℕ, _+_, _*_, _%_, _^_, _≤_, _<_}
+use Prim.Native.Nat.{ℕ, zero, suc, _+_, _*_, _/_, _%_, _^_, _≤_, _<_}
 use mathlib.Core.List.{List, [], _∷_}
 use lib.ListN.{take, drop}
 use Rattle.bits.specs.Bits.{number, field}
@@ -37,3 +37,15 @@ Ready p = p .held ≤ 31
 pub record GoesOn (entry : List ℕ) (p : Pen) (exit : List ℕ) (r : Pen) : Type 0 where
   pub onward : p .at ≤ r .at
   pub rest : drop (r .at) exit ≡ drop (r .at) entry
+
+-- ---- digits the other way round, the lowest first
+
+-- the number whose digits of w bits are ds, the first the least significant
+abbrev pub numberUp : ℕ → List ℕ → ℕ
+numberUp w [] = 0
+numberUp w (d ∷ ds) = numberUp w ds * 2 ^ w + d
+
+-- the n lowest digits of w bits of a number
+abbrev pub digitsUp : ℕ → ℕ → ℕ → List ℕ
+digitsUp w zero v = []
+digitsUp w (suc n) v = v % 2 ^ w ∷ digitsUp w n (v / 2 ^ w)

@@ -5,7 +5,7 @@ ghost use Prim.Native.Nat.{ℕ, _+_, _-_, _*_, _/_, _%_, _^_, _≤_, _<_};
 ghost use lib.Signed.{mag};
 ghost use lib.ListN.{length, take, drop};
 ghost use Rattle.bits.specs.Bits.{number, digits, field as fieldOf};
-ghost use Rattle.bits.specs.Inner.{written, place, Ready, GoesOn};
+ghost use Rattle.bits.specs.Inner.{written, place, Ready, GoesOn, numberUp, digitsUp};
 ghost use Rattle.bits.specs.Signed.{ofInt, toInt};
 ghost use Rattle.lists.specs.Lent.{before, after};
 
@@ -60,28 +60,53 @@ pub fn window5(s: &[u8], first: usize) -> u64
     more(s, first, 4, window4(s, first))
 }
 
-// Six bytes from `first` on, with no loop: a record of 48 bits.
-pub fn window6(s: &[u8], first: usize) -> u64
-    requires { ⌜ first + 6 ≤ length (now s) ⌝ }
-    ensures { λ r. ⌜ r ≡ number 8 (take 6 (drop first (before s))) ⌝ }
-{
-    more(s, first, 5, window5(s, first))
-}
-
-// Seven bytes from `first` on, with no loop: a record of 56 bits.
-pub fn window7(s: &[u8], first: usize) -> u64
-    requires { ⌜ first + 7 ≤ length (now s) ⌝ }
-    ensures { λ r. ⌜ r ≡ number 8 (take 7 (drop first (before s))) ⌝ }
-{
-    more(s, first, 6, window6(s, first))
-}
-
 // The `width` bits of `v` above its `low` lowest.
 pub fn part(v: u64, low: usize, width: usize) -> u64
     requires { ⌜ (low ≤ 63) × (width ≤ 63) ⌝ }
     ensures { λ r. ⌜ (r ≡ v / 2 ^ low % 2 ^ width) × (r < 2 ^ width) ⌝ }
 {
     (v >> low) % (1u64 << width)
+}
+
+// Eight bytes from `first` on as one number, the first the lowest. In this order the compiler makes one load of the sum before it sees what is taken from it.
+fn rising8(s: &[u8], first: usize) -> u64
+    requires { ⌜ first + 8 ≤ length (now s) ⌝ }
+    ensures { λ r. ⌜ r ≡ numberUp 8 (take 8 (drop first (before s))) ⌝ }
+{
+    let a = wide(s[first]);
+    let b = wide(s[first + 1]);
+    let c = wide(s[first + 2]);
+    let d = wide(s[first + 3]);
+    let e = wide(s[first + 4]);
+    let f = wide(s[first + 5]);
+    let g = wide(s[first + 6]);
+    let h = wide(s[first + 7]);
+    let low = a + b * 256 + c * 65536 + d * 16777216;
+    low + e * 4294967296 + f * 1099511627776 + g * 281474976710656 + h * 72057594037927936
+}
+
+// The eight bytes of `v` in the other order: one instruction.
+fn turned(v: u64) -> u64
+    ensures { λ r. ⌜ r ≡ number 8 (digitsUp 8 8 v) ⌝ }
+{
+    let a = part(v, 0, 8);
+    let b = part(v, 8, 8);
+    let c = part(v, 16, 8);
+    let d = part(v, 24, 8);
+    let e = part(v, 32, 8);
+    let f = part(v, 40, 8);
+    let g = part(v, 48, 8);
+    let h = part(v, 56, 8);
+    let high = a * 72057594037927936 + b * 281474976710656 + c * 1099511627776 + d * 4294967296;
+    high + e * 16777216 + f * 65536 + g * 256 + h
+}
+
+// Eight bytes from `first` on as one number: one load.
+pub fn window8(s: &[u8], first: usize) -> u64
+    requires { ⌜ first + 8 ≤ length (now s) ⌝ }
+    ensures { λ r. ⌜ r ≡ number 8 (take 8 (drop first (before s))) ⌝ }
+{
+    turned(rising8(s, first))
 }
 
 // The field out of the `count` bytes from its first on, of which `acc` is the number. `s` is here for the contract alone.
@@ -108,6 +133,16 @@ pub fn field(s: &[u8], offset: usize, width: usize) -> u64
     } else {
         cut(s, offset, width, 5, window5(s, first))
     }
+}
+
+// The field of `width` bits at bit `offset`, where it ends behind the first seven bytes: the eight bytes that end with it are there, and nothing is asked.
+pub fn late_field(s: &[u8], offset: usize, width: usize) -> u64
+    requires { ⌜ (57 ≤ offset + width) × (offset + width ≤ 8 * length (now s)) ⌝ }
+    requires { ⌜ (offset < 2 ^ 32) × (1 ≤ width) × (width ≤ 32) ⌝ }
+    ensures { λ r. ⌜ (r ≡ fieldOf (before s) offset width) × (r < 2 ^ width) ⌝ }
+{
+    let last = offset + width - 1;
+    part(window8(s, last / 8 - 7), 7 - last % 8, width)
 }
 
 // Where a writer stands: `at` whole bytes are written, and `held` bits more wait, the lowest of `bits`.
@@ -151,13 +186,32 @@ fn store4(buf: &mut [u8], at: usize, v: u64)
     store2(buf, at, v >> 16);
 }
 
-// Stores the six lowest bytes of `v` from place `at` on: a record of 48 bits.
+// Stores the two lowest bytes of `v` from place `at` on, the lowest first.
+fn lay2(buf: &mut [u8], at: usize, v: u64)
+    requires { ⌜ at + 2 ≤ length (now buf) ⌝ }
+    ensures { λ r. ⌜ after buf ≡ take at (before buf) ++ digitsUp 8 2 v ++ drop (at + 2) (before buf) ⌝ }
+{
+    store1(buf, at, v);
+    store1(buf, at + 1, v >> 8);
+}
+
+// Stores the four lowest bytes of `v` from place `at` on, the lowest first.
+fn lay4(buf: &mut [u8], at: usize, v: u64)
+    requires { ⌜ at + 4 ≤ length (now buf) ⌝ }
+    ensures { λ r. ⌜ after buf ≡ take at (before buf) ++ digitsUp 8 4 v ++ drop (at + 4) (before buf) ⌝ }
+{
+    lay2(buf, at, v);
+    lay2(buf, at + 2, v >> 16);
+}
+
+// Stores the six lowest bytes of `v` from place `at` on: a record of 48 bits. Turned first, the number stays one for the compiler, which makes two stores.
 pub fn store6(buf: &mut [u8], at: usize, v: u64)
     requires { ⌜ at + 6 ≤ length (now buf) ⌝ }
     ensures { λ r. ⌜ after buf ≡ take at (before buf) ++ digits 8 6 v ++ drop (at + 6) (before buf) ⌝ }
 {
-    store4(buf, at + 2, v);
-    store2(buf, at, v >> 32);
+    let up = turned(v) >> 16;
+    lay4(buf, at, up);
+    lay2(buf, at + 4, up >> 32);
 }
 
 // Stores the seven lowest bytes of `v` from place `at` on: a record of 56 bits.

@@ -23,6 +23,7 @@ use Rattle.books.specs.BookChecks.{checksTo, contractChecks, bookChecks}
 use Rattle.books.proofs.Checking.{checks-each}
 use Rattle.books.proofs.Accepted.{Accepted, contract-in-range, checks-below, book-accepted}
 use Rattle.books.proofs.Making.{Made, in-range-fits, book-made}
+use Rattle.book_file.specs.Inner.{RowFits}
 use Rattle.book_file.specs.ReadBook.{ReadBookCall, readBookChecks, readBookChecked}
 use Rattle.book_file.specs.WriteBook.{WriteBookCall, rowChecks, writeBookChecks, writeBookChecked, bookWritten}
 
@@ -43,10 +44,8 @@ readable q e =
 
 -- a row that its checks accept in the form f
 pub record GoodRow (f : Form) (n : ℕ) (table : List ℕ) (i : ℕ) : Type 0 where
-  pub kind-is-bit : getD table (contractCells * i) 0 ≤ 1
-  pub period-is-bit : getD table (contractCells * i + 1) 0 ≤ 1
+  pub row : RowFits f table (contractCells * i)
   pub passes : first (contractChecks n (rowAt table i)) ≡ Passed
-  pub fits : ContractFits (endWidth f) (rowAt table i)
 
 row-good : (f : Form) (n : ℕ) → n ≤ maxNodes → (table : List ℕ) (i : ℕ) → first (rowChecks (endsBelow f n) table i) ≡ Passed → GoodRow f n table i
 unfolding rowChecks rowFrom
@@ -58,10 +57,12 @@ row-good f n few table i e =
     let c = rowAt table i in
     let r = contract-in-range (endsBelow f n) c (q .1) in
     record {
-      kind-is-bit = ltb-false 1 (getD table at 0) (bits .0);
-      period-is-bit = ltb-false 1 (getD table (at + 1) 0) (bits .1);
+      row = record {
+        kind-is-bit = ltb-false 1 (getD table at 0) (bits .0);
+        period-is-bit = ltb-false 1 (getD table (at + 1) 0) (bits .1);
+        fits = in-range-fits f n c few r (ltb-false maxHolder (getD table (at + 2) 0) (q .0));
+      };
       passes = checks-below (endsBelow f n) n c (omega (arith, ends-fewer f n, r .source-below)) (omega (arith, ends-fewer f n, r .sink-below)) (q .1);
-      fits = in-range-fits f n c few r (ltb-false maxHolder (getD table (at + 2) 0) (q .0));
     }
 
 pub record Writable (q : WriteBookCall) : Type 0 where
@@ -95,7 +96,7 @@ module _ (q : WriteBookCall) (ok : Writable q) where
   pub rows-made : Made (q .form) (q .nodes) (rowsIn (q .contracts) (q .table))
   rows-made =
       book-made (q .form) (q .nodes) (rowsIn (q .contracts) (q .table)) (omega (arith, ok .few, rows-many))
-      (each-listTo (ContractFits (endWidth (q .form))) (q .contracts) (rowAt (q .table)) (λ i h. ok .rows i h .fits))
+      (each-listTo (ContractFits (endWidth (q .form))) (q .contracts) (rowAt (q .table)) (λ i h. ok .rows i h .row .fits))
       (each-listTo (λ c. first (contractChecks (q .nodes) c) ≡ Passed) (q .contracts) (rowAt (q .table)) (λ i h. ok .rows i h .passes))
 
   pub count-written : contractCountIn (bookWritten q) ≡ q .contracts

@@ -52,5 +52,5 @@ module _ (q : WriteBookCall) (e : writeBookChecked q ≡ Passed) where
         rows-are = rows-made q ok .contracts;
         cells-are =
             ap (flatMap cellsOf) (rows-made q ok .contracts)
-            ∙ cells-rows (q .contracts) (q .table) (ok .long) (λ i h. (ok .rows i h .kind-is-bit, ok .rows i h .period-is-bit));
+            ∙ cells-rows (q .contracts) (q .table) (ok .long) (λ i h. (ok .rows i h .row .kind-is-bit, ok .rows i h .row .period-is-bit));
       }

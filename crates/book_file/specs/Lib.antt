@@ -1,2 +1,3 @@
 pub mod ReadBook
 pub mod WriteBook
+pub mod Inner

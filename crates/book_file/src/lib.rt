@@ -7,23 +7,20 @@ ghost use Rattle.lists.specs.Lent.{before, after, overwrite};
 ghost use Rattle.lists.specs.Lists.{listTo};
 ghost use Rattle.tariff.specs.Units.{maxContracts};
 ghost use Rattle.tariff.specs.Refusals.{first};
-ghost use Rattle.layouts.specs.Forms.{endWidth};
 ghost use Rattle.layouts.specs.BookFile.{bookBytes, bookFile, contractIn};
-ghost use Rattle.layouts.specs.BookTable.{contractCells, cellsOf, rowFrom, rowAt, rowsIn};
-ghost use Rattle.layouts.specs.Inner.{ContractFits};
+ghost use Rattle.layouts.specs.BookTable.{contractCells, cellsOf, rowFrom, rowsIn};
 ghost use Rattle.books.specs.BookChecks.{checksTo};
+ghost use Rattle.books.specs.Inner.{contractBytes, bitsBytes};
 ghost use Rattle.book_file.specs.ReadBook.{readBookCall, readBookChecked, ReadsBook};
 ghost use Rattle.book_file.specs.WriteBook.{writeBookCall, rowChecks, writeBookChecked, WritesBook};
+ghost use Rattle.book_file.specs.Inner.{RowFits};
 use layouts::CONTRACT_CELLS;
 use layouts::Form;
 use layouts::WriteAnswer;
 use tariff::Checked;
 use tariff::Contract;
-use tariff::Kind;
 use tariff::MAX_CONTRACTS;
 use tariff::MAX_HOLDER;
-use tariff::Period;
-use tariff::Quantity;
 use tariff::Refusal;
 
 // What reading a book gives: how many contracts were read, and in which form, or the refusal.
@@ -91,27 +88,6 @@ pub fn read_book(nodes: usize, file: &[u8], book: &mut [u64]) -> BookAnswer
     }
 }
 
-// The contract of the six cells from `at` on.
-fn row_from(cells: &[u64], at: usize) -> Contract
-    requires { ⌜ at + contractCells ≤ length (now cells) ⌝ }
-    ensures { λ r. ⌜ r ≡ rowFrom (before cells) at ⌝ }
-{
-    let kind = Kind::from_number(cells[at]);
-    let period = Period::from_number(cells[at + 1]);
-    let holder = cells[at + 2];
-    let source = cells[at + 3] as usize;
-    let sink = cells[at + 4] as usize;
-    let quantity = Quantity(cells[at + 5]);
-    Contract {
-        kind,
-        period,
-        holder,
-        source,
-        sink,
-        quantity,
-    }
-}
-
 // A row's checks, its ends held to be below a number: 17, 18, 11, 13.
 fn check_row(below: usize, cells: &[u64], i: usize) -> Checked
     requires { ⌜ (i < maxContracts) × (contractCells * i + contractCells ≤ length (now cells)) ⌝ }
@@ -173,16 +149,26 @@ fn check_write(form: Form, nodes: usize, contracts: usize, book: &[u64], bytes: 
     Checked::Passed
 }
 
+// The bits of the contract of the six cells from `at` on as one number in a form. Where a kind and a period are 0 or 1 they are their own bits.
+fn row_number(form: Form, cells: &[u64], at: usize) -> u64
+    requires { ⌜ at + contractCells ≤ length (now cells) ⌝ }
+    requires { ⌜ RowFits form (now cells) at ⌝ }
+    ensures { λ r. ⌜ contractBytes form (rowFrom (before cells) at) ≡ bitsBytes form r ⌝ }
+{
+    let terms = (cells[at] * 2 + cells[at + 1]) * 1024 + cells[at + 2];
+    books::contract_number(form, terms, cells[at + 3], cells[at + 4], cells[at + 5])
+}
+
 // Writes the header and the first `contracts` rows in a form.
 fn write_contracts(form: Form, cells: &[u64], contracts: usize, file: &mut [u8])
     requires { ⌜ (contracts ≤ maxContracts) × (contractCells * contracts ≤ length (now cells)) × (bookBytes form contracts ≤ length (now file)) ⌝ }
-    requires { ⌜ ((i : ℕ) → i < contracts → ContractFits (endWidth form) (rowAt (now cells) i)) ⌝ }
+    requires { ⌜ ((i : ℕ) → i < contracts → RowFits form (now cells) (contractCells * i)) ⌝ }
     ensures { λ r. ⌜ after file ≡ overwrite (bookFile form (rowsIn contracts (before cells))) (before file) ⌝ }
 {
     books::store_header(file, form, contracts);
     let mut i = 0;
     while i < contracts {
-        books::store_contract(file, form, i, row_from(cells, CONTRACT_CELLS * i));
+        books::store_bits(file, form, i, row_number(form, cells, CONTRACT_CELLS * i));
         i += 1;
     }
 }

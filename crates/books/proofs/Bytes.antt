@@ -21,7 +21,7 @@ use Rattle.layouts.specs.BookFile.{contractBits, contractFields, packedBook, bo
 use Rattle.layouts.specs.Inner.{ContractFits}
 use Rattle.layouts.proofs.Records.{total-records, fit-records}
 use Rattle.layouts.proofs.BookFile.{total-contract, fit-contract, whole-bytes}
-use Rattle.books.specs.Inner.{headerBytes, contractBytes, bookFront, termsNumber}
+use Rattle.books.specs.Inner.{headerBytes, contractBytes, bookFront, termsNumber, contractNumber, bitsBytes}
 
 -- fields that fill whole bytes, behind others that do
 file-append : (xs ys : List Field) (a b : ℕ) → total xs ≡ 8 * a → total ys ≡ 8 * b → Fit ys → fileOf (xs ++ ys) ≡ fileOf xs ++ fileOf ys
@@ -39,8 +39,8 @@ file-append xs ys a b ea eb fit =
 -- ---- one contract, and the header
 
 -- a contract's bytes, from one number
-pub contract-number : (f : Form) (c : Contract) (t q v : ℕ) → t ≡ termsNumber c → q ≡ c .quantity .0
-    → v ≡ (t * 2 ^ (endWidth f + endWidth f) + (c .source * 2 ^ endWidth f + c .sink)) * 1048576 + q → contractBytes f c ≡ digits 8 (recordBytes f) v
+pub contract-number : (f : Form) (c : Contract) (t q v : ℕ) → t ≡ termsNumber c → q ≡ c .quantity .0 → v ≡ contractNumber f t (c .source) (c .sink) q
+    → contractBytes f c ≡ bitsBytes f v
 unfolding fileOf contractFields
 contract-number Narrow c t q v et eq e = ap (digits 8 6) (rw (e, et, eq) (omega arith))
 contract-number Wide c t q v et eq e = ap (digits 8 7) (rw (e, et, eq) (omega arith))

@@ -1,12 +1,13 @@
 -- A book's bytes piece by piece, as they are stored, the header, then each contract; and a contract as the numbers that its bits are.
 use mathlib.Core.List.{List, [], _∷_, _++_, flatMap}
-use Prim.Native.Nat.{ℕ, _+_, _*_}
+use Prim.Native.Nat.{ℕ, _+_, _*_, _^_}
+use Rattle.bits.specs.Bits.{digits}
 use Rattle.bits.specs.Fields.{bits, fileOf}
 use Rattle.tariff.specs.declared.contracts.Contract.{Contract}
 use Rattle.tariff.specs.Refusals.{Check}
 use Rattle.tariff.specs.Checks.{nodeNumber, quantityRange}
 use Rattle.layouts.specs.declared.forms.Form.{Form}
-use Rattle.layouts.specs.Forms.{endWidth, sparePattern}
+use Rattle.layouts.specs.Forms.{endWidth, recordBytes, sparePattern}
 use Rattle.layouts.specs.BookFile.{kindBit, periodBit, contractFields}
 
 -- the header of a book of m contracts
@@ -23,6 +24,14 @@ bookFront f m cs = headerBytes f m ++ flatMap (contractBytes f) cs
 -- a contract's kind, period and holder as one number
 abbrev pub termsNumber : Contract → ℕ
 termsNumber c = (kindBit (c .kind) * 2 + periodBit (c .period)) * 1024 + c .holder
+
+-- a contract's bits as one number, from its kind, period and holder as one, its ends and its quantity
+abbrev pub contractNumber : Form → ℕ → ℕ → ℕ → ℕ → ℕ
+contractNumber f terms source sink quantity = (terms * 2 ^ (endWidth f + endWidth f) + (source * 2 ^ endWidth f + sink)) * 1048576 + quantity
+
+-- the bytes of a contract whose bits are v
+abbrev pub bitsBytes : Form → ℕ → List ℕ
+bitsBytes f v = digits 8 (recordBytes f) v
 
 -- a contract's own checks, on its numbers
 abbrev pub numberChecks : ℕ → ℕ → ℕ → ℕ → List Check

@@ -1,10 +1,9 @@
 // A book's bytes: its contracts read and stored one by one, and the checks that every operation on a book has.
 ghost use mathlib.Core.Path.{_≡_};
 ghost use mathlib.Core.List.{_++_};
-ghost use Prim.Native.Nat.{_+_, _≤_, _<_, max};
+ghost use Prim.Native.Nat.{_+_, _^_, _≤_, _<_, max};
 ghost use lib.ListN.{length, take, drop};
 ghost use Rattle.lists.specs.Lent.{before, after, overwrite};
-ghost use Rattle.bits.specs.Bits.{digits};
 ghost use Rattle.tariff.specs.Refusals.{first};
 ghost use Rattle.tariff.specs.Units.{maxContracts};
 ghost use Rattle.layouts.specs.declared.forms.Form.the-variants.{Narrow, Wide};
@@ -12,7 +11,7 @@ ghost use Rattle.layouts.specs.Forms.{endWidth, recordBytes};
 ghost use Rattle.layouts.specs.BookFile.{kindBit, periodBit, bookBytes, contractCountIn, bookFormIn, contractIn};
 ghost use Rattle.layouts.specs.Inner.{ContractFits, contractOf};
 ghost use Rattle.books.specs.BookChecks.{checksTo, contractChecks, bookChecks};
-ghost use Rattle.books.specs.Inner.{headerBytes, contractBytes, termsNumber, numberChecks};
+ghost use Rattle.books.specs.Inner.{headerBytes, contractBytes, termsNumber, contractNumber, bitsBytes, numberChecks};
 use layouts::BOOK_HEADER_BYTES;
 use layouts::CONTRACT_BYTES;
 use layouts::Form;
@@ -45,24 +44,11 @@ pub fn book_form(file: &[u8]) -> Form
     }
 }
 
-// The bits of contract i of a book's bytes as one number: six or seven bytes at once.
-fn bits_at(file: &[u8], form: Form, i: usize) -> u64
-    requires { ⌜ (i < 1024) × (bookBytes form i + recordBytes form ≤ length (now file)) ⌝ }
-    ensures { λ r. ⌜ contractIn form (before file) i ≡ contractOf (endWidth form) r ⌝ }
+// The contract whose bits are the lowest of `v`, its ends of `width` bits.
+fn contract_of(v: u64, width: usize) -> Contract
+    requires { ⌜ width ≤ 12 ⌝ }
+    ensures { λ r. ⌜ r ≡ contractOf width v ⌝ }
 {
-    match form {
-        Form::Narrow => bits::window6(file, BOOK_HEADER_BYTES + CONTRACT_BYTES * i),
-        Form::Wide => bits::window7(file, BOOK_HEADER_BYTES + WIDE_CONTRACT_BYTES * i),
-    }
-}
-
-// Contract i of a book's bytes in a form.
-pub fn contract_at(file: &[u8], form: Form, i: usize) -> Contract
-    requires { ⌜ (i < 1024) × (bookBytes form i + recordBytes form ≤ length (now file)) ⌝ }
-    ensures { λ r. ⌜ r ≡ contractIn form (before file) i ⌝ }
-{
-    let v = bits_at(file, form, i);
-    let width = form.end_width();
     let ends = width + width;
     let kind = Kind::from_number(bits::part(v, 31 + ends, 1));
     let period = Period::from_number(bits::part(v, 30 + ends, 1));
@@ -77,6 +63,28 @@ pub fn contract_at(file: &[u8], form: Form, i: usize) -> Contract
         source,
         sink,
         quantity,
+    }
+}
+
+// The eight bytes that end with contract i of a book's bytes, as one number: the header's two bytes stand before the first contract, so they are there.
+fn bits_at(file: &[u8], form: Form, i: usize) -> u64
+    requires { ⌜ (i < 1024) × (bookBytes form i + recordBytes form ≤ length (now file)) ⌝ }
+    ensures { λ r. ⌜ contractIn form (before file) i ≡ contractOf (endWidth form) r ⌝ }
+{
+    match form {
+        Form::Narrow => bits::window8(file, CONTRACT_BYTES * i),
+        Form::Wide => bits::window8(file, 1 + WIDE_CONTRACT_BYTES * i),
+    }
+}
+
+// Contract i of a book's bytes in a form.
+pub fn contract_at(file: &[u8], form: Form, i: usize) -> Contract
+    requires { ⌜ (i < 1024) × (bookBytes form i + recordBytes form ≤ length (now file)) ⌝ }
+    ensures { λ r. ⌜ r ≡ contractIn form (before file) i ⌝ }
+{
+    match form {
+        Form::Narrow => contract_of(bits_at(file, Form::Narrow, i), 8),
+        Form::Wide => contract_of(bits_at(file, Form::Wide, i), 12),
     }
 }
 
@@ -119,46 +127,54 @@ fn terms_number(c: Contract) -> u64
     (kind_bit(kind) * 2 + period_bit(period)) * 1024 + c.holder
 }
 
-// A contract's 48 bits as one number, its ends of 8 bits.
-fn narrow_number(c: Contract) -> u64
-    requires { ⌜ ContractFits 8 c ⌝ }
-    ensures { λ r. ⌜ contractBytes Narrow c ≡ digits 8 6 r ⌝ }
+// A contract's 48 bits as one number, its ends of 8 bits, from its kind, period and holder as one, its ends and its quantity.
+fn narrow_number(terms: u64, source: u64, sink: u64, quantity: u64) -> u64
+    requires { ⌜ (terms < 4096) × (source < 256) × (sink < 256) × (quantity < 2 ^ 20) ⌝ }
+    ensures { λ r. ⌜ r ≡ contractNumber Narrow terms source sink quantity ⌝ }
 {
-    let terms = terms_number(c);
-    let quantity = c.quantity;
-    let ends = (c.source as u64) * 256 + (c.sink as u64);
-    (terms * 65536 + ends) * 1048576 + quantity.cell()
+    (terms * 65536 + (source * 256 + sink)) * 1048576 + quantity
 }
 
 // A contract's 56 bits as one number, its ends of 12 bits.
-fn wide_number(c: Contract) -> u64
-    requires { ⌜ ContractFits 12 c ⌝ }
-    ensures { λ r. ⌜ contractBytes Wide c ≡ digits 8 7 r ⌝ }
+fn wide_number(terms: u64, source: u64, sink: u64, quantity: u64) -> u64
+    requires { ⌜ (terms < 4096) × (source < 4096) × (sink < 4096) × (quantity < 2 ^ 20) ⌝ }
+    ensures { λ r. ⌜ r ≡ contractNumber Wide terms source sink quantity ⌝ }
 {
-    let terms = terms_number(c);
-    let quantity = c.quantity;
-    let ends = (c.source as u64) * 4096 + (c.sink as u64);
-    (terms * 16777216 + ends) * 1048576 + quantity.cell()
+    (terms * 16777216 + (source * 4096 + sink)) * 1048576 + quantity
 }
 
-// Stores contract i of a book in a form: six or seven bytes at once.
+// A contract's bits as one number in a form.
+pub fn contract_number(form: Form, terms: u64, source: u64, sink: u64, quantity: u64) -> u64
+    requires { ⌜ (terms < 4096) × (source < 2 ^ endWidth form) × (sink < 2 ^ endWidth form) × (quantity < 2 ^ 20) ⌝ }
+    ensures { λ r. ⌜ r ≡ contractNumber form terms source sink quantity ⌝ }
+{
+    match form {
+        Form::Narrow => narrow_number(terms, source, sink, quantity),
+        Form::Wide => wide_number(terms, source, sink, quantity),
+    }
+}
+
+// Stores the bits of contract i of a book in a form: six or seven bytes at once.
+pub fn store_bits(file: &mut [u8], form: Form, i: usize, v: u64)
+    requires { ⌜ (i < 1024) × (bookBytes form i + recordBytes form ≤ length (now file)) ⌝ }
+    ensures { λ r. ⌜ after file ≡ take (bookBytes form i) (before file) ++ bitsBytes form v ++ drop (bookBytes form i + recordBytes form) (before file) ⌝ }
+{
+    match form {
+        Form::Narrow => bits::store6(file, BOOK_HEADER_BYTES + CONTRACT_BYTES * i, v),
+        Form::Wide => bits::store7(file, BOOK_HEADER_BYTES + WIDE_CONTRACT_BYTES * i, v),
+    }
+}
+
+// Stores contract i of a book in a form.
 pub fn store_contract(file: &mut [u8], form: Form, i: usize, c: Contract)
     requires { ⌜ (i < 1024) × (bookBytes form i + recordBytes form ≤ length (now file)) ⌝ }
     requires { ⌜ ContractFits (endWidth form) c ⌝ }
     ensures { λ r. ⌜ after file ≡ take (bookBytes form i) (before file) ++ contractBytes form c ++ drop (bookBytes form i + recordBytes form) (before file) ⌝ }
 {
-    match form {
-        Form::Narrow => bits::store6(
-            file,
-            BOOK_HEADER_BYTES + CONTRACT_BYTES * i,
-            narrow_number(c),
-        ),
-        Form::Wide => bits::store7(
-            file,
-            BOOK_HEADER_BYTES + WIDE_CONTRACT_BYTES * i,
-            wide_number(c),
-        ),
-    }
+    let quantity = c.quantity;
+    let terms = terms_number(c);
+    let v = contract_number(form, terms, c.source as u64, c.sink as u64, quantity.cell());
+    store_bits(file, form, i, v);
 }
 
 // The larger of two node numbers: one comparison with the node count holds both ends.
@@ -181,19 +197,28 @@ pub fn check_numbers(nodes: usize, source: usize, sink: usize, quantity: u64) ->
     Checked::Passed
 }
 
-// The checks of contract i of a book's bytes.
-fn check_at(nodes: usize, file: &[u8], form: Form, i: usize) -> Checked
-    requires { ⌜ (i < 1024) × (bookBytes form i + recordBytes form ≤ length (now file)) ⌝ }
-    ensures { λ r. ⌜ r ≡ first (contractChecks nodes (contractIn form (before file) i)) ⌝ }
+// The checks of the contract whose bits are the lowest of `v`, its ends of `width` bits.
+fn check_bits(nodes: usize, v: u64, width: usize) -> Checked
+    requires { ⌜ width ≤ 12 ⌝ }
+    ensures { λ r. ⌜ r ≡ first (contractChecks nodes (contractOf width v)) ⌝ }
 {
-    let v = bits_at(file, form, i);
-    let width = form.end_width();
     check_numbers(
         nodes,
         bits::part(v, 20 + width, width) as usize,
         bits::part(v, 20, width) as usize,
         bits::part(v, 0, 20),
     )
+}
+
+// The checks of contract i of a book's bytes.
+fn check_at(nodes: usize, file: &[u8], form: Form, i: usize) -> Checked
+    requires { ⌜ (i < 1024) × (bookBytes form i + recordBytes form ≤ length (now file)) ⌝ }
+    ensures { λ r. ⌜ r ≡ first (contractChecks nodes (contractIn form (before file) i)) ⌝ }
+{
+    match form {
+        Form::Narrow => check_bits(nodes, bits_at(file, Form::Narrow, i), 8),
+        Form::Wide => check_bits(nodes, bits_at(file, Form::Wide, i), 12),
+    }
 }
 
 // The checks of a book's contracts, one after the other.

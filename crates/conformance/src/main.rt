@@ -3,5 +3,7 @@
 fn main() {
     vectors::go_through();
     request_vectors::go_through();
+    calendar_vectors::go_through();
+    share_vectors::go_through();
     cut_vectors::go_through();
 }

@@ -2,7 +2,8 @@
 use mathlib.Core.Path.{_≡_, refl, sym, ap, ap₂, _∙_}
 use mathlib.Core.Bool.{false}
 use mathlib.Core.List.{List, [], _∷_, _++_}
-use Prim.Native.Nat.{ℕ, _+_, _-_, _*_, _^_, _≤_, _<_}
+use Prim.Native.Nat.{ℕ, zero, suc, _+_, _-_, _*_, _^_, _≤_, _<_}
+use native.Mathlib.Nat.{mul-zero}
 use native.Mathlib.Omega.{arith}
 use borrow.Author.Tests.{ltb-false, le-ltb}
 use lib.Dec.{ltb, eqb}
@@ -26,6 +27,7 @@ use Rattle.tables.proofs.Factors.{count-fits}
 use Rattle.tables.proofs.Cells.{cut-sized}
 use Rattle.tables.proofs.Passing.{passed-all, grid-tables}
 use Rattle.layouts.specs.declared.forms.Form.{Form}
+use Rattle.layouts.specs.declared.forms.Form.the-variants.{Narrow, Wide}
 use Rattle.layouts.specs.Files.{bytesFor}
 use Rattle.layouts.specs.Forms.{gridHeaderBytes, gridHeaderBits, gridSpare, mostNodes}
 use Rattle.layouts.specs.GridFile.{limitWidth, factorWidth, bitsBehind, gridBytes, gridFields, gridFile}
@@ -46,6 +48,14 @@ short-header f = omega (arith, header-whole f, header-most f)
 pub short-file : (s : List ℕ) (h n k : ℕ) → Counted s h n k → length s ≤ mostBytes
 short-file s h n k c = omega (arith, c .size, c .short, count-fits n k (c .good .nodes-few) (c .good .few))
 
+header-least : (f : Form) → 16 ≤ gridHeaderBits f
+header-least Narrow = omega arith
+header-least Wide = omega arith
+
+some-constraint : (n k i : ℕ) → i < n * k → 1 ≤ k
+some-constraint n zero i h = absurd (omega (arith, mul-zero n))
+some-constraint n (suc k) i h = omega arith
+
 -- its parts, by its counts
 module _ (s : List ℕ) (h n k : ℕ) (c : Counted s h n k) where
   pub limits-are : fields s h limitWidth k ≡ limitsIn s
@@ -54,6 +64,10 @@ module _ (s : List ℕ) (h n k : ℕ) (c : Counted s h n k) where
 
   pub factors-are : factorsFrom s h n k ≡ factorsIn s
   factors-are = ap (λ (o : ℕ). factorsFrom s o n k) (c .header) ∙ ap₂ (factorsFrom s (headerIn s)) (c .nodes) (c .constraints)
+
+  -- where there is a factor, a limit and the header stand before it
+  pub late-factors : (i : ℕ) → i < n * k → 39 ≤ h + limitWidth * k
+  late-factors i few = omega (arith, some-constraint n k i few, c .header, header-least (gridFormIn s))
 
   pub run-is : (m : ℕ) → m ≡ n * k → factorsAt s (h + limitWidth * k) m ≡ factorsIn s
   unfolding factorsFrom

@@ -1,6 +1,6 @@
 // A grid's file read into lent tables. Its form is found once; behind the header both forms are read alike.
 ghost use mathlib.Core.Path.{_≡_};
-ghost use Prim.Native.Nat.{_+_, _*_, _^_, _≤_, _<_};
+ghost use Prim.Native.Nat.{ℕ, _+_, _*_, _^_, _≤_, _<_};
 ghost use lib.ListN.{length};
 ghost use Rattle.bits.specs.Signed.{toInt};
 ghost use Rattle.lists.specs.Lent.{before, after, overwrite};
@@ -82,7 +82,7 @@ fn factor_bad_in(file: &[u8], header: usize, nodes: usize, constraints: usize) -
     'nodes: while node < nodes {
         let mut constraint = 0;
         while constraint < constraints {
-            if bits_bad(bits::field(file, at, FACTOR_WIDTH)) {
+            if bits_bad(bits::late_field(file, at, FACTOR_WIDTH)) {
                 found = true;
                 break 'nodes;
             }
@@ -168,16 +168,16 @@ fn check_read(file: &[u8], limits: &[u64], factors: &[i64]) -> Checked
     }
 }
 
-// Reads `count` factors, from bit `offset` on, into the first cells of `out`.
+// Reads `count` factors, from bit `offset` on, behind at least one limit, into the first cells of `out`.
 fn read_factors(file: &[u8], offset: usize, count: usize, out: &mut [i64])
     requires { ⌜ offset + factorWidth * count ≤ 8 * length (now file) ⌝ }
-    requires { ⌜ (length (now file) ≤ mostBytes) × (count ≤ length (now out)) ⌝ }
+    requires { ⌜ (length (now file) ≤ mostBytes) × (count ≤ length (now out)) × ((i : ℕ) → i < count → 39 ≤ offset) ⌝ }
     ensures { λ r. ⌜ after out ≡ overwrite (factorsAt (before file) offset count) (before out) ⌝ }
 {
     let mut at = offset;
     let mut i = 0;
     while i < count {
-        out[i] = bits::signed(bits::field(file, at, FACTOR_WIDTH), FACTOR_WIDTH);
+        out[i] = bits::signed(bits::late_field(file, at, FACTOR_WIDTH), FACTOR_WIDTH);
         at += FACTOR_WIDTH;
         i += 1;
     }

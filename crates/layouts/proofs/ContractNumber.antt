@@ -1,19 +1,21 @@
--- A contract of the file from one number, over the width of its ends: its bits are B bytes.
-use mathlib.Core.Path.{_≡_, refl, ap, _∙_}
+-- A contract of the file from one number, over the width of its ends: its bits are B bytes, the last of the eight that the number has, from byte f on.
+use mathlib.Core.Path.{_≡_, ap, _∙_}
 use mathlib.Core.List.{List}
 use Prim.Native.Nat.{ℕ, _+_, _-_, _*_, _/_, _%_, _^_, _≤_}
 use native.Mathlib.Omega.{arith}
 use lib.ListN.{length, take, drop}
 use Rattle.bits.specs.Bits.{number, field}
 use Rattle.bits.proofs.Numbers.{Below}
-use Rattle.bits.proofs.Fields.{field-part}
+use Rattle.bits.proofs.Fields.{field-window}
 use Rattle.layouts.specs.declared.forms.Form.{Form}
+use Rattle.layouts.specs.declared.forms.Form.the-variants.{Narrow, Wide}
 use Rattle.layouts.specs.Forms.{endWidth, recordBytes}
 use Rattle.layouts.specs.BookFile.{contract, contractBits, contractFrom, bookBytes, contractIn}
 use Rattle.layouts.specs.Inner.{contractOf}
 use Rattle.layouts.proofs.BookFile.{whole-bytes}
 
-module _ (w B : ℕ) (whole : 8 * B ≡ contractBits w) (s : List ℕ) (i v : ℕ) (b : Below 8 s) (le : 2 + B * i + B ≤ length s) (e : v ≡ number 8 (take B (drop (2 + B * i) s))) where
+module _ (w B : ℕ) (whole : 8 * B ≡ contractBits w) (short : B ≤ 8) (s : List ℕ) (i f v : ℕ) (b : Below 8 s) (ends : f + 8 ≡ 2 + B * i + B) (le : 2 + B * i + B ≤ length s)
+    (e : v ≡ number 8 (take 8 (drop f s))) where
   -- where the contract's bits begin, in bytes
   begins : contractBits w * i ≡ 8 * (B * i)
   begins = rw (← whole) (omega arith)
@@ -22,8 +24,8 @@ module _ (w B : ℕ) (whole : 8 * B ≡ contractBits w) (s : List ℕ) (i v : �
   pub contract-part : (a x o r : ℕ) → a + x + r ≡ contractBits w → o ≡ 16 + contractBits w * i + a → field s o x ≡ v / 2 ^ r % 2 ^ x
   contract-part a x o r end at =
       rw e
-      (ap (λ (y : ℕ). field s y x) {x = o} {y = 8 * (2 + B * i) + a} (omega (arith, begins)) ∙ field-part s (2 + B * i) B a x b le (omega arith)
-      ∙ ap (λ (y : ℕ). number 8 (take B (drop (2 + B * i) s)) / 2 ^ y % 2 ^ x) {x = 8 * B - (a + x)} {y = r} (omega arith))
+      (field-window s o x f 8 b (omega (arith, begins)) (omega (arith, begins)) (omega arith)
+      ∙ ap (λ (y : ℕ). number 8 (take 8 (drop f s)) / 2 ^ y % 2 ^ x) {x = 8 * (f + 8) - (o + x)} {y = r} (omega (arith, begins)))
 
   -- the six fields as parts of the number v
   pub contract-number : contractFrom w s (16 + contractBits w * i) ≡ contractOf w v
@@ -35,7 +37,8 @@ module _ (w B : ℕ) (whole : 8 * B ≡ contractBits w) (s : List ℕ) (i v : �
       (contract-part (12 + w) w (o + 1 + 1 + 10 + w) 20 (omega arith) (omega arith) t) (contract-part (12 + w + w) 20 (o + 1 + 1 + 10 + w + w) 0 (omega arith) (omega arith) t)
 
 -- in either form
-pub contract-in-number : (f : Form) (s : List ℕ) (i v : ℕ) → Below 8 s → bookBytes f i + recordBytes f ≤ length s → v ≡ number 8 (take (recordBytes f) (drop (bookBytes f i) s))
-    → contractIn f s i ≡ contractOf (endWidth f) v
+pub contract-in-number : (g : Form) (s : List ℕ) (i f v : ℕ) → Below 8 s → f + 8 ≡ bookBytes g i + recordBytes g → bookBytes g i + recordBytes g ≤ length s → v ≡ number 8 (take 8 (drop f s))
+    → contractIn g s i ≡ contractOf (endWidth g) v
 unfolding contractIn
-contract-in-number f = contract-number (endWidth f) (recordBytes f) (whole-bytes f)
+contract-in-number Narrow = contract-number 8 6 (whole-bytes Narrow) (omega arith)
+contract-in-number Wide = contract-number 12 7 (whole-bytes Wide) (omega arith)

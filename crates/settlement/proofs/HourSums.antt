@@ -34,8 +34,9 @@ use Rattle.books.proofs.Accepted.{book-accepted}
 use Rattle.settlement.specs.declared.Totals.{Totals}
 use Rattle.settlement.specs.declared.SettleAnswer.the-variants.{Settled}
 use Rattle.settlement.specs.SettleHour.{centsOf, pricedOf, centsSum, hourTotal}
-use Rattle.settlement.specs.Inner.{Hour, hourAmount, exactOf, Bounded, SettlesFirst, Settles}
-use Rattle.settlement.proofs.Congestion.{prices-in, front-at}
+use Rattle.tables.specs.Inner.{Hour}
+use Rattle.settlement.specs.Inner.{hourAmount, exactOf, Bounded, SettlesFirst, Settles}
+use Rattle.congestion.proofs.Products.{prices-in, front-at}
 use Rattle.settlement.proofs.Pricing.{priced-few}
 
 -- ---- a machine sum of two numbers that are kept in an i64

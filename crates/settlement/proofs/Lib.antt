@@ -1,5 +1,5 @@
 pub mod Passing
-pub mod Congestion
+pub mod Amounts
 pub mod HourSums
 pub mod Pricing
 pub mod Theorems

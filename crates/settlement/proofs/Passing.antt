@@ -1,11 +1,9 @@
--- The checks of finding the MCC and of settling an hour: those of an hour's tables, the book's own, then the places for the cents and for the sets.
-use mathlib.Core.Path.{_≡_, refl, sym, ap, _∙_}
+-- The checks of settling an hour: those of an hour's tables, the book's own, then the places for the cents and for the sets.
+use mathlib.Core.Path.{_≡_, sym, ap, _∙_}
 use mathlib.Core.List.{List, [], _∷_, _++_}
 use Prim.Native.Nat.{ℕ, _≤_, _<_}
 use native.Mathlib.Omega.{arith}
 use borrow.Author.Tests.{ltb-false, lt-ltb, le-ltb}
-use lib.ListN.{length}
-use lib.IntN.{ℤ}
 use Rattle.tariff.specs.declared.refusals.Refusal.{Refusal}
 use Rattle.tariff.specs.declared.refusals.Refusal.the-variants.{ShortTable}
 use Rattle.tariff.specs.declared.refusals.Checked.{Checked}
@@ -14,22 +12,10 @@ use Rattle.tariff.specs.Refusals.{Check, first, decided}
 use Rattle.tariff.specs.Checks.{shortTable}
 use Rattle.tariff.proofs.Checks.{first-append, passed-cons, passed-append}
 use Rattle.layouts.specs.BookFile.{contractCountIn}
-use Rattle.tables.specs.Inner.{hourTableChecks}
-use Rattle.tables.proofs.Passing.{HourTables, hour-tables}
+use Rattle.tables.specs.Inner.{Hour, hourTableChecks}
+use Rattle.tables.proofs.Passing.{hour-tables, hour-of}
 use Rattle.books.specs.BookChecks.{bookChecks}
-use Rattle.settlement.specs.FindMcc.{FindMccCall, findMccChecks, findMccChecked}
 use Rattle.settlement.specs.SettleHour.{HourCall, settleChecks}
-use Rattle.settlement.specs.Inner.{Hour}
-
--- the tables of an hour that no check refuses
-pub hour-of : {n k period : ℕ} {fs : List ℤ} {ps : List ℕ} {place : ℕ} → HourTables n k period fs ps place → Hour n k fs ps
-hour-of t = record { good-factors = t .good-factors; good-prices = t .good-prices }
-
--- ---- finding the MCC: period 0 is never refused
-
-pub mcc-checks : (q : FindMccCall) → first (hourTableChecks (q .nodes) (q .constraints) 0 (q .factors) (q .prices) (length (q .place))) ≡ findMccChecked q
-unfolding first hourTableChecks findMccChecks
-mcc-checks q = refl
 
 -- ---- settling: as many cells as nodes are never too few
 

@@ -1,13 +1,12 @@
 -- THE THEOREM of document 02, paper 9, on settling: "The same test and prices hold at both widths". For contracts that fit both forms.
 use mathlib.Core.Path.{_≡_, sym, ap, _∙_}
-use mathlib.Core.List.{List, [], _∷_, _++_, map}
+use mathlib.Core.List.{List, [], _∷_, map}
 use Prim.Native.Nat.{ℕ, _*_, _≤_}
 use lib.ListN.{length, take}
 use lib.IntN.{ℤ, pos}
 use Rattle.lists.specs.Lists.{Each}
 use Rattle.lists.specs.Lent.{Lent, before, after}
 use Rattle.tariff.specs.declared.contracts.Contract.{Contract}
-use Rattle.tariff.specs.declared.refusals.Checked.{Checked}
 use Rattle.tariff.specs.declared.refusals.Checked.the-variants.{Refused}
 use Rattle.tariff.specs.Units.{maxContracts}
 use Rattle.tariff.specs.Refusals.{Check, first, decided, answered, cellsAfter}

@@ -1,63 +1,28 @@
--- What the inner functions of settling say: an hour's tables and MCCs, the constraints that priced a contract, the running totals, and what contracts settle to.
+-- What the inner functions of settling say: a contract's amount in an hour, the running totals, and what contracts settle to.
 use mathlib.Core.Path.{_≡_}
-use mathlib.Core.Bool.{Bool, cond}
+use mathlib.Core.Bool.{cond}
 use mathlib.Core.List.{List, map}
 use Prim.Native.Nat.{ℕ, _+_, _*_, _≤_, _<_}
-use lib.ListN.{length, getD, take}
+use lib.ListN.{getD, take}
 use lib.Count.{ones}
-use lib.Dec.{ltb}
-use lib.IntN.{ℤ, pos, natAbs, _+ℤ_, _-ℤ_, _*ℤ_}
-use Rattle.integers.specs.Sums.{nonzero, sumTo}
+use lib.IntN.{ℤ, pos, natAbs, _+ℤ_, _*ℤ_}
+use Rattle.integers.specs.Sums.{sumTo}
 use Rattle.lists.specs.Lists.{listTo}
-use Rattle.lists.specs.Sets.{setOf}
 use Rattle.lists.specs.Lent.{overwrite}
 use Rattle.tariff.specs.declared.contracts.Contract.{Contract}
 use Rattle.tariff.specs.declared.contracts.Period.{Period}
-use Rattle.tariff.specs.declared.units.Mcc.{Mcc}
-use Rattle.tariff.specs.Units.{Factors, factorsOf, maxFactor, maxPrice, maxConstraints, perCent}
+use Rattle.tariff.specs.Units.{Factors, factorsOf, maxConstraints, perCent}
 use Rattle.tariff.specs.Contracts.{samePeriod}
 use Rattle.tariff.specs.Inner.{maxAmount, maxCents}
-use Rattle.tariff.specs.Settlement.{mcc, amount, pricedSet, cents}
+use Rattle.tariff.specs.Settlement.{amount, pricedSet, cents}
 use Rattle.layouts.specs.BookFile.{contractCountIn, bookIn}
-use Rattle.tables.specs.Inner.{GoodFactors, GoodCells}
 use Rattle.settlement.specs.declared.PricedAmount.{PricedAmount}
 use Rattle.settlement.specs.declared.Totals.{Totals}
 use Rattle.settlement.specs.SettleHour.{centsOf, pricedOf, centsSum, hourTotal}
 
--- the tables of an hour
-pub record Hour (n k : ℕ) (factors : List ℤ) (prices : List ℕ) : Type 0 where
-  pub good-factors : GoodFactors n k factors
-  pub good-prices : GoodCells maxPrice k prices
-
--- the MCC of a node, by them
-abbrev pub mccIn : ℕ → ℕ → List ℤ → List ℕ → ℕ → ℤ
-mccIn n k factors prices = mcc (factorsOf n k factors) (take k prices)
-
-abbrev pub MccAt : ℕ → ℕ → List ℤ → List ℕ → ℕ → Mcc → Type 0
-MccAt n k factors prices node m = m .0 ≡ mccIn n k factors prices node
-
--- the MCC of each node, in a table
-pub record MccTable (n k : ℕ) (factors : List ℤ) (prices : List ℕ) (mccs : List Mcc) : Type 0 where
-  pub each : (i : ℕ) → i < n → MccAt n k factors prices i (getD mccs i (record { 0 = pos 0 }))
-
 -- what a contract adds to an hour of the period: nothing for the other period's
 unfoldable pub hourAmount : Factors → List ℕ → Period → Contract → ℤ
 hourAmount f p t c = cond (samePeriod (c .period) t) (amount f p c) (pos 0)
-
--- ---- which constraints priced a contract
-
--- n cells from a on, each a factor in range
-pub record Row (fs : List ℤ) (a n : ℕ) : Type 0 where
-  pub long : a + n ≤ length fs
-  pub sized : (j : ℕ) → j < n → natAbs (getD fs (a + j) (pos 0)) ≤ maxFactor
-
--- whether the factors behind a and behind b differ at j
-abbrev pub differAt : List ℤ → ℕ → ℕ → ℕ → Bool
-differAt fs a b j = nonzero (getD fs (a + j) (pos 0) -ℤ getD fs (b + j) (pos 0))
-
--- the constraints whose price isn't 0
-abbrev pub postedIn : ℕ → List ℕ → ℕ
-postedIn k prices = setOf k (λ j. ltb 0 (getD prices j 0))
 
 -- a contract's amount with what priced it, and what of both counts in an hour of the period
 pub record AmountOf (f : Factors) (p : List ℕ) (c : Contract) (r : PricedAmount) : Type 0 where

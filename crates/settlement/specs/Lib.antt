@@ -1,3 +1,2 @@
-pub mod FindMcc
 pub mod SettleHour
 pub mod Inner

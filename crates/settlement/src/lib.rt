@@ -1,4 +1,4 @@
-// The MCC of all nodes, and settling an hour. All checks come first, in the paper's order; then all is written.
+// Settling an hour. All checks come first, in the paper's order; then all is written.
 ghost use lib.IntN.{natAbs};
 ghost use Prim.Native.Nat.{_≤_};
 ghost use Rattle.tariff.specs.Units.{maxContracts};
@@ -6,21 +6,12 @@ ghost use Rattle.tariff.specs.Inner.{maxAmount};
 ghost use Rattle.settlement.specs.Inner.{Bounded, Added};
 
 mod hour;
-mod mcc;
-mod priced;
 
 pub use hour::settle;
 pub use hour::settle_hour;
-pub use mcc::find_mcc;
 use tariff::Amount;
 use tariff::PER_CENT;
 use tariff::Refusal;
-
-// What finding the MCC gives beside the cells.
-pub enum MccAnswer {
-    Found,
-    Refused(Refusal),
-}
 
 // What settling an hour gives beside the cells: the sum of the rounded cents, and the exact total as whole cents rounded down and parts.
 pub enum SettleAnswer {

@@ -10,7 +10,7 @@ ghost use Rattle.tariff.specs.Refusals.{first};
 ghost use Rattle.layouts.specs.BookFile.{bookIn};
 ghost use Rattle.tables.specs.Inner.{GoodFactors};
 ghost use Rattle.books.specs.BookChecks.{bookChecks};
-ghost use Rattle.settlement.specs.Inner.{Hour};
+ghost use Rattle.tables.specs.Inner.{Hour};
 ghost use Rattle.statement_lines.specs.Lines.{lines, longestStatement};
 ghost use Rattle.statement_text.specs.WriteStatement.{statement, statementCall, WritesStatement};
 ghost use Rattle.statement_text.specs.Inner.{pricedText, bookedText};

@@ -13,7 +13,7 @@ use Rattle.tariff.specs.Refusals.{Check, first}
 use Rattle.tariff.specs.Checks.{nodeCount, constraintCount, shortTable, factorRange}
 use Rattle.tariff.proofs.Checks.{passed-cons, nodes-few-of}
 use Rattle.tables.specs.TableChecks.{gridTableChecks}
-use Rattle.tables.specs.Inner.{GoodFactors, GoodCells, hourTableChecks}
+use Rattle.tables.specs.Inner.{Hour, GoodFactors, GoodCells, hourTableChecks}
 use Rattle.tables.proofs.Factors.{factors-in-range}
 use Rattle.tables.proofs.Cells.{good-cells}
 
@@ -68,3 +68,6 @@ hour-tables n k period factors prices place e =
       good-prices = good-cells maxPrice k prices (ltb-false (length prices) k (short .1 .0)) (seven .1 .0);
       room = ltb-false place n (short .1 .1 .0);
     }
+
+pub hour-of : {n k period : ℕ} {factors : List ℤ} {prices : List ℕ} {place : ℕ} → HourTables n k period factors prices place → Hour n k factors prices
+hour-of t = record { good-factors = t .good-factors; good-prices = t .good-prices }

@@ -4,7 +4,7 @@ use mathlib.Core.List.{List, [], _∷_}
 use Prim.Native.Nat.{ℕ, _+_, _*_, _≤_, _<_}
 use lib.ListN.{length, getD, take}
 use lib.IntN.{ℤ, pos}
-use Rattle.tariff.specs.Units.{factorsOf, maxNodes, maxConstraints}
+use Rattle.tariff.specs.Units.{factorsOf, maxNodes, maxConstraints, maxPrice}
 use Rattle.tariff.specs.Refusals.{Check}
 use Rattle.tariff.specs.Checks.{factorBad, nodeCount, constraintCount, periodNumber, shortTable, factorRange, priceRange}
 use Rattle.tariff.specs.Inner.{FactorsInRange}
@@ -20,6 +20,11 @@ pub record GoodFactors (n k : ℕ) (table : List ℤ) : Type 0 where
 pub record GoodCells (most k : ℕ) (table : List ℕ) : Type 0 where
   pub long : k ≤ length table
   pub sized : (j : ℕ) → j < k → getD table j 0 ≤ most
+
+-- the tables of an hour
+pub record Hour (n k : ℕ) (factors : List ℤ) (prices : List ℕ) : Type 0 where
+  pub good-factors : GoodFactors n k factors
+  pub good-prices : GoodCells maxPrice k prices
 
 -- one of the four from i on is out of range
 abbrev pub fourBad : List ℤ → ℕ → Bool

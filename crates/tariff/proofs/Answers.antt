@@ -8,7 +8,8 @@ use lib.ListN.{getD}
 use lib.IntN.{ℤ, pos, natAbs}
 use Rattle.tariff.specs.declared.refusals.Refusal.{Refusal}
 use Rattle.tariff.specs.declared.refusals.Refusal.the-variants.{ShortFile, NodeCount, ConstraintCount, SpareBits, FileLength, LimitRange, FactorRange, Padding, ShortTable}
-use Rattle.tariff.specs.declared.refusals.Refusal.the-variants.{ContractCount, NodeNumber, QuantityRange, PriceCount, PriceRange, ProcessNumber, PeriodOrKind, HolderRange}
+use Rattle.tariff.specs.declared.refusals.Refusal.the-variants.{ContractCount, NodeNumber, QuantityRange, PriceCount, PriceRange, ProcessNumber, PeriodOrKind, HolderRange, NoSuchDate}
+use Rattle.tariff.specs.declared.refusals.Refusal.the-variants.{ShareRange, NoDemand}
 use Rattle.tariff.specs.declared.refusals.Checked.{Checked}
 use Rattle.tariff.specs.declared.refusals.Checked.the-variants.{Passed, Refused}
 use Rattle.lists.specs.Lent.{overwrite}
@@ -42,6 +43,9 @@ number-is PriceRange = is-number _ (omega arith) (omega arith) (λ e. omega arit
 number-is ProcessNumber = is-number _ (omega arith) (omega arith) (λ e. omega arith)
 number-is PeriodOrKind = is-number _ (omega arith) (omega arith) (λ e. omega arith)
 number-is HolderRange = is-number _ (omega arith) (omega arith) (λ e. omega arith)
+number-is NoSuchDate = is-number _ (omega arith) (omega arith) (λ e. omega arith)
+number-is ShareRange = is-number _ (omega arith) (omega arith) (λ e. omega arith)
+number-is NoDemand = is-number _ (omega arith) (omega arith) (λ e. omega arith)
 
 -- no refusal has the number 0
 pub numbered : (r : Refusal) → numberOf r ≡ 0 → ⊥

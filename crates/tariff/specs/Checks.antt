@@ -7,7 +7,9 @@ use lib.IntN.{ℤ, natAbs}
 use Rattle.lists.specs.Lists.{some, above}
 use Rattle.tariff.specs.declared.refusals.Refusal.the-variants.{NodeCount, ConstraintCount, LimitRange, FactorRange, ShortTable, ContractCount}
 use Rattle.tariff.specs.declared.refusals.Refusal.the-variants.{NodeNumber, QuantityRange, PriceRange, ProcessNumber, PeriodOrKind, HolderRange}
+use Rattle.tariff.specs.declared.refusals.Refusal.the-variants.{ShareRange, NoDemand}
 use Rattle.tariff.specs.Units.{maxNodes, maxConstraints, maxContracts, maxLimit, maxFactor, maxPrice, maxQuantity, maxHolder}
+use Rattle.tariff.specs.Units.{maxCoordinators, maxBalance, maxDemand}
 use Rattle.tariff.specs.Refusals.{Check}
 
 -- 2: nodes 0 or above a bound
@@ -74,3 +76,19 @@ kindAndPeriod kind period = record { fails = ltb 1 kind || ltb 1 period; refusal
 -- 18: holder above 1,023
 abbrev pub holderRange : ℕ → Check
 holderRange h = record { fails = ltb maxHolder h; refusal = HolderRange }
+
+-- 26, "numbers or counts outside these" (document 02, paper 13): coordinators 0 or above 256
+abbrev pub coordinatorCount : ℕ → Check
+coordinatorCount n = record { fails = eqb n 0 || ltb maxCoordinators n; refusal = ShareRange }
+
+-- a balance too large, of either sign
+abbrev pub balanceRange : ℤ → Check
+balanceRange b = record { fails = ltb maxBalance (natAbs b); refusal = ShareRange }
+
+-- a demand too large
+abbrev pub demandRange : List ℕ → Check
+demandRange ds = record { fails = some (above maxDemand) ds; refusal = ShareRange }
+
+-- 27: "demands totalling 0"
+abbrev pub noDemand : ℕ → Check
+noDemand total = record { fails = eqb total 0; refusal = NoDemand }

@@ -7,7 +7,7 @@ use Rattle.lists.specs.Lent.{overwrite}
 use Rattle.tariff.specs.declared.refusals.Refusal.{Refusal}
 use Rattle.tariff.specs.declared.refusals.Refusal.the-variants.{ShortFile, NodeCount, ConstraintCount, SpareBits, FileLength, LimitRange, FactorRange}
 use Rattle.tariff.specs.declared.refusals.Refusal.the-variants.{Padding, ShortTable, ContractCount, NodeNumber, QuantityRange}
-use Rattle.tariff.specs.declared.refusals.Refusal.the-variants.{PriceCount, PriceRange, ProcessNumber, PeriodOrKind, HolderRange}
+use Rattle.tariff.specs.declared.refusals.Refusal.the-variants.{PriceCount, PriceRange, ProcessNumber, PeriodOrKind, HolderRange, NoSuchDate, ShareRange, NoDemand}
 use Rattle.tariff.specs.declared.refusals.Checked.{Checked}
 use Rattle.tariff.specs.declared.refusals.Checked.the-variants.{Passed, Refused}
 
@@ -30,6 +30,9 @@ numberOf PriceRange = 15
 numberOf ProcessNumber = 16
 numberOf PeriodOrKind = 17
 numberOf HolderRange = 18
+numberOf NoSuchDate = 19
+numberOf ShareRange = 26
+numberOf NoDemand = 27
 
 -- one condition and the refusal that comes for it alone
 pub record Check : Type 0 where

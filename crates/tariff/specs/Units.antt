@@ -36,6 +36,16 @@ maxContracts = 1000
 abbrev pub maxHolder : ℕ
 maxHolder = 1023
 
+-- document 02, paper 13: "1 to 256 Scheduling Coordinators", "balances run from -10^9 to 10^9 cents and demands from 0 to 10^9 units"
+abbrev pub maxCoordinators : ℕ
+maxCoordinators = 256
+
+abbrev pub maxBalance : ℕ
+maxBalance = 1000000000
+
+abbrev pub maxDemand : ℕ
+maxDemand = 1000000000
+
 -- "Exact amount: 10^-8 cents": so many parts in a cent
 abbrev pub perCent : ℕ
 perCent = 100000000

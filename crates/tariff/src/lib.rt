@@ -39,5 +39,12 @@ pub const MAX_LIMIT: u64 = 100000000;
 
 pub const MAX_PRICE: u64 = 500000;
 
+// Document 02, paper 13: coordinators, cents of either sign, units of demand.
+pub const MAX_COORDINATORS: usize = 256;
+
+pub const MAX_BALANCE: i64 = 1000000000;
+
+pub const MAX_DEMAND: u64 = 1000000000;
+
 // Parts of a cent: 10^-8.
 pub const PER_CENT: u64 = 100000000;

@@ -24,6 +24,9 @@ pub enum Refusal {
     ProcessNumber,
     PeriodOrKind,
     HolderRange,
+    NoSuchDate,
+    ShareRange,
+    NoDemand,
 }
 
 impl Refusal {
@@ -48,6 +51,9 @@ impl Refusal {
             Refusal::ProcessNumber => 16,
             Refusal::PeriodOrKind => 17,
             Refusal::HolderRange => 18,
+            Refusal::NoSuchDate => 19,
+            Refusal::ShareRange => 26,
+            Refusal::NoDemand => 27,
         }
     }
 }

@@ -1,8 +1,8 @@
 // The MCC and settlement: P1, P2 and P9 and case L by the code, congestion sums constraint by constraint, the manual's direction vector, and the extremes both ways.
+use congestion::MccAnswer;
 use layouts::Form;
 use printing::figure;
 use printing::signed_figure;
-use settlement::MccAnswer;
 use settlement::SettleAnswer;
 
 // Three cells beside what is expected.
@@ -15,7 +15,7 @@ fn three(name: &[u8], got: [i64; 3], a: i64, b: i64, c: i64) {
 // P1: the MCC of case L's nodes.
 fn p1() {
     let mut mcc = [0i64; 3];
-    match settlement::find_mcc(
+    match congestion::find_mcc(
         3,
         2,
         &[60000, -20000, 0, 0, -10000, 40000],
@@ -30,7 +30,7 @@ fn p1() {
 // The MCC of one node by its first constraints.
 fn node_mcc(name: &[u8], constraints: usize, factors: &[i64], prices: &[u64], expected: i64) {
     let mut mcc = [0i64; 1];
-    match settlement::find_mcc(1, constraints, factors, prices, &mut mcc) {
+    match congestion::find_mcc(1, constraints, factors, prices, &mut mcc) {
         MccAnswer::Found => signed_figure(name, mcc[0], expected),
         MccAnswer::Refused(refusal) => figure(name, refusal.number(), 0),
     }
@@ -124,7 +124,7 @@ fn mcc_answer(
     cell: i64,
 ) {
     let mut mcc = [-3i64; 1];
-    match settlement::find_mcc(nodes, constraints, factors, prices, &mut mcc) {
+    match congestion::find_mcc(nodes, constraints, factors, prices, &mut mcc) {
         MccAnswer::Found => figure(name, 0, number),
         MccAnswer::Refused(refusal) => figure(name, refusal.number(), number),
     }

@@ -4,6 +4,7 @@ Every function of include/crr.h has one of its name here, without `crr_`; figure
 down raises `Refused`. CSV files are read and written by `crr.from_csv` and `crr.to_csv`, many hours settled by `crr.hours.settle_hours`.
 """
 
+from .dates import month_hours, month_later, weekday
 from .feasibility import PERIODS, PROCESSES, Cut, Flows, Verdict, find_cuts, find_flows, released_percent, test_book
 from .files import (
     Contract,
@@ -23,6 +24,7 @@ from .hours import PriceFile, Settled, settle_hours
 from .interface import MEANINGS
 from .native import Refused
 from .settlement import Hour, HourTotal, Settler, find_mcc, settle_hour
+from .shares import share_balance
 from .texts import write_report, write_statement
 
 __all__ = [
@@ -44,6 +46,8 @@ __all__ = [
     "find_cuts",
     "find_flows",
     "find_mcc",
+    "month_hours",
+    "month_later",
     "read_book",
     "read_book_cells",
     "read_book_form",
@@ -53,7 +57,9 @@ __all__ = [
     "remap_book",
     "settle_hour",
     "settle_hours",
+    "share_balance",
     "test_book",
+    "weekday",
     "write_book",
     "write_grid",
     "write_prices",

@@ -8,13 +8,14 @@ from __future__ import annotations
 import argparse
 import json
 import os
+import re
 import sys
 import time
 from pathlib import Path
-from typing import Callable, Dict, List, Optional
+from typing import Callable, Dict, List, Optional, Tuple
 
 from . import commands
-from .commands import FAULTY, Answer
+from .commands import FAULTY, Answer, Month
 from .faults import Faults
 from .native import Refused
 
@@ -54,6 +55,8 @@ _COMMANDS: Dict[str, Callable[[argparse.Namespace], Answer]] = {
     "settle": lambda o: commands.settle(o.folder, o.out, o.jobs, o.round_prices, Bar("settle")),
     "report": _report,
     "remap": lambda o: commands.remap(o.folder, o.pairs, o.out, o.round_prices),
+    "hours": lambda o: commands.hours(*o.months),
+    "share": lambda o: commands.share(o.balance, o.demands),
 }
 _HELP = {
     "check": "read everything and list every fault",
@@ -64,7 +67,24 @@ _HELP = {
     "settle": "settle every hour: holder by month, hour by hour, contract by contract",
     "report": "one HTML page: verdicts, loading of constraints, payments",
     "remap": "move the ends of contracts from old nodes to new ones",
+    "hours": "the on-peak days and hours of months, 2010 to 2037",
+    "share": "a balance shared among coordinators by their demands, to the cent",
 }
+_MONTHS = re.compile(r"([0-9]{4})(?:-([0-9]{2}))?")
+
+
+def _months(text: str) -> Tuple[Month, Month]:
+    """The first and the last month of a year, a month, or a span of them."""
+    start, _, end = text.partition("..")
+    found = [_MONTHS.fullmatch(part) for part in (start, end or start)]
+    if not all(found) or text.endswith("."):
+        raise argparse.ArgumentTypeError(f"{text!r} is neither a year, YYYY, nor a month, YYYY-MM, nor two of these as FROM..TO")
+    (first_year, first_month), (last_year, last_month) = [match.groups() for match in found if match]
+    first, last = (int(first_year), int(first_month or 1)), (int(last_year), int(last_month or 12))
+    if last < first:
+        raise argparse.ArgumentTypeError(f"{end} comes before {start}")
+    return first, last
+
 
 
 def _parser() -> argparse.ArgumentParser:
@@ -73,7 +93,13 @@ def _parser() -> argparse.ArgumentParser:
     adding = parser.add_subparsers(dest="command", required=True, metavar="COMMAND")
     of = {name: adding.add_parser(name, help=text, description=text) for name, text in _HELP.items()}
     for name, command in of.items():
-        command.add_argument("folder", type=Path, metavar="FOLDER", help="a folder of CSV files, or of bin files")
+        if name == "hours":
+            command.add_argument("months", type=_months, metavar="MONTHS", help="YYYY, YYYY-MM, or FROM..TO")
+        if name == "share":
+            command.add_argument("balance", metavar="BALANCE", help="dollars, such as 1234.56 or -1234.56")
+            command.add_argument("demands", type=Path, metavar="DEMANDS", help="a CSV file COORDINATOR,MEASURED_DEMAND")
+        else:
+            command.add_argument("folder", type=Path, metavar="FOLDER", help="a folder of CSV files, or of bin files")
         command.add_argument("--json", action="store_true", help="the answer, or the faults, as one JSON object")
         if name in ("check", "pack", "settle", "report", "remap"):
             command.add_argument("--round-prices", action="store_true", help="round prices of more than two decimals to the nearest cent")
@@ -92,8 +118,8 @@ def _parser() -> argparse.ArgumentParser:
 def _faulty(options: argparse.Namespace, problem: Exception) -> Answer:
     """The answer where something is wrong, all of it."""
     if isinstance(problem, Faults):
-        count = len(problem.faults)
-        text = f"{problem}\ncrr: {count} fault{'' if count == 1 else 's'} in {options.folder}; nothing was written\n"
+        count, where = len(problem.faults), "" if options.command == "share" else f" in {options.folder}"
+        text = f"{problem}\ncrr: {count} fault{'' if count == 1 else 's'}{where}; nothing was written\n"
         return Answer(FAULTY, text, {"faults": [fault._asdict() for fault in problem.faults]})
     if isinstance(problem, Refused):
         data: Dict[str, object] = {"file": problem.file, "line": 0, "column": "", "text": problem.meaning, "refusal": problem.number}

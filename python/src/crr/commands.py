@@ -7,15 +7,18 @@ from pathlib import Path
 from typing import Dict, Iterable, List, NamedTuple, Optional, Sequence, Tuple
 
 from .case import TIMES_OF_USE, Case, Names
-from .decimals import decimal
+from .dates import HOURS_A_DAY, month_hours
+from .decimals import decimal, whole
 from .faults import Fault, raise_any
 from .feasibility import PROCESSES, Cut, Verdict, find_cuts, test_book
 from .files import Contract, read_book, read_grid, remap_book
-from .from_csv import load
+from .from_csv import DEMANDS, load, read_demands
 from .hours import Progress, Settled, settle_hours
-from .interface import FLOW_PLACES, QUANTITY
+from .interface import BALANCE, FLOW_PLACES, QUANTITY
+from .native import Refused
 from .packed import Packed, hour_name, packed, read_packed, unpacked, write_bin, write_packed
 from .results import HOLDERS, HOURS, Time, dollars, exact_dollars, holder_months, hour_rows, result_files
+from .shares import share_balance
 from .sheet import Sheet
 from .slices import settle_sliced
 from .to_csv import csv_text, write_csv, write_files
@@ -272,3 +275,53 @@ def remap(folder: Path, pairs: Path, out: Path, round_prices: bool) -> Answer:
         write_bin(moved, out)
     text = f"{out}: {_counted(len(old), 'pair')} applied, {_counted(changed, 'contract')} of {len(contracts):,} changed\n"
     return Answer(PASSES, text, {"out": str(out), "pairs": len(old), "changed": changed, "contracts": len(contracts)})
+
+
+ON_PEAK = ("MONTH", "ON_PEAK_DAYS", "ON_PEAK_HOURS")
+Month = Tuple[int, int]  # the year, and 1 to 12
+
+
+def hours(first: Month, last: Month) -> Answer:
+    """The on-peak days and hours of each month, from the first to the last."""
+    for named in (first, last):
+        _on_peak(*named)  # refused as it was written, such as month 13
+    rows = [_on_peak(number // 12, number % 12 + 1) for number in range(12 * first[0] + first[1] - 1, 12 * last[0] + last[1])]
+    days, total = sum(row[1] for row in rows), sum(row[2] for row in rows)
+    told = f"{_counted(len(rows), 'month')}: {_counted(days, 'on-peak day')}, {_counted(total, 'on-peak hour')}\n"
+    data: Dict[str, object] = {"months": _objects(ON_PEAK, rows), "on_peak_days": days, "on_peak_hours": total}
+    return Answer(PASSES, csv_text(ON_PEAK, rows), data, told)
+
+
+def _on_peak(year: int, month: int) -> Tuple[str, int, int]:
+    name = f"{year:04}-{month:02}"
+    try:
+        found = month_hours(year, month)
+    except Refused as refused:
+        raise Refused(refused.number, refused.entry, name) from None
+    return name, found // HOURS_A_DAY, found
+
+
+def _balance(text: str, faults: List[Fault]) -> int:
+    """Dollars as cents; a fault is noted and gives 0."""
+    try:
+        cents = whole(text, BALANCE.places)
+    except ValueError as error:
+        faults.append(Fault("BALANCE", 0, "", str(error)))
+        return 0
+    if not BALANCE.low <= cents <= BALANCE.high:
+        faults.append(Fault("BALANCE", 0, "", f"{text} is outside {dollars(BALANCE.low)} to {dollars(BALANCE.high)}", BALANCE.refusal))
+    return cents
+
+
+SHARES = (*DEMANDS, "SHARE")
+
+
+def share(balance: str, demands: Path) -> Answer:
+    """Shares a balance of dollars among the coordinators of a file by their demands."""
+    faults: List[Fault] = []
+    cents, asked = _balance(balance, faults), read_demands(demands, faults)
+    raise_any(faults)
+    shares = share_balance(cents, asked.units)
+    rows = [(name, text, dollars(own)) for name, text, own in zip(asked.names, asked.texts, shares)]
+    told = f"{_counted(len(rows), 'coordinator')}: sum {dollars(sum(shares))}\n"
+    return Answer(PASSES, csv_text(SHARES, rows), {"balance": dollars(cents), "shares": _objects(SHARES, rows)}, told)

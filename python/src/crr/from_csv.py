@@ -5,6 +5,8 @@ factors.csv      NODE_ID, and a column for each constraint
 book.csv         CRR_ID,OWNER,HEDGE_TYPE,TIME_OF_USE,SOURCE,SINK,MW
 prices.csv       OPR_DT,OPR_HR,TIME_OF_USE,CONSTRAINT_ID,SHADOW_PRICE   (may be missing; a price that is not listed is 0)
 names.csv        TABLE,NUMBER,NAME                                      (may be missing; numbers that holders had before)
+
+Beside a folder, a file of its own: demands, COORDINATOR,MEASURED_DEMAND.
 """
 
 from __future__ import annotations
@@ -13,12 +15,12 @@ import re
 from array import array
 from datetime import date
 from pathlib import Path
-from typing import Dict, List, Optional, Set, Tuple
+from typing import Dict, List, NamedTuple, Optional, Set, Tuple
 
 from .case import FORMS, Case, Names, PricedHour, book_form, grid_form, holder_numbers
 from .faults import Fault, raise_any
 from .files import Contract
-from .interface import HOLDER, LIMIT, MAX_CONSTRAINTS, MAX_CONTRACTS, MAX_NODES, QUANTITY, SHADOW_PRICE, SHIFT_FACTOR
+from .interface import DEMAND, HOLDER, LIMIT, MAX_CONSTRAINTS, MAX_CONTRACTS, MAX_COORDINATORS, MAX_NODES, QUANTITY, SHADOW_PRICE, SHIFT_FACTOR
 from .names_csv import read_names
 from .sheet import Sheet
 
@@ -27,6 +29,7 @@ _PERIODS = {"OFF": 0, "OFFPEAK": 0, "OFF-PEAK": 0, "OFF_PEAK": 0, "ON": 1, "ONPE
 _BOTH_PERIODS = ("24H", "24HR", "24 HOUR", "24-HOUR", "FLAT")
 _DAY = re.compile(r"[0-9]{4}-[0-9]{2}-[0-9]{2}")
 _HOUR = re.compile(r"0?[1-9]|1[0-9]|2[0-5]")  # hour ending; the day on which clocks go back has 25
+_DECIMALS = re.compile(r"[+-]?[0-9]*\.([0-9]*?)0*")  # those that count
 
 PRICES = ("OPR_DT", "OPR_HR", "TIME_OF_USE", "CONSTRAINT_ID", "SHADOW_PRICE")
 BOOK = ("CRR_ID", "OWNER", "HEDGE_TYPE", "TIME_OF_USE", "SOURCE", "SINK", "MW")
@@ -252,3 +255,40 @@ def _is_date(day: str) -> bool:
         return True
     except ValueError:
         return False
+
+
+DEMANDS = ("COORDINATOR", "MEASURED_DEMAND")
+
+
+class Demands(NamedTuple):
+    """Coordinators by name, their demands as they stand in the file, and the same as whole numbers of one unit."""
+
+    names: List[str]
+    texts: List[str]
+    units: List[int]
+
+
+def read_demands(path: Path, faults: List[Fault]) -> Demands:
+    """A file COORDINATOR,MEASURED_DEMAND. Proportions alone count, so demands of decimals are taken in units of the last decimal that any of them has."""
+    sheet = Sheet(path, DEMANDS, faults)
+    if len(sheet.at) < len(DEMANDS):
+        return Demands([], [], [])
+    name_at, demand_at = sheet.at["COORDINATOR"], sheet.at["MEASURED_DEMAND"]
+    line, sound = 1, len(faults)
+    rows = list(sheet.rows())
+    texts = [row[demand_at] for _, row in rows]
+    decimals = [match[1] for match in map(_DECIMALS.fullmatch, texts) if match]
+    unit = DEMAND._replace(places=max(map(len, decimals), default=0))
+    names: Dict[str, int] = {}
+    units: List[int] = []
+    for line, row in rows:
+        _new_name(sheet, line, "COORDINATOR", row[name_at], names)
+        units.append(sheet.figure(line, demand_at, row[demand_at], unit))
+        if len(units) == MAX_COORDINATORS + 1:
+            sheet.fault(line, "COORDINATOR", f"more than {MAX_COORDINATORS} coordinators", 26)
+    if not rows:
+        sheet.fault(line, "COORDINATOR", "no coordinator", 26)
+    elif not any(units) and len(faults) == sound:
+        sheet.fault(line, "MEASURED_DEMAND", "the demands total 0", 27)
+    faults[sound:] = sorted(faults[sound:], key=lambda fault: fault.line)  # those of rows that can't be read were found first
+    return Demands(list(names), texts, units)

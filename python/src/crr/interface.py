@@ -13,12 +13,17 @@ MAX_NODES = 4000
 MAX_NARROW_NODES = 200
 MAX_CONSTRAINTS = 64
 MAX_CONTRACTS = 1000
+MAX_COORDINATORS = 256
 MAX_GRID_BYTES = 576220
 MAX_BOOK_BYTES = 7002
 MAX_PRICE_BYTES = 153
 MAX_TEXT_GRID_BYTES = 32768
 STATEMENT_BYTES = 29085
 REPORT_BYTES = 2048
+
+# The years of the calendar.
+FIRST_YEAR = 2010
+LAST_YEAR = 2037
 
 # Forms of a grid's and a book's file.
 NARROW = 0
@@ -46,6 +51,8 @@ LIMIT = Unit(3, 0, 100_000_000, 6)  # MW
 SHIFT_FACTOR = Unit(5, -100_000, 100_000, 7)
 SHADOW_PRICE = Unit(2, 0, 500_000, 15)  # dollars per MWh
 HOLDER = Unit(0, 0, 1_023, 18)
+BALANCE = Unit(2, -1_000_000_000, 1_000_000_000, 26)  # dollars
+DEMAND = Unit(0, 0, 1_000_000_000, 26)
 FLOW_PLACES = 8  # of a MW
 PART_PLACES = 8  # of a cent
 
@@ -67,6 +74,9 @@ MEANINGS: Dict[int, str] = {
     16: "process not 0 to 2",
     17: "a period not 0 or 1; writing a book, a kind or period not 0 or 1",
     18: "holder above 1,023",
+    19: "a date or month that does not exist or is outside 2010 to 2037, given or reached",
+    26: "sharing a balance: no demands or more than 256, or a balance or demand outside its range",
+    27: "sharing a balance: the demands total 0",
 }
 
 # Every function returns uint64_t, the number of the refusal or 0.
@@ -94,10 +104,14 @@ DECLARATIONS: Dict[str, str] = {
     "crr_settle_hour": "size_t nodes, size_t constraints, uint64_t period, const int64_t *factors, size_t factors_len, "
     "const uint64_t *prices, size_t prices_len, const uint8_t *book, size_t book_len, int64_t *cents, size_t cents_len, "
     "uint64_t *priced, size_t priced_len, int64_t *sum, int64_t *whole, uint64_t *parts",
+    "crr_share_balance": "int64_t balance, const uint64_t *demands, size_t demands_len, int64_t *shares, size_t shares_len",
     "crr_write_report": "const uint8_t *grid_file, size_t grid_file_len, const uint8_t *book_file, size_t book_file_len, "
     "uint8_t *text, size_t text_len, size_t *bytes",
     "crr_write_statement": "const uint8_t *grid_file, size_t grid_file_len, const uint8_t *book_file, size_t book_file_len, "
     "const uint8_t *price_file, size_t price_file_len, uint8_t *text, size_t text_len, size_t *bytes",
+    "crr_month_hours": "uint64_t year, uint64_t month, uint64_t *hours",
+    "crr_weekday": "uint64_t year, uint64_t month, uint64_t day, uint64_t *weekday",
+    "crr_month_later": "uint64_t year, uint64_t month, uint64_t day, uint64_t *later_year, uint64_t *later_month, uint64_t *later_day",
 }
 
 

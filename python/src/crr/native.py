@@ -181,7 +181,7 @@ class Entry:
 
 def _argument_types(parameter: Parameter) -> List[Any]:
     if parameter.form == "number":
-        return [ctypes.c_uint64]
+        return [_FIGURES[parameter.code]]
     return [ctypes.c_void_p, ctypes.c_size_t] if parameter.form == "buffer" else [ctypes.c_void_p]
 
 
@@ -194,7 +194,8 @@ def _argument(entry: str, parameter: Parameter, value: Given) -> List[Any]:
             return [ctypes.addressof(value)]
     elif parameter.form == "number":
         number = operator.index(value)
-        if not 0 <= number < 1 << 64:
-            raise OverflowError(f"{parameter.name} of {entry} is a number of 64 bits, not {number}")
+        low, words = (0, "64 bits") if parameter.code == "Q" else (-(1 << 63), "64 bits with its sign")
+        if not low <= number < low + (1 << 64):
+            raise OverflowError(f"{parameter.name} of {entry} is a number of {words}, not {number}")
         return [number]
     raise TypeError(f"{parameter.name} of {entry} is a {parameter.form} of {parameter.code!r}")

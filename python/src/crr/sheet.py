@@ -31,6 +31,8 @@ ALIASES: Dict[str, Tuple[str, ...]] = {
     "SHADOW_PRICE": ("SHADOW_PRC", "PRC", "SHADOWPRICE"),
     "OLD_NODE": ("OLD",),
     "NEW_NODE": ("NEW",),
+    "COORDINATOR": ("SCHEDULING_COORDINATOR", "COORDINATOR_ID", "SC", "SC_ID", "SCID"),
+    "MEASURED_DEMAND": ("DEMAND", "DEMAND_MWH", "MEASURED_DEMAND_MWH"),
     "TABLE": (),
     "NUMBER": (),
     "NAME": (),

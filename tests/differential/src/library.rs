@@ -149,6 +149,7 @@ mod c {
             whole: *mut i64,
             parts: *mut u64,
         ) -> u64;
+        pub fn crr_share_balance(balance: i64, demands: *const u64, demands_len: usize, shares: *mut i64, shares_len: usize) -> u64;
         pub fn crr_write_report(
             grid_file: *const u8,
             grid_file_len: usize,
@@ -169,6 +170,9 @@ mod c {
             text_len: usize,
             bytes: *mut usize,
         ) -> u64;
+        pub fn crr_month_hours(year: u64, month: u64, hours: *mut u64) -> u64;
+        pub fn crr_weekday(year: u64, month: u64, day: u64, weekday: *mut u64) -> u64;
+        pub fn crr_month_later(year: u64, month: u64, day: u64, later_year: *mut u64, later_month: *mut u64, later_day: *mut u64) -> u64;
     }
 }
 
@@ -381,6 +385,10 @@ pub fn settle_hour(
     }
 }
 
+pub fn share_balance(balance: i64, demands: &[u64], shares: &mut [i64]) -> u64 {
+    unsafe { c::crr_share_balance(balance, demands.as_ptr(), demands.len(), shares.as_mut_ptr(), shares.len()) }
+}
+
 pub fn write_report(grid_file: &[u8], book_file: &[u8], text: &mut [u8], bytes: &mut usize) -> u64 {
     unsafe {
         c::crr_write_report(grid_file.as_ptr(), grid_file.len(), book_file.as_ptr(), book_file.len(), text.as_mut_ptr(), text.len(), bytes)
@@ -401,4 +409,16 @@ pub fn write_statement(grid_file: &[u8], book_file: &[u8], price_file: &[u8], te
             bytes,
         )
     }
+}
+
+pub fn month_hours(year: u64, month: u64, hours: &mut u64) -> u64 {
+    unsafe { c::crr_month_hours(year, month, hours) }
+}
+
+pub fn weekday(year: u64, month: u64, day: u64, weekday: &mut u64) -> u64 {
+    unsafe { c::crr_weekday(year, month, day, weekday) }
+}
+
+pub fn month_later(year: u64, month: u64, day: u64, later_year: &mut u64, later_month: &mut u64, later_day: &mut u64) -> u64 {
+    unsafe { c::crr_month_later(year, month, day, later_year, later_month, later_day) }
 }

@@ -13,7 +13,7 @@ mod tally;
 mod vectors;
 
 use draw::{Draw, EXTREMES};
-use rounds::{cuts, demand, forms, headers, priced, text};
+use rounds::{calendar, cuts, demand, forms, headers, priced, shares, text};
 use std::env;
 use std::process::ExitCode;
 use tally::{Entry, Round, Tally};
@@ -36,7 +36,7 @@ const fn plain(name: &'static str, refusals: &'static [u64], cases: &'static [&'
 }
 
 /// Each entry, with the refusals that the papers list for it, each to be drawn and no other, and the cases that the change requests name.
-const ENTRIES: [Entry; 17] = [
+const ENTRIES: [Entry; 21] = [
     plain("read_grid", &[1, 2, 3, 4, 5, 6, 7, 8, 9], &[&forms::GRIDS_READ], rounds::grid::read),
     Entry { rounds: headers::FIRST_BYTES, ..plain("grid_headers", &[1, 2, 3, 4, 5, 6, 7, 8, 9], &[], headers::grid) },
     plain("write_grid", &[2, 3, 6, 7, 9], &[&forms::GRIDS_WRITTEN], rounds::grid::write),
@@ -55,11 +55,15 @@ const ENTRIES: [Entry; 17] = [
     plain("released_percent", &[16], &[], rounds::flows::percent),
     plain("find_mcc", &[2, 3, 7, 9, 15], &[], rounds::settlement::mcc),
     plain("settle_hour", &[1, 2, 3, 4, 5, 7, 9, 10, 11, 13, 15, 17], &[&priced::CASES, &forms::BOOKS], rounds::settlement::hour),
+    Entry { rounds: shares::ROUNDS, ..plain("share_balance", &[9, 26, 27], &[&shares::CASES], shares::round) },
     Entry { files: &[("grid", GRID), ("book", BOOK)], ..plain("write_report", &[9], &[&text::CASES], text::report) },
     Entry {
         files: &[("grid", GRID), ("book", BOOK), ("prices", PRICES)],
         ..plain("write_statement", &[9], &[&priced::CASES, &text::CASES], text::statement)
     },
+    Entry { rounds: calendar::YEARS, ..plain("month_hours", &[19], &[&calendar::HOURS], calendar::hours) },
+    Entry { rounds: calendar::MONTHS, ..plain("weekday", &[19], &[&calendar::WEEKDAYS], calendar::weekdays) },
+    Entry { rounds: calendar::MONTHS, ..plain("month_later", &[19], &[&calendar::LATER], calendar::later) },
 ];
 
 /// The rounds of an entry: those that it must have, and then so many that there are enough calls.

@@ -1,6 +1,5 @@
 -- `write_book`: where no check refuses, the rows fit their fields and the bytes the file.
 use mathlib.Core.Path.{refl, sym, _∙_}
-use native.Mathlib.Omega.{arith}
 use Rattle.tariff.proofs.Answers.{answer-refused, cells-refused, answer-passed, cells-passed}
 use Rattle.book_file.specs.WriteBook.{writeBookCall, bookWritten}
 use Rattle.book_file.proofs.Accepted.{Writable, writable, length-written}
@@ -16,7 +15,7 @@ ok c =
 write-contracts-requires : tie.Need-write-contracts-requires
 write-contracts-requires c κs =
     let o = ok (c .before) in
-    ((o .few, o .long, o .room), λ i h. o .rows i h .fits)
+    ((o .few, o .long, o .room), λ i h. o .rows i h .row)
 
 book-bytes-requires : tie.Need-book-bytes-requires
 book-bytes-requires c κs = ok (c .before .before .before .before) .few

@@ -30,12 +30,18 @@ loop-holds c =
     let a = c .before .before .before .before .before .before .args in
     (omega arith, refl, λ f e. front-begins (a .form) (a .contracts) f _ e)
 
-store-contract-requires : tie.Need-store-contract-requires Inv-loop μ-loop
-store-contract-requires c κs =
+row-number-requires : tie.Need-row-number-requires Inv-loop μ-loop
+row-number-requires c κs =
+    let l = c .before .before .loop in
+    let s = c .before .before .before .before .before .before .before .before .before in
+    (omega (arith, s .pre .0 .1), s .pre .1 (l .i) (omega arith))
+
+store-bits-requires : tie.Need-store-bits-requires Inv-loop μ-loop
+store-bits-requires c κs =
     let l = c .before .before .before .loop in
     let s = c .before .before .before .before .before .before .before .before .before .before in
     let room = record-room (s .args .form) (l .i) (s .args .contracts) _ (omega arith) (s .pre .0 .2) in
-    ((omega arith, omega (arith, room, l .inv .1, c .before .before .before .before .before .before .store-header .kept .0)), rw (c .row-from .ensures) (s .pre .1 (l .i) (omega arith)))
+    (omega arith, omega (arith, room, l .inv .1, c .before .before .before .before .before .before .store-header .kept .0))
 
 loop-again : tie.Need-loop-again Inv-loop μ-loop
 loop-again c =
@@ -43,12 +49,13 @@ loop-again c =
     let a = s .before .before .before .before .before .before .before .args in
     let l = s .loop in
     let g = rowAt (a .cells .now) in
-    let stored = c .before .before .store-contract in (
+    let stored = c .before .before .store-bits in (
       omega arith,
       stored .kept .0 ∙ l .inv .1,
       λ f e.
-          rw (listTo-more (l .i) g, ← c .before .before .before .row-from .ensures)
-          (front-more (a .form) (a .contracts) f (rowsIn (l .i) (a .cells .now)) _ (l .i) (l .file) _ (length-listTo (l .i) g) (l .inv .2 f e) (stored .ensures)),
+          rw (listTo-more (l .i) g)
+          (front-more (a .form) (a .contracts) f (rowsIn (l .i) (a .cells .now)) (g (l .i)) (l .i) (l .file) _ (length-listTo (l .i) g) (l .inv .2 f e)
+          (rw (c .before .before .before .row-number .ensures) (stored .ensures))),
     )
 
 same-length : tie.Need-same-length Inv-loop μ-loop
@@ -61,11 +68,11 @@ returns c =
     let m = s .args .contracts in
     let g = rowAt (s .args .cells .now) in
     let last : l .i ≡ m = omega arith in
-    front-ends (s .args .form) m (s .args .file .now) (listTo m g) (l .file) (length-listTo m g) (each-listTo (ContractFits (endWidth (s .args .form))) m g (s .pre .1))
+    front-ends (s .args .form) m (s .args .file .now) (listTo m g) (l .file) (length-listTo m g) (each-listTo (ContractFits (endWidth (s .args .form))) m g (λ i h. s .pre .1 i h .fits))
     (rw last at (l .inv .2 (s .args .file .now) (c .before .before .before .before .store-header .ensures)))
 
 pub write-contracts-spec : {M : Type 1} → statement M
 write-contracts-spec =
     tie.close (tie.spec
-    Inv-loop μ-loop (λ c κs. search needs) loop-holds (λ c. search needs) (λ c κs. search needs) store-contract-requires (λ c. search needs) (λ c. search needs)
+    Inv-loop μ-loop (λ c κs. search needs) loop-holds (λ c. search needs) row-number-requires store-bits-requires (λ c. search needs) (λ c. search needs)
     loop-again same-length returns)

@@ -1,29 +1,22 @@
 -- `contract_at`.
-use mathlib.Core.Path.{sym, ap, _∙_}
-use Prim.Native.Nat.{ℕ}
-use Rattle.tariff.specs.Contracts.{kindOf, periodOf}
-use Rattle.layouts.specs.Inner.{contractOf}
+use mathlib.Core.Path.{sym, _∙_}
 use borrow.Author.Needs.{needs}
 use Rattle.books.proofs.contract_at.Statement.{statement}
 use Rattle.books.proofs.contract_at.Tie as tie
 
+bits-at-requires : tie.Need-bits-at-requires
+bits-at-requires c κs = let s = c .before .before .before in (s .pre .0, rw (c .enum-told .given .1) at (s .pre .1))
+
+bits-at-requires-2 : tie.Need-bits-at-requires-2
+bits-at-requires-2 c κs = let s = c .before .before .before in (s .pre .0, rw (c .enum-told2 .given .1) at (s .pre .1))
+
 returns : tie.Need-returns
-returns c =
-    let p4 = c .before .before .before .before in
-    let w = p4 .before .before .before .before in
-    (λ t. record {
-      kind = (p4 .before .before .from-number .ensures ∙ ap kindOf (p4 .before .before .before .part .ensures .0)) t;
-      period = (p4 .from-number2 .ensures ∙ ap periodOf (p4 .before .part2 .ensures .0)) t;
-      holder = c .before .before .before .part3 .ensures .0 t;
-      source = c .before .before .part4 .ensures .0 t;
-      sink = c .before .part5 .ensures .0 t;
-      quantity = record { 0 = c .part6 .ensures .0 t };
-    })
-    ∙ ap (λ (x : ℕ). contractOf x (w .before .bits-at .result)) (w .end-width .ensures .0) ∙ sym (w .before .bits-at .ensures)
+returns c = rw (c .before .before .enum-told .given .1) (c .contract-of .ensures ∙ sym (c .before .bits-at .ensures))
+
+returns-2 : tie.Need-returns-2
+returns-2 c = rw (c .before .before .enum-told2 .given .1) (c .contract-of2 .ensures ∙ sym (c .before .bits-at2 .ensures))
 
 pub contract-at-spec : {M : Type 1} → statement M
 contract-at-spec =
     tie.close (tie.spec
-    (λ c κs. search needs) (λ c κs. search needs) (λ c. search needs) (λ c. search needs) (λ c κs. search needs) (λ c κs. search needs) (λ c. search needs)
-    (λ c κs. search needs) (λ c κs. search needs) (λ c. search needs) (λ c κs. search needs) (λ c. search needs) (λ c κs. search needs) (λ c κs. search needs)
-    (λ c κs. search needs) returns)
+    (λ c. search needs) bits-at-requires (λ c κs. search needs) (λ c. search needs) bits-at-requires-2 (λ c κs. search needs) returns returns-2)

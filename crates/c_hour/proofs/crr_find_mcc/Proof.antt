@@ -1,7 +1,7 @@
 -- `crr_find_mcc`.
 use mathlib.Core.Path.{sym, ap, _∙_}
 use Rattle.tariff.proofs.Answers.{refused-answers, given-answers}
-use Rattle.settlement.specs.FindMcc.{FindMccCall, findMccCall, findMccChecked, mccOutcome}
+use Rattle.congestion.specs.FindMcc.{FindMccCall, findMccCall, findMccChecked, mccOutcome}
 use borrow.Author.Needs.{needs}
 use Rattle.c_hour.proofs.crr_find_mcc.Statement.{statement}
 use Rattle.c_hour.proofs.crr_find_mcc.Tie as tie

@@ -1,6 +1,7 @@
 //! The rounds of each entry: a valid input, then what can go wrong with it, alone and together.
 
 pub mod book;
+pub mod calendar;
 pub mod cuts;
 pub mod demand;
 pub mod flows;
@@ -11,6 +12,7 @@ pub mod priced;
 pub mod prices;
 pub mod remap;
 pub mod settlement;
+pub mod shares;
 pub mod test;
 pub mod text;
 

@@ -2,12 +2,14 @@
 //! proved code. Each operation gives what is written, or the number of the refusal.
 
 pub mod book;
+pub mod calendar;
 pub mod cuts;
 pub mod flows;
 pub mod grid;
 pub mod prices;
 pub mod remap;
 pub mod settlement;
+pub mod shares;
 pub mod test;
 pub mod text;
 pub mod word;

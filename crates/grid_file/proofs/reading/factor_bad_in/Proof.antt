@@ -17,7 +17,7 @@ use Rattle.tables.proofs.Factors.{place-in, bad-so-far, bad-found, bad-turn}
 use Rattle.layouts.specs.GridFile.{limitWidth, factorWidth, factorsFrom}
 use Rattle.layouts.proofs.GridFile.{length-factors}
 use Rattle.grid_file.proofs.Factors.{factor-from}
-use Rattle.grid_file.proofs.Passing.{short-file, factors-are}
+use Rattle.grid_file.proofs.Passing.{short-file, late-factors, factors-are}
 use Rattle.grid_file.proofs.reading.factor_bad_in.Statement.{statement}
 use Rattle.grid_file.proofs.reading.factor_bad_in.Tie as tie
 
@@ -73,7 +73,7 @@ same c =
     let a = c .before .before .before .before .before .before .before .args in
     let l = c .before .before in
     c .bits-bad .ensures
-    ∙ ap factorBad (factor-from (a .file .now) (a .header) (a .nodes) (a .constraints) (next l) (l .before .loop .at) _ (inside l) (fits l) (l .before .loop .inv .2) (c .before .field .ensures .0))
+    ∙ ap factorBad (factor-from (a .file .now) (a .header) (a .nodes) (a .constraints) (next l) (l .before .loop .at) _ (inside l) (fits l) (l .before .loop .inv .2) (c .before .late-field .ensures .0))
 
 nodes-holds : tie.Need-nodes-holds Inv-loop μ-loop Inv-nodes μ-nodes
 nodes-holds c = let k = c .before .args .constraints in
@@ -87,8 +87,12 @@ loop-holds c =
     let fs = all (a .file .now) (a .header) (a .nodes) (a .constraints) in
     (omega arith, n .inv .1, omega arith, bad-so-far fs (n .node * a .constraints) (n .node * a .constraints + 0) (omega arith) (n .inv .3))
 
-field-requires : tie.Need-field-requires Inv-loop μ-loop Inv-nodes μ-nodes
-field-requires c κs = (room c, search needs)
+late-field-requires : tie.Need-late-field-requires Inv-loop μ-loop Inv-nodes μ-nodes
+late-field-requires c κs =
+    let s = c .before .before .before .before .before in
+    let a = s .args in
+    let late = late-factors (a .file .now) (a .header) (a .nodes) (a .constraints) (s .pre) (next c) (inside c) in
+    ((omega (arith, late, c .before .loop .inv .2), room c), (omega (arith, room c, short-file (a .file .now) _ _ _ (s .pre)), search needs, search needs))
 
 add-at-2 : tie.Need-add-at-2 Inv-loop μ-loop Inv-nodes μ-nodes
 add-at-2 c =
@@ -138,5 +142,5 @@ returns-2 c =
 pub factor-bad-in-spec : {M : Type 1} → statement M
 factor-bad-in-spec =
     tie.close (tie.spec
-    Inv-loop μ-loop Inv-nodes μ-nodes (λ c. search needs) (λ c. search needs) nodes-holds loop-holds field-requires (λ c κs. search needs) add-at-2
+    Inv-loop μ-loop Inv-nodes μ-nodes (λ c. search needs) (λ c. search needs) nodes-holds loop-holds late-field-requires (λ c κs. search needs) add-at-2
     (λ c. search needs) (λ c. search needs) loop-again (λ c. search needs) (λ c. search needs) nodes-again returns returns-2)

@@ -4,7 +4,8 @@ use native.Mathlib.Omega.{arith}
 use lib.IntN.{natAbs}
 use Rattle.integers.proofs.Sizes.{natAbs-sub}
 use Rattle.tariff.specs.Inner.{maxMcc, maxSpread}
-use Rattle.settlement.proofs.Congestion.{node-sized, product-fits, counted-fits, amount-end}
+use Rattle.congestion.proofs.Products.{node-sized}
+use Rattle.settlement.proofs.Amounts.{product-fits, counted-fits, amount-end}
 use Rattle.settlement.proofs.hour.amount_of.Statement.{statement}
 use Rattle.settlement.proofs.hour.amount_of.Tie as tie
 

@@ -3,7 +3,7 @@ use mathlib.Core.Path.{refl}
 use lib.ListN.{take}
 use borrow.Author.Needs.{needs}
 use Rattle.tariff.specs.Units.{factorsOf}
-use Rattle.settlement.proofs.Congestion.{counts, counts-not}
+use Rattle.settlement.proofs.Amounts.{counts, counts-not}
 use Rattle.settlement.proofs.hour.hour_amount.Statement.{statement}
 use Rattle.settlement.proofs.hour.hour_amount.Tie as tie
 

@@ -1,0 +1,5 @@
+pub mod Signs
+pub mod Passing
+pub mod Sharing
+pub mod Fairness
+pub mod Theorems

@@ -1,0 +1,38 @@
+-- `signed_like`: the sign put back.
+use mathlib.Core.Path.{_≡_, refl, _∙_}
+use mathlib.Core.Bool.{true, false}
+use native.Mathlib.Omega.{arith}
+use lib.IntN.{pos}
+use lib.Signed.{ltZ}
+use borrow.Author.Needs.{needs}
+use mir.Syntax.{w64}
+use mir.ValLaws.{toZ-ofZ}
+use Rattle.integers.proofs.Machine.{cast-back}
+use Rattle.tariff.proofs.Rounding.{cast-minus-fits, cast-minus-is}
+use Rattle.balancing_account.proofs.Signs.{signed-negative, signed-positive, signed-sized}
+use Rattle.balancing_account.proofs.signed_like.Statement.{statement}
+use Rattle.balancing_account.proofs.signed_like.Tie as tie
+
+cast-result : tie.Need-cast-result
+cast-result c = search needs
+
+sub-result : tie.Need-sub-result
+sub-result c = cast-minus-fits (c .before .args .cents) (omega (arith, c .before .pre))
+
+cast-result-2 : tie.Need-cast-result-2
+cast-result-2 c = search needs
+
+returns : tie.Need-returns
+returns c =
+    let a = c .before .args in
+    let below : ltZ (a .balance) (pos 0) ≡ true = rw (toZ-ofZ w64 (a .balance) (c .before .fits .balance)) at (c .if1 .taken) in
+    rw (cast-minus-is (a .cents) (omega (arith, c .before .pre)) ∙ signed-negative (a .balance) (a .cents) below) (refl, omega (arith, c .before .pre, signed-sized (a .balance) (a .cents)))
+
+returns-2 : tie.Need-returns-2
+returns-2 c =
+    let a = c .before .args in
+    let from : ltZ (a .balance) (pos 0) ≡ false = rw (toZ-ofZ w64 (a .balance) (c .before .fits .balance)) at (c .if1 .left) in
+    rw (cast-back (a .cents) (omega (arith, c .before .pre)) ∙ signed-positive (a .balance) (a .cents) from) (refl, omega (arith, c .before .pre, signed-sized (a .balance) (a .cents)))
+
+pub signed-like-spec : {M : Type 1} → statement M
+signed-like-spec = tie.close (tie.spec cast-result sub-result cast-result-2 returns returns-2)

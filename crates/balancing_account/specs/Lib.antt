@@ -1,0 +1,2 @@
+pub mod ShareBalance
+pub mod Inner

@@ -1,0 +1,20 @@
+-- `bits::turned`.
+use borrow.Author.Needs.{needs}
+use Rattle.bits.proofs.Turning.{turned-eight}
+use Rattle.bits.proofs.turned.Statement.{statement}
+use Rattle.bits.proofs.turned.Tie as tie
+
+returns : tie.Need-returns
+returns c =
+    let d = c .before .before .before .before in
+    turned-eight (d .before .before .before .before .args .v) _ _ _ _ _ _ _ _
+    (d .before .before .before .part .ensures .0) (d .before .before .part2 .ensures .0) (d .before .part3 .ensures .0) (d .part4 .ensures .0)
+    (c .before .before .before .part5 .ensures .0) (c .before .before .part6 .ensures .0) (c .before .part7 .ensures .0) (c .part8 .ensures .0)
+
+pub turned-spec : {M : Type 1} → statement M
+turned-spec =
+    tie.close (tie.spec
+    (λ c κs. search needs) (λ c κs. search needs) (λ c κs. search needs) (λ c κs. search needs) (λ c κs. search needs) (λ c κs. search needs) (λ c κs. search needs)
+    (λ c κs. search needs) (λ c. search needs) (λ c. search needs) (λ c. search needs) (λ c. search needs) (λ c. search needs) (λ c. search needs)
+    (λ c. search needs) (λ c. search needs) (λ c. search needs) (λ c. search needs) (λ c. search needs) (λ c. search needs) (λ c. search needs)
+    (λ c. search needs) returns)

@@ -1,0 +1,5 @@
+pub mod Months
+pub mod Rule
+pub mod Checking
+pub mod AllMonths
+pub mod Theorems

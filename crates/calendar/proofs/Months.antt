@@ -1,0 +1,114 @@
+-- Laws of tables of numbers, of the months' tables, and of months and dates that exist.
+use mathlib.Core.Path.{_≡_, refl}
+use mathlib.Core.Bool.{Bool, true, false, _&&_}
+use mathlib.Core.List.{List, [], _∷_}
+use Prim.Native.Nat.{ℕ, zero, suc, _<_, _≤_}
+use native.Mathlib.Omega.{arith}
+use borrow.Author.Tests.{eqb-true, eqb-false, leb-true, le-leb}
+use lib.Dec.{T, leb, eqb, eqb→eq, leb→le}
+use lib.ListN.{getD}
+use Rattle.calendar.specs.Dates.{leap, monthLength, lengthBefore, monthDays, monthExists, dateExists}
+
+-- ---- a test at each k below n, which antt computes
+
+abbrev pub allBelow : ℕ → (ℕ → Bool) → Bool
+allBelow zero f = true
+allBelow (suc n) f = allBelow n f && f n
+
+and-left : (a b : Bool) → T (a && b) → T a
+and-left true b t = tt
+and-left false b t = t
+
+and-right : (a b : Bool) → T (a && b) → T b
+and-right true b t = t
+and-right false b t = absurd t
+
+pub below : (n : ℕ) (f : ℕ → Bool) → T (allBelow n f) → (k : ℕ) → k < n → T (f k)
+below zero f t k h = absurd (omega arith)
+below (suc n) f t k h = by (eqb k n) refl (below n f (and-left (allBelow n f) (f n) t) k)
+  where
+    by : (b : Bool) → eqb k n ≡ b → (k < n → T (f k)) → T (f k)
+    by true e rest = rw (eqb-true k n e) (and-right (allBelow n f) (f n) t)
+    by false e rest = rest (omega (arith, eqb-false))
+
+-- ---- the months' tables
+
+abbrev right : List ℕ → (ℕ → ℕ) → ℕ → ℕ → Bool
+right xs f most k = eqb (getD xs k 0) (f k) && leb (getD xs k 0) most
+
+-- a table of months that is f, with no number above `most`
+table-is : (xs : List ℕ) (f : ℕ → ℕ) (most : ℕ) → T (allBelow 13 (right xs f most)) → (m : ℕ) → m ≤ 12 → (getD xs m 0 ≡ f m) × (getD xs m 0 ≤ most)
+table-is xs f most t m h =
+    let b : T (right xs f most m) = below 13 (right xs f most) t m (omega arith) in
+    (eqb→eq (getD xs m 0) (f m) (and-left (eqb (getD xs m 0) (f m)) (leb (getD xs m 0) most) b), leb→le (getD xs m 0) most (and-right (eqb (getD xs m 0) (f m)) (leb (getD xs m 0) most) b))
+
+abbrev pub leapMonths : List ℕ
+leapMonths = 0 ∷ 31 ∷ 29 ∷ 31 ∷ 30 ∷ 31 ∷ 30 ∷ 31 ∷ 31 ∷ 30 ∷ 31 ∷ 30 ∷ 31 ∷ []
+
+abbrev pub commonMonths : List ℕ
+commonMonths = 0 ∷ 31 ∷ 28 ∷ 31 ∷ 30 ∷ 31 ∷ 30 ∷ 31 ∷ 31 ∷ 30 ∷ 31 ∷ 30 ∷ 31 ∷ []
+
+abbrev pub leapBefore : List ℕ
+leapBefore = 0 ∷ 0 ∷ 31 ∷ 60 ∷ 91 ∷ 121 ∷ 152 ∷ 182 ∷ 213 ∷ 244 ∷ 274 ∷ 305 ∷ 335 ∷ []
+
+abbrev pub commonBefore : List ℕ
+commonBefore = 0 ∷ 0 ∷ 31 ∷ 59 ∷ 90 ∷ 120 ∷ 151 ∷ 181 ∷ 212 ∷ 243 ∷ 273 ∷ 304 ∷ 334 ∷ []
+
+module _ (m : ℕ) (h : m ≤ 12) where
+  pub leap-months : (getD leapMonths m 0 ≡ monthLength true m) × (getD leapMonths m 0 ≤ 31)
+  unfolding monthLength
+  leap-months = table-is leapMonths (monthLength true) 31 tt m h
+
+  pub common-months : (getD commonMonths m 0 ≡ monthLength false m) × (getD commonMonths m 0 ≤ 31)
+  unfolding monthLength
+  common-months = table-is commonMonths (monthLength false) 31 tt m h
+
+  pub leap-before : (getD leapBefore m 0 ≡ lengthBefore true m) × (getD leapBefore m 0 ≤ 335)
+  unfolding monthLength lengthBefore
+  leap-before = table-is leapBefore (lengthBefore true) 335 tt m h
+
+  pub common-before : (getD commonBefore m 0 ≡ lengthBefore false m) × (getD commonBefore m 0 ≤ 335)
+  unfolding monthLength lengthBefore
+  common-before = table-is commonBefore (lengthBefore false) 335 tt m h
+
+-- no month is longer than 31 days
+length-small : (b : Bool) (m : ℕ) → m ≤ 12 → monthLength b m ≤ 31
+length-small true m h = omega (arith, leap-months m h)
+length-small false m h = omega (arith, common-months m h)
+
+-- ---- months and dates that exist
+
+both : (a b : Bool) → (a && b) ≡ true → (a ≡ true) × (b ≡ true)
+both true b e = (refl, e)
+both false b e = (e, cc)
+
+pub record MonthIn (y m : ℕ) : Type 0 where
+  pub year-low : 2010 ≤ y
+  pub year-high : y ≤ 2037
+  pub month-low : 1 ≤ m
+  pub month-high : m ≤ 12
+
+pub month-in : (y m : ℕ) → monthExists y m ≡ true → MonthIn y m
+unfolding monthExists
+month-in y m e =
+    let a = both (leb 2010 y && leb y 2037 && leb 1 m) (leb m 12) e in
+    let b = both (leb 2010 y && leb y 2037) (leb 1 m) (a .0) in
+    let d = both (leb 2010 y) (leb y 2037) (b .0) in
+    record { year-low = leb-true 2010 y (d .0); year-high = leb-true y 2037 (d .1); month-low = leb-true 1 m (b .1); month-high = leb-true m 12 (a .1) }
+
+pub month-of : (y m : ℕ) → MonthIn y m → monthExists y m ≡ true
+unfolding monthExists
+month-of y m i = rw (le-leb 2010 y (i .year-low), le-leb y 2037 (i .year-high), le-leb 1 m (i .month-low), le-leb m 12 (i .month-high))
+
+pub record DateIn (y m d : ℕ) : Type 0 where
+  pub month-there : MonthIn y m
+  pub day-low : 1 ≤ d
+  pub day-high : d ≤ 31
+
+pub date-in : (y m d : ℕ) → dateExists y m d ≡ true → DateIn y m d
+unfolding dateExists
+date-in y m d e =
+    let a = both (monthExists y m && leb 1 d) (leb d (monthDays y m)) e in
+    let b = both (monthExists y m) (leb 1 d) (a .0) in
+    let there = month-in y m (b .0) in
+    record { month-there = there; day-low = leb-true 1 d (b .1); day-high = omega (arith, length-small (leap y) m (there .month-high), leb-true d (monthDays y m) (a .1)) }

@@ -1,0 +1,4 @@
+pub mod Dates
+pub mod OnPeak
+pub mod Weekday
+pub mod MonthLater

@@ -1,0 +1,2 @@
+pub mod FindMcc
+pub mod Inner

@@ -1,0 +1,6 @@
+pub mod Counting
+pub mod Ranking
+pub mod Order
+pub mod Sharing
+pub mod Halving
+pub mod Theorems

@@ -1,0 +1,35 @@
+"""The calendar of on-peak hours: the hours of a month, the weekday of a date, the date one month later. Years 2010 to 2037."""
+
+from __future__ import annotations
+
+from ctypes import c_uint64
+from datetime import date
+
+from .native import Entry
+
+_month_hours = Entry("crr_month_hours")
+_weekday = Entry("crr_weekday")
+_month_later = Entry("crr_month_later")
+
+HOURS_A_DAY = 16  # hours ending 7 to 22, of a day that has any
+
+
+def month_hours(year: int, month: int) -> int:
+    """The on-peak hours of a month."""
+    hours = c_uint64()
+    _month_hours(year, month, hours)
+    return hours.value
+
+
+def weekday(year: int, month: int, day: int) -> int:
+    """The weekday of a date, 1 (Monday) to 7 (Sunday), as `date.isoweekday` numbers them."""
+    number = c_uint64()
+    _weekday(year, month, day, number)
+    return number.value
+
+
+def month_later(year: int, month: int, day: int) -> date:
+    """The date one month later, the day cut to the month's last."""
+    later_year, later_month, later_day = c_uint64(), c_uint64(), c_uint64()
+    _month_later(year, month, day, later_year, later_month, later_day)
+    return date(later_year.value, later_month.value, later_day.value)
