@@ -1,8 +1,8 @@
 -- Laws of tables of numbers, of the months' tables, and of months and dates that exist.
 use mathlib.Core.Path.{_≡_, refl}
-use mathlib.Core.Bool.{Bool, true, false, _&&_}
+use mathlib.Core.Bool.{Bool, true, false, _&&_, cond}
 use mathlib.Core.List.{List, [], _∷_}
-use Prim.Native.Nat.{ℕ, zero, suc, _<_, _≤_}
+use Prim.Native.Nat.{ℕ, zero, suc, _+_, _<_, _≤_}
 use native.Mathlib.Omega.{arith}
 use borrow.Author.Tests.{eqb-true, eqb-false, leb-true, le-leb}
 use lib.Dec.{T, leb, eqb, eqb→eq, leb→le}
@@ -33,48 +33,41 @@ below (suc n) f t k h = by (eqb k n) refl (below n f (and-left (allBelow n f) (f
 
 -- ---- the months' tables
 
-abbrev right : List ℕ → (ℕ → ℕ) → ℕ → ℕ → Bool
-right xs f most k = eqb (getD xs k 0) (f k) && leb (getD xs k 0) most
+abbrev right : (ℕ → ℕ) → (ℕ → ℕ) → ℕ → ℕ → Bool
+right g f most k = eqb (g k) (f k) && leb (g k) most
 
--- a table of months that is f, with no number above `most`
-table-is : (xs : List ℕ) (f : ℕ → ℕ) (most : ℕ) → T (allBelow 13 (right xs f most)) → (m : ℕ) → m ≤ 12 → (getD xs m 0 ≡ f m) × (getD xs m 0 ≤ most)
-table-is xs f most t m h =
-    let b : T (right xs f most m) = below 13 (right xs f most) t m (omega arith) in
-    (eqb→eq (getD xs m 0) (f m) (and-left (eqb (getD xs m 0) (f m)) (leb (getD xs m 0) most) b), leb→le (getD xs m 0) most (and-right (eqb (getD xs m 0) (f m)) (leb (getD xs m 0) most) b))
+-- g is f at every month, with no number above `most`
+all-right : (g f : ℕ → ℕ) (most : ℕ) → T (allBelow 13 (right g f most)) → (m : ℕ) → m ≤ 12 → (g m ≡ f m) × (g m ≤ most)
+all-right g f most t m h =
+    let b : T (right g f most m) = below 13 (right g f most) t m (omega arith) in
+    (eqb→eq (g m) (f m) (and-left (eqb (g m) (f m)) (leb (g m) most) b), leb→le (g m) most (and-right (eqb (g m) (f m)) (leb (g m) most) b))
 
-abbrev pub leapMonths : List ℕ
-leapMonths = 0 ∷ 31 ∷ 29 ∷ 31 ∷ 30 ∷ 31 ∷ 30 ∷ 31 ∷ 31 ∷ 30 ∷ 31 ∷ 30 ∷ 31 ∷ []
+abbrev pub days : List ℕ
+days = 0 ∷ 31 ∷ 28 ∷ 31 ∷ 30 ∷ 31 ∷ 30 ∷ 31 ∷ 31 ∷ 30 ∷ 31 ∷ 30 ∷ 31 ∷ []
 
-abbrev pub commonMonths : List ℕ
-commonMonths = 0 ∷ 31 ∷ 28 ∷ 31 ∷ 30 ∷ 31 ∷ 30 ∷ 31 ∷ 31 ∷ 30 ∷ 31 ∷ 30 ∷ 31 ∷ []
+abbrev pub daysBefore : List ℕ
+daysBefore = 0 ∷ 0 ∷ 31 ∷ 59 ∷ 90 ∷ 120 ∷ 151 ∷ 181 ∷ 212 ∷ 243 ∷ 273 ∷ 304 ∷ 334 ∷ []
 
-abbrev pub leapBefore : List ℕ
-leapBefore = 0 ∷ 0 ∷ 31 ∷ 60 ∷ 91 ∷ 121 ∷ 152 ∷ 182 ∷ 213 ∷ 244 ∷ 274 ∷ 305 ∷ 335 ∷ []
+-- as the code finds them
+abbrev pub lengthFound : Bool → ℕ → ℕ
+lengthFound b m = cond (eqb m 2) (cond b 29 28) (getD days m 0)
 
-abbrev pub commonBefore : List ℕ
-commonBefore = 0 ∷ 0 ∷ 31 ∷ 59 ∷ 90 ∷ 120 ∷ 151 ∷ 181 ∷ 212 ∷ 243 ∷ 273 ∷ 304 ∷ 334 ∷ []
+abbrev pub beforeFound : Bool → ℕ → ℕ
+beforeFound b m = cond (leb m 2) (getD daysBefore m 0) (cond b (getD daysBefore m 0 + 1) (getD daysBefore m 0))
 
-module _ (m : ℕ) (h : m ≤ 12) where
-  pub leap-months : (getD leapMonths m 0 ≡ monthLength true m) × (getD leapMonths m 0 ≤ 31)
-  unfolding monthLength
-  leap-months = table-is leapMonths (monthLength true) 31 tt m h
+pub length-right : (b : Bool) (m : ℕ) → m ≤ 12 → (lengthFound b m ≡ monthLength b m) × (lengthFound b m ≤ 31)
+unfolding monthLength
+length-right true = all-right (lengthFound true) (monthLength true) 31 tt
+length-right false = all-right (lengthFound false) (monthLength false) 31 tt
 
-  pub common-months : (getD commonMonths m 0 ≡ monthLength false m) × (getD commonMonths m 0 ≤ 31)
-  unfolding monthLength
-  common-months = table-is commonMonths (monthLength false) 31 tt m h
-
-  pub leap-before : (getD leapBefore m 0 ≡ lengthBefore true m) × (getD leapBefore m 0 ≤ 335)
-  unfolding monthLength lengthBefore
-  leap-before = table-is leapBefore (lengthBefore true) 335 tt m h
-
-  pub common-before : (getD commonBefore m 0 ≡ lengthBefore false m) × (getD commonBefore m 0 ≤ 335)
-  unfolding monthLength lengthBefore
-  common-before = table-is commonBefore (lengthBefore false) 335 tt m h
+pub before-right : (b : Bool) (m : ℕ) → m ≤ 12 → (beforeFound b m ≡ lengthBefore b m) × (beforeFound b m ≤ 335)
+unfolding monthLength lengthBefore
+before-right true = all-right (beforeFound true) (lengthBefore true) 335 tt
+before-right false = all-right (beforeFound false) (lengthBefore false) 335 tt
 
 -- no month is longer than 31 days
 length-small : (b : Bool) (m : ℕ) → m ≤ 12 → monthLength b m ≤ 31
-length-small true m h = omega (arith, leap-months m h)
-length-small false m h = omega (arith, common-months m h)
+length-small b m h = omega (arith, length-right b m h)
 
 -- ---- months and dates that exist
 

@@ -1,6 +1,6 @@
 // Dates: month lengths, weekdays, the date one month later.
 ghost use mathlib.Core.Path.{_≡_};
-ghost use Prim.Native.Nat.{_≤_};
+ghost use Prim.Native.Nat.{_≤_, _<_};
 ghost use Rattle.calendar.specs.Dates.{leap, monthLength, lengthBefore, monthDays, dayNumber, weekdayOf, lastYear, monthExists, dateExists};
 ghost use Rattle.calendar.specs.Weekday.{TellsWeekday};
 ghost use Rattle.calendar.specs.MonthLater.{cutTo, ReachesMonthLater};
@@ -40,32 +40,37 @@ fn leap_year(year: u64) -> bool
     year % 4 == 0
 }
 
-// The days of each month, from month 1; there is no month 0.
-const COMMON: [u64; 13] = [0, 31, 28, 31, 30, 31, 30, 31, 31, 30, 31, 30, 31];
+fn wide(x: u16) -> u64
+    ensures { λ r. ⌜ (r ≡ x) × (r < 65536) ⌝ }
+{
+    x as u64
+}
 
-const LEAP: [u64; 13] = [0, 31, 29, 31, 30, 31, 30, 31, 31, 30, 31, 30, 31];
+// The days of each month of a common year, from month 1; there is no month 0.
+const DAYS: [u16; 13] = [0, 31, 28, 31, 30, 31, 30, 31, 31, 30, 31, 30, 31];
 
 fn month_length(leap: bool, month: usize) -> u64
     requires { ⌜ month ≤ 12 ⌝ }
     ensures { λ r. ⌜ (r ≡ monthLength leap month) × (r ≤ 31) ⌝ }
 {
-    if leap { LEAP[month] } else { COMMON[month] }
+    if month != 2 {
+        return wide(DAYS[month]);
+    }
+    if leap { 29 } else { 28 }
 }
 
-// The days before each month.
-const COMMON_BEFORE: [u64; 13] = [0, 0, 31, 59, 90, 120, 151, 181, 212, 243, 273, 304, 334];
-
-const LEAP_BEFORE: [u64; 13] = [0, 0, 31, 60, 91, 121, 152, 182, 213, 244, 274, 305, 335];
+// The days before each month of a common year.
+const DAYS_BEFORE: [u16; 13] = [0, 0, 31, 59, 90, 120, 151, 181, 212, 243, 273, 304, 334];
 
 fn length_before(leap: bool, month: usize) -> u64
     requires { ⌜ month ≤ 12 ⌝ }
     ensures { λ r. ⌜ (r ≡ lengthBefore leap month) × (r ≤ 335) ⌝ }
 {
-    if leap {
-        LEAP_BEFORE[month]
-    } else {
-        COMMON_BEFORE[month]
+    let before = wide(DAYS_BEFORE[month]);
+    if month <= 2 {
+        return before;
     }
+    if leap { before + 1 } else { before }
 }
 
 pub fn month_days(year: u64, month: u64) -> u64

@@ -5,7 +5,7 @@ ghost use lib.ListN.{getD};
 ghost use Rattle.calendar.specs.OnPeak.{tableEntries};
 ghost use Rattle.hours_table.specs.Inner.{cells};
 
-const HOURS: [u64; 336] = [
+const HOURS: [u16; 336] = [
     400, // 2010
     384,
     432,
@@ -344,9 +344,15 @@ const HOURS: [u64; 336] = [
     416,
 ];
 
+fn wide(x: u16) -> u64
+    ensures { λ r. ⌜ r ≡ x ⌝ }
+{
+    x as u64
+}
+
 pub fn cell(k: usize) -> u64
     requires { ⌜ k < tableEntries ⌝ }
     ensures { λ r. ⌜ r ≡ getD cells k 0 ⌝ }
 {
-    HOURS[k]
+    wide(HOURS[k])
 }
