@@ -14,7 +14,7 @@ use Rattle.tariff.specs.declared.contracts.Period.{Period}
 use Rattle.tariff.specs.declared.processes.Process.{Process}
 use Rattle.tariff.specs.Units.{Grid}
 use Rattle.tariff.specs.Contracts.{ofPeriod}
-use Rattle.tariff.specs.Feasibility.{totalFlow, released, Passes, excess, overloadSet}
+use Rattle.tariff.specs.Feasibility.{totalFlow, released, excess, overloadSet}
 use Rattle.tariff.proofs.Overloads.{passes-empty}
 use Rattle.cut_rules.specs.Cuts.{contractOf, quantityOf, lowered, passing, clears, leastCut}
 use Rattle.cut_rules.specs.Theorems.{BookPasses, CutPasses}

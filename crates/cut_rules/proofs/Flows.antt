@@ -34,16 +34,12 @@ same s c = rw (⊖of s, ⊖of c) (simp ⊖s (omega arith))
 
 module _ (f : Factors) where
   module _ (period : Period) where
-    -- a contract of the period counts with its flow, one of the other period with nothing
-    pub cut-in : (c : Contract) (t k : ℕ) → samePeriod (c .period) period ≡ true → cutFlow f period c t k ≡ flow f (withQuantity t c) k
-    unfolding cutFlow
-    cut-in c t k s = rw s
-
+    -- a contract of the other period counts with nothing
     pub cut-out : (c : Contract) (t k : ℕ) → samePeriod (c .period) period ≡ false → cutFlow f period c t k ≡ pos 0
     unfolding cutFlow
     cut-out c t k s = rw s
 
-    pub cut-plus : (c : Contract) (a b k : ℕ) → cutFlow f period c (a + b) k ≡ cutFlow f period c a k +ℤ cutFlow f period c b k
+    cut-plus : (c : Contract) (a b k : ℕ) → cutFlow f period c (a + b) k ≡ cutFlow f period c a k +ℤ cutFlow f period c b k
     unfolding cutFlow
     cut-plus c a b k = by (samePeriod (c .period) period)
       where

@@ -1,14 +1,14 @@
 -- The closed form over plain whole numbers: the need is the least cut that is enough, or none is.
 use mathlib.Core.Path.{_≡_, refl, sym, ap, _∙_}
 use mathlib.Core.Logic.{_↔_, ⊎-elim}
-use mathlib.Core.Bool.{Bool, true, false, cond, not, _&&_, true≢false, and-false}
-use Prim.Native.Nat.{ℕ, zero, suc, _+_, _-_, _*_, _/_, _<_, _≤_}
+use mathlib.Core.Bool.{Bool, true, false, cond, _&&_, true≢false}
+use Prim.Native.Nat.{ℕ, zero, suc, _+_, _-_, _*_, _<_, _≤_}
 use native.Mathlib.Nat.{div-zero, div-lt-iff-lt-mul, mul-le-mul-right, le-max-left, le-max-right, max-le, eq-or-lt-of-le, le-trans}
 use native.Mathlib.Omega.{arith}
 use borrow.Author.Tests.{leb-true, le-leb}
 use lib.Dec.{T, leb}
 use lib.IntN.{ℤ, pos, negsuc, _-ℤ_, _*ℤ_}
-use lib.Signed.{_≤ℤ_, _<ℤ_, ltZ, leZ, leZ-yes, ltZ-yes}
+use lib.Signed.{_≤ℤ_, leZ, leZ-yes}
 use Rattle.integers.proofs.Linear.{⊖of, ⊖s}
 use Rattle.lists.specs.Sets.{lowestOf}
 use Rattle.cut_rules.specs.Inner.{needAt, need, Enough, enough, closed}
@@ -39,7 +39,7 @@ falling e w m t b = rw (⊖of e) (simp ⊖s (λ h. omega (arith, mul-le-mul-righ
 below-zero : (e w m : ℕ) → (negsuc e -ℤ pos w *ℤ pos m) ≤ℤ pos 0
 below-zero e w m = simp ⊖s (omega arith)
 
-pub between : (e w : ℤ) (m t : ℕ) → needAt e w ≤ m → m ≤ t → (e -ℤ w *ℤ pos t) ≤ℤ pos 0 → (e -ℤ w *ℤ pos m) ≤ℤ pos 0
+between : (e w : ℤ) (m t : ℕ) → needAt e w ≤ m → m ≤ t → (e -ℤ w *ℤ pos t) ≤ℤ pos 0 → (e -ℤ w *ℤ pos m) ≤ℤ pos 0
 between e (negsuc w) m t a b h = falling e w m t b h
 between (negsuc e) (pos w) m t a b h = below-zero e w m
 between (pos e) (pos zero) m t a b h = pos-enough e 0 m .1 (omega (arith, pos-enough e 0 t .0 h))
@@ -60,7 +60,7 @@ is-false true h = absurd (h refl)
 is-false false h = refl
 
 module _ (e w : ℕ → ℤ) where
-  pub need-least : (n t : ℕ) → Enough n e w t → need n e w ≤ t
+  need-least : (n t : ℕ) → Enough n e w t → need n e w ≤ t
   unfolding need
   need-least zero t h = omega arith
   need-least (suc n) t h = max-le (need-least n t (λ k b. h k (omega arith))) (at-least (e n) (w n) t (h n (omega arith)))
@@ -73,7 +73,7 @@ module _ (e w : ℕ → ℤ) where
       (λ q. le-trans (need-above n k (omega arith)) (le-max-left (need n e w) (needAt (e n) (w n)))) (eq-or-lt-of-le h)
 
   -- where some cut is enough, the need is
-  pub need-enough : (n t : ℕ) → Enough n e w t → Enough n e w (need n e w)
+  need-enough : (n t : ℕ) → Enough n e w t → Enough n e w (need n e w)
   need-enough n t h k b = between (e k) (w k) (need n e w) t (need-above n k b) (need-least n t h) (h k b)
 
   pub enough-all : (n t : ℕ) → enough n e w t ≡ true → Enough n e w t
@@ -83,7 +83,7 @@ module _ (e w : ℕ → ℤ) where
       let p = and-both (enough n e w t) (leZ (e n -ℤ w n *ℤ pos t) (pos 0)) h in
       ⊎-elim (λ q. rw (ap (λ (j : ℕ). e j -ℤ w j *ℤ pos t) {x = k} {y = n} (omega arith)) (leZ-yes (rw (p .1) tt))) (λ q. enough-all n t (p .0) k (omega arith)) (eq-or-lt-of-le b)
 
-  pub all-enough : (n t : ℕ) → Enough n e w t → enough n e w t ≡ true
+  all-enough : (n t : ℕ) → Enough n e w t → enough n e w t ≡ true
   unfolding enough
   all-enough zero t h = refl
   all-enough (suc n) t h = rw (all-enough n t (λ k b. h k (omega arith)), is-true (leZ (e n -ℤ w n *ℤ pos t) (pos 0)) (h n (omega arith) .le))
@@ -97,7 +97,7 @@ module _ (e w : ℕ → ℤ) where
         not-lt : {a b : ℕ} → a ≤ b → b < a → ⊥
         not-lt x y = omega arith
 
-    pub none-below : (need n e w ≤ q → Enough n e w (need n e w) → ⊥) → (t : ℕ) → t ≤ q → f t ≡ false
+    none-below : (need n e w ≤ q → Enough n e w (need n e w) → ⊥) → (t : ℕ) → t ≤ q → f t ≡ false
     none-below out t b = is-false (f t) (λ x. let h = f-is t b .0 x in out (le-trans (need-least n t h) b) (need-enough n t h))
 
     pub closed-form : lowestOf (suc q) f ≡ closed n e w q (suc q)

@@ -1,12 +1,12 @@
 -- Rows in order: what holds of each row, which contracts have one, and that each precedes every later one.
-use mathlib.Core.Path.{_≡_, refl, sym, ap, ap₂, _∙_}
+use mathlib.Core.Path.{_≡_, refl, sym, ap, _∙_}
 use mathlib.Core.Logic.{_⊎_, inl, inr, ⊎-elim}
 use mathlib.Core.Bool.{Bool, true, false, cond, _&&_, _||_, true≢false}
 use mathlib.Core.List.{List, [], _∷_, _++_, append-nil}
 use Prim.Native.Nat.{ℕ, zero, suc, _<_, _≤_}
 use native.Mathlib.Nat.{eq-or-lt-of-le}
 use native.Mathlib.Omega.{arith}
-use borrow.Author.Tests.{ltb-true, ltb-false, lt-ltb, le-ltb, eqb-true, eqb-false, eq-eqb, ne-eqb}
+use borrow.Author.Tests.{ltb-true, ltb-false, lt-ltb, le-ltb, eqb-true, eq-eqb, ne-eqb}
 use lib.Dec.{ltb, eqb}
 use lib.ListN.{length}
 use Rattle.lists.specs.Lists.{some, Each}
@@ -186,7 +186,7 @@ module _ (g : Grid) (process : Process) (period : Period) (cs : List Contract) w
       by true e = (h m (omega arith) e, tt)
       by false e = tt
 
-  pub numbers-below : (m : ℕ) → Each (λ (r : Row). r .number < m) (rows m)
+  numbers-below : (m : ℕ) → Each (λ (r : Row). r .number < m) (rows m)
   numbers-below m = each-row (λ r. r .number < m) m (λ i b c. b)
 
   pub numbers-rise : (m : ℕ) → NumbersRise (rows m)

@@ -1,5 +1,5 @@
 -- The closed form, which code goes by and nobody must believe: it is proved to be the search. And a row as one number, to sort by.
-use mathlib.Core.Bool.{Bool, true, false, cond, _&&_}
+use mathlib.Core.Bool.{Bool, true, cond, _&&_}
 use mathlib.Core.List.{List, [], _∷_, _++_}
 use Prim.Native.Nat.{ℕ, zero, suc, _+_, _-_, _*_, _/_, _<_, max}
 use lib.Dec.{ltb, leb}

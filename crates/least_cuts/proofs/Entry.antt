@@ -1,6 +1,6 @@
 -- The entry: the checks in parts, the rows taken apart into cells, and the rows that stand in the tables then.
 use mathlib.Core.Path.{_≡_, refl, sym, ap, ap₂, _∙_, subst}
-use mathlib.Core.List.{List, [], _∷_, _++_, map}
+use mathlib.Core.List.{List, [], _∷_, map}
 use Prim.Native.Nat.{ℕ, _/_, _%_, _≤_, _<_}
 use native.Mathlib.Omega.{arith}
 use borrow.Author.Tests.{lt-ltb, le-ltb}
@@ -96,7 +96,7 @@ rows-stand rows numbers cuts = listTo-is rows _ (record { number = 0; cut = 0 })
     at i h = λ t. record { number = cell (λ r. r .number) numbers i h refl t; cut = cell (λ r. r .cut) cuts i h refl t }
 
 -- the theorem of paper 12, of the rows in the tables where no check refuses
-pub hold-least-cuts : (q : CutsCall) (numbers cuts : List ℕ) → numbers ≡ cellsAfter (findCutsChecked q) (numberCells q) (q .numbers) → cuts ≡ cellsAfter (findCutsChecked q) (cutCells q) (q .cuts)
+hold-least-cuts : (q : CutsCall) (numbers cuts : List ℕ) → numbers ≡ cellsAfter (findCutsChecked q) (numberCells q) (q .numbers) → cuts ≡ cellsAfter (findCutsChecked q) (cutCells q) (q .cuts)
     → findCutsChecked q ≡ Passed → HoldLeastCuts q (length (listedRows q)) numbers cuts
 hold-least-cuts q numbers cuts en ec passed = subst (LeastCuts _ _ _ _) (sym stand) (least-cuts _ _ _ _)
   where

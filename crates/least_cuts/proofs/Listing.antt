@@ -1,16 +1,15 @@
 -- The keys that code lists are those of the least cuts, in order.
-use mathlib.Core.Path.{_≡_, refl, sym, ap, ap₂, _∙_}
+use mathlib.Core.Path.{_≡_, refl, sym, ap, _∙_}
 use mathlib.Core.Bool.{Bool, true, false, cond}
-use mathlib.Core.List.{List, [], _∷_, map}
-use Prim.Native.Nat.{ℕ, _+_, _*_, _^_, _≤_, _<_}
+use mathlib.Core.List.{List, [], map}
+use Prim.Native.Nat.{ℕ, _+_, _*_, _≤_, _<_}
 use native.Mathlib.Omega.{arith}
 use borrow.Author.Tests.{eq-eqb, ne-eqb}
-use lib.Dec.{eqb}
-use lib.ListN.{length, getD, take}
+use lib.ListN.{length, take}
 use lib.Seq.{getD-take}
-use lib.IntN.{ℤ, pos, natAbs, _-ℤ_, _*ℤ_}
+use lib.IntN.{ℤ, pos, _-ℤ_, _*ℤ_}
 use Rattle.integers.proofs.Linear.{*ℤ-pos1}
-use Rattle.lists.specs.Lists.{listTo, Each}
+use Rattle.lists.specs.Lists.{listTo}
 use Rattle.lists.specs.Lent.{overwrite}
 use Rattle.lists.specs.Sets.{setOf}
 use Rattle.lists.proofs.Lists.{length-listTo, getD-listTo}
@@ -21,12 +20,11 @@ use Rattle.tariff.specs.declared.contracts.Contract.{Contract}
 use Rattle.tariff.specs.declared.contracts.Period.{Period}
 use Rattle.tariff.specs.declared.processes.Process.{Process}
 use Rattle.tariff.specs.declared.refusals.Checked.the-variants.{Passed}
-use Rattle.tariff.specs.Units.{Grid, factorsOf, gridOf, maxContracts, maxLimit}
+use Rattle.tariff.specs.Units.{Grid, factorsOf, gridOf, maxLimit}
 use Rattle.tariff.specs.Inner.{InRange}
 use Rattle.tariff.specs.Contracts.{counted, samePeriod, ofPeriod}
-use Rattle.tariff.specs.Processes.{percent}
 use Rattle.tariff.specs.Refusals.{first}
-use Rattle.tariff.specs.Feasibility.{flow, totalFlow, released, excess, overloadSet}
+use Rattle.tariff.specs.Feasibility.{released, excess, overloadSet}
 use Rattle.layouts.specs.BookFile.{bookIn, contractCountIn, contractAt}
 use Rattle.tables.specs.Inner.{GoodCells, GoodFactors}
 use Rattle.books.specs.BookChecks.{bookChecks}
@@ -36,7 +34,7 @@ use Rattle.feasibility_test.specs.Inner.{Carries, Judgeable}
 use Rattle.feasibility_test.proofs.Flowing.{part, own-flow, carried-judgeable}
 use Rattle.feasibility_test.proofs.Judging.{over, set-is}
 use Rattle.flow_laws.specs.Quantities.{withQuantity}
-use Rattle.cut_rules.specs.Cuts.{contractOf, Row, inOrder, passing, rowsTo, leastCuts}
+use Rattle.cut_rules.specs.Cuts.{contractOf, Row, passing, rowsTo, leastCuts}
 use Rattle.cut_rules.specs.Inner.{closed, cutFlow, slope, cutOr0, rowKey, keysTo}
 use Rattle.cut_rules.proofs.Turns.{closed-cong}
 use Rattle.cut_rules.proofs.Rows.{each-row, numbers-rise}

@@ -3,7 +3,7 @@ use mathlib.Core.Path.{_≡_}
 use mathlib.Core.List.{List, [], _∷_, _++_, map}
 use Prim.Native.Nat.{ℕ}
 use lib.ListN.{length, getD}
-use lib.IntN.{ℤ, pos}
+use lib.IntN.{pos}
 use Rattle.lists.specs.Lists.{listTo}
 use Rattle.lists.specs.Lent.{Lent, before, after}
 use Rattle.tariff.specs.declared.contracts.Period.{Period}
@@ -13,7 +13,7 @@ use Rattle.tariff.specs.Contracts.{periodOf}
 use Rattle.tariff.specs.Refusals.{Check, first, Outcome, given, refusedBy, answered, cellsAfter, cellAfter, numberAfter}
 use Rattle.tariff.specs.Checks.{shortTable}
 use Rattle.layouts.specs.BookFile.{bookIn}
-use Rattle.feasibility_test.specs.TestBook.{TestCall, testCall, testChecks, testedGrid, testedProcess}
+use Rattle.feasibility_test.specs.TestBook.{TestCall, testChecks, testedGrid, testedProcess}
 use Rattle.cut_rules.specs.Cuts.{Row, leastCuts}
 use Rattle.cut_rules.specs.Theorems.{LeastCuts}
 use Rattle.least_cuts.specs.declared.CutsAnswer.{CutsAnswer}

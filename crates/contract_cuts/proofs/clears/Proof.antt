@@ -1,14 +1,11 @@
 -- `clears`: the cut is enough at the constraints below k.
-use mathlib.Core.Path.{_≡_, refl, sym, ap, _∙_}
+use mathlib.Core.Path.{_≡_, refl}
 use mathlib.Core.Bool.{true}
-use Prim.Native.Nat.{ℕ, _+_, _-_, _*_, _^_, _≤_, _<_}
+use Prim.Native.Nat.{ℕ, _-_, _*_, _^_, _≤_, _<_}
 use native.Mathlib.Omega.{arith}
-use lib.Dec.{lit<}
-use lib.ListN.{length, getD}
 use lib.IntN.{pos, natAbs, _*ℤ_}
 use Rattle.integers.proofs.Machine.{back}
 use borrow.Author.Needs.{needs}
-use Rattle.feasibility_test.proofs.Flowing.{kept-sized}
 use Rattle.cut_rules.specs.Inner.{enough}
 use Rattle.cut_rules.proofs.Turns.{enough-turn, enough-fails, enough-end}
 use Rattle.contract_cuts.specs.Inner.{cellAt, slopeFrom, slopeIn}

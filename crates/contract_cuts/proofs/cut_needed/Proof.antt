@@ -1,11 +1,10 @@
 -- `cut_needed`.
-use mathlib.Core.Path.{_≡_, refl, sym, ap, _∙_}
-use Prim.Native.Nat.{ℕ, _+_, _-_, _/_, _≤_, _<_}
+use mathlib.Core.Path.{_≡_}
+use Prim.Native.Nat.{_-_, _<_}
 use native.Mathlib.Omega.{arith}
 use lib.Dec.{leb}
 use lib.IntN.{pos}
 use lib.Signed.{_<ℤ_}
-use borrow.Author.Needs.{needs}
 use Rattle.integers.proofs.Machine.{back}
 use Rattle.cut_rules.proofs.Turns.{flat}
 use Rattle.contract_cuts.proofs.Reliefs.{kept, is-flat, is-steep, not-negative, some-size, too-much, no-more, nothing}

@@ -1,14 +1,13 @@
 -- `fill_excess`: the cells passed hold the excesses passed, and those behind are as they were.
-use mathlib.Core.Path.{_≡_, refl, sym, ap, _∙_}
-use Prim.Native.Nat.{ℕ, _-_, _^_, _≤_, _<_}
+use mathlib.Core.Path.{_≡_, refl, sym, _∙_}
+use Prim.Native.Nat.{_-_, _^_, _≤_, _<_}
 use native.Mathlib.Omega.{arith}
 use lib.Dec.{lit<}
 use lib.ListN.{length, getD, take, drop, length-set}
-use lib.IntN.{ℤ, pos}
+use lib.IntN.{pos}
 use Rattle.lists.specs.Lists.{listTo}
 use Rattle.lists.proofs.Fill.{fill-turn, rest-turn, fill-front}
 use Rattle.lists.proofs.Lists.{length-listTo, getD-listTo}
-use Rattle.tariff.specs.Units.{maxConstraints}
 use Rattle.feasibility_test.proofs.Flowing.{kept-sized}
 use Rattle.feasibility_test.proofs.Judging.{released-small}
 use borrow.Author.Needs.{needs}
