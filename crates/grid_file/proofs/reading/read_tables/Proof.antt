@@ -1,4 +1,5 @@
 -- `read_tables`: what is read, by the file's own counts.
+use native.Mathlib.Omega.{arith}
 use borrow.Author.Needs.{needs}
 use Rattle.grid_file.proofs.Passing.{limits-are, late-factors, run-is}
 use Rattle.grid_file.proofs.reading.read_tables.Statement.{statement}
@@ -10,7 +11,7 @@ read-factors-requires c κs =
     let s = m .before .before .before in
     let a = s .args in
     let late = late-factors (a .file .now) (a .header) (a .nodes) (a .constraints) (s .pre .0) in
-    (search needs, (search needs, search needs, λ i h. late i (rw (m .factor-count .ensures .0) at h)))
+    (search needs, (search needs, search needs, λ i h. late i (omega (arith, h, m .factor-count .ensures .0))))
 
 returns : tie.Need-returns
 returns c =
