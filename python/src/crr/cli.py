@@ -95,7 +95,7 @@ def _parser() -> argparse.ArgumentParser:
     for name, command in of.items():
         if name == "hours":
             command.add_argument("months", type=_months, metavar="MONTHS", help="YYYY, YYYY-MM, or FROM..TO")
-        if name == "share":
+        elif name == "share":
             command.add_argument("balance", metavar="BALANCE", help="dollars, such as 1234.56 or -1234.56")
             command.add_argument("demands", type=Path, metavar="DEMANDS", help="a CSV file COORDINATOR,MEASURED_DEMAND")
         else:
