@@ -13,6 +13,7 @@
  * UNITS. All figures are whole numbers.
  *
  *   quantity       thousandths of a MW, 1 to 1,000,000
+ *   cut            thousandths of a MW, by which a quantity is lowered
  *   limit          thousandths of a MW, 0 to 100,000,000
  *   shift factor   hundred-thousandths, -100,000 to 100,000
  *   shadow price   cents per MWh, 0 to 500,000
@@ -42,6 +43,9 @@
  *             holder (0 to 1,023), source, sink (up to 3,999; the sink may equal
  *             the source), quantity
  *   flows     one cell for each constraint
+ *   numbers   one cell for each contract listed: its number in the book, contracts of
+ *             both periods counted
+ *   cuts      one cell for each contract listed, in the same order: its cut
  *   mcc       one cell for each node
  *   cents     one cell for each contract
  *   priced    one cell for each contract, a set of constraints: bit k is
@@ -322,6 +326,39 @@ uint64_t crr_find_flows(size_t nodes, size_t constraints, uint64_t period,
                         const uint8_t *book, size_t book_len,
                         int64_t *flows, size_t flows_len,
                         size_t *counted);
+
+/*
+ * Finds, for a book that fails the test, every contract of the period tested whose
+ * quantity, lowered alone, makes the book pass in the process, with the smallest cut
+ * that does.
+ *
+ * A cut is by how much the quantity is lowered, all other contracts staying as they
+ * are: from 1 to the whole quantity, which takes the contract out of the book.
+ *
+ * On success writes a row for each such contract, by rising cuts and equal cuts by
+ * rising contract numbers: the numbers to the first cells of numbers, the cuts to the
+ * first cells of cuts, and to *listed how many rows there are. With contract
+ * numbers[i] lowered by cuts[i] the book passes crr_test_book, with a smaller cut of
+ * it the book fails. With a larger one it may fail again: an obligation that is
+ * lowered further takes its counter-flow away from other constraints. A contract
+ * that is not listed has no cut that clears the book.
+ *
+ * *listed is 0 for a book that passes, and also for one that fails and that no
+ * single contract's cut clears: crr_test_book tells them apart.
+ *
+ * Refusals, in this order: 2, 3, 16, 17, 9 (limits, factors), 6, 7, then the book's
+ * own: 1, 10, 4, 5, and contract by contract 11, 13; last 9 if numbers or cuts has
+ * fewer cells than there are rows. CRR_MAX_CONTRACTS cells of each are enough, and a
+ * book that passes asks for none.
+ */
+uint64_t crr_find_cuts(size_t nodes, size_t constraints,
+                       uint64_t process, uint64_t period,
+                       const uint64_t *limits, size_t limits_len,
+                       const int64_t *factors, size_t factors_len,
+                       const uint8_t *book, size_t book_len,
+                       uint64_t *numbers, size_t numbers_len,
+                       uint64_t *cuts, size_t cuts_len,
+                       size_t *listed);
 
 /*
  * Gives the share of each limit that a process releases.

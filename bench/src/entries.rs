@@ -12,7 +12,7 @@ pub struct Entry {
     pub run: fn(&Inputs) -> Result<Times, String>,
 }
 
-pub const ENTRIES: [Entry; 13] = [
+pub const ENTRIES: [Entry; 14] = [
     Entry { name: "read_grid", run: read_grid },
     Entry { name: "write_grid", run: write_grid },
     Entry { name: "read_book", run: read_book },
@@ -22,6 +22,7 @@ pub const ENTRIES: [Entry; 13] = [
     Entry { name: "write_prices", run: write_prices },
     Entry { name: "test_book", run: test_book },
     Entry { name: "find_flows", run: find_flows },
+    Entry { name: "find_cuts", run: find_cuts },
     Entry { name: "find_mcc", run: find_mcc },
     Entry { name: "settle_hour", run: settle_hour },
     Entry { name: "write_report", run: write_report },
@@ -221,6 +222,33 @@ fn find_flows(inputs: &Inputs) -> Result<Times, String> {
         },
         &mut || {
             let _ = black_box(plain::find_flows(nodes, constraints, 1, limits, black_box(factors), book, &mut plain_flows));
+        },
+    ))
+}
+
+/// On a book that fails at one constraint: about half of the period's contracts have a cut.
+fn find_cuts(inputs: &Inputs) -> Result<Times, String> {
+    let Size { nodes, constraints, contracts } = inputs.size;
+    let (limits, factors, book) = (&inputs.tight_limits()?, &inputs.factors, &inputs.book_file);
+    let (mut numbers, mut cuts, mut listed) = (vec![0; contracts], vec![0; contracts], 0);
+    let (mut plain_numbers, mut plain_cuts) = (vec![0; contracts], vec![0; contracts]);
+    for (process, period) in [(0, 0), (0, 1), (1, 0), (1, 1), (2, 0), (2, 1)] {
+        let proved = library::find_cuts(nodes, constraints, process, period, limits, factors, book, &mut numbers, &mut cuts, &mut listed);
+        let plain = plain::find_cuts(nodes, constraints, process, period, limits, factors, book, &mut plain_numbers, &mut plain_cuts);
+        agree(&(proved, Ok(listed)), &(0, plain))?;
+        agree(&(&numbers, &cuts), &(&plain_numbers, &plain_cuts))?;
+    }
+    if listed < contracts / 8 {
+        return Err(format!("only {listed} contracts have a cut"));
+    }
+    Ok(side_by_side(
+        &mut || {
+            let lent = (&mut numbers, &mut cuts, &mut listed);
+            black_box(library::find_cuts(nodes, constraints, 2, 1, limits, black_box(factors), book, lent.0, lent.1, lent.2));
+        },
+        &mut || {
+            let lent = (&mut plain_numbers, &mut plain_cuts);
+            let _ = black_box(plain::find_cuts(nodes, constraints, 2, 1, limits, black_box(factors), book, lent.0, lent.1));
         },
     ))
 }

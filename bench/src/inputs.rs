@@ -60,4 +60,17 @@ impl Inputs {
         let (old, new) = (0..nodes).map(|_| (draw.below(nodes as u64), draw.below(nodes as u64))).unzip();
         Inputs { size, form, limits, factors, prices, book, grid_file, book_file, price_file, old, new }
     }
+
+    /// Limits that the on-peak book exceeds in the monthly process, at the constraint in the middle alone and by 10 MW. The others have 1,000 MW to spare.
+    pub fn tight_limits(&self) -> Result<Vec<u64>, String> {
+        let Size { nodes, constraints, .. } = self.size;
+        let mut flows = vec![0; constraints];
+        plain::find_flows(nodes, constraints, 1, &self.limits, &self.factors, &self.book_file, &mut flows).expect("tables in range");
+        let limit = |(k, &flow): (usize, &i64)| flow / 100_000 + if k == constraints / 2 { -10_000 } else { 1_000_000 };
+        let limits: Vec<i64> = flows.iter().enumerate().map(limit).collect();
+        if limits.iter().any(|limit| !(0..=100_000_000).contains(limit)) {
+            return Err("the flows leave no room for such limits".to_string());
+        }
+        Ok(limits.iter().map(|&limit| limit as u64).collect())
+    }
 }

@@ -20,7 +20,8 @@ use std::process::ExitCode;
 use timing::Times;
 
 /// The entries whose cost grows with the contracts, the constraints and the nodes.
-const BY_CONTRACTS: [&str; 7] = ["read_book", "write_book", "remap_book", "test_book", "settle_hour", "write_report", "write_statement"];
+const BY_CONTRACTS: [&str; 8] =
+    ["read_book", "write_book", "remap_book", "test_book", "find_cuts", "settle_hour", "write_report", "write_statement"];
 const BY_CONSTRAINTS: [&str; 9] =
     ["read_grid", "write_grid", "read_prices", "write_prices", "test_book", "find_mcc", "settle_hour", "write_report", "write_statement"];
 const BY_NODES: [&str; 8] =
@@ -30,7 +31,7 @@ const BY_WIDE_NODES: [&str; 8] =
     ["read_grid", "write_grid", "read_book", "write_book", "remap_book", "test_book", "find_mcc", "settle_hour"];
 
 /// The entries that take nodes or their numbers, by the largest inputs that they take in the wide form.
-const WIDE: [(&str, Size); 11] = [
+const WIDE: [(&str, Size); 12] = [
     ("read_grid", WIDEST),
     ("write_grid", WIDEST),
     ("read_book", WIDEST),
@@ -38,6 +39,7 @@ const WIDE: [(&str, Size); 11] = [
     ("remap_book", WIDEST),
     ("test_book", WIDEST),
     ("find_flows", WIDEST),
+    ("find_cuts", WIDEST),
     ("find_mcc", WIDEST),
     ("settle_hour", WIDEST),
     ("write_report", WIDEST_TEXT),

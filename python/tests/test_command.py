@@ -14,6 +14,7 @@ from unittest import mock
 from support import CASE_L, IEEE14, ROOT, FolderTest, command, contents
 import crr
 from crr.cli import Bar
+from crr.decimals import decimal, whole
 
 CRR = ROOT / "crr"
 
@@ -58,6 +59,58 @@ class Statuses(FolderTest):
         command("pack", IEEE14, "-o", self.folder)
         for arguments in (("test",), ("settle",)):
             self.assertEqual(command(*arguments, IEEE14), command(*arguments, self.folder))
+
+
+class Cuts(FolderTest):
+    def derated(self):
+        """The example with less of line 2-4."""
+        shutil.copytree(IEEE14, self.folder / "case")
+        path = self.folder / "case" / "constraints.csv"
+        path.write_text(path.read_text().replace("2-4,65.000", "2-4,22.000"))
+        return self.folder / "case"
+
+    def test_listed(self):
+        status, out, err = command("cuts", self.derated(), "--process", "monthly")
+        rows = [line.split(",") for line in out.splitlines()]
+        self.assertEqual((status, rows[0]), (1, ["TIME_OF_USE", "PROCESS", "CRR_ID", "OWNER", "MW", "CUT_MW", "LEFT_MW"]))
+        self.assertEqual(rows[1], ["ON", "monthly", "CRR-003", "Alder Power", "12.500", "1.226", "11.274"])
+        self.assertEqual([row[2] for row in rows[1:]], ["CRR-003", "CRR-004", "CRR-001", "CRR-005", "CRR-007"])
+        said = "ON monthly: the book fails at 2-4 by 0.45829000 MW; cutting any one of the 5 contracts listed clears it\n"
+        self.assertEqual(err, said + "OFF monthly: the book passes\n")
+
+    def test_each_clears(self):
+        """Each row's cut, written into the book, lets it pass, and a thousandth less does not."""
+        case = self.derated()
+        book = (case / "book.csv").read_text()
+        for row in command("cuts", case, "--process", "monthly")[1].splitlines()[1:]:
+            contract, quantity, left = (row.split(",")[at] for at in (2, 4, 6))
+            line = next(line for line in book.splitlines() if line.startswith(contract))
+            for number, status in ((whole(left, 3), 0), (whole(left, 3) + 1, 1)):
+                (case / "book.csv").write_text(book.replace(line, line.replace(f",{quantity}", f",{decimal(number, 3)}")))
+                self.assertEqual(command("test", case, "--process", "monthly")[0], status, row)
+
+    def test_none_listed(self):
+        """A book that passes, and one that no single cut clears, have the same list: the status and the words differ."""
+        heading = "TIME_OF_USE,PROCESS,CRR_ID,OWNER,MW,CUT_MW,LEFT_MW\n"
+        self.assertEqual(command("cuts", CASE_L), (0, heading, "the book passes in all that was asked for: nothing to cut\n"))
+        said = "ON Tier LT: the book fails at 2-4 by 9.25829000 MW and at 2 more constraints; no cut of a single contract clears it\n"
+        self.assertEqual(command("cuts", self.derated(), "--process", "lt", "--period", "on"), (1, heading, said))
+
+    def test_json(self):
+        status, out, err = command("cuts", IEEE14, "--period", "on", "--json")
+        answer = json.loads(out)
+        self.assertEqual((status, err, answer["passed"], len(answer["verdicts"])), (1, "", False, 3))
+        cut = {"crr_id": "CRR-011", "owner": "Dogwood Trading", "mw": "25.000", "cut_mw": "4.000", "left_mw": "21.000"}
+        self.assertEqual((answer["verdicts"][1]["process"], answer["verdicts"][1]["cuts"]), ("Tier LT", [cut]))
+        self.assertEqual((answer["verdicts"][2]["verdict"], answer["verdicts"][2]["cuts"]), ("pass", []))
+
+    def test_both_forms(self):
+        command("pack", self.derated(), "-o", self.folder / "bin")
+        self.assertEqual(command("cuts", self.folder / "case"), command("cuts", self.folder / "bin"))
+
+    def test_faults(self):
+        status, out, err = command("cuts", self.folder)
+        self.assertEqual((status, out, err.count("neither CSV files")), (2, "", 1))
 
 
 class Terminal(io.StringIO):

@@ -5,10 +5,12 @@ import random
 import unittest
 from array import array
 from calendar import monthrange
+from ctypes import c_uint64
 from datetime import date, timedelta
 from fractions import Fraction
 
 from support import CASE_L, SEED, amounts, bits, draw_book, draw_grid, draw_prices, flows, half_away
+from crr.native import Entry, Lent
 import crr
 
 
@@ -92,11 +94,12 @@ class Refusals(unittest.TestCase):
     def test_rules(self):
         grid = crr.Grid(2, 1, array("Q", [5]), array("q", [1, 2]))
         empty = b"\0\0"
-        self.refused(16, crr.test_book, grid, empty, 3, 1)
+        for entry in (crr.test_book, crr.find_cuts):
+            self.refused(16, entry, grid, empty, 3, 1)
         self.refused(16, crr.released_percent, 3)
-        for entry, arguments in ((crr.test_book, (2, 2)), (crr.find_flows, (2,))):
+        for entry, arguments in ((crr.test_book, (2, 2)), (crr.find_flows, (2,)), (crr.find_cuts, (2, 2))):
             self.refused(17, entry, grid, empty, *arguments)
-        for entry, arguments in ((crr.test_book, (2, 1)), (crr.find_flows, (1,))):
+        for entry, arguments in ((crr.test_book, (2, 1)), (crr.find_flows, (1,)), (crr.find_cuts, (2, 1))):
             self.refused(9, entry, crr.Grid(2, 1, array("Q"), grid.factors), empty, *arguments)
             self.refused(6, entry, crr.Grid(2, 1, [100_000_001], grid.factors), empty, *arguments)
             self.refused(7, entry, crr.Grid(2, 1, grid.limits, [100_001, 0]), empty, *arguments)
@@ -105,6 +108,22 @@ class Refusals(unittest.TestCase):
         self.refused(15, crr.find_mcc, grid, [500_001])
         self.refused(17, crr.settle_hour, grid, empty, 2, [1])
         self.refused(15, crr.settle_hour, grid, empty, 1, [500_001])
+
+    def test_places_for_cuts(self):
+        """The function in Python lends places for all contracts: 9 for the rows is asked of the entry itself."""
+        entry, book = Entry("crr_find_cuts"), crr.write_book(2, [(0, 1, 7, 0, 1, 10)])
+
+        def listed(cells, numbers, cuts):
+            places = [Lent(array("Q", [7] * count), "Q", True) for count in (numbers, cuts)]
+            given = (2, 1, 2, 1, Lent(array("Q", [0]), "Q"), Lent(array("q", [1, 0]), "q"), Lent(book, "B"))
+            entry(*given, *places, cells)
+            return [list(place.owner) for place in places]
+
+        figure = c_uint64(7)
+        self.refused(9, listed, figure, 0, 1)
+        self.refused(9, listed, figure, 1, 0)
+        self.assertEqual(figure.value, 7)
+        self.assertEqual((listed(figure, 1, 2), figure.value), ([[0], [10, 7]], 1))
 
     def test_calendar(self):
         for year, month in ((2009, 12), (2038, 1), (2024, 0), (2024, 13), (2**64 - 1, 1)):
@@ -174,6 +193,38 @@ class Figures(unittest.TestCase):
             self.one_case(rng, 200, 64, 1000)
         for _ in range(150):
             self.one_case(rng, *rng.choice(((2, 0, 3), (5, 3, 20), (30, 12, 80), (9, 5, 0))))
+
+    def cuts(self, grid, rows, process, period):
+        """The cuts by trying each: the book with one contract lowered, or taken out, is tested."""
+        if crr.test_book(grid, crr.write_book(grid.nodes, rows), process, period).passed:
+            return []
+        found = []
+        for number, row in enumerate(rows):
+            for cut in range(1, row[5] + 1):
+                left = [(*row[:5], row[5] - cut)] if cut < row[5] else []
+                book = crr.write_book(grid.nodes, rows[:number] + left + rows[number + 1 :])
+                if crr.test_book(grid, book, process, period).passed:
+                    found.append((cut, number))
+                    break
+        return [(number, cut) for cut, number in sorted(found)]
+
+    def test_cuts(self):
+        rng, listed = random.Random(SEED), 0
+        for _ in range(60):
+            nodes, constraints = rng.randint(2, 4), rng.randint(1, 3)
+            rows = [(*rng.choices((0, 1), k=2), 7, *rng.choices(range(nodes), k=2), rng.randint(1, 25)) for _ in range(rng.randint(1, 6))]
+            factors = rng.choices((-100_000, -50_000, 0, 30_000, 100_000), k=nodes * constraints)
+            for period in (0, 1):
+                limits = [max(0, flow // 100_000 + rng.choice((-9, -3, 1, 2, 20))) for flow in flows(rows, factors, constraints, period)]
+                grid = crr.Grid(nodes, constraints, limits, factors)
+                expected = self.cuts(grid, rows, 2, period)
+                self.assertEqual(crr.find_cuts(grid, crr.write_book(nodes, rows), 2, period), expected)
+                listed += len(expected)
+        self.assertGreater(listed, 20)
+
+    def test_many_cuts(self):
+        grid = crr.Grid(2, 1, [9_999], [1_000, 0])
+        self.assertEqual(crr.find_cuts(grid, crr.write_book(2, [(0, 1, 7, 0, 1, 1_000)] * 1000), 2, 1), [(number, 100) for number in range(1000)])
 
     def test_mcc(self):
         grid = crr.read_grid((CASE_L / "grid.bin").read_bytes())

@@ -63,9 +63,18 @@ class Page(FolderTest):
         self.assertEqual((text.count("<li class=pass>"), text.count("<li class=fail>")), (4, 2))
         self.says(text, "7-8 reverse overloaded; at 7-8 reverse by 2.25000000 MW.", "an hour pays $0.0225 more than its congestion rent.")
         self.says(text, "7-9 reverse", "62.2%, over: Tier LT", "-$1,183.88 <small>charged</small>", "<td>2026-08</td>", "$11,034.2220770875")
+        self.says(text, "<p>This cut clears it:</p>", "CRR-011 <small>Dogwood Trading</small></th><td class=figure>2.250</td><td class=figure>22.750</td>")
         self.says(text, "prefers-color-scheme: dark", "@media print", "@media (max-width")
         self.assertEqual(text.count("<code>"), 4)
         self.assertTrue(text == self.page(IEEE14))
+
+    def test_cuts(self):
+        shutil.copytree(IEEE14, self.folder / "case")
+        limits, book = self.folder / "case" / "constraints.csv", self.folder / "case" / "book.csv"
+        limits.write_text(limits.read_text().replace("2-4,65.000", "2-4,22.500"))
+        book.write_text(book.read_text() + "CRR-017,Elm Irrigation,OPT,ON,Bus 2,Bus 4,2.000\n")
+        text = self.page(self.folder / "case")
+        self.says(text, "<p>Any one of these cuts clears it:</p>", "<summary>1 more</summary>", "<p>No cut of a single contract clears it.</p>")
 
     def test_flows(self):
         text, case = self.page(IEEE14), load(IEEE14)[0]

@@ -1,8 +1,8 @@
 /*
  * Calls every function of crr.h, on case L of document 01: each file read and written
  * again, the grid and the book in both forms, a node retired, the test, the flows,
- * the released shares, the MCC, the hour, the two texts; the calendar; and a balance
- * shared. Also a C++ program.
+ * the cuts, the released shares, the MCC, the hour, the two texts; the calendar; and a
+ * balance shared. Also a C++ program.
  */
 #include <stdint.h>
 #include <stdio.h>
@@ -11,8 +11,11 @@
 
 static uint8_t grid_file[CRR_MAX_GRID_BYTES], book_file[CRR_MAX_BOOK_BYTES], price_file[CRR_MAX_PRICE_BYTES];
 static uint8_t copy[CRR_MAX_GRID_BYTES], text[CRR_STATEMENT_BYTES];
+static uint64_t numbers[CRR_MAX_CONTRACTS], cuts[CRR_MAX_CONTRACTS];
 static uint64_t limits[CRR_MAX_CONSTRAINTS], prices[CRR_MAX_CONSTRAINTS], rows[6 * CRR_MAX_CONTRACTS], priced[CRR_MAX_CONTRACTS];
 static const uint64_t old_nodes[] = {2}, new_nodes[] = {1};
+/* A first limit that case L's book exceeds. */
+static const uint64_t tight[] = {6001, 50000};
 /* Case L's grid and book in the wide form, and the cell after each. */
 static const uint8_t wide_grid[] = {0x00, 0x05, 0x00, 0x03, 0x00, 0x30, 0xd4, 0x00, 0x03, 0x0d, 0x40, 0xea, 0x60,
                                     0xec, 0x78, 0x00, 0x00, 0x00, 0x00, 0x03, 0xd8, 0xf0, 0x27, 0x10, 0x00, 7};
@@ -50,7 +53,7 @@ int main(void) {
     size_t grid_len = load("grid.bin", grid_file, sizeof grid_file);
     size_t book_len = load("book.bin", book_file, sizeof book_file);
     size_t price_len = load("prices.bin", price_file, sizeof price_file);
-    size_t nodes = 0, constraints = 0, contracts = 0, bytes = 0, count = 7, lowest = 7, counted = 7;
+    size_t nodes = 0, constraints = 0, contracts = 0, bytes = 0, count = 7, lowest = 7, counted = 7, listed = 7;
     uint64_t form = 7, period = 7, set = 7, percent = 7, parts = 0, hours = 7, weekday = 0, year = 7, month = 7, day = 7;
     int64_t excess = 7, sum = 0, whole = 0;
 
@@ -88,6 +91,16 @@ int main(void) {
     flows[1] = 7;
     expect("crr_find_flows, too few cells", crr_find_flows(nodes, constraints, CRR_OFF_PEAK, limits, constraints, factors, nodes * constraints, book_file, book_len, flows, 1, &counted) == CRR_SHORT_TABLE
                                                 && flows[0] == 635070000 && flows[1] == 7 && counted == 3);
+    expect("crr_find_cuts, a pass", crr_find_cuts(nodes, constraints, CRR_MONTHLY, period, limits, constraints, factors, nodes * constraints, book_file, book_len,
+                                                  numbers, 0, cuts, 0, &listed) == CRR_OK
+                                        && listed == 0);
+    numbers[0] = numbers[2] = cuts[0] = cuts[2] = listed = 7;
+    expect("crr_find_cuts, too few cells", crr_find_cuts(nodes, constraints, CRR_MONTHLY, period, tight, constraints, factors, nodes * constraints, book_file, book_len,
+                                                         numbers, 2, cuts, 1, &listed) == CRR_SHORT_TABLE
+                                               && numbers[0] == 7 && cuts[0] == 7 && listed == 7);
+    expect("crr_find_cuts", crr_find_cuts(nodes, constraints, CRR_MONTHLY, period, tight, constraints, factors, nodes * constraints, book_file, book_len,
+                                          numbers, CRR_MAX_CONTRACTS, cuts, CRR_MAX_CONTRACTS, &listed) == CRR_OK
+                                && listed == 2 && numbers[0] == 1 && cuts[0] == 500 && numbers[1] == 0 && cuts[1] == 583 && numbers[2] == 7 && cuts[2] == 7);
     expect("crr_released_percent, annual", crr_released_percent(CRR_ANNUAL, &percent) == CRR_OK && percent == 65);
     expect("crr_released_percent, Tier LT", crr_released_percent(CRR_TIER_LT, &percent) == CRR_OK && percent == 60);
     expect("crr_released_percent, monthly", crr_released_percent(CRR_MONTHLY, &percent) == CRR_OK && percent == 100);

@@ -3,6 +3,7 @@
 mod bits;
 mod book;
 mod calendar;
+mod cuts;
 mod grid;
 mod prices;
 mod settlement;
@@ -12,6 +13,7 @@ mod text;
 
 pub use book::{read_book, remap_book, write_book};
 pub use calendar::{month_hours, month_later, weekday};
+pub use cuts::find_cuts;
 pub use grid::{read_grid, write_grid, Header};
 pub use prices::{read_prices, write_prices};
 pub use settlement::{find_mcc, settle_hour, Totals};

@@ -54,7 +54,7 @@ pub fn carry(constraints: usize, period: u64, factors: &[i64], form: Form, book:
     flows
 }
 
-fn released(process: u64, limit: u64) -> i64 {
+pub fn released(process: u64, limit: u64) -> i64 {
     (limit * [65, 60, 100][process as usize] * 1000) as i64
 }
 

@@ -5,4 +5,5 @@ fn main() {
     request_vectors::go_through();
     calendar_vectors::go_through();
     share_vectors::go_through();
+    cut_vectors::go_through();
 }

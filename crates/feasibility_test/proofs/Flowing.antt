@@ -95,14 +95,14 @@ module _ (n k : ℕ) (fs : List ℤ) (c : Contract) (h : InRange n c) where
   cell : (s j : ℕ) → s < n → j < k → getD fs (s * k + j) (pos 0) ≡ factor (factorsOf n k fs) s j
   cell s j hs hj = sym (getD-take (n * k) fs (s * k + j) (pos 0) (place-in n k s j hs hj))
 
-  own : (j : ℕ) → j < k → part fs (c .source * k) (c .sink * k) (c .quantity) (c .kind) j ≡ flow (factorsOf n k fs) c j
+  pub own-flow : (j : ℕ) → j < k → part fs (c .source * k) (c .sink * k) (c .quantity) (c .kind) j ≡ flow (factorsOf n k fs) c j
   unfolding flow part
-  own j b = rw (cell (c .source) j (h .source-below) b, cell (c .sink) j (h .sink-below) b)
+  own-flow j b = rw (cell (c .source) j (h .source-below) b, cell (c .sink) j (h .sink-below) b)
 
   -- every cell has the contract's flow
   pub added : (old new : List ℤ) → ((j : ℕ) → j < k → getD new j (pos 0) ≡ getD old j (pos 0) +ℤ part fs (c .source * k) (c .sink * k) (c .quantity) (c .kind) j)
       → (j : ℕ) → j < k → getD new j (pos 0) ≡ getD old j (pos 0) +ℤ flow (factorsOf n k fs) c j
-  added old new done j b = done j b ∙ ap (λ (z : ℤ). getD old j (pos 0) +ℤ z) (own j b)
+  added old new done j b = done j b ∙ ap (λ (z : ℤ). getD old j (pos 0) +ℤ z) (own-flow j b)
 
 -- after one contract more, whose flows were added
 pub step-carries : (f : Factors) (c : Contract) (cs : List Contract) (old new : List ℤ) (count : ℕ)

@@ -72,7 +72,7 @@ module _ (n k : ℕ) (ls : List ℕ) (fs : List ℤ) (process : Process) (t : Pe
   abbrev tested : List Contract
   tested = ofPeriod t cs
 
-  set-is : s ≡ overloadSet g process tested
+  pub set-is : s ≡ overloadSet g process tested
   unfolding overloadSet overloaded released
   set-is = is ∙ set-cong k _ _ (λ j h. rw (getD-take k ls j 0 h, carried .flows-are j h))
 

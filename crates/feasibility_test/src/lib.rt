@@ -145,7 +145,7 @@ pub fn carry(
 }
 
 // The set of overloaded constraints, from its highest bit down: bit k is set where the flow on constraint k exceeds its released limit.
-fn overload_set(constraints: usize, process: Process, limits: &[u64], flows: Flows) -> u64
+pub fn overload_set(constraints: usize, process: Process, limits: &[u64], flows: Flows) -> u64
     requires { ⌜ Judgeable constraints (now limits) flows ⌝ }
     ensures { λ r. ⌜ r ≡ setOf constraints (λ (k : ℕ). ltZ (pos (getD (before limits) k 0 * percent process * 1000)) (getD (flows .flows) k (pos 0))) ⌝ }
 {

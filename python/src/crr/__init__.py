@@ -5,7 +5,7 @@ down raises `Refused`. CSV files are read and written by `crr.from_csv` and `crr
 """
 
 from .dates import month_hours, month_later, weekday
-from .feasibility import PERIODS, PROCESSES, Flows, Verdict, find_flows, released_percent, test_book
+from .feasibility import PERIODS, PROCESSES, Cut, Flows, Verdict, find_cuts, find_flows, released_percent, test_book
 from .files import (
     Contract,
     Grid,
@@ -32,6 +32,7 @@ __all__ = [
     "PERIODS",
     "PROCESSES",
     "Contract",
+    "Cut",
     "Flows",
     "Grid",
     "Hour",
@@ -42,6 +43,7 @@ __all__ = [
     "Settled",
     "Settler",
     "Verdict",
+    "find_cuts",
     "find_flows",
     "find_mcc",
     "month_hours",

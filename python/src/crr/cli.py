@@ -1,4 +1,7 @@
-"""The command `crr`. Exit status: 0; 1 where `crr test` finds that the book fails; 2 where the input has faults, or something can't be read or written."""
+"""The command `crr`.
+
+Exit status: 0; 1 where `crr test` or `crr cuts` finds that the book fails; 2 where the input has faults, or something can't be read or written.
+"""
 
 from __future__ import annotations
 
@@ -48,6 +51,7 @@ _COMMANDS: Dict[str, Callable[[argparse.Namespace], Answer]] = {
     "pack": lambda o: commands.pack(o.folder, o.out or o.folder, o.round_prices),
     "unpack": lambda o: commands.unpack(o.folder, o.out or o.folder, o.force),
     "test": lambda o: commands.test(o.folder, _PERIODS[o.period], _PROCESSES[o.process]),
+    "cuts": lambda o: commands.cuts(o.folder, _PERIODS[o.period], _PROCESSES[o.process]),
     "settle": lambda o: commands.settle(o.folder, o.out, o.jobs, o.round_prices, Bar("settle")),
     "report": _report,
     "remap": lambda o: commands.remap(o.folder, o.pairs, o.out, o.round_prices),
@@ -59,6 +63,7 @@ _HELP = {
     "pack": "CSV files to grid.bin, book.bin, names.csv and price files",
     "unpack": "bin files to CSV files",
     "test": "the simultaneous feasibility test",
+    "cuts": "what clears a failing book: each contract whose quantity, lowered alone, lets it pass, and by how much",
     "settle": "settle every hour: holder by month, hour by hour, contract by contract",
     "report": "one HTML page: verdicts, loading of constraints, payments",
     "remap": "move the ends of contracts from old nodes to new ones",
@@ -84,7 +89,7 @@ def _months(text: str) -> Tuple[Month, Month]:
 
 def _parser() -> argparse.ArgumentParser:
     parser = argparse.ArgumentParser(prog="crr", description="Congestion revenue rights: feasibility test and hourly settlement.")
-    parser.epilog = "Exit status: 0; 1 the book fails (crr test); 2 the input has faults, or something can't be read or written."
+    parser.epilog = "Exit status: 0; 1 the book fails (crr test, crr cuts); 2 the input has faults, or something can't be read or written."
     adding = parser.add_subparsers(dest="command", required=True, metavar="COMMAND")
     of = {name: adding.add_parser(name, help=text, description=text) for name, text in _HELP.items()}
     for name, command in of.items():
@@ -103,8 +108,9 @@ def _parser() -> argparse.ArgumentParser:
     for name, what in places.items():
         of[name].add_argument("-o", "--out", type=Path, metavar="OUT", required=name == "remap", help=what)
     of["unpack"].add_argument("--force", action="store_true", help="write over CSV files that differ")
-    of["test"].add_argument("--period", choices=list(_PERIODS), default="both")
-    of["test"].add_argument("--process", choices=list(_PROCESSES), default="all")
+    for name in ("test", "cuts"):
+        of[name].add_argument("--period", choices=list(_PERIODS), default="both")
+        of[name].add_argument("--process", choices=list(_PROCESSES), default="all")
     of["settle"].add_argument("-j", "--jobs", type=int, default=1, metavar="N", help="how many processes")
     return parser
 

@@ -10,11 +10,11 @@ from .case import TIMES_OF_USE, Case, Names
 from .dates import HOURS_A_DAY, month_hours
 from .decimals import decimal, whole
 from .faults import Fault, raise_any
-from .feasibility import PROCESSES, Verdict, test_book
+from .feasibility import PROCESSES, Cut, Verdict, find_cuts, test_book
 from .files import Contract, read_book, read_grid, remap_book
 from .from_csv import DEMANDS, load, read_demands
 from .hours import Progress, Settled, settle_hours
-from .interface import BALANCE, FLOW_PLACES
+from .interface import BALANCE, FLOW_PLACES, QUANTITY
 from .native import Refused
 from .packed import Packed, hour_name, packed, read_packed, unpacked, write_bin, write_packed
 from .results import HOLDERS, HOURS, Time, dollars, exact_dollars, holder_months, hour_rows, result_files
@@ -148,6 +148,58 @@ def test(folder: Path, periods: Sequence[int], processes: Sequence[int]) -> Answ
     status = PASSES if all(verdict.passed for verdict in answers.values()) else FAILS
     text = csv_text(VERDICTS, ((*row[:-1], "; ".join(row[-1])) for row in rows))
     return Answer(status, text, {"passed": status == PASSES, "verdicts": _objects(VERDICTS, rows)})
+
+
+CUTS = ("CRR_ID", "OWNER", "MW", "CUT_MW", "LEFT_MW")
+CutRow = Tuple[str, str, str, str, str]
+
+
+def cut_rows(found: Opened, answers: Dict[Tuple[int, int], Verdict]) -> Dict[Tuple[int, int], List[CutRow]]:
+    """For each period and process in which the book fails, the contracts each of which clears it by a cut of its own, the smallest cut first."""
+    files = files_of(found)
+    grid = read_grid(files.grid)
+    failing = [line for line, verdict in answers.items() if not verdict.passed]
+    return {(period, process): [_cut_row(found, cut) for cut in find_cuts(grid, files.book, process, period)] for period, process in failing}
+
+
+def _cut_row(found: Opened, cut: Cut) -> CutRow:
+    contract = found.book[cut.contract]
+    quantity, cut_by, left = (decimal(number, QUANTITY.places) for number in (contract.quantity, cut.cut, contract.quantity - cut.cut))
+    return found.names.contracts[cut.contract], found.names.holder(contract.holder), quantity, cut_by, left
+
+
+def cuts(folder: Path, periods: Sequence[int], processes: Sequence[int]) -> Answer:
+    """What clears a failing book; the status is the test's, since an empty list alone does not tell whether the book passes."""
+    found = opened(folder, prices=False)
+    answers = verdicts(files_of(found), periods, processes)
+    listed = cut_rows(found, answers)
+    status = FAILS if listed else PASSES
+    text = csv_text(("TIME_OF_USE", "PROCESS", *CUTS), ((*_line(line), *row) for line, rows in listed.items() for row in rows))
+    told = _objects(VERDICTS, [_verdict_row(found.names, *line, verdict) for line, verdict in answers.items()])
+    data = [{**verdict, "cuts": _objects(CUTS, listed.get(line, []))} for line, verdict in zip(answers, told)]
+    return Answer(status, text, {"passed": status == PASSES, "verdicts": data}, _cuts_told(found.names, answers, listed))
+
+
+def _line(line: Tuple[int, int]) -> Tuple[str, str]:
+    period, process = line
+    return TIMES_OF_USE[period], PROCESSES[process]
+
+
+def _cuts_told(names: Names, answers: Dict[Tuple[int, int], Verdict], listed: Dict[Tuple[int, int], List[CutRow]]) -> str:
+    """What the list says of each period and process, in words."""
+    if not listed:
+        return "the book passes in all that was asked for: nothing to cut\n"
+    said = []
+    for line, rows in listed.items():
+        verdict = answers[line]
+        others = verdict.count - 1
+        more = f" and at {others} more constraint{'' if others == 1 else 's'}" if others else ""
+        which = f"any one of the {len(rows):,} contracts" if len(rows) > 1 else "the one contract"
+        clears = f"cutting {which} listed clears it" if rows else "no cut of a single contract clears it"
+        excess = f"{names.constraints[verdict.lowest]} by {decimal(verdict.excess, FLOW_PLACES)} MW"
+        said.append(f"{' '.join(_line(line))}: the book fails at {excess}{more}; {clears}\n")
+    passing = ", ".join(" ".join(_line(line)) for line in answers if line not in listed)
+    return "".join(said) + (f"{passing}: the book passes\n" if passing else "")
 
 
 def settled(found: Opened, jobs: int, progress: Progress) -> Settled:

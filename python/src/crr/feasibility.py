@@ -1,4 +1,4 @@
-"""The simultaneous feasibility test, the flows that it sums, and the share of each limit that a process releases."""
+"""The simultaneous feasibility test, the flows that it sums, the cuts that clear a failing book, and the share of each limit that a process releases."""
 
 from __future__ import annotations
 
@@ -7,10 +7,12 @@ from dataclasses import dataclass
 from typing import List, NamedTuple, Optional, Tuple
 
 from .files import Grid
+from .interface import MAX_CONTRACTS
 from .native import Bytes, Entry, Lent, lend_bytes, lend_cells, zeros
 
 _test_book = Entry("crr_test_book")
 _find_flows = Entry("crr_find_flows")
+_find_cuts = Entry("crr_find_cuts")
 _released_percent = Entry("crr_released_percent")
 
 PERIODS = ("off-peak", "on-peak")  # by number
@@ -49,6 +51,13 @@ class Flows(NamedTuple):
     counted: int
 
 
+class Cut(NamedTuple):
+    """A contract by its number in the book, and the least by which its quantity, lowered alone, lets a failing book pass, in thousandths of a MW."""
+
+    contract: int
+    cut: int
+
+
 def test_book(grid: Grid, book: Bytes, process: int, period: int) -> Verdict:
     """Whether the contracts of a period are feasible on the grid in a process."""
     overloaded, count, lowest, excess = c_uint64(), c_uint64(), c_uint64(), c_int64()
@@ -63,6 +72,17 @@ def find_flows(grid: Grid, book: Bytes, period: int) -> Flows:
     limits, factors = lend_cells(grid.limits, "Q"), lend_cells(grid.factors, "q")
     _find_flows(grid.nodes, grid.constraints, period, limits, factors, lend_bytes(book), Lent(flows, "q", True), counted)
     return Flows(list(flows), counted.value)
+
+
+def find_cuts(grid: Grid, book: Bytes, process: int, period: int) -> List[Cut]:
+    """The contracts of a failing book each of which can clear it alone, by rising cuts and then by number. A cut of the whole quantity is a removal.
+
+    Empty where the book passes, and also where no single contract's cut clears it: `test_book` tells these apart."""
+    numbers, cuts, listed = zeros("Q", MAX_CONTRACTS), zeros("Q", MAX_CONTRACTS), c_uint64()
+    limits, factors = lend_cells(grid.limits, "Q"), lend_cells(grid.factors, "q")
+    places = (Lent(numbers, "Q", True), Lent(cuts, "Q", True))
+    _find_cuts(grid.nodes, grid.constraints, process, period, limits, factors, lend_bytes(book), *places, listed)
+    return list(map(Cut, numbers[: listed.value], cuts[: listed.value]))
 
 
 def released_percent(process: int) -> int:

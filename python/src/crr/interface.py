@@ -95,6 +95,9 @@ DECLARATIONS: Dict[str, str] = {
     "const int64_t *factors, size_t factors_len, const uint8_t *book, size_t book_len, uint64_t *set, size_t *count, size_t *lowest, int64_t *excess",
     "crr_find_flows": "size_t nodes, size_t constraints, uint64_t period, const uint64_t *limits, size_t limits_len, "
     "const int64_t *factors, size_t factors_len, const uint8_t *book, size_t book_len, int64_t *flows, size_t flows_len, size_t *counted",
+    "crr_find_cuts": "size_t nodes, size_t constraints, uint64_t process, uint64_t period, const uint64_t *limits, size_t limits_len, "
+    "const int64_t *factors, size_t factors_len, const uint8_t *book, size_t book_len, uint64_t *numbers, size_t numbers_len, "
+    "uint64_t *cuts, size_t cuts_len, size_t *listed",
     "crr_released_percent": "uint64_t process, uint64_t *percent",
     "crr_find_mcc": "size_t nodes, size_t constraints, const int64_t *factors, size_t factors_len, "
     "const uint64_t *prices, size_t prices_len, int64_t *mcc, size_t mcc_len",

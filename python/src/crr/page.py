@@ -6,7 +6,7 @@ Bars are drawn in percent of the picture's width, so that text keeps its size on
 from __future__ import annotations
 
 from html import escape
-from typing import Callable, Dict, List, NamedTuple, Sequence, Tuple
+from typing import Callable, Dict, List, Mapping, NamedTuple, Sequence, Tuple
 
 from .decimals import decimal
 from .feasibility import PERIODS, PROCESSES, Flows, Verdict
@@ -16,6 +16,7 @@ from .style import CSS
 
 MOST_LOADED = 15  # constraints shown at once; the others are folded
 MOST_HOLDERS = 25
+MOST_CUTS = 5
 
 
 class Input(NamedTuple):
@@ -35,6 +36,9 @@ class Month(NamedTuple):
     exact: str
 
 
+CutRow = Tuple[str, str, str, str, str]  # contract, holder, quantity, cut, and what is left, in MW
+
+
 class Figures(NamedTuple):
     """All that the page shows."""
 
@@ -44,6 +48,7 @@ class Figures(NamedTuple):
     limits: Sequence[int]
     percents: Sequence[int]  # by process
     verdicts: Dict[Tuple[int, int], Verdict]  # by period and process
+    cuts: Mapping[Tuple[int, int], Sequence[CutRow]]  # where the book fails
     flows: Sequence[Flows]  # by period
     holders: Sequence[Tuple[str, int]]  # cents
     months: Sequence[Month]  # the last one: all of them
@@ -73,8 +78,24 @@ def _verdict_card(figures: Figures, period: int, process: int) -> str:
     owed = decimal(verdict.excess, 2 + PART_PLACES).rstrip("0")
     return (
         f"<li class=fail>{head}<b>\u2717 FAIL</b><p>{name}{more} overloaded; at {name} by {decimal(verdict.excess, FLOW_PLACES)} MW.</p>"
-        f"<p>At one cent per MWh there and 0 elsewhere, an hour pays ${owed} more than its congestion rent.</p></li>"
+        f"<p>At one cent per MWh there and 0 elsewhere, an hour pays ${owed} more than its congestion rent.</p>"
+        f"{_cut_table(figures.cuts[period, process])}</li>"
     )
+
+
+def _cut_table(rows: Sequence[CutRow]) -> str:
+    """The contracts each of which clears the book by a cut of its own, the smallest cut first."""
+    if not rows:
+        return "<p>No cut of a single contract clears it.</p>"
+    drawn = [
+        f"<tr><th scope=row>{escape(contract)} <small>{escape(holder)}</small></th><td class=figure>{cut}</td><td class=figure>{left}</td></tr>"
+        for contract, holder, _, cut, left in rows
+    ]
+    head = "<tr><th scope=col>contract</th><th scope=col class=figure>cut, MW</th><th scope=col class=figure>left, MW</th></tr>"
+    folded = drawn[MOST_CUTS:]
+    rest = f"<details><summary>{len(folded):,} more</summary><table class=cuts>{head}{''.join(folded)}</table></details>" if folded else ""
+    which = "Any one of these cuts" if len(rows) > 1 else "This cut"
+    return f"<p>{which} clears it:</p><table class=cuts>{head}{''.join(drawn[:MOST_CUTS])}</table>{rest}"
 
 
 def _verdict_section(figures: Figures) -> str:

@@ -8,7 +8,7 @@ from fractions import Fraction
 from pathlib import Path
 from typing import Dict, List, Optional, cast
 
-from .commands import PASSES, Answer, Opened, counts_told, files_of, is_csv, opened, settled, verdicts
+from .commands import PASSES, Answer, Opened, counts_told, cut_rows, files_of, is_csv, opened, settled, verdicts
 from .feasibility import PERIODS, PROCESSES, find_flows, released_percent
 from .files import read_grid
 from .hours import Progress, Settled
@@ -49,7 +49,7 @@ def _months(found: Opened, result: Settled) -> List[Month]:
 
 def figures(folder: Path, found: Opened, files: Packed, result: Settled) -> Figures:
     """All that the page shows of a case."""
-    grid = read_grid(files.grid)
+    grid, answers = read_grid(files.grid), verdicts(files)
     holders = [(found.names.holder(holder), cents) for holder, cents in holder_sums(result, found.book).items()]
     return Figures(
         folder.resolve().name,
@@ -57,7 +57,8 @@ def figures(folder: Path, found: Opened, files: Packed, result: Settled) -> Figu
         found.names.constraints,
         cast("array[int]", grid.limits),
         [released_percent(process) for process in range(len(PROCESSES))],
-        verdicts(files),
+        answers,
+        cut_rows(found, answers),
         [find_flows(grid, files.book, period) for period in range(len(PERIODS))],
         holders,
         _months(found, result),

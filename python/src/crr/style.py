@@ -22,6 +22,8 @@ p { margin: 4px 0 12px; max-width: 72ch; }
 .verdicts b { font-size: 1.2em; color: var(--pass); }
 .verdicts .fail b { color: var(--fail); }
 .verdicts p { margin: 2px 0 0; font-size: .9em; }
+.cuts { font-size: .9em; } .cuts th, .cuts td { border-top: 1px solid var(--rule); padding: 2px 8px 2px 0; }
+.cuts th { font-weight: 400; overflow-wrap: anywhere; } .cuts th small { display: block; color: var(--faint); } .cuts .figure { padding: 2px 0 2px 8px; }
 table { border-collapse: collapse; width: 100%; font-variant-numeric: tabular-nums; }
 th { font-weight: 600; text-align: left; }
 th, td { padding: 4px 12px 4px 0; vertical-align: middle; }

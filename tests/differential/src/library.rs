@@ -103,6 +103,23 @@ mod c {
             flows_len: usize,
             counted: *mut usize,
         ) -> u64;
+        pub fn crr_find_cuts(
+            nodes: usize,
+            constraints: usize,
+            process: u64,
+            period: u64,
+            limits: *const u64,
+            limits_len: usize,
+            factors: *const i64,
+            factors_len: usize,
+            book: *const u8,
+            book_len: usize,
+            numbers: *mut u64,
+            numbers_len: usize,
+            cuts: *mut u64,
+            cuts_len: usize,
+            listed: *mut usize,
+        ) -> u64;
         pub fn crr_released_percent(process: u64, percent: *mut u64) -> u64;
         pub fn crr_find_mcc(
             nodes: usize,
@@ -284,6 +301,40 @@ pub fn find_flows(
             flows.as_mut_ptr(),
             flows.len(),
             counted,
+        )
+    }
+}
+
+#[allow(clippy::too_many_arguments)]
+pub fn find_cuts(
+    nodes: usize,
+    constraints: usize,
+    process: u64,
+    period: u64,
+    limits: &[u64],
+    factors: &[i64],
+    book: &[u8],
+    numbers: &mut [u64],
+    cuts: &mut [u64],
+    listed: &mut usize,
+) -> u64 {
+    unsafe {
+        c::crr_find_cuts(
+            nodes,
+            constraints,
+            process,
+            period,
+            limits.as_ptr(),
+            limits.len(),
+            factors.as_ptr(),
+            factors.len(),
+            book.as_ptr(),
+            book.len(),
+            numbers.as_mut_ptr(),
+            numbers.len(),
+            cuts.as_mut_ptr(),
+            cuts.len(),
+            listed,
         )
     }
 }

@@ -13,7 +13,7 @@ mod tally;
 mod vectors;
 
 use draw::{Draw, EXTREMES};
-use rounds::{calendar, demand, forms, headers, priced, shares, text};
+use rounds::{calendar, cuts, demand, forms, headers, priced, shares, text};
 use std::env;
 use std::process::ExitCode;
 use tally::{Entry, Round, Tally};
@@ -36,7 +36,7 @@ const fn plain(name: &'static str, refusals: &'static [u64], cases: &'static [&'
 }
 
 /// Each entry, with the refusals that the papers list for it, each to be drawn and no other, and the cases that the change requests name.
-const ENTRIES: [Entry; 20] = [
+const ENTRIES: [Entry; 21] = [
     plain("read_grid", &[1, 2, 3, 4, 5, 6, 7, 8, 9], &[&forms::GRIDS_READ], rounds::grid::read),
     Entry { rounds: headers::FIRST_BYTES, ..plain("grid_headers", &[1, 2, 3, 4, 5, 6, 7, 8, 9], &[], headers::grid) },
     plain("write_grid", &[2, 3, 6, 7, 9], &[&forms::GRIDS_WRITTEN], rounds::grid::write),
@@ -48,6 +48,10 @@ const ENTRIES: [Entry; 20] = [
     plain("write_prices", &[3, 9, 15, 17], &[], rounds::prices::write),
     plain("test_book", &[1, 2, 3, 4, 5, 6, 7, 9, 10, 11, 13, 16, 17], &[&forms::BOOKS], rounds::test::round),
     plain("find_flows", &[1, 2, 3, 4, 5, 6, 7, 9, 10, 11, 13, 17], &[&forms::BOOKS], rounds::flows::round),
+    Entry {
+        rounds: cuts::FIRST_ROUNDS,
+        ..plain("find_cuts", &[1, 2, 3, 4, 5, 6, 7, 9, 10, 11, 13, 16, 17], &[&cuts::CASES, &forms::BOOKS], cuts::round)
+    },
     plain("released_percent", &[16], &[], rounds::flows::percent),
     plain("find_mcc", &[2, 3, 7, 9, 15], &[], rounds::settlement::mcc),
     plain("settle_hour", &[1, 2, 3, 4, 5, 7, 9, 10, 11, 13, 15, 17], &[&priced::CASES, &forms::BOOKS], rounds::settlement::hour),

@@ -1,6 +1,7 @@
 //! The checked values of the scope document and of the change requests, asked of the second implementation, so that it is not trusted on its own word.
 
 mod calendar;
+mod cuts;
 mod forms;
 mod shares;
 
@@ -210,7 +211,7 @@ fn remap_refusals() -> [bool; 8] {
 /// Prints how many hold; how many do not.
 pub fn check() -> usize {
     let base = [&settlement_values()[..], &priced_values(), &room_values(), &test_values(), &file_values()].concat();
-    let all = [&base[..], &same_ends_values(), &remap_values(), &remap_refusals(), &forms::values(), &calendar::values(), &shares::values()].concat();
+    let all = [&base[..], &same_ends_values(), &remap_values(), &remap_refusals(), &forms::values(), &calendar::values(), &shares::values(), &cuts::values()].concat();
     let wrong = all.iter().filter(|holds| !**holds).count();
     println!("second implementation on the papers' checked values: {} hold, {wrong} do not", all.len() - wrong);
     wrong

@@ -2,6 +2,7 @@
 
 pub mod book;
 pub mod calendar;
+pub mod cuts;
 pub mod demand;
 pub mod flows;
 pub mod forms;

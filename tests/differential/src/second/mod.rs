@@ -3,6 +3,7 @@
 
 pub mod book;
 pub mod calendar;
+pub mod cuts;
 pub mod flows;
 pub mod grid;
 pub mod prices;

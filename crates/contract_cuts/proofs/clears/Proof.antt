@@ -1,0 +1,120 @@
+-- `clears`: the cut is enough at the constraints below k.
+use mathlib.Core.Path.{_≡_, refl}
+use mathlib.Core.Bool.{true}
+use Prim.Native.Nat.{ℕ, _-_, _*_, _^_, _≤_, _<_}
+use native.Mathlib.Omega.{arith}
+use lib.IntN.{pos, natAbs, _*ℤ_}
+use Rattle.integers.proofs.Machine.{back}
+use borrow.Author.Needs.{needs}
+use Rattle.cut_rules.specs.Inner.{enough}
+use Rattle.cut_rules.proofs.Turns.{enough-turn, enough-fails, enough-end}
+use Rattle.contract_cuts.specs.Inner.{cellAt, slopeFrom, slopeIn}
+use Rattle.contract_cuts.proofs.Reliefs.{factors-kept, relief-is, relief-small, over-so, within-so}
+use Rattle.contract_cuts.proofs.clears.Statement.{statement}
+use Rattle.contract_cuts.proofs.clears.Tie as tie
+
+abbrev Inv-loop : tie.InvT-loop
+Inv-loop constraints factors excesses cut source sink kind quantity k₀ k =
+    (k ≤ constraints) × (enough k (cellAt excesses) (slopeFrom factors source sink kind) cut ≡ true)
+
+abbrev μ-loop : tie.MeasureT-loop
+μ-loop constraints factors excesses cut source sink kind quantity k₀ k = constraints - k
+
+mul-source : tie.Need-mul-source Inv-loop μ-loop
+mul-source c = search needs
+
+mul-sink : tie.Need-mul-sink Inv-loop μ-loop
+mul-sink c = search needs
+
+loop-holds : tie.Need-loop-holds Inv-loop μ-loop
+unfolding enough
+loop-holds c = (omega arith, refl)
+
+add-counted-flow : tie.Need-add-counted-flow Inv-loop μ-loop
+add-counted-flow c = search needs
+
+mul-counted-flow : tie.Need-mul-counted-flow Inv-loop μ-loop
+mul-counted-flow c = search needs
+
+shared-slice-copy-out-counted-flow : tie.Need-shared-slice-copy-out-counted-flow Inv-loop μ-loop
+shared-slice-copy-out-counted-flow c = search needs
+
+add-counted-flow-2 : tie.Need-add-counted-flow-2 Inv-loop μ-loop
+add-counted-flow-2 c = search needs
+
+mul-counted-flow-2 : tie.Need-mul-counted-flow-2 Inv-loop μ-loop
+mul-counted-flow-2 c = search needs
+
+shared-slice-copy-out-counted-flow-2 : tie.Need-shared-slice-copy-out-counted-flow-2 Inv-loop μ-loop
+shared-slice-copy-out-counted-flow-2 c = search needs
+
+counted-flow-requires : tie.Need-counted-flow-requires Inv-loop μ-loop
+counted-flow-requires c κs =
+    let s = c .before .before .before .before .before .before in
+    let k = c .before .before .before .loop .k in
+    let r = factors-kept (s .args .constraints) (s .args .factors .now) (s .args .c) (s .pre .0) k (c .before .before .loop-test .taken) in
+    (omega (arith, r), omega (arith, r), s .pre .2)
+
+near : (c : tie.After-counted-flow Inv-loop μ-loop) → c .before .before .before .before .loop .k < c .before .before .before .before .before .before .before .args .constraints
+near c = c .before .before .before .loop-test .taken
+
+mul-t14 : tie.Need-mul-t14 Inv-loop μ-loop
+mul-t14 c = search needs
+
+shared-slice-copy-out-t21 : tie.Need-shared-slice-copy-out-t21 Inv-loop μ-loop
+shared-slice-copy-out-t21 c = let s = c .before .before .before .before .before .before .before in omega (arith, near c, s .pre .1 .long)
+
+exceeds-requires : tie.Need-exceeds-requires Inv-loop μ-loop
+exceeds-requires c κs =
+    let s = c .before .before .before .before .before .before .before .before in
+    let k = c .before .before .before .before .before .loop .k in
+    let h = near (c .before) in
+    let relief = relief-small (s .args .constraints) (s .args .factors .now) (s .args .c) (s .pre .0) k h _ (s .args .cut) (s .pre .2) (c .before .counted-flow .ensures) in
+    (rw (back (cellAt (s .args .excesses .now) k) (s .pre .1 .sized k h)) (s .pre .1 .sized k h), omega (arith, relief))
+
+-- the cut's flow, and what the comparison says of the excess
+module _ (c : tie.After-exceeds Inv-loop μ-loop) where
+  abbrev s : tie.Start Inv-loop μ-loop
+  s = c .before .before .before .before .before .before .before .before .before
+
+  abbrev k : ℕ
+  k = c .before .before .before .before .before .before .loop .k
+
+  relief : c .before .before .counted-flow .result .0 ≡ slopeIn (s .args .constraints) (s .args .factors .now) (s .args .c) k *ℤ pos (s .args .cut)
+  relief = relief-is (s .args .constraints) (s .args .factors .now) (s .args .c) (s .pre .0) k (near (c .before .before)) _ (s .args .cut) (c .before .before .counted-flow .ensures)
+
+  excess-small : natAbs (cellAt (s .args .excesses .now) k) < 2 ^ 63
+  excess-small = s .pre .1 .sized k (near (c .before .before))
+
+returns : tie.Need-returns Inv-loop μ-loop
+returns c =
+    let x = c .before in
+    let e = cellAt (s x .args .excesses .now) in
+    let over = over-so (e (k x)) _ _ _ (back (e (k x)) (excess-small x)) (relief x) (x .exceeds .result) (x .exceeds .ensures) (c .if1 .taken) in
+    enough-fails e (slopeIn (s x .args .constraints) (s x .args .factors .now) (s x .args .c)) (s x .args .constraints) (k x) (s x .args .cut) (near (x .before .before)) over
+
+add-k : tie.Need-add-k Inv-loop μ-loop
+add-k c = search needs
+
+loop-less : tie.Need-loop-less Inv-loop μ-loop
+loop-less c = search needs
+
+loop-again : tie.Need-loop-again Inv-loop μ-loop
+loop-again c =
+    let x = c .before in
+    let e = cellAt (s x .args .excesses .now) in
+    let within = within-so (e (k x)) _ _ _ (back (e (k x)) (excess-small x)) (relief x) (x .exceeds .result) (x .exceeds .ensures) (c .if1 .left) in
+    let so-far = x .before .before .before .before .before .before .loop .inv .1 in
+    (omega arith, enough-turn e (slopeIn (s x .args .constraints) (s x .args .factors .now) (s x .args .c)) (k x) (s x .args .cut) so-far within)
+
+returns-2 : tie.Need-returns-2 Inv-loop μ-loop
+returns-2 c =
+    let s = c .before .before .before .before in
+    let l = c .before .loop in
+    enough-end (cellAt (s .args .excesses .now)) (slopeIn (s .args .constraints) (s .args .factors .now) (s .args .c)) (s .args .constraints) (l .k) (s .args .cut) (omega arith) (l .inv .1)
+
+pub clears-spec : {M : Type 1} → statement M
+clears-spec =
+    tie.close (tie.spec
+    Inv-loop μ-loop mul-source mul-sink loop-holds add-counted-flow mul-counted-flow shared-slice-copy-out-counted-flow add-counted-flow-2 mul-counted-flow-2 shared-slice-copy-out-counted-flow-2
+    counted-flow-requires mul-t14 shared-slice-copy-out-t21 exceeds-requires returns add-k loop-less loop-again returns-2)

@@ -1,0 +1,43 @@
+-- `add_key`.
+use mathlib.Core.Path.{_≡_, refl, sym, _∙_}
+use Prim.Native.Nat.{ℕ}
+use native.Mathlib.Omega.{arith}
+use lib.ListN.{length-set}
+use borrow.Author.Needs.{needs}
+use Rattle.least_cuts.specs.Inner.{periodCut}
+use Rattle.least_cuts.proofs.Collecting.{own-cut, other-cut, key-stored, no-key}
+use Rattle.least_cuts.proofs.add_key.Statement.{statement}
+use Rattle.least_cuts.proofs.add_key.Tie as tie
+
+abbrev P : tie.Start → ℕ
+P s = periodCut (s .args .constraints) (s .args .factors .now) (s .args .excesses .now) (s .args .period) (s .args .c)
+
+-- the cut found is the contract's, of the period
+own : (c : tie.After-least-cut) → c .least-cut .result ≡ P (c .before .before .before .before)
+own c =
+    let s = c .before .before .before .before in
+    let of-period = sym (c .before .before .same .ensures) ∙ c .before .if1 .taken in
+    own-cut (s .args .constraints) (s .args .factors .now) (s .args .excesses .now) (s .args .period) (s .args .c) (c .least-cut .result) of-period (c .least-cut .ensures .0)
+
+returns : tie.Need-returns
+returns c =
+    let s = c .before .before .before .before .before in
+    let cut = c .before .least-cut .result in
+    ((omega arith, simp length-set refl), key-stored (s .args .keys .now) (s .args .count) (s .args .number) cut (P s) (own (c .before)) (s .pre .1 .1) (c .if2 .taken))
+
+returns-2 : tie.Need-returns-2
+returns-2 c =
+    let s = c .before .before .before .before .before in
+    let cut = c .before .least-cut .result in
+    ((omega arith, refl), no-key (s .args .keys .now) (s .args .count) (s .args .number) cut (P s) (own (c .before)) (omega arith))
+
+returns-3 : tie.Need-returns-3
+returns-3 c =
+    let s = c .before .before .before in
+    let none = other-cut (s .args .constraints) (s .args .factors .now) (s .args .excesses .now) (s .args .period) (s .args .c) (sym (c .before .same .ensures) ∙ c .if1 .left) in
+    ((omega arith, refl), no-key (s .args .keys .now) (s .args .count) (s .args .number) 0 (P s) none refl)
+
+pub add-key-spec : {M : Type 1} → statement M
+add-key-spec =
+    tie.close (tie.spec
+    (λ c κs. search needs) (λ c κs. search needs) (λ c. search needs) (λ c. search needs) (λ c. search needs) (λ c. search needs) (λ c. search needs) (λ c. search needs) returns returns-2 returns-3)

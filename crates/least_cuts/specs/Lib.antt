@@ -1,0 +1,2 @@
+pub mod FindCuts
+pub mod Inner
