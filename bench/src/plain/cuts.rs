@@ -1,5 +1,5 @@
-use super::book::{check_book, contracts, Contract, NARROW, WIDE};
-use super::test::{carry, released, Flows};
+use super::book::{contracts, Contract, NARROW, WIDE};
+use super::test::{carry, check_test, released, Flows, Tested};
 use super::*;
 
 /// A contract's cut and number as one number, which compares as rows are ordered.
@@ -83,15 +83,7 @@ pub fn find_cuts(
     numbers: &mut [u64],
     cuts: &mut [u64],
 ) -> Result<usize, Refusal> {
-    check_nodes(nodes)?;
-    check_constraints(constraints)?;
-    demand(process <= 2, PROCESS_NUMBER)?;
-    demand(period <= 1, PERIOD_OR_KIND)?;
-    let limits = limits.get(..constraints).ok_or(SHORT_TABLE)?;
-    let factors = factors.get(..nodes * constraints).ok_or(SHORT_TABLE)?;
-    check_limits(limits)?;
-    check_factors(factors)?;
-    let (_, form) = check_book(nodes, book)?;
+    let Tested { limits, factors, form } = check_test(nodes, constraints, process, period, limits, factors, book)?;
     let found = excesses(process, limits, &carry(constraints, period, factors, form, book));
     if found.count == 0 {
         return Ok(0);

@@ -71,6 +71,35 @@ pub fn verdict(process: u64, limits: &[u64], flows: &Flows) -> Overload {
     Overload { set, count: set.count_ones() as usize, lowest, excess: flows[lowest] - released(process, limits[lowest]) }
 }
 
+/// What the test reads of its tables, and the book's form, where no check refuses.
+pub struct Tested<'a> {
+    pub limits: &'a [u64],
+    pub factors: &'a [i64],
+    pub form: Form,
+}
+
+#[inline(never)]
+pub fn check_test<'a>(
+    nodes: usize,
+    constraints: usize,
+    process: u64,
+    period: u64,
+    limits: &'a [u64],
+    factors: &'a [i64],
+    book: &[u8],
+) -> Result<Tested<'a>, Refusal> {
+    check_nodes(nodes)?;
+    check_constraints(constraints)?;
+    demand(process <= 2, PROCESS_NUMBER)?;
+    demand(period <= 1, PERIOD_OR_KIND)?;
+    let limits = limits.get(..constraints).ok_or(SHORT_TABLE)?;
+    let factors = factors.get(..nodes * constraints).ok_or(SHORT_TABLE)?;
+    check_limits(limits)?;
+    check_factors(factors)?;
+    let (_, form) = check_book(nodes, book)?;
+    Ok(Tested { limits, factors, form })
+}
+
 #[inline(never)]
 pub fn test_book(
     nodes: usize,
@@ -81,17 +110,9 @@ pub fn test_book(
     factors: &[i64],
     book: &[u8],
 ) -> Result<Overload, Refusal> {
-    check_nodes(nodes)?;
-    check_constraints(constraints)?;
-    demand(process <= 2, PROCESS_NUMBER)?;
-    demand(period <= 1, PERIOD_OR_KIND)?;
-    let limits = limits.get(..constraints).ok_or(SHORT_TABLE)?;
-    let factors = factors.get(..nodes * constraints).ok_or(SHORT_TABLE)?;
-    check_limits(limits)?;
-    check_factors(factors)?;
-    let (_, form) = check_book(nodes, book)?;
-    let flows = carry(constraints, period, factors, form, book);
-    Ok(verdict(process, limits, &flows))
+    let tested = check_test(nodes, constraints, process, period, limits, factors, book)?;
+    let flows = carry(constraints, period, tested.factors, tested.form, book);
+    Ok(verdict(process, tested.limits, &flows))
 }
 
 /// The flow on each constraint, into the first cells of `flows`, and how many contracts were counted.
