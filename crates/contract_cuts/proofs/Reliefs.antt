@@ -1,8 +1,10 @@
 -- What the machine gives of a cut's flow and of its comparison with an excess, as plain whole numbers.
-use mathlib.Core.Path.{_≡_, refl, sym, ap, _∙_}
+use mathlib.Core.Path.{_≡_, refl, sym, ap, _∙_, subst}
+use mathlib.Core.Logic.{⊎-elim}
 use mathlib.Core.Bool.{Bool, true, false, cond, true≢false}
 use mathlib.Core.List.{List}
-use Prim.Native.Nat.{ℕ, _+_, _-_, _*_, _/_, _<_, _≤_}
+use Prim.Native.Nat.{ℕ, _+_, _-_, _*_, _/_, _^_, _<_, _≤_}
+use native.Mathlib.Nat.{eq-or-lt-of-le}
 use native.Mathlib.Omega.{arith}
 use borrow.Author.Tests.{le-leb, lt-leb}
 use lib.Dec.{T, leb}
@@ -114,3 +116,14 @@ module _ (C n : ℕ) (fits : ℕ → Bool) (is : C ≡ cond (fits n) n 0) where
 
   pub is-not-enough : (b : Bool) → b ≡ fits n → b ≡ false → 0 ≡ C
   is-not-enough b f t = sym (is ∙ ap (λ (x : Bool). cond x n 0) (sym f ∙ t))
+
+-- ---- a constraint that is not overloaded, beside those that are not
+
+pub quiet : (x : ℤ) → natAbs x < 2 ^ 63 → ltZ (pos 0) (kept x) ≡ false → x ≤ℤ pos 0
+quiet x h e = rw (back x h) at (ltZ-no {a = pos 0} {b = kept x} (rw e tt))
+
+pub one-more : (P : ℕ → Type 0) (k : ℕ) → ((j : ℕ) → j < k → P j) → P k → (j : ℕ) → j < k + 1 → P j
+one-more P k h p j b = ⊎-elim (λ q. subst P {x = k} {y = j} (omega arith) p) (λ l. h j (omega arith)) (eq-or-lt-of-le b)
+
+pub one-before : (P : ℕ → Type 0) (k n : ℕ) → 0 < k → ((j : ℕ) → k ≤ j → j < n → P j) → P (k - 1) → (j : ℕ) → k - 1 ≤ j → j < n → P j
+one-before P k n some h p j a b = ⊎-elim (λ q. subst P q p) (λ l. h j (omega arith) b) (eq-or-lt-of-le a)

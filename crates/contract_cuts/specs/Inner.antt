@@ -3,6 +3,7 @@ use mathlib.Core.List.{List}
 use Prim.Native.Nat.{ℕ, _+_, _*_, _^_, _≤_, _<_}
 use lib.ListN.{length, getD}
 use lib.IntN.{ℤ, pos, natAbs, _-ℤ_}
+use lib.Signed.{_≤ℤ_}
 use Rattle.tariff.specs.declared.contracts.Contract.{Contract}
 use Rattle.tariff.specs.declared.contracts.Kind.{Kind}
 use Rattle.tariff.specs.Contracts.{counted}
@@ -15,6 +16,13 @@ cellAt cells j = getD cells j (pos 0)
 pub record Excesses (k : ℕ) (cells : List ℤ) : Type 0 where
   pub long : k ≤ length cells
   pub sized : (j : ℕ) → j < k → natAbs (cellAt cells j) < 2 ^ 63
+
+-- of k constraints those that are overloaded stand from one on, up to another
+pub record Overloads (k from upto : ℕ) (cells : List ℤ) : Type 0 where
+  pub from-below : from ≤ k
+  pub upto-below : upto ≤ k
+  pub none-before : (j : ℕ) → j < from → cellAt cells j ≤ℤ pos 0
+  pub none-behind : (j : ℕ) → upto ≤ j → j < k → cellAt cells j ≤ℤ pos 0
 
 -- the flow of one thousandth on constraint j, as it counts, where the factors of source and sink begin at these cells of a table
 unfoldable pub slopeFrom : List ℤ → ℕ → ℕ → Kind → ℕ → ℤ

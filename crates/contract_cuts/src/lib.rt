@@ -1,16 +1,16 @@
 // The least cut of one contract that takes every excess away, by a table of factors and the excesses as cells.
 ghost use mathlib.Core.Path.{_≡_};
 ghost use mathlib.Core.Bool.{cond};
-ghost use Prim.Native.Nat.{_^_, _≤_, _<_};
+ghost use Prim.Native.Nat.{ℕ, _^_, _≤_, _<_};
 ghost use lib.Dec.{leb};
 ghost use lib.IntN.{pos, natAbs, _-ℤ_};
-ghost use lib.Signed.{_<ℤ_};
+ghost use lib.Signed.{_<ℤ_, _≤ℤ_};
 ghost use Rattle.lists.specs.Lent.{before};
 ghost use Rattle.tariff.specs.Units.{maxFactor, maxQuantity};
 ghost use Rattle.tariff.specs.Contracts.{counted};
 ghost use Rattle.feasibility_test.specs.Inner.{Ends};
 ghost use Rattle.cut_rules.specs.Inner.{needAt, raisedTo, enough};
-ghost use Rattle.contract_cuts.specs.Inner.{Excesses, cellAt, slopeIn, cutIn};
+ghost use Rattle.contract_cuts.specs.Inner.{Excesses, Overloads, cellAt, slopeIn, cutIn};
 use tariff::Contract;
 use tariff::Flow;
 use tariff::Kind;
@@ -51,8 +51,15 @@ fn raised(over: Flow, kind: Kind, source: i64, sink: i64, most: u64, need: u64) 
 
 // The cut that a contract's overloads need, up to its quantity: the least, where it is enough at every constraint.
 // A contract that does not relieve an overload is left at once, with 0.
-fn least_need(c: Contract, constraints: usize, factors: &[i64], excesses: &[i64]) -> u64
-    requires { ⌜ Ends constraints (now factors) c × Excesses constraints (now excesses) ⌝ }
+fn least_need(
+    c: Contract,
+    constraints: usize,
+    factors: &[i64],
+    excesses: &[i64],
+    from: usize,
+    upto: usize,
+) -> u64
+    requires { ⌜ Ends constraints (now factors) c × Excesses constraints (now excesses) × Overloads constraints from upto (now excesses) ⌝ }
     ensures { λ r. ⌜ (r ≤ c .quantity .0) × (cutIn constraints (before factors) (before excesses) c
         ≡ cond (enough constraints (cellAt (before excesses)) (slopeIn constraints (before factors) c) r) r 0) ⌝ }
 {
@@ -62,8 +69,8 @@ fn least_need(c: Contract, constraints: usize, factors: &[i64], excesses: &[i64]
     let quantity = c.quantity;
     let most = quantity.cell();
     let mut need = 0;
-    let mut k = 0;
-    while k < constraints {
+    let mut k = from;
+    while k < upto {
         let excess = excesses[k];
         if 0 < excess {
             need = raised(
@@ -104,12 +111,51 @@ fn clears(c: Contract, constraints: usize, factors: &[i64], excesses: &[i64], cu
     true
 }
 
-// The least cut of a contract, and 0 for none.
-pub fn least_cut(c: Contract, constraints: usize, factors: &[i64], excesses: &[i64]) -> u64
-    requires { ⌜ Ends constraints (now factors) c × Excesses constraints (now excesses) ⌝ }
+// The lowest overloaded constraint: none stands before it.
+pub fn first_overload(constraints: usize, excesses: &[i64]) -> usize
+    requires { ⌜ Excesses constraints (now excesses) ⌝ }
+    ensures { λ r. ⌜ (r ≤ constraints) × ((j : ℕ) → j < r → cellAt (before excesses) j ≤ℤ pos 0) ⌝ }
+{
+    let mut k = 0;
+    while k < constraints {
+        let excess = excesses[k];
+        if 0 < excess {
+            return k;
+        }
+        k += 1;
+    }
+    constraints
+}
+
+// Where the overloaded constraints end: none stands from there on.
+pub fn overloads_end(constraints: usize, excesses: &[i64]) -> usize
+    requires { ⌜ Excesses constraints (now excesses) ⌝ }
+    ensures { λ r. ⌜ (r ≤ constraints) × ((j : ℕ) → r ≤ j → j < constraints → cellAt (before excesses) j ≤ℤ pos 0) ⌝ }
+{
+    let mut k = constraints;
+    while 0 < k {
+        let excess = excesses[k - 1];
+        if 0 < excess {
+            return k;
+        }
+        k -= 1;
+    }
+    0
+}
+
+// The least cut of a contract, and 0 for none. The overloaded constraints stand from `from` on, up to `upto`.
+pub fn least_cut(
+    c: Contract,
+    constraints: usize,
+    factors: &[i64],
+    excesses: &[i64],
+    from: usize,
+    upto: usize,
+) -> u64
+    requires { ⌜ Ends constraints (now factors) c × Excesses constraints (now excesses) × Overloads constraints from upto (now excesses) ⌝ }
     ensures { λ r. ⌜ (r ≡ cutIn constraints (before factors) (before excesses) c) × (r ≤ maxQuantity) ⌝ }
 {
-    let need = least_need(c, constraints, factors, excesses);
+    let need = least_need(c, constraints, factors, excesses, from, upto);
     if need == 0 {
         return 0;
     }

@@ -97,6 +97,20 @@ module _ (e w : ℕ → ℤ) where
   pub need-kept : (k n : ℕ) → n ≡ need k e w → e k ≤ℤ pos 0 → n ≡ need (k + 1) e w
   need-kept k n is h = omega (arith, need-more k, at-least (e k) (w k) 0 (less-zero (e k) (w k *ℤ pos 0) (rw (*ℤ-zero (w k)) h)))
 
+  -- nor do more of them
+  need-rest : (k m : ℕ) → ((j : ℕ) → k ≤ j → j < k + m → e j ≤ℤ pos 0) → need k e w ≡ need (k + m) e w
+  need-rest k zero h = ap (λ (x : ℕ). need x e w) {x = k} {y = k + 0} (omega arith)
+  need-rest k (suc m) h =
+      need-kept (k + m) (need k e w) (need-rest k m (λ j a b. h j a (omega arith))) (h (k + m) (omega arith) (omega arith))
+      ∙ ap (λ (x : ℕ). need x e w) {x = k + m + 1} {y = k + suc m} (omega arith)
+
+  pub need-before : (k : ℕ) → ((j : ℕ) → j < k → e j ≤ℤ pos 0) → 0 ≡ need k e w
+  unfolding need
+  need-before k h = need-rest 0 k (λ j a b. h j (omega arith)) ∙ ap (λ (x : ℕ). need x e w) {x = 0 + k} {y = k} (omega arith)
+
+  pub need-behind : (k K : ℕ) → k ≤ K → ((j : ℕ) → k ≤ j → j < K → e j ≤ℤ pos 0) → need k e w ≡ need K e w
+  need-behind k K b h = need-rest k (K - k) (λ j a c. h j a (omega arith)) ∙ ap (λ (x : ℕ). need x e w) {x = k + (K - k)} {y = K} (omega arith)
+
   -- an overloaded one raises it
   module _ (k n q r : ℕ) (raised : r ≡ raisedTo (e k) (w k) q n) where
     pub need-raised : n ≡ need k e w → n ≤ q → (r ≡ 0 → ⊥) → (r ≡ need (k + 1) e w) × (r ≤ q)

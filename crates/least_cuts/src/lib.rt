@@ -17,7 +17,7 @@ ghost use Rattle.feasibility_test.specs.TestBook.{testCall};
 ghost use Rattle.feasibility_test.specs.Inner.{Ends, Judgeable};
 ghost use Rattle.cut_rules.specs.Cuts.{leastCuts};
 ghost use Rattle.cut_rules.specs.Inner.{keyOf, rowKey, keysTo};
-ghost use Rattle.contract_cuts.specs.Inner.{Excesses};
+ghost use Rattle.contract_cuts.specs.Inner.{Excesses, Overloads};
 ghost use Rattle.least_cuts.specs.FindCuts.{FindsCuts};
 ghost use Rattle.least_cuts.specs.Inner.{excessIn, periodCut};
 use feasibility_test::Flows;
@@ -72,8 +72,10 @@ fn add_key(
     excesses: &[i64],
     keys: &mut [u64],
     count: usize,
+    from: usize,
+    upto: usize,
 ) -> usize
-    requires { ⌜ Ends constraints (now factors) c × Excesses constraints (now excesses) ⌝ }
+    requires { ⌜ Ends constraints (now factors) c × Excesses constraints (now excesses) × Overloads constraints from upto (now excesses) ⌝ }
     requires { ⌜ (number < 1024) × (count < length (now keys)) ⌝ }
     ensures { λ r. ⌜ (r ≤ count + 1) × (length (after keys) ≡ length (before keys)) ⌝ }
     ensures { λ r. ⌜ take r (after keys) ≡ take count (before keys) ++ cond (ltb 0 (periodCut constraints (before factors) (before excesses) period c))
@@ -81,7 +83,7 @@ fn add_key(
 {
     let own = c.period;
     if own.same(period) {
-        let cut = contract_cuts::least_cut(c, constraints, factors, excesses);
+        let cut = contract_cuts::least_cut(c, constraints, factors, excesses, from, upto);
         if 0 < cut {
             keys[count] = cut * KEY_BASE + number as u64;
             return count + 1;
@@ -90,7 +92,7 @@ fn add_key(
     count
 }
 
-// The keys of a book's contracts, in the book's order.
+// The keys of a book's contracts, in the book's order. The overloaded constraints stand from `from` on, up to `upto`.
 fn collect_keys(
     nodes: usize,
     constraints: usize,
@@ -99,9 +101,11 @@ fn collect_keys(
     book: &[u8],
     excesses: &[i64],
     keys: &mut [u64],
+    from: usize,
+    upto: usize,
 ) -> usize
     requires { ⌜ GoodFactors nodes constraints (now factors) × (first (bookChecks nodes (now book)) ≡ Passed) ⌝ }
-    requires { ⌜ Excesses constraints (now excesses) × (length (now keys) ≡ maxContracts) ⌝ }
+    requires { ⌜ Excesses constraints (now excesses) × Overloads constraints from upto (now excesses) × (length (now keys) ≡ maxContracts) ⌝ }
     ensures { λ r. ⌜ (r ≤ maxContracts) × (length (after keys) ≡ maxContracts) ⌝ }
     ensures { λ r. ⌜ take r (after keys)
         ≡ keysTo (λ (i : ℕ). periodCut constraints (before factors) (before excesses) period (contractAt (before book) i)) (contractCountIn (before book)) ⌝ }
@@ -112,7 +116,18 @@ fn collect_keys(
     let mut i = 0;
     while i < many {
         let c = books::contract_at(book, form, i);
-        count = add_key(c, i, constraints, factors, period, excesses, keys, count);
+        count = add_key(
+            c,
+            i,
+            constraints,
+            factors,
+            period,
+            excesses,
+            keys,
+            count,
+            from,
+            upto,
+        );
         i += 1;
     }
     count
@@ -141,7 +156,19 @@ fn row_keys(
     }
     let mut excesses = [0i64; MAX_CONSTRAINTS];
     fill_excess(constraints, process, limits, carried, &mut excesses);
-    let count = collect_keys(nodes, constraints, factors, period, book, &excesses, keys);
+    let from = contract_cuts::first_overload(constraints, &excesses);
+    let upto = contract_cuts::overloads_end(constraints, &excesses);
+    let count = collect_keys(
+        nodes,
+        constraints,
+        factors,
+        period,
+        book,
+        &excesses,
+        keys,
+        from,
+        upto,
+    );
     sorting::sort(keys, count);
     count
 }

@@ -1,5 +1,5 @@
 -- `least_need`: the need of the constraints below k.
-use mathlib.Core.Path.{_≡_, refl, ap, _∙_}
+use mathlib.Core.Path.{_≡_, _∙_}
 use mathlib.Core.Logic.{⊎-elim}
 use Prim.Native.Nat.{ℕ, _+_, _-_, _≤_, _<_}
 use native.Mathlib.Omega.{arith}
@@ -9,18 +9,18 @@ use Rattle.integers.proofs.Machine.{back}
 use Rattle.tariff.specs.Units.{maxQuantity}
 use borrow.Author.Needs.{needs}
 use Rattle.cut_rules.specs.Inner.{need, raisedTo, enough}
-use Rattle.cut_rules.proofs.Turns.{need-kept, need-raised, need-none, need-end}
+use Rattle.cut_rules.proofs.Turns.{need-before, need-behind, need-kept, need-raised, need-none, need-end}
 use Rattle.contract_cuts.specs.Inner.{cellAt, slopeFrom, slopeIn, cutIn}
 use Rattle.contract_cuts.proofs.Reliefs.{kept, factors-kept, slope-is, nothing}
 use Rattle.contract_cuts.proofs.least_need.Statement.{statement}
 use Rattle.contract_cuts.proofs.least_need.Tie as tie
 
 abbrev Inv-loop : tie.InvT-loop
-Inv-loop constraints factors excesses source sink kind most need₀ k₀ n k =
+Inv-loop constraints factors excesses from upto source sink kind most need₀ k₀ n k =
     (k ≤ constraints) × (n ≤ most) × (n ≡ need k (cellAt excesses) (slopeFrom factors source sink kind))
 
 abbrev μ-loop : tie.MeasureT-loop
-μ-loop constraints factors excesses source sink kind most need₀ k₀ n k = constraints - k
+μ-loop constraints factors excesses from upto source sink kind most need₀ k₀ n k = upto - k
 
 mul-source : tie.Need-mul-source Inv-loop μ-loop
 mul-source c = search needs
@@ -32,14 +32,16 @@ cell-requires : tie.Need-cell-requires Inv-loop μ-loop
 cell-requires c κs = search needs
 
 loop-holds : tie.Need-loop-holds Inv-loop μ-loop
-unfolding need
-loop-holds c = (omega arith, omega arith, refl)
+loop-holds c =
+    let s = c .before .before .before .before in
+    let o = s .pre .2 in
+    (o .from-below, omega arith, need-before (cellAt (s .args .excesses .now)) (slopeIn (s .args .constraints) (s .args .factors .now) (s .args .c)) (s .args .from) (o .none-before))
 
 mul-excess : tie.Need-mul-excess Inv-loop μ-loop
 mul-excess c = search needs
 
 shared-slice-copy-out-excess : tie.Need-shared-slice-copy-out-excess Inv-loop μ-loop
-shared-slice-copy-out-excess c = let s = c .before .before .before .before .before .before in omega (arith, s .pre .1 .long)
+shared-slice-copy-out-excess c = let s = c .before .before .before .before .before .before in omega (arith, s .pre .1 .long, s .pre .2 .upto-below)
 
 add-raised : tie.Need-add-raised Inv-loop μ-loop
 add-raised c = search needs
@@ -63,7 +65,7 @@ raised-requires : tie.Need-raised-requires Inv-loop μ-loop
 raised-requires c κs =
     let s = c .before .before .before .before .before .before .before .before .before .before in
     let l = c .before .before .before .before .before .loop in
-    let h : l .k < s .args .constraints = c .before .before .before .before .loop-test .taken in
+    let h : l .k < s .args .constraints = omega (arith, c .before .before .before .before .loop-test .taken, s .pre .2 .upto-below) in
     let r = factors-kept (s .args .constraints) (s .args .factors .now) (s .args .c) (s .pre .0) (l .k) h in
     let most : c .before .before .before .before .before .before .cell .result ≤ maxQuantity = rw (c .before .before .before .before .before .before .cell .ensures) (s .pre .0 .quantity-sized) in (
       (omega (arith, r), omega (arith, r), l .inv .1, most),
@@ -85,7 +87,7 @@ module _ (c : tie.After-raised Inv-loop μ-loop) where
   w = slopeIn (s .args .constraints) (s .args .factors .now) (s .args .c)
 
   near : k < s .args .constraints
-  near = c .before .before .before .before .before .loop-test .taken
+  near = omega (arith, c .before .before .before .before .before .loop-test .taken, s .pre .2 .upto-below)
 
   same : kept (e k) ≡ e k
   same = back (e k) (s .pre .1 .sized k near)
@@ -118,7 +120,7 @@ loop-again : tie.Need-loop-again Inv-loop μ-loop
 loop-again c =
     let s = c .before .before .before .before .before .before .before .before in
     let l = c .before .before .before .loop in
-    let h : l .k < s .args .constraints = c .before .before .loop-test .taken in
+    let h : l .k < s .args .constraints = omega (arith, c .before .before .loop-test .taken, s .pre .2 .upto-below) in
     let q = s .args .c .quantity .0 in
     let e = cellAt (s .args .excesses .now) in
     let w = slopeIn (s .args .constraints) (s .args .factors .now) (s .args .c) in
@@ -140,12 +142,11 @@ unfolding cutIn
 returns-2 c =
     let s = c .before .before .before .before .before .before in
     let l = c .before .loop in
+    let e = cellAt (s .args .excesses .now) in
+    let w = slopeIn (s .args .constraints) (s .args .factors .now) (s .args .c) in
     let most : l .need ≤ s .args .c .quantity .0 = rw (c .before .before .cell .ensures) at (l .inv .1) in
-    let last : l .k ≡ s .args .constraints = omega arith in (
-      most,
-      need-end (cellAt (s .args .excesses .now)) (slopeIn (s .args .constraints) (s .args .factors .now) (s .args .c)) (s .args .constraints) (l .need) (s .args .c .quantity .0)
-          (l .inv .2 ∙ ap (λ (x : ℕ). need x (cellAt (s .args .excesses .now)) (slopeIn (s .args .constraints) (s .args .factors .now) (s .args .c))) last) most,
-    )
+    let all = need-behind e w (l .k) (s .args .constraints) (l .inv .0) (λ j a b. s .pre .2 .none-behind j (omega arith) b) in
+    (most, need-end e w (s .args .constraints) (l .need) (s .args .c .quantity .0) (l .inv .2 ∙ all) most)
 
 pub least-need-spec : {M : Type 1} → statement M
 least-need-spec =

@@ -21,12 +21,12 @@ use Rattle.least_cuts.proofs.collect_keys.Statement.{statement}
 use Rattle.least_cuts.proofs.collect_keys.Tie as tie
 
 abbrev Inv-loop : tie.InvT-loop
-Inv-loop nodes constraints factors period book excesses keys₀ many form count₀ i₀ keys count i =
+Inv-loop nodes constraints factors period book excesses keys₀ from upto many form count₀ i₀ keys count i =
     (i ≤ many) × (count ≤ i) × (length keys ≡ maxContracts)
     × (take count keys ≡ keysTo (λ (j : ℕ). periodCut constraints factors excesses period (contractAt book j)) i)
 
 abbrev μ-loop : tie.MeasureT-loop
-μ-loop nodes constraints factors period book excesses keys₀ many form count₀ i₀ keys count i = many - i
+μ-loop nodes constraints factors period book excesses keys₀ from upto many form count₀ i₀ keys count i = many - i
 
 contract-count-requires : tie.Need-contract-count-requires Inv-loop μ-loop
 contract-count-requires c κs = let s = c .before .before in omega (arith, book-accepted (s .args .nodes) (s .args .book .now) (s .pre .0 .1) .size)
@@ -36,7 +36,7 @@ book-form-requires c κs = let s = c .before .before .before in omega (arith, bo
 
 loop-holds : tie.Need-loop-holds Inv-loop μ-loop
 unfolding keysTo
-loop-holds c = (omega arith, omega arith, c .before .before .before .before .pre .1 .1, refl)
+loop-holds c = (omega arith, omega arith, c .before .before .before .before .pre .1 .2, refl)
 
 ok : (c : tie.Start Inv-loop μ-loop) → Accepted (c .args .nodes) (c .args .book .now)
 ok c = book-accepted (c .args .nodes) (c .args .book .now) (c .pre .0 .1)
@@ -71,7 +71,7 @@ add-key-requires : tie.Need-add-key-requires Inv-loop μ-loop
 add-key-requires c κs =
     let r = c .before in
     let l = r .before .before .loop in (
-      (ends-of (s r .args .nodes) (s r .args .constraints) (s r .args .factors .now) _ (s r .pre .0 .0) (own r), s r .pre .1 .0),
+      (ends-of (s r .args .nodes) (s r .args .constraints) (s r .args .factors .now) _ (s r .pre .0 .0) (own r), s r .pre .1 .0, s r .pre .1 .1),
       (omega (arith, ok (s r) .few, below r), omega (arith, ok (s r) .few, below r, l .inv .1, l .inv .2)),
     )
 

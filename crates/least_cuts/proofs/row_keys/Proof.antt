@@ -7,6 +7,7 @@ use borrow.Author.Needs.{needs}
 use Rattle.sorting.proofs.Callers.{cells-long}
 use Rattle.feasibility_test.specs.Inner.{Judgeable}
 use Rattle.feasibility_test.proofs.Flowing.{carried-judgeable}
+use Rattle.contract_cuts.specs.Inner.{Excesses}
 use Rattle.least_cuts.proofs.Listing.{passes, fails, excesses, listed-keys}
 use Rattle.least_cuts.proofs.row_keys.Statement.{statement}
 use Rattle.least_cuts.proofs.row_keys.Tie as tie
@@ -39,18 +40,30 @@ returns c =
 fill-excess-requires : tie.Need-fill-excess-requires
 fill-excess-requires c κs = let j = judged (c .before .before .before) in (j, j .few)
 
-collect-keys-requires : tie.Need-collect-keys-requires
-collect-keys-requires c κs =
-    let f = c .before .before .before .before .before .before .before in
+-- the excesses are filled
+good : (x : tie.After-fill-excess) → Excesses (x .before .before .before .before .before .before .before .before .args .constraints) (x .fill-excess .last .1 .1 .1 .1 .0)
+good x =
+    let f = x .before .before .before .before in
     let s = f .before .before .before .before in
     let a = s .args in
-    let p = s .pre .0 in (
-      (p .1, p .2),
-      (
-        excesses (a .nodes) (a .constraints) (a .limits .now) (a .factors .now) (a .process) (a .period) (a .book .now) (p .0) (p .1) (p .2) (f .carry .result) (f .carry .ensures)
-            _ _ (c .before .before .before .fill-excess .ensures),
-        s .pre .1,
-      ),
+    let p = s .pre .0 in
+    excesses (a .nodes) (a .constraints) (a .limits .now) (a .factors .now) (a .process) (a .period) (a .book .now) (p .0) (p .1) (p .2) (f .carry .result) (f .carry .ensures)
+    _ _ (x .fill-excess .ensures)
+
+first-overload-requires : tie.Need-first-overload-requires
+first-overload-requires c κs = good (c .before .before)
+
+overloads-end-requires : tie.Need-overloads-end-requires
+overloads-end-requires c κs = good (c .before .before .before .before)
+
+collect-keys-requires : tie.Need-collect-keys-requires
+collect-keys-requires c κs =
+    let x = c .before .before .before .before .before .before .before in
+    let s = x .before .before .before .before .before .before .before .before in
+    let first = c .before .before .before .before .first-overload .ensures in
+    let end = c .before .before .overloads-end .ensures in (
+      (s .pre .0 .1, s .pre .0 .2),
+      (good x, record { from-below = first .0; upto-below = end .0; none-before = first .1; none-behind = end .1 }, s .pre .1),
     )
 
 sort-requires : tie.Need-sort-requires
@@ -59,7 +72,7 @@ sort-requires c κs = let k = c .before .before .before .collect-keys .ensures i
 returns-2 : tie.Need-returns-2
 returns-2 c =
     let k = c .before .before .before .before .before .before in
-    let x = k .before .before .before .before in
+    let x = k .before .before .before .before .before .before .before .before in
     let o = x .before .before .before in
     let f = o .before in
     let s = f .before .before .before .before in
@@ -78,4 +91,5 @@ returns-2 c =
 pub row-keys-spec : {M : Type 1} → statement M
 row-keys-spec =
     tie.close (tie.spec
-    carry-requires overload-set-requires returns (λ c. search needs) fill-excess-requires (λ c. search needs) collect-keys-requires sort-requires (λ c. search needs) returns-2)
+    carry-requires overload-set-requires returns (λ c. search needs) fill-excess-requires (λ c. search needs) first-overload-requires (λ c. search needs) overloads-end-requires (λ c. search needs)
+    collect-keys-requires sort-requires (λ c. search needs) returns-2)

@@ -1,0 +1,40 @@
+-- `overloads_end`: no constraint from k on is overloaded.
+use Prim.Native.Nat.{ℕ, _-_, _≤_, _<_}
+use native.Mathlib.Omega.{arith}
+use lib.IntN.{pos}
+use lib.Signed.{_≤ℤ_}
+use borrow.Author.Needs.{needs}
+use Rattle.contract_cuts.specs.Inner.{cellAt}
+use Rattle.contract_cuts.proofs.Reliefs.{quiet, one-before}
+use Rattle.contract_cuts.proofs.overloads_end.Statement.{statement}
+use Rattle.contract_cuts.proofs.overloads_end.Tie as tie
+
+abbrev Inv-loop : tie.InvT-loop
+Inv-loop constraints excesses k₀ k = (k ≤ constraints) × ((j : ℕ) → k ≤ j → j < constraints → cellAt excesses j ≤ℤ pos 0)
+
+abbrev μ-loop : tie.MeasureT-loop
+μ-loop constraints excesses k₀ k = k
+
+loop-holds : tie.Need-loop-holds Inv-loop μ-loop
+loop-holds c = (omega arith, λ j a b. absurd (omega arith))
+
+shared-slice-copy-out-excess : tie.Need-shared-slice-copy-out-excess Inv-loop μ-loop
+shared-slice-copy-out-excess c = omega (arith, c .before .before .pre .long)
+
+returns : tie.Need-returns Inv-loop μ-loop
+returns c = c .before .before .before .loop .inv
+
+loop-again : tie.Need-loop-again Inv-loop μ-loop
+loop-again c =
+    let s = c .before .before .before .before in
+    let l = c .before .before .before .loop in
+    let P : ℕ → Type 0 = λ j. cellAt (s .args .excesses .now) j ≤ℤ pos 0 in
+    let last = quiet (cellAt (s .args .excesses .now) (l .k - 1)) (s .pre .sized (l .k - 1) (omega arith)) (c .if1 .left) in
+    (omega arith, one-before P (l .k) (s .args .constraints) (omega arith) (l .inv .1) last)
+
+returns-2 : tie.Need-returns-2 Inv-loop μ-loop
+returns-2 c = let l = c .before .loop in (omega arith, λ j a b. l .inv .1 j (omega arith) b)
+
+pub overloads-end-spec : {M : Type 1} → statement M
+overloads-end-spec =
+    tie.close (tie.spec Inv-loop μ-loop loop-holds (λ c. search needs) (λ c. search needs) shared-slice-copy-out-excess returns (λ c. search needs) (λ c. search needs) loop-again returns-2)
