@@ -1,5 +1,6 @@
 -- What is known of a book that its own checks accept.
 use mathlib.Core.Path.{_≡_, _∙_}
+use mathlib.Core.Bool.{false}
 use mathlib.Core.List.{List}
 use Prim.Native.Nat.{ℕ, _+_, _≤_, _<_}
 use native.Mathlib.Omega.{arith}
@@ -11,6 +12,7 @@ use Rattle.tariff.specs.declared.contracts.Contract.{Contract}
 use Rattle.tariff.specs.declared.refusals.Checked.the-variants.{Passed}
 use Rattle.tariff.specs.Inner.{InRange}
 use Rattle.tariff.specs.Refusals.{first}
+use Rattle.tariff.specs.Checks.{nodeCount}
 use Rattle.tariff.specs.Units.{maxQuantity, maxContracts}
 use Rattle.lists.proofs.Search.{neither}
 use Rattle.tariff.proofs.Checks.{first-passes, passed-cons, same-of}
@@ -19,7 +21,7 @@ use Rattle.layouts.specs.Forms.{recordBytes, sparePattern}
 use Rattle.layouts.specs.BookFile.{bookBytes, contractCountIn, bookSpareIn, bookFormIn, contractAt, bookIn}
 use Rattle.layouts.proofs.BookFile.{record-room}
 use Rattle.lists.proofs.Lists.{each-listTo}
-use Rattle.books.specs.BookChecks.{contractChecks, bookChecks}
+use Rattle.books.specs.BookChecks.{contractChecks, bookChecks, ownChecks}
 use Rattle.books.proofs.Checking.{checks-each}
 
 -- a contract that no check of its own refuses
@@ -73,3 +75,15 @@ accepted-room n s a f form i h = (omega (arith, a .few), rw form (record-room (b
 
 pub all-in-range : (n : ℕ) (s : List ℕ) → Accepted n s → Each (InRange n) (bookIn s)
 all-in-range n s a = each-listTo (InRange n) (contractCountIn s) (contractAt s) (a .each)
+
+-- of a book that is handed in with a node count: the count is one that a grid has, and the book's checks pass
+pub own-parts : (n : ℕ) (s : List ℕ) → first (ownChecks n s) ≡ Passed → (nodeCount n .fails ≡ false) × (first (bookChecks n s) ≡ Passed)
+unfolding ownChecks
+own-parts n s e = passed-cons _ _ e
+
+pub own-accepted : (n : ℕ) (s : List ℕ) → first (ownChecks n s) ≡ Passed → Accepted n s
+own-accepted n s e = book-accepted n s (own-parts n s e .1)
+
+pub own-passes : (n : ℕ) (s : List ℕ) → nodeCount n .fails ≡ false → first (bookChecks n s) ≡ Passed → first (ownChecks n s) ≡ Passed
+unfolding ownChecks
+own-passes n s few e = first-passes _ _ few ∙ e

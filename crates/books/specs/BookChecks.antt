@@ -3,7 +3,7 @@ use mathlib.Core.List.{List, [], _∷_, _++_}
 use Prim.Native.Nat.{ℕ, zero, suc}
 use Rattle.tariff.specs.declared.contracts.Contract.{Contract}
 use Rattle.tariff.specs.Refusals.{Check}
-use Rattle.tariff.specs.Checks.{contractCount, nodeNumber, quantityRange}
+use Rattle.tariff.specs.Checks.{nodeCount, contractCount, nodeNumber, quantityRange}
 use Rattle.layouts.specs.Files.{shortFile, spareOther, fileLength}
 use Rattle.layouts.specs.Forms.{sparePattern}
 use Rattle.layouts.specs.BookFile.{bookBytes, contractCountIn, bookSpareIn, bookFormIn, contractAt}
@@ -25,3 +25,7 @@ bookChecks n s =
     ∷ spareOther (sparePattern (bookFormIn s)) (bookSpareIn s)
     ∷ fileLength s (bookBytes (bookFormIn s) (contractCountIn s))
     ∷ checksTo (contractCountIn s) (λ i. contractChecks n (contractAt s i))
+
+-- "the book's own checks" where a book is handed in with a node count: 2, then the book's
+unfoldable pub ownChecks : ℕ → List ℕ → List Check
+ownChecks n s = nodeCount n ∷ bookChecks n s

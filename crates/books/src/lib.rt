@@ -10,7 +10,7 @@ ghost use Rattle.layouts.specs.declared.forms.Form.the-variants.{Narrow, Wide};
 ghost use Rattle.layouts.specs.Forms.{endWidth, recordBytes};
 ghost use Rattle.layouts.specs.BookFile.{kindBit, periodBit, bookBytes, contractCountIn, bookFormIn, contractIn};
 ghost use Rattle.layouts.specs.Inner.{ContractFits, contractOf};
-ghost use Rattle.books.specs.BookChecks.{checksTo, contractChecks, bookChecks};
+ghost use Rattle.books.specs.BookChecks.{checksTo, contractChecks, bookChecks, ownChecks};
 ghost use Rattle.books.specs.Inner.{headerBytes, contractBytes, termsNumber, contractNumber, bitsBytes, numberChecks};
 use layouts::BOOK_HEADER_BYTES;
 use layouts::CONTRACT_BYTES;
@@ -256,4 +256,14 @@ pub fn check_book(nodes: usize, file: &[u8]) -> Checked
         return Checked::Refused(Refusal::FileLength);
     }
     check_contracts(nodes, file, form, count)
+}
+
+// The own checks of a book that is handed in for a grid of `nodes` nodes: 2, then the book's.
+pub fn check_own(nodes: usize, file: &[u8]) -> Checked
+    ensures { λ r. ⌜ r ≡ first (ownChecks nodes (before file)) ⌝ }
+{
+    if tariff::nodes_bad(nodes) {
+        return Checked::Refused(Refusal::NodeCount);
+    }
+    check_book(nodes, file)
 }
