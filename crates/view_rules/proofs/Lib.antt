@@ -1,3 +1,7 @@
 pub mod Holders
 pub mod Alike
 pub mod Market
+pub mod Blind
+pub mod Rows
+pub mod Splits
+pub mod Theorems
