@@ -56,7 +56,7 @@ module _ (s t : List ℕ) (d : OnlyHoldersDiffer s t) where
 -- ---- one accepted book
 
 -- holder 0, all else kept
-anonymous-fits : (w : ℕ) (c : Contract) → ContractFits w c → ContractFits w (anonymous c)
+pub anonymous-fits : (w : ℕ) (c : Contract) → ContractFits w c → ContractFits w (anonymous c)
 unfolding anonymous
 anonymous-fits w c t = record { holder-fits = omega arith; source-fits = t .source-fits; sink-fits = t .sink-fits; quantity-fits = t .quantity-fits }
 
