@@ -1,33 +1,27 @@
 -- A holder's rows from the contracts' bits.
-use mathlib.Core.Path.{_≡_, refl, ap, ap₂, sym, _∙_}
+use mathlib.Core.Path.{_≡_, refl, ap, sym, _∙_}
 use mathlib.Core.Logic.{⊎-elim}
-use mathlib.Core.List.{List, [], _∷_, _++_, flatMap, append-nil, append-assoc}
-use Prim.Native.Nat.{ℕ, zero, suc, _+_, _*_, _/_, _%_, _^_, _≤_, _<_}
+use mathlib.Core.List.{List, [], _++_, flatMap, append-nil, append-assoc}
+use Prim.Native.Nat.{ℕ, zero, suc, _+_, _*_, _≤_}
 use native.Mathlib.Nat.{add-assoc, eq-or-lt-of-le}
 use native.Mathlib.Numerals.{add-one}
 use native.Mathlib.Omega.{arith}
-use lib.Pow.{pow-pos, mod-pow-add, shr-shr, split}
 use lib.ListN.{length, take, drop, length-append, take-append-drop}
 use lib.Seq.{take-at, drop-at, length-take-le}
-use Rattle.lists.specs.Lent.{overwrite}
 use Rattle.lists.proofs.Lists.{flatMap-append}
 use Rattle.lists.proofs.Fill.{drop-later}
 use Rattle.bits.specs.Bits.{digits}
 use Rattle.bits.proofs.Numbers.{length-digits}
 use Rattle.tariff.specs.declared.contracts.Contract.{Contract}
-use Rattle.tariff.specs.Contracts.{kindOf, periodOf}
 use Rattle.layouts.specs.declared.forms.Form.{Form}
-use Rattle.layouts.specs.declared.forms.Form.the-variants.{Narrow, Wide}
 use Rattle.layouts.specs.Forms.{endWidth, recordBytes}
-use Rattle.layouts.specs.BookFile.{kindBit, periodBit, contractIn}
+use Rattle.layouts.specs.BookFile.{contractIn}
 use Rattle.layouts.specs.Inner.{contractOf}
 use Rattle.layouts.proofs.BookFile.{contract-in-fits}
-use Rattle.layouts.proofs.ContractBits.{kind-bit, period-bit}
-use Rattle.books.specs.Inner.{contractBytes, termsNumber, contractNumber, bitsBytes}
-use Rattle.books.proofs.Bytes.{contract-number}
+use Rattle.books.specs.Inner.{contractBytes, bitsBytes}
 use Rattle.view_rules.specs.Views.{numbered, heldAt, heldTo, viewRow}
 use Rattle.view_rules.proofs.Numbers.{bits-bytes}
-use Rattle.view_rules.proofs.Rows.{row-bytes, length-row, length-rows, held-there, not-held}
+use Rattle.view_rules.proofs.Rows.{row-bytes, length-rows, held-there, not-held}
 use Rattle.holder_view.specs.Inner.{storedRow, rowsAt, rowsTo}
 
 -- ---- one row
@@ -82,7 +76,7 @@ module _ (f : Form) (h : ℕ) (s : List ℕ) where
       ⊎-elim
       (λ q. rw q (omega arith))
       (λ q. let more : length (rowsTo f h s (n + 1)) ≡ length (rowsTo f h s n) + length (rowsAt f h s n) = ap length (rows-more n) ∙ length-append (rowsTo f h s n) (rowsAt f h s n) in
-          omega (arith, rows-rise m n (omega arith), rw add-one at more))
+      omega (arith, rows-rise m n (omega arith), rw add-one at more))
       (eq-or-lt-of-le b)
 
   pub length-rowsTo : (m : ℕ) → length (rowsTo f h s m) ≡ (2 + recordBytes f) * length (heldTo h (contractIn f s) m)

@@ -1,19 +1,11 @@
 -- The bytes of a contract without its holder, from the contract's bits.
-use mathlib.Core.Path.{_≡_, refl, ap, ap₂, sym, _∙_}
-use mathlib.Core.List.{List, []}
-use Prim.Native.Nat.{ℕ, _+_, _*_, _/_, _%_, _^_, _≤_, _<_}
-use native.Mathlib.Nat.{mod-lt}
+use mathlib.Core.Path.{_≡_, refl, _∙_}
+use Prim.Native.Nat.{ℕ}
 use native.Mathlib.Omega.{arith}
-use lib.Pow.{pow-pos, mod-pow-add, shr-shr}
-use Rattle.tariff.specs.declared.contracts.Contract.{Contract}
 use Rattle.layouts.specs.declared.forms.Form.{Form}
-use Rattle.layouts.specs.declared.forms.Form.the-variants.{Narrow, Wide}
 use Rattle.layouts.specs.Forms.{endWidth}
-use Rattle.tariff.specs.Contracts.{kindOf, periodOf}
-use Rattle.layouts.specs.BookFile.{kindBit, periodBit}
 use Rattle.layouts.specs.Inner.{contractOf}
-use Rattle.layouts.proofs.ContractBits.{kind-bit, period-bit}
-use Rattle.books.specs.Inner.{contractBytes, termsNumber, contractNumber, bitsBytes}
+use Rattle.books.specs.Inner.{contractBytes, bitsBytes}
 use Rattle.books.proofs.Bytes.{contract-number}
 use Rattle.view_rules.specs.Views.{anonymous}
 use Rattle.view_rules.proofs.Numbers.{withHolder, with-holder}

@@ -55,13 +55,13 @@ module _ (c d : Checked) (v w e f : List ℕ) (a b : WriteAnswer) (x y : List �
             front-is c v e x (wa .bytes-written) (t .0) m (t .1) ∙ files (t .0)
             ∙ sym (front-is d w f y (wb .bytes-written) (sym same ∙ t .0) m (ap length (sym (files (t .0))) ∙ t .1));
         rest-as-it-was = λ m is. let t = told m is in (
-              rest-is c v e x (wa .bytes-written) (t .0) m (t .1),
-              rest-is d w f y (wb .bytes-written) (sym same ∙ t .0) m (ap length (sym (files (t .0))) ∙ t .1),
-            );
+          rest-is c v e x (wa .bytes-written) (t .0) m (t .1),
+          rest-is d w f y (wb .bytes-written) (sym same ∙ t .0) m (ap length (sym (files (t .0))) ∙ t .1),
+        );
         refused-as-it-was = λ r is. (
-              wa .bytes-written ∙ kept r is e (overwrite v e),
-              wb .bytes-written ∙ ap (λ (k : Checked). cellsAfter k w f) (sym same) ∙ kept r is f (overwrite w f),
-            );
+          wa .bytes-written ∙ kept r is e (overwrite v e),
+          wb .bytes-written ∙ ap (λ (k : Checked). cellsAfter k w f) (sym same) ∙ kept r is f (overwrite w f),
+        );
         same-place = λ p.
             wa .bytes-written ∙ decided-alike c (λ r. e) (overwrite v e) (overwrite w e) (λ q. ap (λ (l : List ℕ). overwrite l e) (files q))
             ∙ (λ k. cellsAfter (same k) w (p k)) ∙ sym (wb .bytes-written);

@@ -1,5 +1,5 @@
 -- What two calls give: the market's on books that differ in holders alone, a holder's on books where that holder has the same.
-use mathlib.Core.Path.{_≡_, ap, sym, _∙_}
+use mathlib.Core.Path.{_≡_, sym, _∙_}
 use mathlib.Core.List.{List, [], _∷_, flatMap}
 use Prim.Native.Nat.{ℕ}
 use lib.ListN.{length}

@@ -2,7 +2,7 @@
 use mathlib.Core.Path.{_≡_, refl, ap, sym, _∙_}
 use mathlib.Core.Bool.{Bool, true, false, cond, not}
 use mathlib.Core.List.{List, _∷_}
-use Prim.Native.Nat.{ℕ, _+_, _≤_, _<_}
+use Prim.Native.Nat.{ℕ, _<_}
 use native.Mathlib.Omega.{arith}
 use lib.Dec.{ltb, eqb}
 use lib.ListN.{length}
@@ -15,7 +15,7 @@ use Rattle.tariff.proofs.Checks.{same-of}
 use Rattle.layouts.specs.declared.forms.Form.{Form}
 use Rattle.layouts.specs.declared.forms.Form.the-variants.{Narrow, Wide}
 use Rattle.layouts.specs.Files.{spareOther}
-use Rattle.layouts.specs.Forms.{recordBytes, sparePattern}
+use Rattle.layouts.specs.Forms.{sparePattern}
 use Rattle.layouts.specs.BookFile.{bookBytes, contractCountIn, bookSpareIn, bookFormIn, contractIn, contractAt}
 use Rattle.layouts.proofs.BookFile.{record-room}
 use Rattle.books.specs.BookChecks.{checksTo, contractChecks, bookChecks, ownChecks}

@@ -1,10 +1,10 @@
 -- The market's view does not depend on holders; and of an accepted book it is a book, with the same contracts but for their holders.
 use mathlib.Core.Path.{_≡_, refl, ap, sym, _∙_}
 use mathlib.Core.List.{List, [], _∷_, map}
-use Prim.Native.Nat.{ℕ, _+_, _^_, _≤_, _<_}
+use Prim.Native.Nat.{ℕ, _<_}
 use native.Mathlib.Omega.{arith}
 use lib.ListN.{length, getD}
-use Rattle.lists.specs.Lists.{Each, listTo}
+use Rattle.lists.specs.Lists.{listTo}
 use Rattle.lists.proofs.Lists.{length-listTo, listTo-cong, map-listTo, getD-listTo, each-listTo}
 use Rattle.tariff.specs.declared.contracts.Contract.{Contract}
 use Rattle.tariff.specs.declared.refusals.Checked.the-variants.{Passed, Refused}
@@ -13,7 +13,7 @@ use Rattle.tariff.specs.Checks.{shortTable}
 use Rattle.tariff.proofs.Checks.{first-append, passed-append}
 use Rattle.layouts.specs.declared.forms.Form.{Form}
 use Rattle.layouts.specs.Forms.{endWidth}
-use Rattle.layouts.specs.BookFile.{contract, bookBytes, bookFile, contractCountIn, bookSpareIn, bookFormIn, contractIn, contractAt, bookIn}
+use Rattle.layouts.specs.BookFile.{contract, bookBytes, bookFile, contractCountIn, bookFormIn, contractIn, contractAt, bookIn}
 use Rattle.layouts.specs.Inner.{ContractFits}
 use Rattle.layouts.proofs.BookFile.{Filed, book-written, contract-in-fits}
 use Rattle.books.specs.BookChecks.{ownChecks}

@@ -1,19 +1,17 @@
 -- A holder's rows: their bytes, their length, and that they are that holder's.
 use mathlib.Core.Path.{_≡_, refl, ap, ap₂, sym, subst, _∙_}
-use mathlib.Core.Logic.{⊎-elim}
 use mathlib.Core.Bool.{Bool, true, false, cond}
-use mathlib.Core.List.{List, [], _∷_, _++_, flatMap, append-nil, append-assoc}
-use mathlib.Core.List.{Perm, Perm·refl, Perm·trans, Perm·append-left, Perm·append-right, Perm·symm, perm-append-comm}
+use mathlib.Core.List.{List, [], _∷_, _++_, flatMap}
 use Prim.Native.Nat.{ℕ, zero, suc, _+_, _-_, _*_, _/_, _%_, _^_, _≤_, _<_}
-use native.Mathlib.Nat.{eq-or-lt-of-le, mul-zero, mul-suc, add-assoc}
+use native.Mathlib.Nat.{mul-zero, mul-suc, add-assoc}
 use native.Mathlib.Omega.{arith}
 use borrow.Author.Tests.{eqb-true, eq-eqb, ne-eqb}
 use lib.Dec.{eqb}
 use lib.Pow.{high}
 use lib.ListN.{length, take, drop, length-append, length-drop}
 use lib.Seq.{length-take-le}
-use Rattle.lists.specs.Lists.{Each, listTo}
-use Rattle.lists.proofs.Lists.{each-append, flatMap-append}
+use Rattle.lists.specs.Lists.{Each}
+use Rattle.lists.proofs.Lists.{each-append}
 use Rattle.bits.specs.Bits.{number, digits, field}
 use Rattle.bits.specs.Fields.{Field, bits, total, packed, fileOf}
 use Rattle.bits.specs.Inner.{Fit, Holds}

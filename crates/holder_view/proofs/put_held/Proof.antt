@@ -10,18 +10,18 @@ use borrow.Author.Needs.{needs}
 use Rattle.holder_view.proofs.put_held.Statement.{statement}
 use Rattle.holder_view.proofs.put_held.Tie as tie
 
+-- the row of a contract that the holder has
+row-there : (c : tie.Else1) → let h = c .before in let a = h .before .before .before .before .args in
+    rowsAt (a .form) (a .holder) (a .book .now) (a .i) ≡ storedRow (a .form) (a .i) (h .before .bits-at .result)
+row-there c = let h = c .before in rows-held _ _ _ _ _ (h .before .bits-at .ensures) (sym (h .holder-of .ensures) ∙ c .if1 .left)
+
 returns : tie.Need-returns
 returns c =
     let h = c .before in
     let a = h .before .before .before .before .args in
     let none : rowsAt (a .form) (a .holder) (a .book .now) (a .i) ≡ []
-        = rows-none (a .form) (a .holder) (a .book .now) (a .i) (λ e. c .if1 .taken (h .holder-of .ensures ∙ sym (ap (λ (x : Contract). x .holder) (h .before .bits-at .ensures)) ∙ e)) in
+    = rows-none (a .form) (a .holder) (a .book .now) (a .i) (λ e. c .if1 .taken (h .holder-of .ensures ∙ sym (ap (λ (x : Contract). x .holder) (h .before .bits-at .ensures)) ∙ e)) in
     (nothing-put (a .view .now) _ (a .at) none, omega (arith, ap length none))
-
--- the row of a contract that the holder has
-row-there : (c : tie.Else1) → let h = c .before in let a = h .before .before .before .before .args in
-    rowsAt (a .form) (a .holder) (a .book .now) (a .i) ≡ storedRow (a .form) (a .i) (h .before .bits-at .result)
-row-there c = let h = c .before in rows-held _ _ _ _ _ (h .before .bits-at .ensures) (sym (h .holder-of .ensures) ∙ c .if1 .left)
 
 store-row-requires : tie.Need-store-row-requires
 store-row-requires c κs =

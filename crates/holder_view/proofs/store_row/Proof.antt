@@ -1,5 +1,4 @@
 -- `store_row`: the number's two bytes, then the contract's behind them.
-use mathlib.Core.Path.{_∙_}
 use native.Mathlib.Omega.{arith}
 use Rattle.bits.specs.Bits.{digits}
 use Rattle.bits.proofs.Numbers.{length-digits}

@@ -30,7 +30,7 @@ put-held-requires c κs =
     let h = s .args .holder in
     let book = s .args .book .now in
     let more : length (rowsTo f h book (l .i + 1)) ≡ length (rowsTo f h book (l .i)) + length (rowsAt f h book (l .i))
-        = ap length (rows-more f h book (l .i)) ∙ length-append (rowsTo f h book (l .i)) (rowsAt f h book (l .i)) in
+    = ap length (rows-more f h book (l .i)) ∙ length-append (rowsTo f h book (l .i)) (rowsAt f h book (l .i)) in
     let most = rows-rise f h book (l .i + 1) (s .args .count) (omega arith) in (
       (omega arith, record-room f (l .i) (s .args .count) _ (omega arith) (s .pre .0 .1)),
       omega (arith, more, most, s .pre .1, l .inv .1, l .inv .2),

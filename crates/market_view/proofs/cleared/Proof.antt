@@ -1,5 +1,4 @@
 -- `cleared`.
-use native.Mathlib.Omega.{arith}
 use borrow.Author.Needs.{needs}
 use Rattle.market_view.proofs.cleared.Statement.{statement}
 use Rattle.market_view.proofs.cleared.Tie as tie

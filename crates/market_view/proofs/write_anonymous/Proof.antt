@@ -63,7 +63,7 @@ loop-again c =
     let a = h .before .before .before .before .before .before .before .args in
     let g = rowAt (a .form) (a .book .now) in
     let bytes : contractBytes (a .form) (g (l .i)) ≡ bitsBytes (a .form) (k .cleared .result)
-        = ap (λ (x : Contract). contractBytes (a .form) (anonymous x)) (b .bits-at .ensures) ∙ cleared-bytes (a .form) (b .bits-at .result) ∙ ap (bitsBytes (a .form)) (sym (k .cleared .ensures)) in (
+    = ap (λ (x : Contract). contractBytes (a .form) (anonymous x)) (b .bits-at .ensures) ∙ cleared-bytes (a .form) (b .bits-at .result) ∙ ap (bitsBytes (a .form)) (sym (k .cleared .ensures)) in (
       omega arith,
       stored .kept .0 ∙ l .inv .1,
       λ f e.
