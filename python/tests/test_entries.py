@@ -284,8 +284,8 @@ class Figures(unittest.TestCase):
                 self.assertEqual(sorted(together), list(enumerate(rows)))
 
     def test_what_is_no_view(self):
-        view = crr.write_holder_view(2, crr.write_book(2, [(0, 1, 7, 0, 1, 10)] * 1000), 7)
-        for data, number in ((view[:-1], 5), (view + b"\0", 5), (view + view[:8], 10), (2 * view, 10), (view[:6] + b"\0\0", 13)):
+        one, most = (crr.write_holder_view(2, crr.write_book(2, [(0, 1, 7, 0, 1, 10)] * count), 7) for count in (1, 1000))
+        for data, number in ((one[:-1], 5), (one + b"\0", 5), (one[:6] + b"\0\0", 13), (most + one, 10), (2 * most, 10)):
             with self.assertRaises(crr.Refused) as caught:
                 crr.read_holder_view(2, data)
             self.assertEqual(caught.exception.number, number)

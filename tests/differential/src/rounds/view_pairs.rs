@@ -73,7 +73,8 @@ pub fn market_pairs(round: &mut Round, own: &Own, files: &[Vec<u8>]) {
         let nodes = if round.draw.once_in(12) { round.draw.pick(&WRONG_NODES) } else { own.size.nodes as usize };
         let room = if round.draw.once_in(6) { short(file.len()) } else { file.len() + round.draw.below(3) as usize };
         let pair = seen(&mut round.draw, room, [file, &other], |book, place, bytes| library::write_market_view(nodes, book, place, bytes));
-        let case = NUMBERS.iter().position(|number| *number == pair[0].0);
+        // fewer than two bytes have no holder to be changed
+        let case = NUMBERS.iter().position(|number| *number == pair[0].0 && (other != *file || *number == 1));
         round.shown(case.map_or(&[], |case| &MARKET[case..=case]));
         compare(round, &pair);
     }
@@ -101,7 +102,7 @@ pub fn holder_pairs(round: &mut Round, own: &Own, number: u64) {
         for room in [length, length + 3, short(length)] {
             let view = |book: &[u8], place: &mut [u8], bytes: &mut usize| library::write_holder_view(nodes, book, number, place, bytes);
             let pair = seen(&mut round.draw, room, [&file, &other], view);
-            round.shown(&names(&HOLDER, [more == 0, more > 0, pair[0].0 == 9]));
+            round.shown(&names(&HOLDER, [more == 0, more > 0, pair[0].0 == 9].map(|shown| shown && file != other)));
             compare(round, &pair);
         }
     }

@@ -234,7 +234,7 @@ fn holders(draw: &mut Draw, book: &[Contract]) -> Vec<u64> {
     let any = draw.below(1024);
     let one = if book.is_empty() { any } else { book[draw.below(book.len() as u64) as usize].holder as u64 };
     let beyond = one + draw.pick(&[1 << 10, 1 << 16, 1 << 32, 1 << 63]);
-    vec![one, one ^ 1 << draw.below(10), one.saturating_sub(1), (one + 1).min(1023), 0, 1023, any, beyond, draw.pick(&WRONG_HOLDERS)]
+    vec![one, one ^ 1 << draw.below(10), one.saturating_sub(1), (one + 1).min(1023), 0, 1023, any, 1024, beyond, draw.pick(&WRONG_HOLDERS)]
 }
 
 pub fn holder_round(round: &mut Round) {
