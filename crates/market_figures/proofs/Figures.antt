@@ -28,7 +28,8 @@ unfolding ofPeriod anonymous
 ofPeriod-anonymous t [] = refl
 ofPeriod-anonymous t (c ∷ cs) = by (samePeriod (c .period) t) (ofPeriod-anonymous t cs)
   where
-    by : (b : Bool) → ofPeriod t (map anonymous cs) ≡ map anonymous (ofPeriod t cs) → cond b (anonymous c ∷ ofPeriod t (map anonymous cs)) (ofPeriod t (map anonymous cs)) ≡ map anonymous (cond b (c ∷ ofPeriod t cs) (ofPeriod t cs))
+    by : (b : Bool) → ofPeriod t (map anonymous cs) ≡ map anonymous (ofPeriod t cs)
+        → cond b (anonymous c ∷ ofPeriod t (map anonymous cs)) (ofPeriod t (map anonymous cs)) ≡ map anonymous (cond b (c ∷ ofPeriod t cs) (ofPeriod t cs))
     by true e = ap (λ (l : List Contract). anonymous c ∷ l) e
     by false e = e
 

@@ -41,8 +41,12 @@ withHolder f v h = let e = endWidth f + endWidth f in v / 2 ^ (30 + e) % 2 ^ 2 *
 
 pub with-holder : (f : Form) (v h : ℕ) → let c = contractOf (endWidth f) v in
     withHolder f v h ≡ contractNumber f ((kindBit (c .kind) * 2 + periodBit (c .period)) * 1024 + h) (c .source) (c .sink) (c .quantity .0)
-with-holder Narrow v h = rw (kept-kind v 47, kept-period v 46) (narrow-sum _ (v / 2 ^ 47 % 2 ^ 1) (v / 2 ^ 46 % 2 ^ 1) h _ (v / 2 ^ 0 % 2 ^ 28) _ _ _ (joined v 46 1 1) (joined v 0 20 8) (joined v 0 28 8))
-with-holder Wide v h = rw (kept-kind v 55, kept-period v 54) (wide-sum _ (v / 2 ^ 55 % 2 ^ 1) (v / 2 ^ 54 % 2 ^ 1) h _ (v / 2 ^ 0 % 2 ^ 32) _ _ _ (joined v 54 1 1) (joined v 0 20 12) (joined v 0 32 12))
+with-holder Narrow v h =
+    rw (kept-kind v 47, kept-period v 46)
+    (narrow-sum _ (v / 2 ^ 47 % 2 ^ 1) (v / 2 ^ 46 % 2 ^ 1) h _ (v / 2 ^ 0 % 2 ^ 28) _ _ _ (joined v 46 1 1) (joined v 0 20 8) (joined v 0 28 8))
+with-holder Wide v h =
+    rw (kept-kind v 55, kept-period v 54)
+    (wide-sum _ (v / 2 ^ 55 % 2 ^ 1) (v / 2 ^ 54 % 2 ^ 1) h _ (v / 2 ^ 0 % 2 ^ 32) _ _ _ (joined v 54 1 1) (joined v 0 20 12) (joined v 0 32 12))
 
 -- with its own holder it is all of the contract's bits
 with-own : (f : Form) (v : ℕ) → v % 2 ^ (8 * recordBytes f) ≡ withHolder f v (contractOf (endWidth f) v .holder)

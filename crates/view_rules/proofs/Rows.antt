@@ -19,16 +19,16 @@ use Rattle.bits.proofs.Numbers.{Below, digits-append, digits-high, below-take, 
 use Rattle.bits.proofs.Fields.{field-window}
 use Rattle.bits.proofs.Files.{packed-lt, length-file, holds-written}
 use Rattle.tariff.specs.declared.contracts.Contract.{Contract}
+use Rattle.tariff.specs.declared.refusals.Checked.the-variants.{Passed}
+use Rattle.tariff.specs.Refusals.{first}
 use Rattle.layouts.specs.declared.forms.Form.{Form}
 use Rattle.layouts.specs.Forms.{endWidth, recordBytes}
 use Rattle.layouts.specs.BookFile.{contractBits, contractFields, contractFrom, bookBytes, contractCountIn, bookFormIn, contractIn, contractAt}
 use Rattle.layouts.specs.Inner.{ContractFits}
 use Rattle.layouts.proofs.BookFile.{total-contract, fit-contract, whole-bytes, contract-holds, contract-in-fits}
-use Rattle.books.specs.Inner.{contractBytes}
 use Rattle.books.specs.BookChecks.{ownChecks}
+use Rattle.books.specs.Inner.{contractBytes}
 use Rattle.books.proofs.Accepted.{own-accepted, accepted-room}
-use Rattle.tariff.specs.declared.refusals.Checked.the-variants.{Passed}
-use Rattle.tariff.specs.Refusals.{first}
 use Rattle.view_rules.specs.Views.{Numbered, numbered, heldAt, heldTo, viewRow}
 
 -- ---- a row's bytes

@@ -9,10 +9,10 @@ use native.Mathlib.Omega.{arith}
 use Rattle.lists.specs.Lists.{Each, listTo}
 use Rattle.lists.proofs.Lists.{each-listTo, flatMap-last}
 use Rattle.tariff.specs.declared.contracts.Contract.{Contract}
-use Rattle.view_rules.specs.Views.{Numbered, numbered, heldAt, heldTo}
 use Rattle.tariff.specs.Units.{maxHolder}
 use Rattle.layouts.specs.BookFile.{contractCountIn, bookFormIn, contractAt}
 use Rattle.layouts.proofs.BookFile.{contract-in-fits}
+use Rattle.view_rules.specs.Views.{Numbered, numbered, heldAt, heldTo}
 use Rattle.view_rules.specs.Theorems.{ViewsSplit}
 use Rattle.view_rules.proofs.Rows.{held-there, not-held, held-own}
 

@@ -62,4 +62,5 @@ returns-4 c place e =
 pub check-holder-view-spec : {M : Type 1} → statement M
 check-holder-view-spec =
     tie.close (tie.spec
-    (λ c κs. search needs) (λ c. search needs) returns (λ c. search needs) returns-2 header-there (λ c κs. header-there (c .before) κs) held-count-requires (λ c κs. search needs) mul-if2 returns-3 returns-4)
+    (λ c κs. search needs) (λ c. search needs) returns (λ c. search needs) returns-2 header-there (λ c κs. header-there (c .before) κs)
+    held-count-requires (λ c κs. search needs) mul-if2 returns-3 returns-4)
