@@ -270,9 +270,9 @@ uint64_t crr_remap_book(size_t nodes,
  *
  * Two books of one form have equal bytes in the settled form exactly when, for each
  * kind, period, holder, source and sink, their total quantities are equal. The settled
- * form of a settled form is itself. crr_test_book and crr_find_flows give the same of
- * both but for *counted, and so does crr_settle_hour for *whole and *parts: cents are
- * rounded row by row, so they and their *sum may differ.
+ * form of a settled form is itself. For a book and its settled form crr_test_book and
+ * crr_find_flows give the same but for *counted, and crr_settle_hour the same *whole
+ * and *parts. Cents are rounded row by row, so they and their *sum may differ.
  *
  * Refusals, in this order: 2, 1, 10, 4, 5, then contract by contract 11, 13, and 9 if
  * the bytes of the settled form don't fit.

@@ -257,6 +257,9 @@ class Same(FolderTest):
         self.assertEqual(self.compared(self.folder / "bin", self.folder / "copied"), said)
         fives = [{row[:5] for row in crr.read_book(14, (self.folder / name / "book.bin").read_bytes())} for name in ("bin", "copied")]
         self.assertNotEqual(*fives)
+        self.assertEqual(command("test", IEEE14), command("test", copy))
+        totals = [json.loads(command("settle", folder, "--json")[1]) for folder in (IEEE14, copy)]
+        self.assertEqual(totals[0]["exact_total"], totals[1]["exact_total"])
 
     def test_one_thousandth(self):
         copy = self.copy("copy", lambda rows: [row.replace("30.000", "30.001") for row in rows[::-1]])
