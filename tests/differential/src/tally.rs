@@ -96,9 +96,14 @@ impl<'a> Round<'a> {
 
     /// Two answers of the second implementation that must be the same; the proved ones were compared with them.
     pub fn same(&mut self, holds: bool, what: &str) {
+        self.holds(holds, &format!("{what}: the answers differ"));
+    }
+
+    /// What must hold of several answers together.
+    pub fn holds(&mut self, holds: bool, wrong: &str) {
         if !holds {
             self.tally.failed += 1;
-            println!("FAILED {}: seed {}, round {}: {what}: the answers differ", self.entry, self.seed, self.number);
+            println!("FAILED {}: seed {}, round {}: {wrong}", self.entry, self.seed, self.number);
         }
     }
 

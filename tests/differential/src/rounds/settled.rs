@@ -205,17 +205,17 @@ fn theorems(round: &mut Round, nodes: usize, form: Form, book: &[Contract]) {
     for _ in 0..3 {
         let copy = book::file_of(form, &copy(&mut round.draw, book));
         let _ = call(round, &Asked { nodes, room: copy.len(), book: copy.clone() });
-        round.same(own.is_ok() && proved_form(nodes, &copy) == own, "a book and its copy");
+        round.holds(own.is_ok() && proved_form(nodes, &copy) == own, "a copy of the book has another form");
     }
     for nodes in [4000, nodes + usize::from(nodes < 4000)] {
         let _ = call(round, &Asked { nodes, room: file.len(), book: file.clone() });
-        round.same(proved_form(nodes, &file) == own, "another node count");
+        round.holds(proved_form(nodes, &file) == own, "for another node count the book has another form");
     }
     for _ in 0..3 {
         if let Some(other) = changed(&mut round.draw, book, ends_below(form, nodes as i128)) {
             let other = book::file_of(form, &other);
             let _ = call(round, &Asked { nodes, room: other.len(), book: other.clone() });
-            round.same(proved_form(nodes, &other) != own, "a book and one that means something else, where the same");
+            round.holds(proved_form(nodes, &other) != own, "a book that means something else has the same form");
         }
     }
 }
@@ -261,7 +261,7 @@ fn survives(round: &mut Round, size: Size, file: &[u8]) {
     let form = proved_form(grid.nodes as usize, file);
     let (before, sums) = meaning(&grid, &prices, file);
     let (after, settled_sums) = meaning(&grid, &prices, form.as_deref().unwrap_or_default());
-    round.same(before == after, "the test, the flows and the exact total of a settled book");
+    round.holds(before == after, "settled, the book has another verdict, flow or exact total");
     let fails = |wanted: bool| before.tested.iter().any(|(_, set, ..)| (*set != 0) == wanted);
     let total = before.totals.iter().any(|&(_, whole, parts)| (whole, parts) != (0, 0));
     for (case, shows) in (22..).zip([fails(false), fails(true), total, sums != settled_sums]) {
@@ -313,7 +313,7 @@ fn ladder(draw: &mut Draw, form: Form) -> Vec<(u64, Asked)> {
 fn refused(round: &mut Round, size: Size, form: Form, book: &[Contract], valid: &Asked) {
     for (number, asked) in ladder(&mut round.draw, form) {
         let answer = call(round, &asked);
-        round.same(answer == Err(number), "the ladder of refusals");
+        round.holds(answer == Err(number), &format!("another refusal than {number}, which comes first"));
     }
     for nodes in WRONG_NODES.into_iter().chain([valid.nodes - 1, valid.nodes + 1, 200, 4000]) {
         let _ = call(round, &Asked { nodes, ..valid.clone() });
