@@ -27,7 +27,7 @@ def _megawatts(quantity: int) -> str:
 
 
 class Numbers(NamedTuple):
-    """Names by number that two folders have in common."""
+    """Names of holders and nodes by number."""
 
     holders: List[str]
     nodes: List[str]
@@ -119,8 +119,9 @@ def same(first: Path, second: Path) -> Answer:
     folders = _both((first, second))
     numbers = _common(folders)
     books = [_renumbered(found, numbers) for found in folders]
-    rows = [] if _equal(books, numbers) else _differences(books, numbers)
+    equal = _equal(books, numbers)
+    rows = [] if equal else _differences(books, numbers)
     sizes = " and ".join(counted(len(book), "contract") for book in books)
-    told = f"not the same book: {counted(len(rows), 'total')} differ{'s' if len(rows) == 1 else ''}" if rows else "the same book"
-    data: Dict[str, object] = {"same": not rows, "contracts": [len(book) for book in books], "differences": objects(DIFFERENCES, rows)}
-    return Answer(FAILS if rows else PASSES, csv_text(DIFFERENCES, rows), data, f"{first}, {second}: {told} ({sizes})\n")
+    told = "the same book" if equal else f"not the same book: {counted(len(rows), 'total')} differ{'s' if len(rows) == 1 else ''}"
+    data: Dict[str, object] = {"same": equal, "contracts": [len(book) for book in books], "differences": objects(DIFFERENCES, rows)}
+    return Answer(PASSES if equal else FAILS, csv_text(DIFFERENCES, rows), data, f"{first}, {second}: {told} ({sizes})\n")
