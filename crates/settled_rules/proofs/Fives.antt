@@ -1,0 +1,133 @@
+-- The five of a contract as one number: its order is the paper's, and equal numbers are equal fives.
+use mathlib.Core.Path.{_≡_, refl, sym, ap, _∙_}
+use mathlib.Core.Logic.{_⊎_, inl, inr, ⊎-elim, _↔_}
+use mathlib.Core.Bool.{Bool, true, false, _&&_, true≢false}
+use Prim.Native.Nat.{ℕ, _+_, _*_, _≤_, _<_}
+use native.Mathlib.Omega.{arith}
+use native.Mathlib.Nat.{eq-or-lt-of-le}
+use borrow.Author.Tests.{eqb-true, eq-eqb, ne-eqb}
+use lib.Dec.{eqb}
+use Rattle.tariff.specs.declared.contracts.Kind.{Kind}
+use Rattle.tariff.specs.declared.contracts.Period.{Period}
+use Rattle.tariff.specs.declared.contracts.Contract.{Contract}
+use Rattle.tariff.specs.Contracts.{kindOf, periodOf}
+use Rattle.layouts.specs.BookFile.{kindBit, periodBit}
+use Rattle.layouts.proofs.ContractBits.{kind-back, period-back, kind-lt, period-lt}
+use Rattle.flow_laws.specs.Quantities.{withQuantity}
+use Rattle.sorting.proofs.Sorted.{le-or-lt}
+use Rattle.settled_rules.specs.Settled.{quantity, fiveOf, hasFive}
+use Rattle.settled_rules.specs.Theorems.{FiveFits, SameFive, Then, Sooner}
+
+pub less-same-more : (x y : ℕ) → (x < y) ⊎ ((x ≡ y) ⊎ (y < x))
+less-same-more x y = ⊎-elim (λ h. ⊎-elim (λ e. inr (inl e)) (λ l. inl l) (eq-or-lt-of-le h)) (λ h. inr (inr h)) (le-or-lt x y)
+
+-- ---- two digits as one number: b is what the last is below
+
+module _ (x y u v : ℕ) where
+  pub last-4096 : u < 4096 → v < 4096 → (x * 4096 + u < y * 4096 + v) ↔ Then x y (u < v)
+  last-4096 hu hv =
+      (λ h. ⊎-elim (λ l. inl l) (⊎-elim (λ e. inr (e, omega arith)) (λ l. absurd (omega arith))) (less-same-more x y),
+      ⊎-elim (λ l. omega arith) (λ w. omega (arith, w .0, w .1)))
+
+  pub same-4096 : u < 4096 → v < 4096 → x * 4096 + u ≡ y * 4096 + v → (x ≡ y) × (u ≡ v)
+  same-4096 hu hv e = (omega arith, omega arith)
+
+module _ (a b : Contract) (fa : FiveFits a) (fb : FiveFits b) where
+  abbrev terms : Contract → ℕ
+  terms c = (kindBit (c .kind) * 2 + periodBit (c .period)) * 1024 + c .holder
+
+  -- ---- equal exactly when all five are
+
+  pub same-five : fiveOf a ≡ fiveOf b → SameFive a b
+  unfolding fiveOf
+  same-five e =
+      let p = same-4096 (terms a * 4096 + a .source) (terms b * 4096 + b .source) (a .sink) (b .sink) (fa .sink-fits) (fb .sink-fits) e in
+      let q = same-4096 (terms a) (terms b) (a .source) (b .source) (fa .source-fits) (fb .source-fits) (p .0) in
+      let ka = kind-lt (a .kind) in
+      let kb = kind-lt (b .kind) in
+      let ta = period-lt (a .period) in
+      let tb = period-lt (b .period) in
+      let k : kindBit (a .kind) ≡ kindBit (b .kind) = omega (arith, q .0, fa .holder-fits, fb .holder-fits) in
+      let t : periodBit (a .period) ≡ periodBit (b .period) = omega (arith, q .0, fa .holder-fits, fb .holder-fits) in
+      record {
+        kind = sym (kind-back (a .kind)) ∙ ap kindOf k ∙ kind-back (b .kind);
+        period = sym (period-back (a .period)) ∙ ap periodOf t ∙ period-back (b .period);
+        holder = omega (arith, q .0, fa .holder-fits, fb .holder-fits);
+        source = q .1;
+        sink = p .1;
+      }
+
+pub five-of-same : (a b : Contract) → SameFive a b → fiveOf a ≡ fiveOf b
+unfolding fiveOf
+five-of-same a b s =
+    λ i. (((kindBit (s .kind i) * 2 + periodBit (s .period i)) * 1024 + s .holder i) * 4096 + s .source i) * 4096 + s .sink i
+
+-- a contract is its five and its quantity
+pub same-but-quantity : (a b : Contract) → SameFive a b → withQuantity (quantity a) b ≡ a
+same-but-quantity a b s =
+    λ i. record {
+      kind = sym (s .kind) i;
+      period = sym (s .period) i;
+      holder = sym (s .holder) i;
+      source = sym (s .source) i;
+      sink = sym (s .sink) i;
+      quantity = a .quantity;
+    }
+
+pub same-contract : (a b : Contract) → SameFive a b → quantity a ≡ quantity b → a ≡ b
+same-contract a b s e =
+    λ i. record {
+      kind = s .kind i;
+      period = s .period i;
+      holder = s .holder i;
+      source = s .source i;
+      sink = s .sink i;
+      quantity = record { 0 = e i };
+    }
+
+-- ---- the test of five figures
+
+and-both : (a b : Bool) → (a && b) ≡ true → (a ≡ true) × (b ≡ true)
+and-both true true e = (refl, refl)
+and-both true false e = (refl, e)
+and-both false b e = (e, absurd (true≢false (sym e)))
+
+-- whether c has the five of d
+abbrev pub fiveLike : Contract → Contract → Bool
+fiveLike d c = hasFive (d .kind) (d .period) (d .holder) (d .source) (d .sink) c
+
+pub has-five : (kind : Kind) (period : Period) (holder source sink : ℕ) (c : Contract) → hasFive kind period holder source sink c ≡ true
+    → SameFive c (record { kind = kind; period = period; holder = holder; source = source; sink = sink; quantity = c .quantity })
+unfolding hasFive
+has-five kind period holder source sink c e =
+    let k = eqb (kindBit (c .kind)) (kindBit kind) in
+    let t = eqb (periodBit (c .period)) (periodBit period) in
+    let h = eqb (c .holder) holder in
+    let f = eqb (c .source) source in
+    let p = and-both (k && t && h && f) (eqb (c .sink) sink) e in
+    let q = and-both (k && t && h) f (p .0) in
+    let r = and-both (k && t) h (q .0) in
+    let s = and-both k t (r .0) in
+    record {
+      kind = sym (kind-back (c .kind)) ∙ ap kindOf (eqb-true (kindBit (c .kind)) (kindBit kind) (s .0)) ∙ kind-back kind;
+      period = sym (period-back (c .period)) ∙ ap periodOf (eqb-true (periodBit (c .period)) (periodBit period) (s .1)) ∙ period-back period;
+      holder = eqb-true (c .holder) holder (r .1);
+      source = eqb-true (c .source) source (q .1);
+      sink = eqb-true (c .sink) sink (p .1);
+    }
+
+pub has-same : (c d : Contract) → SameFive c d → fiveLike d c ≡ true
+unfolding hasFive
+has-same c d s =
+    rw (eq-eqb (kindBit (c .kind)) (kindBit (d .kind)) (ap kindBit (s .kind)), eq-eqb (periodBit (c .period)) (periodBit (d .period)) (ap periodBit (s .period)),
+      eq-eqb (c .holder) (d .holder) (s .holder), eq-eqb (c .source) (d .source) (s .source), eq-eqb (c .sink) (d .sink) (s .sink))
+
+-- with fives that are numbers the two tests are one
+pub like-is-equal : (c d : Contract) → FiveFits c → FiveFits d → fiveLike d c ≡ eqb (fiveOf c) (fiveOf d)
+unfolding fiveOf
+like-is-equal c d fc fd = by (fiveLike d c) refl
+  where
+    by : (t : Bool) → fiveLike d c ≡ t → fiveLike d c ≡ eqb (fiveOf c) (fiveOf d)
+    by true e = e ∙ sym (eq-eqb _ _ (five-of-same c (record { kind = d .kind; period = d .period; holder = d .holder; source = d .source; sink = d .sink; quantity = c .quantity })
+        (has-five (d .kind) (d .period) (d .holder) (d .source) (d .sink) c e)))
+    by false e = e ∙ sym (ne-eqb _ _ (λ s. true≢false (sym (has-same c d (same-five c d fc fd s)) ∙ e)))

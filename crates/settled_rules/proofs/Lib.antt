@@ -1,0 +1,4 @@
+pub mod Fives
+pub mod Totals
+pub mod Unique
+pub mod Merging
