@@ -1,10 +1,10 @@
 -- The five of a contract as one number: its order is the paper's, and equal numbers are equal fives.
-use mathlib.Core.Path.{_≡_, refl, sym, ap, _∙_}
+use mathlib.Core.Path.{_≡_, refl, sym, ap, ap₂, _∙_}
 use mathlib.Core.Logic.{_⊎_, inl, inr, ⊎-elim, _↔_}
 use mathlib.Core.Bool.{Bool, true, false, _&&_, true≢false}
-use Prim.Native.Nat.{ℕ, _+_, _*_, _≤_, _<_}
+use Prim.Native.Nat.{ℕ, suc, _+_, _*_, _≤_, _<_}
 use native.Mathlib.Omega.{arith}
-use native.Mathlib.Nat.{eq-or-lt-of-le}
+use native.Mathlib.Nat.{eq-or-lt-of-le, mul-le-mul-right}
 use borrow.Author.Tests.{eqb-true, eq-eqb, ne-eqb}
 use lib.Dec.{eqb}
 use Rattle.tariff.specs.declared.contracts.Kind.{Kind}
@@ -21,28 +21,69 @@ use Rattle.settled_rules.specs.Theorems.{FiveFits, SameFive, Then, Soone
 pub less-same-more : (x y : ℕ) → (x < y) ⊎ ((x ≡ y) ⊎ (y < x))
 less-same-more x y = ⊎-elim (λ h. ⊎-elim (λ e. inr (inl e)) (λ l. inl l) (eq-or-lt-of-le h)) (λ h. inr (inr h)) (le-or-lt x y)
 
--- ---- two digits as one number: b is what the last is below
+-- ---- two digits as one number, the last below B
 
-module _ (x y u v : ℕ) where
-  pub last-4096 : u < 4096 → v < 4096 → (x * 4096 + u < y * 4096 + v) ↔ Then x y (u < v)
-  last-4096 hu hv =
-      (λ h. ⊎-elim (λ l. inl l) (⊎-elim (λ e. inr (e, omega arith)) (λ l. absurd (omega arith))) (less-same-more x y),
-      ⊎-elim (λ l. omega arith) (λ w. omega (arith, w .0, w .1)))
+module _ (B x y u v : ℕ) (hu : u < B) (hv : v < B) where
+  above : x < y → x * B + u < y * B + v
+  above l = let m : suc x * B ≤ y * B = mul-le-mul-right B l in omega arith
 
-  pub same-4096 : u < 4096 → v < 4096 → x * 4096 + u ≡ y * 4096 + v → (x ≡ y) × (u ≡ v)
-  same-4096 hu hv e = (omega arith, omega arith)
+  below : y < x → y * B + v < x * B + u
+  below l = let m : suc y * B ≤ x * B = mul-le-mul-right B l in omega arith
+
+  same-head : x * B + u ≡ y * B + v → x ≡ y
+  same-head e = ⊎-elim (λ l. absurd (omega (arith, above l))) (⊎-elim (λ s. s) (λ l. absurd (omega (arith, below l)))) (less-same-more x y)
+
+  pub same-digits : x * B + u ≡ y * B + v → (x ≡ y) × (u ≡ v)
+  same-digits e =
+      let m : x * B ≡ y * B = ap (λ (z : ℕ). z * B) (same-head e) in
+      (same-head e, omega arith)
+
+  pub less-digits : (x * B + u < y * B + v) ↔ Then x y (u < v)
+  less-digits = (
+    λ h. ⊎-elim
+      (λ l. inl l)
+      (⊎-elim (λ e. inr (e, let m : x * B ≡ y * B = ap (λ (z : ℕ). z * B) e in omega arith)) (λ l. absurd (omega (arith, below l))))
+      (less-same-more x y),
+    ⊎-elim above (λ w. let m : x * B ≡ y * B = ap (λ (z : ℕ). z * B) (w .0) in omega (arith, w .1)),
+  )
+
+  -- with what follows
+  pub then-digits : (R : Type 0) → Then (x * B + u) (y * B + v) R ↔ Then x y (Then u v R)
+  then-digits R = (
+    ⊎-elim
+      (λ h. ⊎-elim (λ l. inl l) (λ w. inr (w .0, inl (w .1))) (less-digits .0 h))
+      (λ w. inr (same-head (w .0), inr (same-digits (w .0) .1, w .1))),
+    ⊎-elim
+      (λ l. inl (above l))
+      (λ w. ⊎-elim (λ l. inl (less-digits .1 (inr (w .0, l)))) (λ z. inr (ap₂ (λ (p q : ℕ). p * B + q) (w .0) (z .0), z .1)) (w .1)),
+  )
 
 module _ (a b : Contract) (fa : FiveFits a) (fb : FiveFits b) where
   abbrev terms : Contract → ℕ
   terms c = (kindBit (c .kind) * 2 + periodBit (c .period)) * 1024 + c .holder
+
+  abbrev kinds : Contract → ℕ
+  kinds c = kindBit (c .kind) * 2 + periodBit (c .period)
+
+  -- ---- less exactly when the paper's order says so
+
+  pub five-less : (fiveOf a < fiveOf b) ↔ Sooner a b
+  unfolding fiveOf
+  five-less =
+      let sinks = less-digits 4096 (terms a * 4096 + a .source) (terms b * 4096 + b .source) (a .sink) (b .sink) (fa .sink-fits) (fb .sink-fits) in
+      let sources = then-digits 4096 (terms a) (terms b) (a .source) (b .source) (fa .source-fits) (fb .source-fits) (a .sink < b .sink) in
+      let holders = then-digits 1024 (kinds a) (kinds b) (a .holder) (b .holder) (fa .holder-fits) (fb .holder-fits) (Then (a .source) (b .source) (a .sink < b .sink)) in
+      let periods = then-digits 2 (kindBit (a .kind)) (kindBit (b .kind)) (periodBit (a .period)) (periodBit (b .period)) (period-lt (a .period)) (period-lt (b .period))
+          (Then (a .holder) (b .holder) (Then (a .source) (b .source) (a .sink < b .sink))) in
+      (λ h. periods .0 (holders .0 (sources .0 (sinks .0 h))), λ s. sinks .1 (sources .1 (holders .1 (periods .1 s))))
 
   -- ---- equal exactly when all five are
 
   pub same-five : fiveOf a ≡ fiveOf b → SameFive a b
   unfolding fiveOf
   same-five e =
-      let p = same-4096 (terms a * 4096 + a .source) (terms b * 4096 + b .source) (a .sink) (b .sink) (fa .sink-fits) (fb .sink-fits) e in
-      let q = same-4096 (terms a) (terms b) (a .source) (b .source) (fa .source-fits) (fb .source-fits) (p .0) in
+      let p = same-digits 4096 (terms a * 4096 + a .source) (terms b * 4096 + b .source) (a .sink) (b .sink) (fa .sink-fits) (fb .sink-fits) e in
+      let q = same-digits 4096 (terms a) (terms b) (a .source) (b .source) (fa .source-fits) (fb .source-fits) (p .0) in
       let ka = kind-lt (a .kind) in
       let kb = kind-lt (b .kind) in
       let ta = period-lt (a .period) in

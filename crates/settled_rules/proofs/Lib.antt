@@ -2,3 +2,5 @@ pub mod Fives
 pub mod Totals
 pub mod Unique
 pub mod Merging
+pub mod Walking
+pub mod Numbers
