@@ -103,6 +103,9 @@ unfolding fiveOf
 five-of-same a b s =
     λ i. (((kindBit (s .kind i) * 2 + periodBit (s .period i)) * 1024 + s .holder i) * 4096 + s .source i) * 4096 + s .sink i
 
+pub five-orders : (a b : Contract) → FiveFits a → FiveFits b → ((fiveOf a < fiveOf b) ↔ Sooner a b) × ((fiveOf a ≡ fiveOf b) ↔ SameFive a b)
+five-orders a b fa fb = (five-less a b fa fb, (same-five a b fa fb, five-of-same a b))
+
 -- a contract is its five and its quantity
 pub same-but-quantity : (a b : Contract) → SameFive a b → withQuantity (quantity a) b ≡ a
 same-but-quantity a b s =

@@ -4,3 +4,7 @@ pub mod Unique
 pub mod Merging
 pub mod Walking
 pub mod Numbers
+pub mod Surviving
+pub mod Books
+pub mod Kept
+pub mod Theorems

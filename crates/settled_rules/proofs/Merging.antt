@@ -16,7 +16,7 @@ use Rattle.tariff.specs.Units.{maxQuantity}
 use Rattle.flow_laws.specs.Quantities.{withQuantity}
 use Rattle.settled_rules.specs.Settled.{quantity, fiveOf, hasFive, Before, BeforeNext, Ordered, Filled, SettledOf, addInto, merged, cut, settled}
 use Rattle.settled_rules.specs.Theorems.{FiveFits}
-use Rattle.settled_rules.proofs.Totals.{each-addInto, total-settled}
+use Rattle.settled_rules.proofs.Totals.{each-addInto, each-merged, total-settled}
 
 -- ---- strictly ascending fives
 
@@ -91,6 +91,17 @@ five-cuts : (P : ℕ → Type 0) (rows : List Contract) → Each (λ r. P (fiveO
 unfolding flatMap
 five-cuts P [] e = tt
 five-cuts P (r ∷ rows) e = each-append (λ c. P (fiveOf c)) (cut r) (flatMap cut rows) (five-cut P r (e .0)) (five-cuts P rows (e .1))
+
+-- what holds whatever the quantity holds of each settled row
+module _ (P : Contract → Type 0) (kept : (c : Contract) (q : ℕ) → P c → P (withQuantity q c)) where
+  kept-cuts : (rows : List Contract) → Each P rows → Each P (flatMap cut rows)
+  unfolding flatMap
+  kept-cuts [] e = tt
+  kept-cuts (r ∷ rows) e = each-append P (cut r) (flatMap cut rows) (each-cut P r (kept r _ (e .0)) (λ n. kept r _ (e .0))) (kept-cuts rows (e .1))
+
+  pub each-settled : (cs : List Contract) → Each P cs → Each P (settled cs)
+  unfolding settled
+  each-settled cs e = kept-cuts (merged cs) (each-merged P kept cs e)
 
 -- ---- a contract cut before rows of greater fives
 
