@@ -25,7 +25,7 @@ use Rattle.layouts.specs.declared.forms.Form.the-variants.{Narrow, Wide}
 use Rattle.layouts.specs.Forms.{endWidth, recordBytes}
 use Rattle.layouts.specs.BookFile.{bookBytes, bookFile, contractCountIn, bookFormIn, contractAt, bookIn}
 use Rattle.layouts.specs.Inner.{ContractFits}
-use Rattle.layouts.proofs.BookFile.{book-fits, length-bookIn}
+use Rattle.layouts.proofs.BookFile.{contract-in-fits, book-fits, length-bookIn}
 use Rattle.books.specs.BookChecks.{contractChecks, bookChecks, ownChecks}
 use Rattle.books.proofs.Accepted.{Accepted, contract-in-range, contracts-pass, own-parts, own-accepted, own-passes}
 use Rattle.books.proofs.Making.{Made, book-made}
@@ -82,11 +82,17 @@ module _ (n : ℕ) (s : List ℕ) (ok : AcceptedFor n s) where
   passing : Each (Passes n) (bookIn s)
   passing = each-listTo (Passes n) (contractCountIn s) (contractAt s) (contracts-pass n s (own-parts n s ok .1))
 
-  pub book-filled : Each Filled (bookIn s)
-  book-filled = each-both (λ c p q. passing-filled n c p) (bookIn s) passing passing
+  pub book-filled-at : (i : ℕ) → i < contractCountIn s → Filled (contractAt s i)
+  book-filled-at i h = passing-filled n (contractAt s i) (contracts-pass n s (own-parts n s ok .1) i h)
+
+  pub book-five-at : (i : ℕ) → i < contractCountIn s → FiveFits (contractAt s i)
+  book-five-at i h = five-of-form form (contractAt s i) (contract-in-fits form s i)
+
+  book-filled : Each Filled (bookIn s)
+  book-filled = each-listTo Filled (contractCountIn s) (contractAt s) book-filled-at
 
   pub book-five : Each FiveFits (bookIn s)
-  book-five = each-both (λ c p q. five-of-form form c p) (bookIn s) (book-fits s) (book-fits s)
+  book-five = each-listTo FiveFits (contractCountIn s) (contractAt s) book-five-at
 
   ends : Each (Ends (endWidth form) n) (settled (bookIn s))
   ends =
