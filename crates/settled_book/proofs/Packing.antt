@@ -27,8 +27,12 @@ module _ (w v : ℕ) where
   -- kind, period and holder stand side by side
   terms-are : upper % 2 ^ 12 ≡ termsNumber (contractOf w v)
   terms-are =
-      rw (kind-bit (v / 2 ^ (31 + (w + w)) % 2 ^ 1) (omega arith), period-bit (v / 2 ^ (30 + (w + w)) % 2 ^ 1) (omega arith),
-        shifted 11 (31 + (w + w)) (omega arith), shifted 10 (30 + (w + w)) (omega arith))
+      rw (
+        kind-bit (v / 2 ^ (31 + (w + w)) % 2 ^ 1) (omega arith),
+        period-bit (v / 2 ^ (30 + (w + w)) % 2 ^ 1) (omega arith),
+        shifted 11 (31 + (w + w)) (omega arith),
+        shifted 10 (30 + (w + w)) (omega arith),
+      )
       (omega arith)
 
   pub number-is : (t s e q r : ℕ) → t ≡ v / 2 ^ (20 + (w + w)) % 2 ^ 12 → s ≡ v / 2 ^ (20 + w) % 2 ^ w → e ≡ v / 2 ^ 20 % 2 ^ w → q ≡ v / 2 ^ 0 % 2 ^ 20

@@ -156,8 +156,8 @@ module _ (n m : ℕ) (s t : List ℕ) (os : AcceptedFor n s) (ot : AcceptedFor m
   unfolding settledFile
   same-settled = (
     λ e kind period holder source sink.
-      let rows : settled (bookIn s) ≡ settled (bookIn t) = sym (book-settled n s os .contracts) ∙ ap bookIn e ∙ book-settled m t ot .contracts in
-      sym (rows-settled n s os .totals kind period holder source sink) ∙ ap (totalOf kind period holder source sink) rows ∙ rows-settled m t ot .totals kind period holder source sink,
+        let rows : settled (bookIn s) ≡ settled (bookIn t) = sym (book-settled n s os .contracts) ∙ ap bookIn e ∙ book-settled m t ot .contracts in
+        sym (rows-settled n s os .totals kind period holder source sink) ∙ ap (totalOf kind period holder source sink) rows ∙ rows-settled m t ot .totals kind period holder source sink,
     λ e. ap₂ bookFile form
-      (settled-unique (bookIn s) (bookIn t) (settled (bookIn s)) (settled (bookIn t)) (book-five n s os) (book-five m t ot) (rows-settled n s os) (rows-settled m t ot) e),
+        (settled-unique (bookIn s) (bookIn t) (settled (bookIn s)) (settled (bookIn t)) (book-five n s os) (book-five m t ot) (rows-settled n s os) (rows-settled m t ot) e),
   )

@@ -41,9 +41,9 @@ module _ (B x y u v : ℕ) (hu : u < B) (hv : v < B) where
   pub less-digits : (x * B + u < y * B + v) ↔ Then x y (u < v)
   less-digits = (
     λ h. ⊎-elim
-      (λ l. inl l)
-      (⊎-elim (λ e. inr (e, let m : x * B ≡ y * B = ap (λ (z : ℕ). z * B) e in omega arith)) (λ l. absurd (omega (arith, below l))))
-      (less-same-more x y),
+        (λ l. inl l)
+        (⊎-elim (λ e. inr (e, let m : x * B ≡ y * B = ap (λ (z : ℕ). z * B) e in omega arith)) (λ l. absurd (omega (arith, below l))))
+        (less-same-more x y),
     ⊎-elim above (λ w. let m : x * B ≡ y * B = ap (λ (z : ℕ). z * B) (w .0) in omega (arith, w .1)),
   )
 
@@ -51,11 +51,11 @@ module _ (B x y u v : ℕ) (hu : u < B) (hv : v < B) where
   pub then-digits : (R : Type 0) → Then (x * B + u) (y * B + v) R ↔ Then x y (Then u v R)
   then-digits R = (
     ⊎-elim
-      (λ h. ⊎-elim (λ l. inl l) (λ w. inr (w .0, inl (w .1))) (less-digits .0 h))
-      (λ w. inr (same-head (w .0), inr (same-digits (w .0) .1, w .1))),
+        (λ h. ⊎-elim (λ l. inl l) (λ w. inr (w .0, inl (w .1))) (less-digits .0 h))
+        (λ w. inr (same-head (w .0), inr (same-digits (w .0) .1, w .1))),
     ⊎-elim
-      (λ l. inl (above l))
-      (λ w. ⊎-elim (λ l. inl (less-digits .1 (inr (w .0, l)))) (λ z. inr (ap₂ (λ (p q : ℕ). p * B + q) (w .0) (z .0), z .1)) (w .1)),
+        (λ l. inl (above l))
+        (λ w. ⊎-elim (λ l. inl (less-digits .1 (inr (w .0, l)))) (λ z. inr (ap₂ (λ (p q : ℕ). p * B + q) (w .0) (z .0), z .1)) (w .1)),
   )
 
 module _ (a b : Contract) (fa : FiveFits a) (fb : FiveFits b) where
@@ -74,7 +74,7 @@ module _ (a b : Contract) (fa : FiveFits a) (fb : FiveFits b) where
       let sources = then-digits 4096 (terms a) (terms b) (a .source) (b .source) (fa .source-fits) (fb .source-fits) (a .sink < b .sink) in
       let holders = then-digits 1024 (kinds a) (kinds b) (a .holder) (b .holder) (fa .holder-fits) (fb .holder-fits) (Then (a .source) (b .source) (a .sink < b .sink)) in
       let periods = then-digits 2 (kindBit (a .kind)) (kindBit (b .kind)) (periodBit (a .period)) (periodBit (b .period)) (period-lt (a .period)) (period-lt (b .period))
-          (Then (a .holder) (b .holder) (Then (a .source) (b .source) (a .sink < b .sink))) in
+      (Then (a .holder) (b .holder) (Then (a .source) (b .source) (a .sink < b .sink))) in
       (λ h. periods .0 (holders .0 (sources .0 (sinks .0 h))), λ s. sinks .1 (sources .1 (holders .1 (periods .1 s))))
 
   -- ---- equal exactly when all five are
@@ -163,8 +163,13 @@ has-five kind period holder source sink c e =
 pub has-same : (c d : Contract) → SameFive c d → fiveLike d c ≡ true
 unfolding hasFive
 has-same c d s =
-    rw (eq-eqb (kindBit (c .kind)) (kindBit (d .kind)) (ap kindBit (s .kind)), eq-eqb (periodBit (c .period)) (periodBit (d .period)) (ap periodBit (s .period)),
-      eq-eqb (c .holder) (d .holder) (s .holder), eq-eqb (c .source) (d .source) (s .source), eq-eqb (c .sink) (d .sink) (s .sink))
+    rw (
+      eq-eqb (kindBit (c .kind)) (kindBit (d .kind)) (ap kindBit (s .kind)),
+      eq-eqb (periodBit (c .period)) (periodBit (d .period)) (ap periodBit (s .period)),
+      eq-eqb (c .holder) (d .holder) (s .holder),
+      eq-eqb (c .source) (d .source) (s .source),
+      eq-eqb (c .sink) (d .sink) (s .sink),
+    )
 
 -- with fives that are numbers the two tests are one
 pub like-is-equal : (c d : Contract) → FiveFits c → FiveFits d → fiveLike d c ≡ eqb (fiveOf c) (fiveOf d)

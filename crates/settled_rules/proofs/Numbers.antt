@@ -67,7 +67,7 @@ walk-numbers p (c ∷ cs) hp hs =
     step-cases p c cs (λ (l : List Contract). map numberOf l ≡ number-from (numberOf p) (numberOf c ∷ map numberOf cs))
     (λ e h. walk-numbers (withQuantity q p) cs (omega (arith, hp .0), h) (hs .1) ∙ number-added p c (map numberOf cs) hp (hs .0) e h)
     (λ e h. ap (λ (l : List ℕ). numberOf (withQuantity maxQuantity p) ∷ l) (walk-numbers (withQuantity (q - maxQuantity) p) cs (omega arith, omega (arith, hp .1, hs .0 .1)) (hs .1))
-      ∙ number-filled p c (map numberOf cs) hp (hs .0) e h)
+    ∙ number-filled p c (map numberOf cs) hp (hs .0) e h)
     (λ e. ap (λ (l : List ℕ). numberOf p ∷ l) (walk-numbers c cs (hs .0) (hs .1)) ∙ number-other p c (map numberOf cs) hp (hs .0) e)
 
 pub walk-is : (cs : List Contract) → Each Filled cs → map numberOf (walkContracts cs) ≡ walkNumbers (map numberOf cs)
@@ -186,7 +186,7 @@ module _ (cs : List Contract) (h : Each Filled cs) (f : Each FiveFits cs) where
       equal-rows (settled cs) (walkContracts rising) (s .ordered, s .filled, settled-fits cs f (settled cs) s)
       (walked-fit rising rising-filled rising-fit (rw back (sorted-rises (map numberOf cs))))
       (λ d fd. total-settled (ofNumber (fiveOf d)) (λ c q. ap (λ (x : ℕ). eqb x (fiveOf d)) (five-at c q)) cs f
-        ∙ sym (walked-totals (fiveOf d) rising ∙ sorted-totals (fiveOf d) cs rising h rising-filled back))
+      ∙ sym (walked-totals (fiveOf d) rising ∙ sorted-totals (fiveOf d) cs rising h rising-filled back))
 
   pub settled-numbers : map numberOf (settled cs) ≡ walkNumbers (sorted (map numberOf cs))
   settled-numbers = ap (map numberOf) is-walked ∙ walk-is rising rising-filled ∙ ap walkNumbers back

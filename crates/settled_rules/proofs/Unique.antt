@@ -114,7 +114,7 @@ equal-rows (x ∷ xs) (y ∷ ys) hx hy e =
     (λ l. absurd (not-less x y xs ys hx hy e l))
     (⊎-elim
     (λ f. ap₂ _∷_ (first-row x y xs ys hx hy e f)
-      (equal-rows xs ys (hx .0 .1, hx .1 .1, hx .2 .1) (hy .0 .1, hy .1 .1, hy .2 .1) (rest-totals x y xs ys hx hy e f)))
+    (equal-rows xs ys (hx .0 .1, hx .1 .1, hx .2 .1) (hy .0 .1, hy .1 .1, hy .2 .1) (rest-totals x y xs ys hx hy e f)))
     (λ l. absurd (not-less y x ys xs hy hx (turned (x ∷ xs) (y ∷ ys) e) l)))
     (less-same-more (fiveOf x) (fiveOf y))
 

@@ -145,7 +145,7 @@ module _ (chosen : Contract → Bool) (kept : (c : Contract) (q : ℕ) → chose
       step-cases p c cs (λ (l : List Contract). totalWhere chosen l ≡ totalWhere chosen (p ∷ c ∷ cs))
       (λ e h. walk-totals (withQuantity q p) cs ∙ rw (kept p q, ← like p c e) (by (chosen p) (quantity p) (quantity c) (totalWhere chosen cs)))
       (λ e h. ap (λ (n : ℕ). cond (chosen (withQuantity maxQuantity p)) maxQuantity 0 + n) (walk-totals (withQuantity (q - maxQuantity) p) cs)
-        ∙ rw (kept p maxQuantity, kept p (q - maxQuantity), ← like p c e) (cut (chosen p) (quantity p) (quantity c) (totalWhere chosen cs) h))
+      ∙ rw (kept p maxQuantity, kept p (q - maxQuantity), ← like p c e) (cut (chosen p) (quantity p) (quantity c) (totalWhere chosen cs) h))
       (λ e. ap (λ (n : ℕ). cond (chosen p) (quantity p) 0 + n) (walk-totals c cs))
     where
       by : (t : Bool) (a b n : ℕ) → cond t (a + b) 0 + n ≡ cond t a 0 + (cond t b 0 + n)

@@ -50,7 +50,7 @@ returns c =
     let s = p .before .before .before .before .before in
     let row = s .pre .2 in
     let bytes = row-bytes (s .args .form) (row .of) (row .fits) (s .args .v) (row .is) _ _ _ _ _ (p .before .before .before .part .ensures .0) (p .before .before .part2 .ensures .0)
-        (p .before .part3 .ensures .0) (p .part4 .ensures .0) (n .contract-number .ensures) in
+    (p .before .part3 .ensures .0) (p .part4 .ensures .0) (n .contract-number .ensures) in
     rw bytes (c .before .before .store-bits .ensures)
 
 pub store-row-spec : {M : Type 1} → statement M
