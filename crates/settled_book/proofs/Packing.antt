@@ -1,6 +1,6 @@
 -- A contract's bits in a book and its number that has the settled order, both ways.
 use mathlib.Core.Path.{_≡_, sym, ap, ap₂, _∙_}
-use Prim.Native.Nat.{ℕ, _+_, _*_, _/_, _%_, _^_, _≤_, _<_}
+use Prim.Native.Nat.{ℕ, _+_, _/_, _%_, _^_, _≤_, _<_}
 use native.Mathlib.Omega.{arith}
 use lib.Pow.{shr-shr, pow-mono}
 use Rattle.tariff.specs.declared.contracts.Contract.{Contract}

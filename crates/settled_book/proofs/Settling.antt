@@ -1,13 +1,13 @@
 -- The cells filled, sorted and walked hold the settled rows of the contracts; and what the entry asks of an accepted book.
 use mathlib.Core.Path.{_≡_, refl, sym, ap, ap₂, _∙_}
-use mathlib.Core.List.{List, [], _∷_, _++_, map}
+use mathlib.Core.List.{List, [], _∷_, map}
 use Prim.Native.Nat.{ℕ, zero, suc, _≤_, _<_}
 use native.Mathlib.Omega.{arith}
 use borrow.Author.Tests.{lt-ltb, le-ltb}
 use lib.ListN.{length, getD, take, length-map}
 use lib.Seq.{length-take-le, getD-take}
 use Rattle.lists.specs.Lists.{Each, listTo}
-use Rattle.lists.proofs.Lists.{each-listTo, each-at, length-listTo, map-listTo, take-is-listTo}
+use Rattle.lists.proofs.Lists.{each-listTo, map-listTo, take-is-listTo}
 use Rattle.sorting.specs.Sorted.{sorted, frontSorted}
 use Rattle.sorting.proofs.Callers.{cells-front, each-sorted}
 use Rattle.tariff.specs.declared.contracts.Contract.{Contract}
@@ -18,7 +18,7 @@ use Rattle.tariff.specs.Refusals.{first}
 use Rattle.tariff.proofs.Checks.{first-refuses, last-passes, append-refuses, append-passes}
 use Rattle.layouts.specs.declared.forms.Form.{Form}
 use Rattle.layouts.specs.Forms.{endWidth}
-use Rattle.layouts.specs.BookFile.{bookBytes, contractCountIn, bookFormIn, contractIn, contractAt, bookIn}
+use Rattle.layouts.specs.BookFile.{bookBytes, contractCountIn, bookFormIn, contractIn, bookIn}
 use Rattle.layouts.specs.Inner.{ContractFits, contractOf}
 use Rattle.layouts.proofs.BookFile.{book-bytes-least}
 use Rattle.books.specs.BookChecks.{ownChecks}

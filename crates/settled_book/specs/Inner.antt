@@ -9,7 +9,8 @@ use Rattle.tariff.specs.Units.{maxQuantity, maxContracts}
 use Rattle.layouts.specs.declared.forms.Form.{Form}
 use Rattle.layouts.specs.Forms.{endWidth}
 use Rattle.layouts.specs.BookFile.{bookBytes, contractIn}
-use Rattle.layouts.specs.Inner.{ContractFits}
+use Rattle.layouts.specs.Inner.{ContractFits, contractOf}
+use Rattle.books.specs.Inner.{contractBytes}
 use Rattle.settled_rules.specs.Settled.{Filled}
 use Rattle.settled_rules.specs.Theorems.{FiveFits}
 use Rattle.settled_rules.specs.Inner.{goes, out, pending, numberOf, fiveIn, quantityIn, numberAt}
@@ -33,6 +34,10 @@ pub record Countable (form : Form) (book : List ℕ) (count : ℕ) : Type 0 wher
   pub room : bookBytes form count ≤ length book
   pub filled : (i : ℕ) → i < count → Filled (contractIn form book i)
   pub fits : (i : ℕ) → i < count → FiveFits (contractIn form book i)
+
+-- the bytes of the row whose number is v
+abbrev pub rowBytes : Form → ℕ → List ℕ
+rowBytes form v = contractBytes form (contractOf 12 v)
 
 -- v is the number of a contract that a book of this form has room for
 pub record RowOf (form : Form) (v : ℕ) : Type 0 where

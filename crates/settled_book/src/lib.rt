@@ -9,11 +9,10 @@ ghost use Rattle.tariff.specs.Units.{maxContracts};
 ghost use Rattle.layouts.specs.Forms.{recordBytes};
 ghost use Rattle.layouts.specs.BookFile.{bookBytes, bookFile, contractIn};
 ghost use Rattle.layouts.specs.Inner.{contractOf};
-ghost use Rattle.books.specs.Inner.{contractBytes};
 ghost use Rattle.settled_rules.specs.Settled.{settled};
 ghost use Rattle.settled_rules.specs.Inner.{numberOf, walkNumbers};
 ghost use Rattle.settled_book.specs.SettledBook.{settledBookCall, WritesSettledBook};
-ghost use Rattle.settled_book.specs.Inner.{Sized, Steps, Countable, RowOf};
+ghost use Rattle.settled_book.specs.Inner.{Sized, Steps, Countable, rowBytes, RowOf};
 use layouts::CONTRACT_BYTES;
 use layouts::Form;
 use layouts::WIDE_CONTRACT_BYTES;
@@ -132,7 +131,7 @@ fn settle(book: &[u8], form: Form, count: usize, cells: &mut [u64]) -> usize
 // Stores the row whose number is `v` as contract i of a book in a form.
 fn store_row(file: &mut [u8], form: Form, i: usize, v: u64)
     requires { ⌜ (i < 1024) × (bookBytes form i + recordBytes form ≤ length (now file)) × RowOf form v ⌝ }
-    ensures { λ r. ⌜ after file ≡ take (bookBytes form i) (before file) ++ contractBytes form (contractOf 12 v) ++ drop (bookBytes form i + recordBytes form) (before file) ⌝ }
+    ensures { λ r. ⌜ after file ≡ take (bookBytes form i) (before file) ++ rowBytes form v ++ drop (bookBytes form i + recordBytes form) (before file) ⌝ }
 {
     let terms = bits::part(v, 44, 12);
     let source = bits::part(v, 32, 12);

@@ -1,9 +1,9 @@
 -- The settled form of an accepted book: it is a book, and it is the same exactly where the totals are.
-use mathlib.Core.Path.{_≡_, refl, sym, ap, ap₂, _∙_}
+use mathlib.Core.Path.{_≡_, sym, ap, ap₂, _∙_}
 use mathlib.Core.Logic.{_↔_}
-use mathlib.Core.Bool.{Bool, true, false, _||_}
+use mathlib.Core.Bool.{false}
 use mathlib.Core.List.{List, [], _∷_}
-use Prim.Native.Nat.{ℕ, _+_, _*_, _^_, _≤_, _<_}
+use Prim.Native.Nat.{ℕ, _^_, _≤_, _<_}
 use native.Mathlib.Nat.{mul-le-mul-left}
 use native.Mathlib.Omega.{arith}
 use borrow.Author.Tests.{ltb-false, eqb-false, lt-leb, le-ltb, ne-eqb}
@@ -18,15 +18,15 @@ use Rattle.tariff.specs.declared.contracts.Period.{Period}
 use Rattle.tariff.specs.declared.refusals.Checked.the-variants.{Passed}
 use Rattle.tariff.specs.Refusals.{first}
 use Rattle.tariff.specs.Checks.{nodeNumber, quantityRange}
-use Rattle.tariff.specs.Units.{maxQuantity, maxContracts}
+use Rattle.tariff.specs.Units.{maxQuantity}
 use Rattle.tariff.proofs.Checks.{first-passes, last-passes, passed-cons}
 use Rattle.layouts.specs.declared.forms.Form.{Form}
 use Rattle.layouts.specs.declared.forms.Form.the-variants.{Narrow, Wide}
 use Rattle.layouts.specs.Forms.{endWidth, recordBytes}
-use Rattle.layouts.specs.BookFile.{bookBytes, bookFile, contractCountIn, bookFormIn, contractAt, bookIn}
+use Rattle.layouts.specs.BookFile.{bookFile, contractCountIn, bookFormIn, contractAt, bookIn}
 use Rattle.layouts.specs.Inner.{ContractFits}
 use Rattle.layouts.proofs.BookFile.{contract-in-fits, book-fits, length-bookIn}
-use Rattle.books.specs.BookChecks.{contractChecks, bookChecks, ownChecks}
+use Rattle.books.specs.BookChecks.{contractChecks}
 use Rattle.books.proofs.Accepted.{Accepted, contract-in-range, contracts-pass, own-parts, own-accepted, own-passes}
 use Rattle.books.proofs.Making.{Made, book-made}
 use Rattle.flow_laws.specs.Quantities.{withQuantity}

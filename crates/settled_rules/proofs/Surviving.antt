@@ -1,11 +1,11 @@
 -- What the settled rows keep of a book: every flow, so the test's whole answer, and the exact total at every price list.
-use mathlib.Core.Path.{_≡_, refl, sym, ap, ap₂, _∙_}
+use mathlib.Core.Path.{_≡_, refl, sym, ap, _∙_}
 use mathlib.Core.Bool.{Bool, true, false, cond}
 use mathlib.Core.List.{List, [], _∷_}
-use Prim.Native.Nat.{ℕ, _+_, _<_}
+use Prim.Native.Nat.{ℕ, _+_}
 use lib.Dec.{eqb}
 use lib.IntN.{ℤ, pos, _+ℤ_, _-ℤ_, *ℤ-zero, +ℤ-idl}
-use lib.Signed.{_≤ℤ_, ltZ}
+use lib.Signed.{ltZ}
 use Rattle.lists.specs.Lists.{Each}
 use Rattle.lists.specs.Sets.{setOf, countOf, lowestOf}
 use Rattle.integers.specs.Sums.{sumOver}

@@ -24,12 +24,12 @@ module _ (P : Contract → Type 0) (kept : (c : Contract) (q : ℕ) → P c → 
   pub each-addInto : (c : Contract) (rows : List Contract) → P c → Each P rows → Each P (addInto c rows)
   unfolding addInto
   each-addInto c [] h e = (h, tt)
-  each-addInto c (r ∷ rows) h e = by (each-addInto c rows h (e .1)) (eqb (fiveOf c) (fiveOf r)) (ltb (fiveOf c) (fiveOf r))
+  each-addInto c (r ∷ rows) h e = by _ (each-addInto c rows h (e .1)) (eqb (fiveOf c) (fiveOf r)) (ltb (fiveOf c) (fiveOf r))
     where
-      by : Each P (addInto c rows) → (s t : Bool) → Each P (cond s (withQuantity (quantity c + quantity r) r ∷ rows) (cond t (c ∷ r ∷ rows) (r ∷ addInto c rows)))
-      by more true t = (kept r _ (e .0), e .1)
-      by more false true = (h, e)
-      by more false false = (e .0, more)
+      by : (q : ℕ) → Each P (addInto c rows) → (s t : Bool) → Each P (cond s (withQuantity q r ∷ rows) (cond t (c ∷ r ∷ rows) (r ∷ addInto c rows)))
+      by q more true t = (kept r q (e .0), e .1)
+      by q more false true = (h, e)
+      by q more false false = (e .0, more)
 
   pub each-merged : (cs : List Contract) → Each P cs → Each P (merged cs)
   unfolding merged
@@ -49,15 +49,16 @@ module _ (h : Contract → ℤ) (plus : (c : Contract) (a b : ℕ) → h (withQu
   sum-addInto : (c : Contract) (rows : List Contract) → FiveFits c → Each FiveFits rows → sumOver (addInto c rows) h ≡ h c +ℤ sumOver rows h
   unfolding addInto sumOver
   sum-addInto c [] fc fr = refl
-  sum-addInto c (r ∷ rows) fc fr = by (sum-addInto c rows fc (fr .1)) (eqb (fiveOf c) (fiveOf r)) refl (ltb (fiveOf c) (fiveOf r))
+  sum-addInto c (r ∷ rows) fc fr = by _ refl (sum-addInto c rows fc (fr .1)) (eqb (fiveOf c) (fiveOf r)) refl (ltb (fiveOf c) (fiveOf r))
     where
-      by : sumOver (addInto c rows) h ≡ h c +ℤ sumOver rows h → (s : Bool) → eqb (fiveOf c) (fiveOf r) ≡ s → (t : Bool)
-          → sumOver (cond s (withQuantity (quantity c + quantity r) r ∷ rows) (cond t (c ∷ r ∷ rows) (r ∷ addInto c rows))) h ≡ h c +ℤ (h r +ℤ sumOver rows h)
-      by more true e t =
+      by : (q : ℕ) → q ≡ quantity c + quantity r → sumOver (addInto c rows) h ≡ h c +ℤ sumOver rows h → (s : Bool) → eqb (fiveOf c) (fiveOf r) ≡ s → (t : Bool)
+          → sumOver (cond s (withQuantity q r ∷ rows) (cond t (c ∷ r ∷ rows) (r ∷ addInto c rows))) h ≡ h c +ℤ (h r +ℤ sumOver rows h)
+      by q sum more true e t =
           let same = same-but-quantity c r (same-five c r fc (fr .0) (eqb-true (fiveOf c) (fiveOf r) e)) in
-          ap (λ (z : ℤ). z +ℤ sumOver rows h) (plus r (quantity c) (quantity r) ∙ ap (λ (d : Contract). h d +ℤ h r) same) ∙ +ℤ-assoc (h c) (h r) (sumOver rows h)
-      by more false e true = refl
-      by more false e false =
+          ap (λ (z : ℤ). z +ℤ sumOver rows h) (ap (λ (x : ℕ). h (withQuantity x r)) sum ∙ plus r (quantity c) (quantity r) ∙ ap (λ (d : Contract). h d +ℤ h r) same)
+          ∙ +ℤ-assoc (h c) (h r) (sumOver rows h)
+      by q sum more false e true = refl
+      by q sum more false e false =
           ap (λ (z : ℤ). h r +ℤ z) more ∙ sym (+ℤ-assoc (h r) (h c) (sumOver rows h))
           ∙ ap (λ (z : ℤ). z +ℤ sumOver rows h) (+ℤ-comm (h r) (h c)) ∙ +ℤ-assoc (h c) (h r) (sumOver rows h)
 
@@ -72,18 +73,20 @@ module _ (h : Contract → ℤ) (plus : (c : Contract) (a b : ℕ) → h (withQu
   sum-full (suc n) m c =
       ap (λ (z : ℤ). h (withQuantity m c) +ℤ z) (sum-full n m c) ∙ sym (plus c m (n * m)) ∙ ap (λ (q : ℕ). h (withQuantity q c)) {x = m + n * m} {y = suc n * m} (omega arith)
 
-  sum-cut : (c : Contract) → sumOver (cut c) h ≡ h c
-  unfolding cut sumOver
-  sum-cut c =
-      let n = quantity c / maxQuantity in
-      let r = quantity c % maxQuantity in
-      sumOver-append (replicate n (withQuantity maxQuantity c)) _ h ∙ ap₂ _+ℤ_ (sum-full n maxQuantity c) (rest (eqb r 0) refl) ∙ sym (plus c (n * maxQuantity) r)
-      ∙ ap (λ (q : ℕ). h (withQuantity q c)) {x = n * maxQuantity + r} {y = quantity c} (omega arith)
+  -- n rows of m and a rest make the whole quantity
+  sum-rows : (n m r : ℕ) (c : Contract) → n * m + r ≡ quantity c → sumOver (replicate n (withQuantity m c) ++ cond (eqb r 0) [] (withQuantity r c ∷ [])) h ≡ h c
+  unfolding sumOver
+  sum-rows n m r c whole =
+      sumOver-append (replicate n (withQuantity m c)) (cond (eqb r 0) [] (withQuantity r c ∷ [])) h ∙ ap₂ _+ℤ_ (sum-full n m c) (rest (eqb r 0) refl) ∙ sym (plus c (n * m) r)
+      ∙ ap (λ (q : ℕ). h (withQuantity q c)) whole
     where
-      rest : (t : Bool) → eqb (quantity c % maxQuantity) 0 ≡ t
-          → sumOver (cond t [] (withQuantity (quantity c % maxQuantity) c ∷ [])) h ≡ h (withQuantity (quantity c % maxQuantity) c)
-      rest true e = sym (ap (λ (q : ℕ). h (withQuantity q c)) (eqb-true (quantity c % maxQuantity) 0 e) ∙ nothing c)
-      rest false e = +ℤ-idr (h (withQuantity (quantity c % maxQuantity) c))
+      rest : (t : Bool) → eqb r 0 ≡ t → sumOver (cond t [] (withQuantity r c ∷ [])) h ≡ h (withQuantity r c)
+      rest true e = sym (ap (λ (q : ℕ). h (withQuantity q c)) (eqb-true r 0 e) ∙ nothing c)
+      rest false e = +ℤ-idr (h (withQuantity r c))
+
+  sum-cut : (c : Contract) → sumOver (cut c) h ≡ h c
+  unfolding cut
+  sum-cut c = sum-rows (quantity c / maxQuantity) _ (quantity c % maxQuantity) c (omega arith)
 
   sum-cuts : (rows : List Contract) → sumOver (flatMap cut rows) h ≡ sumOver rows h
   unfolding flatMap sumOver

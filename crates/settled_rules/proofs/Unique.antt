@@ -1,11 +1,10 @@
 -- Rows that are settled are the only ones: by the least five, then by how full its first row is.
 use mathlib.Core.Path.{_≡_, refl, sym, ap, ap₂, _∙_}
-use mathlib.Core.Logic.{_⊎_, inl, inr, ⊎-elim}
+use mathlib.Core.Logic.{_⊎_, ⊎-elim}
 use mathlib.Core.Bool.{Bool, true, false, cond}
 use mathlib.Core.List.{List, [], _∷_}
 use Prim.Native.Nat.{ℕ, _+_, _≤_, _<_}
 use native.Mathlib.Omega.{arith}
-use native.Mathlib.Nat.{eq-or-lt-of-le}
 use borrow.Author.Tests.{eq-eqb, ne-eqb}
 use lib.Dec.{eqb}
 use Rattle.lists.specs.Lists.{Each}
@@ -13,8 +12,8 @@ use Rattle.tariff.specs.declared.contracts.Contract.{Contract}
 use Rattle.tariff.specs.declared.contracts.Kind.{Kind}
 use Rattle.tariff.specs.declared.contracts.Period.{Period}
 use Rattle.tariff.specs.Units.{maxQuantity}
-use Rattle.settled_rules.specs.Settled.{quantity, fiveOf, hasFive, totalWhere, totalOf, Before, BeforeNext, Ordered, Filled, SettledOf}
-use Rattle.settled_rules.specs.Theorems.{FiveFits, SameFive}
+use Rattle.settled_rules.specs.Settled.{quantity, fiveOf, totalWhere, totalOf, Ordered, Filled, SettledOf}
+use Rattle.settled_rules.specs.Theorems.{FiveFits}
 use Rattle.settled_rules.proofs.Fives.{less-same-more, same-five, same-contract, fiveLike, has-five, has-same, like-is-equal}
 
 -- ---- totals by the five's number

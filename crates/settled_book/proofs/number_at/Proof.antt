@@ -1,3 +1,4 @@
+-- `number_at`: eight bytes in either form, by one law.
 use mathlib.Core.Path.{sym, ap, _∙_}
 use Prim.Native.Nat.{_+_, _*_, _≤_}
 use native.Mathlib.Omega.{arith}
@@ -8,54 +9,19 @@ use Rattle.settled_rules.specs.Inner.{numberOf}
 use borrow.Author.Needs.{needs}
 use Rattle.settled_book.proofs.number_at.Statement.{statement}
 use Rattle.settled_book.proofs.number_at.Tie as tie
-use Rattle.settled_book.proofs.number_at.Reads as reads
-use Rattle.settled_book.proofs.number_at.Lts as lts
-use Rattle.bits.proofs.window8.Reads as window8-reads
-use Rattle.settled_book.proofs.number_of.Reads as number-of-reads
 
--- src/rt:47:55
-enum-told : tie.Need-enum-told
-enum-told c = search needs
-
--- src/rt:47:55
-mul-window8 : tie.Need-mul-window8
-mul-window8 c = search needs
-
--- src/rt:47:35
 window8-requires : tie.Need-window8-requires
 window8-requires c κs =
     let s = c .before .before .before in
     let room : 2 + 6 * s .args .i + 6 ≤ length (s .args .book .now) = rw (c .enum-told .given .1) at (s .pre .1) in
     omega arith
 
--- src/rt:47:25
-number-of-requires : tie.Need-number-of-requires
-number-of-requires c κs = search needs
-
--- src/rt:48:57
-enum-told-2 : tie.Need-enum-told-2
-enum-told-2 c = search needs
-
--- src/rt:48:57
-mul-window8-2 : tie.Need-mul-window8-2
-mul-window8-2 c = search needs
-
--- src/rt:48:53
-add-window8 : tie.Need-add-window8
-add-window8 c = search needs
-
--- src/rt:48:33
 window8-requires-2 : tie.Need-window8-requires-2
 window8-requires-2 c κs =
     let s = c .before .before .before in
     let room : 2 + 7 * s .args .i + 7 ≤ length (s .args .book .now) = rw (c .enum-told2 .given .1) at (s .pre .1) in
     omega arith
 
--- src/rt:48:23
-number-of-requires-2 : tie.Need-number-of-requires-2
-number-of-requires-2 c κs = search needs
-
--- src/rt:42:1
 returns : tie.Need-returns
 returns c =
     let w = c .before in
@@ -66,7 +32,6 @@ returns c =
     ∙ ap numberOf (sym (contract-in-number Narrow (s .args .book .now) (s .args .i) (6 * s .args .i) (w .window8 .result) (λ i. e .before .before .shared-slice-known .given i .fits) (omega arith)
     (rw (e .enum-told .given .1) at (s .pre .1)) (w .window8 .ensures))))
 
--- src/rt:42:1
 returns-2 : tie.Need-returns-2
 returns-2 c =
     let w = c .before in
@@ -79,16 +44,6 @@ returns-2 c =
 
 pub number-at-spec : {M : Type 1} → statement M
 number-at-spec =
-    tie.close
-    (tie.spec
-    enum-told
-    mul-window8
-    window8-requires
-    number-of-requires
-    enum-told-2
-    mul-window8-2
-    add-window8
-    window8-requires-2
-    number-of-requires-2
-    returns
-    returns-2)
+    tie.close (tie.spec
+    (λ c. search needs) (λ c. search needs) window8-requires (λ c κs. search needs) (λ c. search needs) (λ c. search needs) (λ c. search needs) window8-requires-2 (λ c κs. search needs)
+    returns returns-2)

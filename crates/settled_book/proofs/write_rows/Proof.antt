@@ -1,3 +1,4 @@
+-- `write_rows`: after i turns the front of the book is there, as far as its first i rows.
 use mathlib.Core.Path.{_≡_, refl, _∙_}
 use mathlib.Core.List.{List}
 use Prim.Native.Nat.{ℕ, _-_, _≤_, _<_}
@@ -16,10 +17,6 @@ use Rattle.settled_book.proofs.Packing.{contract-back}
 use borrow.Author.Needs.{needs}
 use Rattle.settled_book.proofs.write_rows.Statement.{statement}
 use Rattle.settled_book.proofs.write_rows.Tie as tie
-use Rattle.settled_book.proofs.write_rows.Reads as reads
-use Rattle.settled_book.proofs.write_rows.Lts as lts
-use Rattle.books.proofs.store_header.Reads as store-header-reads
-use Rattle.settled_book.proofs.store_row.Reads as store-row-reads
 
 -- row j
 abbrev rowAt : List ℕ → ℕ → Contract
@@ -33,26 +30,12 @@ Inv-loop form cells rows file₀ i₀ file i =
 abbrev μ-loop : tie.MeasureT-loop
 μ-loop form cells rows file₀ i₀ file i = rows - i
 
--- src/rt:151:5
-store-header-requires : tie.Need-store-header-requires Inv-loop μ-loop
-store-header-requires c κs = search needs
-
--- src/rt:153:5
 loop-holds : tie.Need-loop-holds Inv-loop μ-loop
 unfolding listTo
 loop-holds c =
     let a = c .before .before .before .before .before .before .args in
     (omega arith, refl, λ f e. front-begins (a .form) (a .rows) f _ e)
 
--- src/rt:154:34
-mul-store-row : tie.Need-mul-store-row Inv-loop μ-loop
-mul-store-row c = search needs
-
--- src/rt:154:34
-shared-slice-read-store-row : tie.Need-shared-slice-read-store-row Inv-loop μ-loop
-shared-slice-read-store-row c = search needs
-
--- src/rt:154:9
 store-row-requires : tie.Need-store-row-requires Inv-loop μ-loop
 store-row-requires c κs =
     let l = c .before .before .before .loop in
@@ -60,15 +43,6 @@ store-row-requires c κs =
     let room = record-room (s .args .form) (l .i) (s .args .rows) _ (omega arith) (s .pre .0 .2) in
     (omega arith, omega (arith, room, l .inv .1, c .before .before .before .before .before .before .store-header .kept .0), s .pre .1 (l .i) (omega arith))
 
--- src/rt:155:9
-add-i : tie.Need-add-i Inv-loop μ-loop
-add-i c = search needs
-
--- src/rt:153:5
-loop-less : tie.Need-loop-less Inv-loop μ-loop
-loop-less c = search needs
-
--- src/rt:153:5
 loop-again : tie.Need-loop-again Inv-loop μ-loop
 loop-again c =
     let s = c .before .before .before .before .before .before in
@@ -82,11 +56,9 @@ loop-again c =
           (front-more (a .form) (a .rows) f (listTo (l .i) (rowAt (a .cells .now))) _ (l .i) (l .file) _ (length-listTo (l .i) (rowAt (a .cells .now))) (l .inv .2 f e) (stored .ensures)),
     )
 
--- src/rt:146:1
 same-length : tie.Need-same-length Inv-loop μ-loop
 same-length c = c .before .loop .inv .1 ∙ c .before .before .before .before .store-header .kept .0
 
--- src/rt:146:1
 returns : tie.Need-returns Inv-loop μ-loop
 returns c =
     let l = c .before .loop in
@@ -101,17 +73,5 @@ returns c =
 
 pub write-rows-spec : {M : Type 1} → statement M
 write-rows-spec =
-    tie.close
-    (tie.spec
-    Inv-loop
-    μ-loop
-    store-header-requires
-    loop-holds
-    mul-store-row
-    shared-slice-read-store-row
-    store-row-requires
-    add-i
-    loop-less
-    loop-again
-    same-length
-    returns)
+    tie.close (tie.spec
+    Inv-loop μ-loop (λ c κs. search needs) loop-holds (λ c. search needs) (λ c. search needs) store-row-requires (λ c. search needs) (λ c. search needs) loop-again same-length returns)

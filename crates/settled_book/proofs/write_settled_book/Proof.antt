@@ -1,3 +1,4 @@
+-- `write_settled_book`: where no check of the book's own refuses, the settled rows are in the cells.
 use mathlib.Core.Path.{_≡_, refl, sym, ap₂, _∙_}
 use mathlib.Core.List.{List, map}
 use Prim.Native.Nat.{ℕ, _≤_}
@@ -6,31 +7,15 @@ use lib.ListN.{length, take}
 use Rattle.tariff.specs.declared.refusals.Checked.the-variants.{Passed}
 use Rattle.tariff.specs.Refusals.{first}
 use Rattle.tariff.proofs.Answers.{answer-refused, cells-refused, answer-passed, cells-passed}
-use Rattle.layouts.specs.BookFile.{bookBytes, bookFile, bookFormIn, bookIn}
+use Rattle.layouts.specs.BookFile.{bookBytes, bookFormIn, bookIn}
 use Rattle.books.specs.BookChecks.{ownChecks}
 use Rattle.settled_rules.specs.Settled.{settled, settledFile}
 use Rattle.settled_rules.specs.Inner.{numberOf}
-use Rattle.settled_book.specs.SettledBook.{SettledBookCall, settledBookCall, settledBookChecked}
+use Rattle.settled_book.specs.SettledBook.{SettledBookCall, settledBookCall}
 use Rattle.settled_book.proofs.Settling.{rows-count, row-at, rows-are, own-refuses, header-there, countable, rows-fit-form, file-bytes, no-room, room}
 use borrow.Author.Needs.{needs}
 use Rattle.settled_book.proofs.write_settled_book.Statement.{statement}
 use Rattle.settled_book.proofs.write_settled_book.Tie as tie
-use Rattle.settled_book.proofs.write_settled_book.Reads as reads
-use Rattle.settled_book.proofs.write_settled_book.Lts as lts
-use Rattle.books.proofs.book_form.Reads as book-form-reads
-use Rattle.books.proofs.check_own.Reads as check-own-reads
-use Rattle.books.proofs.contract_count.Reads as contract-count-reads
-use Rattle.layouts.proofs.forms.Form.book_bytes.Reads as book-bytes-reads
-use Rattle.settled_book.proofs.settle.Reads as settle-reads
-use Rattle.settled_book.proofs.write_rows.Reads as write-rows-reads
-
--- src/rt:163:40
-check-own-requires : tie.Need-check-own-requires
-check-own-requires c κs = search needs
-
--- src/rt:163:29
-enum-known-refusal : tie.Need-enum-known-refusal
-enum-known-refusal c = search needs
 
 returns : tie.Need-returns
 returns c =
@@ -73,22 +58,12 @@ many t =
     (rows-count (bookFormIn (q .book)) (settled (bookIn (q .book))) (rows-fit-form q (ok (told t))) (cells t) _ (held t) (rows t))
     ∙ sym (file-bytes q (ok (told t)))
 
-enum-told : tie.Need-enum-told
-enum-told c = search needs
-
--- src/rt:166:9
 book-form-requires : tie.Need-book-form-requires
 book-form-requires c κs = header-there (call c) (ok c)
 
--- src/rt:168:35
 contract-count-requires : tie.Need-contract-count-requires
 contract-count-requires c κs = header-there (call (c .before)) (ok (c .before))
 
--- src/rt:168:64
-slice-aggregate-settle : tie.Need-slice-aggregate-settle
-slice-aggregate-settle c = search needs
-
--- src/rt:168:9
 settle-requires : tie.Need-settle-requires
 settle-requires c κs =
     let e = c .before .before .before in
@@ -96,11 +71,9 @@ settle-requires c κs =
     let able = countable (call e) (ok e) _ _ (c .before .before .book-form .ensures) count in
     (able, able .few)
 
--- src/rt:169:9
 book-bytes-requires : tie.Need-book-bytes-requires
 book-bytes-requires c κs = few (c .before)
 
--- src/rt:171:9
 returns-2 : tie.Need-returns-2
 returns-2 c =
     let b = c .before in
@@ -109,11 +82,6 @@ returns-2 c =
     let refused = sym (no-room q (ok (told t)) (b .book-bytes .result) (b .book-bytes .ensures ∙ many t) (c .if1 .taken)) in
     record { length-given = answer-refused _ _ refused _ refl _; bytes-written = cells-refused _ _ refused _ refl (settledFile (q .book)) _ }
 
--- src/rt:173:22
-slice-aggregate-write-rows : tie.Need-slice-aggregate-write-rows
-slice-aggregate-write-rows c = search needs
-
--- src/rt:173:5
 write-rows-requires : tie.Need-write-rows-requires
 write-rows-requires c κs =
     let t = c .before .before .before .before .before in
@@ -124,11 +92,6 @@ write-rows-requires c κs =
       rw form (row-at (bookFormIn (q .book)) (settled (bookIn (q .book))) (rows-fit-form q (ok (told t))) (cells t) _ (held t) (rows t)),
     )
 
--- src/rt:160:1
-same-length : tie.Need-same-length
-same-length c = search needs
-
--- src/rt:160:1
 returns-3 : tie.Need-returns-3
 unfolding settledFile
 returns-3 c =
@@ -147,19 +110,6 @@ returns-3 c =
 
 pub write-settled-book-spec : {M : Type 1} → statement M
 write-settled-book-spec =
-    tie.close
-    (tie.spec
-    check-own-requires
-    enum-known-refusal
-    returns
-    enum-told
-    book-form-requires
-    contract-count-requires
-    slice-aggregate-settle
-    settle-requires
-    book-bytes-requires
-    returns-2
-    slice-aggregate-write-rows
-    write-rows-requires
-    same-length
-    returns-3)
+    tie.close (tie.spec
+    (λ c κs. search needs) (λ c. search needs) returns (λ c. search needs) book-form-requires contract-count-requires (λ c. search needs) settle-requires book-bytes-requires returns-2
+    (λ c. search needs) write-rows-requires (λ c. search needs) returns-3)
