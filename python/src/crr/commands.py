@@ -297,7 +297,7 @@ def market(folder: Path, out: Path) -> Answer:
     view = write_market_view(read_grid(files.grid).nodes, files.book)
     _write_view(folder, out, view)
     many = counts(found)
-    text = f"{out}: {_counted(many['contracts'], 'contract')} of {_counted(many['holders'], 'holder')}, all as holder 0; {len(view):,} bytes written\n"
+    text = f"{out}: {counted(many['contracts'], 'contract')} of {counted(many['holders'], 'holder')}, all as holder 0; {len(view):,} bytes written\n"
     return Answer(PASSES, text, {"out": str(out), "contracts": many["contracts"], "bytes": len(view)})
 
 
@@ -320,11 +320,11 @@ def holder(folder: Path, asked: str, out: Optional[Path]) -> Answer:
     view = write_holder_view(nodes, files.book, number)
     held = read_holder_view(nodes, view, read_book_form(nodes, files.book))
     rows = [(own.number, *book_row(found.names, found.names.contracts[own.number], own.contract)) for own in held]
-    told = f"{found.names.holder(number)}: {_counted(len(rows), 'contract')} of {len(found.book):,}"
-    data: Dict[str, object] = {"holder": found.names.holder(number), "number": number, "contracts": _objects(VIEW, rows), "bytes": len(view)}
+    told = f"{found.names.holder(number)}: {counted(len(rows), 'contract')} of {len(found.book):,}"
+    data: Dict[str, object] = {"holder": found.names.holder(number), "number": number, "contracts": objects(VIEW, rows), "bytes": len(view)}
     if out:
         _write_view(folder, out, view)
-        told, data["out"] = f"{told}; {out}: {_counted(len(view), 'byte')} written", str(out)
+        told, data["out"] = f"{told}; {out}: {counted(len(view), 'byte')} written", str(out)
     return Answer(PASSES, csv_text(VIEW, rows), data, f"{told}\n")
 
 

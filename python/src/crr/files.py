@@ -119,7 +119,7 @@ def remap_book(nodes: int, book: Bytes, old_nodes: Cells, new_nodes: Cells) -> b
 def write_settled_book(nodes: int, book: Bytes) -> bytes:
     """The settled form of a book's file, which copies with rows shuffled or split have in common: sorted by kind, period, holder, source and sink, equal
     ones added together and cut into rows of 1,000,000."""
-    return _written(_write_settled_book, MAX_BOOK_BYTES, (nodes, lend_bytes(book)))
+    return written(_write_settled_book, MAX_BOOK_BYTES, (nodes, lend_bytes(book)))
 
 
 def read_prices(constraints: int, file: Bytes, name: str = "") -> Prices:
