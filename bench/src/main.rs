@@ -31,16 +31,18 @@ const BY_WIDE_NODES: [&str; 8] =
     ["read_grid", "write_grid", "read_book", "write_book", "remap_book", "test_book", "find_mcc", "settle_hour"];
 
 /// The entries that take nodes or their numbers, by the largest inputs that they take in the wide form.
-const WIDE: [(&str, Size); 12] = [
+const WIDE: [(&str, Size); 14] = [
     ("read_grid", WIDEST),
     ("write_grid", WIDEST),
     ("read_book", WIDEST),
     ("write_book", WIDEST),
     ("remap_book", WIDEST),
+    ("add_hub_contract", WIDEST),
     ("test_book", WIDEST),
     ("find_flows", WIDEST),
     ("find_cuts", WIDEST),
     ("find_mcc", WIDEST),
+    ("find_hub_mcc", WIDEST),
     ("settle_hour", WIDEST),
     ("write_report", WIDEST_TEXT),
     ("write_statement", WIDEST_TEXT),
