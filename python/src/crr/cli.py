@@ -55,6 +55,8 @@ _COMMANDS: Dict[str, Callable[[argparse.Namespace], Answer]] = {
     "settle": lambda o: commands.settle(o.folder, o.out, o.jobs, o.round_prices, Bar("settle")),
     "report": _report,
     "remap": lambda o: commands.remap(o.folder, o.pairs, o.out, o.round_prices),
+    "hub-mcc": lambda o: commands.hub_mcc(o.folder, o.hubs, o.round_prices),
+    "hub-add": lambda o: commands.hub_add(o.folder, o.hubs, o.contracts, o.out, o.round_prices),
     "hours": lambda o: commands.hours(*o.months),
     "share": lambda o: commands.share(o.balance, o.demands),
 }
@@ -67,6 +69,8 @@ _HELP = {
     "settle": "settle every hour: holder by month, hour by hour, contract by contract",
     "report": "one HTML page: verdicts, loading of constraints, payments",
     "remap": "move the ends of contracts from old nodes to new ones",
+    "hub-mcc": "the marginal cost of congestion of trading hubs, hour by hour",
+    "hub-add": "add contracts from trading hubs to the book, as contracts from their nodes",
     "hours": "the on-peak days and hours of months, 2010 to 2037",
     "share": "a balance shared among coordinators by their demands, to the cent",
 }
@@ -101,12 +105,16 @@ def _parser() -> argparse.ArgumentParser:
         else:
             command.add_argument("folder", type=Path, metavar="FOLDER", help="a folder of CSV files, or of bin files")
         command.add_argument("--json", action="store_true", help="the answer, or the faults, as one JSON object")
-        if name in ("check", "pack", "settle", "report", "remap"):
+        if name in ("check", "pack", "settle", "report", "remap", "hub-mcc", "hub-add"):
             command.add_argument("--round-prices", action="store_true", help="round prices of more than two decimals to the nearest cent")
     of["remap"].add_argument("pairs", type=Path, metavar="PAIRS", help="a CSV file OLD_NODE,NEW_NODE")
-    places = {"pack": "a folder", "unpack": "a folder", "settle": "a folder for the result files", "report": "the HTML file", "remap": "a folder"}
-    for name, what in places.items():
-        of[name].add_argument("-o", "--out", type=Path, metavar="OUT", required=name == "remap", help=what)
+    for name in ("hub-mcc", "hub-add"):
+        of[name].add_argument("hubs", type=Path, metavar="HUBS", help="a CSV file HUB,NODE_ID,PERCENT")
+    of["hub-add"].add_argument("contracts", type=Path, metavar="CONTRACTS", help="a CSV file like book.csv, with hubs for sources")
+    places = {"settle": "a folder for the result files", "report": "the HTML file"}
+    for name in ("pack", "unpack", "settle", "report", "remap", "hub-add"):
+        needed = name in ("remap", "hub-add")
+        of[name].add_argument("-o", "--out", type=Path, metavar="OUT", required=needed, help=places.get(name, "a folder"))
     of["unpack"].add_argument("--force", action="store_true", help="write over CSV files that differ")
     for name in ("test", "cuts"):
         of[name].add_argument("--period", choices=list(_PERIODS), default="both")

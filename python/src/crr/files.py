@@ -1,4 +1,4 @@
-"""The three files, grid, book and prices: bytes to tables and back, and a book remapped. Figures are whole numbers in the units of crr.h."""
+"""The three files, grid, book and prices: bytes to tables and back, a book remapped, and one with a hub's contract added. Figures are whole numbers in the units of crr.h."""
 
 from __future__ import annotations
 
@@ -15,6 +15,7 @@ _write_grid = Entry("crr_write_grid")
 _read_book = Entry("crr_read_book")
 _write_book = Entry("crr_write_book")
 _remap_book = Entry("crr_remap_book")
+_add_hub_contract = Entry("crr_add_hub_contract")
 _read_prices = Entry("crr_read_prices")
 _write_prices = Entry("crr_write_prices")
 
@@ -113,6 +114,14 @@ def write_book(nodes: int, book: Book, form: int = NARROW) -> bytes:
 def remap_book(nodes: int, book: Bytes, old_nodes: Cells, new_nodes: Cells) -> bytes:
     """The book's file with both ends of every contract moved, one pair of old and new node after another."""
     return _written(_remap_book, MAX_BOOK_BYTES, (nodes, lend_bytes(book), lend_cells(old_nodes, "Q"), lend_cells(new_nodes, "Q")))
+
+
+def add_hub_contract(
+    nodes: int, book: Bytes, kind: int, period: int, holder: int, hub_nodes: Cells, hub_weights: Cells, sink: int, quantity: int
+) -> bytes:
+    """The book's file with a contract from a hub behind its own, as contracts from the hub's nodes. Weights are hundred-thousandths."""
+    hub = (lend_cells(hub_nodes, "Q"), lend_cells(hub_weights, "Q"))
+    return _written(_add_hub_contract, MAX_BOOK_BYTES, (nodes, lend_bytes(book), kind, period, holder, *hub, sink, quantity))
 
 
 def read_prices(constraints: int, file: Bytes, name: str = "") -> Prices:

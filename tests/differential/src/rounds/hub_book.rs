@@ -340,7 +340,7 @@ fn adds_up(round: &mut Round, own: &Own, asked: &Asked, grown: &[u8]) {
 
 /// Mostly what other entries have; often a book that is full or has room for few contracts more.
 fn own(round: &mut Round) -> Own {
-    let mut size = draw::size(&mut round.draw, round.number);
+    let mut size = super::hubs::size(&mut round.draw, round.number);
     let form = round.draw.form_of(round.number);
     if round.number as usize >= EXTREMES.len() && round.draw.once_in(12) {
         let few = round.draw.within(0, 33);

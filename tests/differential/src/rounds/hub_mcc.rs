@@ -90,7 +90,7 @@ fn call(round: &mut Round, asked: &Asked) -> Answer<(i128, i128)> {
 
 fn inputs(round: &mut Round) -> (Size, Asked) {
     let extreme = [LARGEST, LEAST].contains(&round.number);
-    let size = if extreme { Size { nodes: 40, constraints: 64, contracts: 0 } } else { draw::size(&mut round.draw, round.number) };
+    let size = if extreme { Size { nodes: 40, constraints: 64, contracts: 0 } } else { hubs::size(&mut round.draw, round.number) };
     let draw = &mut round.draw;
     let (mut grid, mut list) = (draw::grid(draw, size), draw::prices(draw, size.constraints));
     if extreme {

@@ -1,10 +1,20 @@
 //! Trading hubs as they are listed: different nodes in any order, weights that tie and weights at the ends of their range; and what can be wrong with them.
 
-use crate::draw::Draw;
+use crate::draw::{self, Draw, Size, EXTREMES};
 use crate::second::hubs;
 
 const MOST: u64 = 32;
 const WHOLE: u64 = 100_000;
+
+/// Enough nodes for a hub of many, more often than for other entries.
+pub fn size(draw: &mut Draw, round: u64) -> Size {
+    let size = draw::size(draw, round);
+    if round < EXTREMES.len() as u64 || size.nodes > 5 || draw.once_in(2) {
+        size
+    } else {
+        Size { nodes: draw.within(6, 60), ..size }
+    }
+}
 
 #[derive(Clone)]
 pub struct Hub {
