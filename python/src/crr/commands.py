@@ -328,23 +328,23 @@ def _grown(found: Opened, sheet: Sheet, rows: Sequence[HubContract], hubs: Dict[
     """The files with every row's contracts behind those of the book. A contract is called by its row's name and its node's."""
     owners, names, files = _owner_numbers(found, sheet, rows), found.names, files_of(found)
     raise_any(sheet.faults)
-    book, ids = _form_for(found, rows, hubs), dict.fromkeys(names.contracts)
+    book, nodes = _form_for(found, rows, hubs), len(names.nodes)
+    ids, taken = list(names.contracts), set(names.contracts)
     for row in rows:
-        hub, nodes = hubs[row.hub], len(names.nodes)
+        hub = hubs[row.hub]
         try:
             book = add_hub_contract(nodes, book, row.kind, row.period, owners[row.owner], hub.nodes, hub.weights, row.sink, row.quantity)
         except Refused as refused:  # for too many contracts: all else was looked at
             sheet.fault(row.line, "CRR_ID", refused.meaning, refused.number)
             break
-        for contract in read_book(nodes, book)[len(ids) :]:
-            crr_id = f"{row.crr_id} {names.nodes[contract.source]}"
-            if crr_id in ids:
-                sheet.fault(row.line, "CRR_ID", f"{crr_id} occurs twice")
-            ids[crr_id] = None
-        raise_any(sheet.faults)
+        new = [f"{row.crr_id} {names.nodes[contract.source]}" for contract in read_book(nodes, book)[len(ids) :]]
+        for crr_id in (crr_id for crr_id in new if crr_id in taken):
+            sheet.fault(row.line, "CRR_ID", f"{crr_id} occurs twice")
+        ids += new
+        taken.update(new)
     raise_any(sheet.faults)
     holders = {**names.holders, **{number: name for name, number in owners.items() if name != str(number)}}
-    return Packed(Names(names.nodes, names.constraints, list(ids), holders), files.grid, book, files.hours)
+    return Packed(Names(names.nodes, names.constraints, ids, holders), files.grid, book, files.hours)
 
 
 def hub_add(folder: Path, hubs: Path, contracts: Path, out: Path, round_prices: bool) -> Answer:
