@@ -204,10 +204,16 @@ HUBS = [
     ("North,Bus 2,50\nNorth,Bus 3,50.001", CONTRACT, ["hubs.csv:3:PERCENT: the percents of North total 100.001 and not 100.000 (refusal 24)"]),
     ("North,Bus 2,50\nWest,Bus 3,50\nNorth,Bus 4,50", CONTRACT, ["hubs.csv:3:PERCENT: the percents of West total 50.000 and not 100.000 (refusal 24)"]),
     ("North,Bus 2,50\nNorth,Bus 2,50", CONTRACT, ["hubs.csv:3:NODE_ID: Bus 2 occurs twice in this hub (refusal 25)"]),
-    ("North,Bus 15,50\nNorth,Bus 16,50", CONTRACT, ["hubs.csv:2:NODE_ID: no node 'Bus 15' in the grid (refusal 11)", "hubs.csv:3:NODE_ID: no node 'Bus 16' in the grid (refusal 11)"]),
+    ("North,Bus 15,50\nNorth,Bus 16,50", CONTRACT, [
+        "hubs.csv:2:NODE_ID: no node 'Bus 15' in the grid (refusal 11)",
+        "hubs.csv:3:NODE_ID: no node 'Bus 16' in the grid (refusal 11)",
+    ]),
     ("North,Bus 2,0\nNorth,Bus 3,100", CONTRACT, ["hubs.csv:2:PERCENT: 0 is outside 0.001 to 100.000 (refusal 24)"]),
     ("North,Bus 2,100.001", CONTRACT, ["hubs.csv:2:PERCENT: 100.001 is outside 0.001 to 100.000 (refusal 24)"]),
-    ("North,Bus 2,99.9995\nNorth,Bus 3,0.0005", CONTRACT, ["hubs.csv:2:PERCENT: 99.9995 has more than 3 decimals", "hubs.csv:3:PERCENT: 0.0005 has more than 3 decimals"]),
+    ("North,Bus 2,99.9995\nNorth,Bus 3,0.0005", CONTRACT, [
+        "hubs.csv:2:PERCENT: 99.9995 has more than 3 decimals",
+        "hubs.csv:3:PERCENT: 0.0005 has more than 3 decimals",
+    ]),
     (f",Bus 2,50\n{NORTH}", CONTRACT, ["hubs.csv:2:HUB: empty"]),
     ("", CONTRACT, ["hubs.csv:1:HUB: no hub"]),
     (NORTH, "H,Ash,OBL,ON,South,Bus 4,1", ["contracts.csv:2:SOURCE: no such hub: 'South'"]),

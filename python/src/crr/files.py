@@ -1,4 +1,4 @@
-"""The three files, grid, book and prices: bytes to tables and back, a book remapped, and one with a hub's contract added. Figures are whole numbers in the units of crr.h."""
+"""The three files, grid, book and prices: bytes to tables and back, and a book remapped or grown. Figures are whole numbers in the units of crr.h."""
 
 from __future__ import annotations
 
