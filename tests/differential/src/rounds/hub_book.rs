@@ -201,7 +201,6 @@ const RUNGS: [u64; 9] = [17, 18, 11, 11, 13, 24, 25, 10, 9];
 /// One thing wrong, by the check that it fails; the last is the node count.
 fn wrong(draw: &mut Draw, asked: &mut Asked, below: u64, check: usize) {
     let listed = asked.hub.nodes.len();
-    let even = listed > 0 && listed == asked.hub.weights.len();
     match check {
         0 if draw.once_in(2) => asked.kind = draw.pick(&WRONG_PERIODS),
         0 => asked.period = draw.pick(&WRONG_PERIODS),
@@ -212,11 +211,11 @@ fn wrong(draw: &mut Draw, asked: &mut Asked, below: u64, check: usize) {
         }
         3 => asked.sink = no_node(draw, below),
         4 => asked.quantity = draw.pick(&[0, 1_000_001, 1_048_575, 1 << 32, (1 << 32) + 5, 1 << 63, u64::MAX]),
-        5 if even => {
+        5 if asked.hub.sound() => {
             let way = draw.below(SHAPES.len() as u64) as usize;
             misshape(draw, &mut asked.hub, below, way);
         }
-        6 if even => asked.hub.twice(draw),
+        6 if asked.hub.sound() => asked.hub.twice(draw),
         8 => asked.room = draw.pick(&[short(asked.room), 0, 1, asked.room / 2, asked.book.len()]),
         9 => asked.nodes = draw.pick(&WRONG_NODES),
         _ => {}
@@ -250,7 +249,7 @@ fn wrong_books(draw: &mut Draw, own: &Own, file: &[u8]) -> Vec<(u64, Vec<u8>)> {
 fn ladder(round: &mut Round, own: &Own, file: &[u8]) {
     let draw = &mut round.draw;
     let mut calls = Vec::new();
-    for rung in 0..RUNGS.len() {
+    for (rung, &number) in RUNGS.iter().enumerate() {
         let mut asked = Asked { room: 0, ..valid(draw, own, file) };
         if rung > 7 {
             asked.book = book::file_of(own.form, &own.book[..1]);
@@ -264,7 +263,7 @@ fn ladder(round: &mut Round, own: &Own, file: &[u8]) {
         for check in (rung..5).rev() {
             wrong(draw, &mut asked, own.below(), check);
         }
-        calls.push((RUNGS[rung], asked));
+        calls.push((number, asked));
     }
     let all = calls[0].1.clone();
     let books = wrong_books(draw, own, file);

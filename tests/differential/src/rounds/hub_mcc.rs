@@ -122,18 +122,18 @@ fn wrong(draw: &mut Draw, asked: &mut Asked, size: Size, check: usize) {
             let far = no_node(draw, below);
             spoil(draw, &mut asked.hub.nodes, listed, &[far]);
         }
-        7 if listed > 0 && listed == asked.hub.weights.len() => {
+        7 if asked.hub.sound() => {
             let way = draw.below(SHAPES.len() as u64) as usize;
             misshape(draw, &mut asked.hub, below, way);
         }
-        8 if listed > 0 && listed == asked.hub.weights.len() => asked.hub.twice(draw),
+        8 if asked.hub.sound() => asked.hub.twice(draw),
         _ => {}
     }
 }
 
 /// For each check a call that fails at it and at every later one.
 fn ladder(round: &mut Round, valid: &Asked, size: Size) {
-    for rung in 0..RUNGS.len() {
+    for (rung, &number) in RUNGS.iter().enumerate() {
         let mut asked = valid.clone();
         asked.hub.twice(&mut round.draw);
         if rung < 8 {
@@ -143,7 +143,7 @@ fn ladder(round: &mut Round, valid: &Asked, size: Size) {
             wrong(&mut round.draw, &mut asked, size, check);
         }
         let answer = call(round, &asked);
-        round.same(answer == Err(RUNGS[rung]), "the first check that fails");
+        round.same(answer == Err(number), "the first check that fails");
     }
 }
 

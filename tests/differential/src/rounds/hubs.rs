@@ -38,6 +38,12 @@ impl Hub {
         hubs::Hub { nodes: &self.nodes, weights: &self.weights }
     }
 
+    /// Whether 24 does not refuse it, so that it can be made one that is refused.
+    pub fn sound(&self) -> bool {
+        let total: u128 = self.weights.iter().map(|&weight| u128::from(weight)).sum();
+        self.nodes.len() == self.weights.len() && total == u128::from(WHOLE) && self.weights.iter().all(|&weight| weight > 0)
+    }
+
     /// The same hub in another order.
     pub fn shuffled(&self, draw: &mut Draw) -> Self {
         let mut hub = self.clone();
