@@ -359,40 +359,50 @@ fn edges(round: &mut Round, valid: &Asked) {
     }
 }
 
-pub fn round(round: &mut Round) {
-    let own = own(round);
-    let file = book::file_of(own.form, &own.book);
-    for _ in 0..3 {
-        let asked = valid(&mut round.draw, &own, &file);
-        for room in [asked.room, asked.room + 1, asked.room + 9, asked.room - 1, 0] {
-            let _ = call(round, &Asked { room, ..asked.clone() });
-        }
-        let hub = asked.hub.shuffled(&mut round.draw);
-        let answers = [call(round, &asked), call(round, &Asked { hub, ..asked.clone() })];
-        round.same(answers[0] == answers[1], "another order of the list");
-        if let Ok(grown) = &answers[0] {
-            adds_up(round, &own, &asked, grown);
-        }
-        for quantity in [asked.quantity + 1, asked.quantity + 2] {
-            let _ = call(round, &Asked { quantity, room: asked.room + 14, ..asked.clone() });
-        }
+/// Places of all lengths, another order of the list, what the theorems say of the grown book, and quantities one after another.
+fn listed(round: &mut Round, own: &Own, asked: &Asked) {
+    for room in [asked.room, asked.room + 1, asked.room + 9, asked.room - 1, 0] {
+        let _ = call(round, &Asked { room, ..asked.clone() });
     }
-    let asked = valid(&mut round.draw, &own, &file);
+    let hub = asked.hub.shuffled(&mut round.draw);
+    let answers = [call(round, asked), call(round, &Asked { hub, ..asked.clone() })];
+    round.same(answers[0] == answers[1], "another order of the list");
+    if let Ok(grown) = &answers[0] {
+        adds_up(round, own, asked, grown);
+    }
+    for quantity in [asked.quantity + 1, asked.quantity + 2] {
+        let _ = call(round, &Asked { quantity, room: asked.room + 14, ..asked.clone() });
+    }
+}
+
+/// Each way to 24 alone, then what can go wrong, alone and together.
+fn refused(round: &mut Round, own: &Own, valid: &Asked) {
     for (way, shape) in SHAPES.iter().enumerate() {
-        let mut asked = asked.clone();
+        let mut asked = valid.clone();
         misshape(&mut round.draw, &mut asked.hub, own.below(), way);
         let answer = call(round, &asked);
         round.same(answer == Err(24), shape);
         round.shown(&SHAPES[way..=way]);
     }
     for _ in 0..12 {
-        let mut asked = asked.clone();
+        let mut asked = valid.clone();
         for _ in 0..round.draw.within(1, 3) {
             let check = round.draw.below(10) as usize;
             wrong(&mut round.draw, &mut asked, own.below(), check);
         }
         let _ = call(round, &asked);
     }
+}
+
+pub fn round(round: &mut Round) {
+    let own = own(round);
+    let file = book::file_of(own.form, &own.book);
+    for _ in 0..3 {
+        let asked = valid(&mut round.draw, &own, &file);
+        listed(round, &own, &asked);
+    }
+    let asked = valid(&mut round.draw, &own, &file);
+    refused(round, &own, &asked);
     if own.size.nodes > 256 {
         edges(round, &asked);
     }
