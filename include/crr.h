@@ -74,10 +74,10 @@
  * and grids or books that differ in nothing else give the same answers. Writers are
  * told the form by a number: 0 (CRR_NARROW) is narrow, any other number is wide
  * (CRR_WIDE is 1). Readers give 0 or 1, so that what was read can be written again,
- * byte for byte; a book made from a book keeps its form. Write the wide form where a node
- * number needs it, and otherwise the narrow one: it is shorter, and it is the one
- * that libraries without forms take, which refuse every wide file. The layouts are
- * in crates/layouts/specs.
+ * byte for byte; a book made from a book keeps its form. Write the wide form where a
+ * node number needs it, and otherwise the narrow one: it is shorter, and it is the
+ * one that libraries without forms take, which refuse every wide file. The layouts
+ * are in crates/layouts/specs.
  *
  *
  * ANSWERS. Every function returns 0, or the number of the refusal (below). Its
@@ -290,9 +290,8 @@ uint64_t crr_remap_book(size_t nodes,
  *
  * On success writes the grown book's file to the first bytes of file, and its length
  * to *bytes: the contracts of the book as they were, in their order, then the new
- * ones by rising node number, in the book's form. Contracts that the book has already
- * are not looked at: a new one may repeat them. CRR_MAX_BOOK_BYTES bytes are always
- * enough.
+ * ones by rising node number, in the book's form. A new contract may repeat one that
+ * the book has; nothing is added together. CRR_MAX_BOOK_BYTES bytes are always enough.
  *
  * An option at a hub becomes options, each of which counts by itself in the test and
  * in the settlement: it is no option on the hub's price. Allocated contracts are not
