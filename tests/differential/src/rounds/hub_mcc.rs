@@ -96,6 +96,10 @@ fn inputs(round: &mut Round) -> (Size, Asked) {
         let most = if round.number == LARGEST { -100_000 } else { 100_000 };
         grid.factors.iter_mut().flatten().for_each(|factor| *factor = most);
         list.fill(500_000);
+    } else if draw.once_in(8) {
+        // Sums of a few weights: all of the remainder's range.
+        grid.factors.iter_mut().flatten().for_each(|factor| *factor = draw.pick(&[0, 0, 0, 1, -1]));
+        list.fill(1);
     }
     let factors = table(draw, &grid.factor_cells(), |factor| factor as i64, i64::MAX);
     let prices = table(draw, &list, |price| price as u64, u64::MAX);
