@@ -114,8 +114,8 @@ fn sorted() {
     );
 }
 
-// Places: as long as the form, and a byte shorter.
-fn places() {
+// Empty books, into places as long as the form, and a byte shorter.
+fn empty() {
     let mut narrow = [238u8; 2];
     settled(
         b"11.7, empty",
@@ -136,6 +136,9 @@ fn places() {
         2,
         b"\x00\x3f",
     );
+}
+
+fn empty_short() {
     let mut short = [238u8; 1];
     settled(
         b"11.7, empty, one byte",
@@ -158,6 +161,7 @@ fn places() {
     );
 }
 
+// Two rows that become one, with room for one.
 fn two_rows() {
     let mut eight = [238u8; 8];
     settled(
@@ -189,6 +193,10 @@ fn two_rows() {
         8,
         b"\x00\x40\xc0\x80\x20\x20\x03\xe8",
     );
+}
+
+// The book's own checks come first.
+fn own_check() {
     let mut none = [238u8; 0];
     settled(
         b"11.13, quantity 1,000,001 and no room",
@@ -309,8 +317,10 @@ pub fn go_through() {
     case_l();
     cut();
     sorted();
-    places();
+    empty();
+    empty_short();
     two_rows();
+    own_check();
     hours();
     kept_flows();
     thousand();
