@@ -10,16 +10,9 @@ use Rattle.integers.specs.Division.{floorDiv, floorMod}
 use Rattle.tariff.specs.declared.contracts.Contract.{Contract}
 use Rattle.tariff.specs.declared.refusals.Refusal.the-variants.{NodeNumber, HubShape, HubNodeTwice}
 use Rattle.tariff.specs.Refusals.{Check}
-use Rattle.tariff.specs.Units.{Factors}
+use Rattle.tariff.specs.Units.{Factors, maxHubNodes, hubWeight}
 use Rattle.tariff.specs.Contracts.{kindOf, periodOf}
 use Rattle.tariff.specs.Settlement.{mcc}
-
--- "A hub is 1 to 32 nodes, each weighted 1 to 100,000, together 100,000."
-abbrev pub maxHubNodes : ℕ
-maxHubNodes = 32
-
-unfoldable pub hubWeight : ℕ
-hubWeight = 100000
 
 -- the sum of f w over a list
 unfoldable pub sumBy : (ℕ → ℕ) → List ℕ → ℕ
