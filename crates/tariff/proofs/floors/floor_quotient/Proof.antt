@@ -47,7 +47,7 @@ returns-2 c =
     let s = c .before in
     let z = s .args .z in
     rw (positive-is z (s .pre .0) (c .if1 .left)) (
-      cast-back (natAbs z / s .args .d) (omega (arith, s .pre, div-le-self (natAbs z) (s .args .d))) ∙ positive-quotient z (s .pre .0) (c .if1 .left) (s .args .d)
+    cast-back (natAbs z / s .args .d) (omega (arith, s .pre, div-le-self (natAbs z) (s .args .d))) ∙ positive-quotient z (s .pre .0) (c .if1 .left) (s .args .d)
     )
 
 pub floor-quotient-spec : {M : Type 1} → statement M
