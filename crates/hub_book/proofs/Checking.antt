@@ -1,27 +1,26 @@
 -- The checks of adding a hub contract, one part after the other.
 use mathlib.Core.Path.{_≡_, sym, _∙_}
 use mathlib.Core.Bool.{true, false}
-use mathlib.Core.List.{List, [], _∷_, _++_}
+use mathlib.Core.List.{List, [], _∷_}
 use Prim.Native.Nat.{ℕ, _≤_, _<_}
 use native.Mathlib.Omega.{arith}
 use borrow.Author.Tests.{lt-ltb, le-ltb, le-leb, lt-leb}
 use lib.ListN.{length}
 use Rattle.lists.specs.Lists.{some}
 use Rattle.tariff.specs.declared.refusals.Refusal.{Refusal}
-use Rattle.tariff.specs.declared.refusals.Refusal.the-variants.{PeriodOrKind, HolderRange, NodeNumber, QuantityRange, ContractCount, ShortTable}
+use Rattle.tariff.specs.declared.refusals.Refusal.the-variants.{PeriodOrKind, HolderRange, NodeNumber, QuantityRange}
 use Rattle.tariff.specs.declared.refusals.Checked.the-variants.{Passed, Refused}
 use Rattle.tariff.specs.Refusals.{Check, first}
-use Rattle.tariff.specs.Checks.{kindAndPeriod, contractCount, quantityRange, shortTable}
-use Rattle.tariff.specs.Units.{maxContracts, maxHolder}
+use Rattle.tariff.specs.Checks.{kindAndPeriod, contractCount, quantityRange}
+use Rattle.tariff.specs.Units.{maxHolder}
 use Rattle.tariff.proofs.Checks.{first-passes, first-refuses, last-passes, append-refuses, append-passes}
 use Rattle.layouts.specs.Forms.{endsBelow}
-use Rattle.layouts.specs.BookFile.{bookBytes, contractCountIn, bookFormIn}
+use Rattle.layouts.specs.BookFile.{contractCountIn, bookFormIn}
 use Rattle.layouts.proofs.BookFile.{book-bytes-least}
 use Rattle.books.specs.BookChecks.{ownChecks}
 use Rattle.books.proofs.Accepted.{own-accepted}
 use Rattle.hub_rules.specs.Hubs.{hubNodeNumber, hubShape, hubTwice}
 use Rattle.hub_book.specs.declared.Terms.{Terms}
-use Rattle.hub_book.specs.AddHubContract.{HubCall, countGrown, hubContractChecks, hubContractChecked}
 use Rattle.hub_book.specs.Inner.{termChecks, givenChecks}
 
 -- ---- the terms

@@ -1,6 +1,6 @@
 -- What is known of a call whose checks pass: the contracts made fit the book's form and pass their own checks, so the grown book is one.
 use mathlib.Core.Path.{_≡_, sym, ap, ap₂, subst, _∙_}
-use mathlib.Core.Bool.{Bool, true, false, _||_}
+use mathlib.Core.Bool.{false}
 use mathlib.Core.List.{List, [], _∷_, _++_, append-assoc}
 use Prim.Native.Nat.{ℕ, _+_, _≤_, _<_}
 use native.Mathlib.Omega.{arith}
@@ -14,13 +14,12 @@ use Rattle.tariff.specs.declared.contracts.Contract.{Contract}
 use Rattle.tariff.specs.declared.refusals.Refusal.{Refusal}
 use Rattle.tariff.specs.declared.refusals.Refusal.the-variants.{ContractCount, ShortTable}
 use Rattle.tariff.specs.declared.refusals.Checked.the-variants.{Passed, Refused}
-use Rattle.tariff.specs.Inner.{InRange}
 use Rattle.tariff.specs.Refusals.{Check, first}
 use Rattle.tariff.specs.Checks.{nodeNumber, contractCount, quantityRange, shortTable}
 use Rattle.tariff.specs.Units.{maxNodes, maxContracts, maxHolder, maxQuantity, maxHubNodes}
 use Rattle.tariff.proofs.Checks.{first-passes, first-refuses, last-passes, append-refuses, append-passes, passed-cons, passed-append, nodes-few-of}
 use Rattle.layouts.specs.declared.forms.Form.{Form}
-use Rattle.layouts.specs.Forms.{endWidth, endsBelow}
+use Rattle.layouts.specs.Forms.{endWidth}
 use Rattle.layouts.specs.BookFile.{bookBytes, contractCountIn, bookFormIn, contractAt, bookIn}
 use Rattle.layouts.specs.Inner.{ContractFits}
 use Rattle.layouts.proofs.BookFile.{book-fits, length-bookIn, ends-fewer}
@@ -29,7 +28,7 @@ use Rattle.books.specs.Inner.{bookFront}
 use Rattle.books.proofs.Accepted.{Accepted, own-parts, own-accepted, contracts-pass}
 use Rattle.books.proofs.Bytes.{book-bytes}
 use Rattle.books.proofs.Making.{Made, book-made, in-range-fits}
-use Rattle.hub_rules.specs.Hubs.{hubNodeNumber, hubShape, hubTwice, shareOf, hubContract, hubContracts}
+use Rattle.hub_rules.specs.Hubs.{hubShape, hubTwice, shareOf, hubContract, hubContracts}
 use Rattle.hub_rules.specs.Inner.{IsHub}
 use Rattle.hub_rules.proofs.Places.{not-same, hub-more}
 use Rattle.hub_rules.proofs.Sharing.{is-hub}
@@ -82,7 +81,8 @@ module _ (q : HubCall) where
   all-checks : hubContractChecks q ≡ givenOf q ++ growth
   unfolding hubContractChecks givenChecks termChecks
   all-checks =
-      sym (append-assoc (ownChecks (q .nodes) (q .book)) (termChecks (hubEnds q) (termsOf q) (q .hub-nodes) (q .quantity) ++ hubShape (q .hub-nodes) (q .hub-weights) ∷ hubTwice (q .hub-nodes) ∷ []) growth)
+      let shape = hubShape (q .hub-nodes) (q .hub-weights) ∷ hubTwice (q .hub-nodes) ∷ [] in
+      sym (append-assoc (ownChecks (q .nodes) (q .book)) (termChecks (hubEnds q) (termsOf q) (q .hub-nodes) (q .quantity) ++ shape) growth)
 
   pub given-refuses : (r : Refusal) → first (givenOf q) ≡ Refused r → hubContractChecked q ≡ Refused r
   given-refuses r e = ap first all-checks ∙ append-refuses (givenOf q) growth r e

@@ -146,7 +146,12 @@ pub fn add_hub_contract(
 ) -> WriteAnswer
     ensures { λ r. ⌜ AddsHub (hubCall nodes (before book) kind period holder (before hub) (before weights) sink quantity (before file)) r (after file) ⌝ }
 {
-    let terms = Terms { kind, period, holder, sink };
+    let terms = Terms {
+        kind,
+        period,
+        holder,
+        sink,
+    };
     let checked = check_given(nodes, book, terms, hub, weights, quantity);
     if let Checked::Refused(refusal) = checked {
         return WriteAnswer::Refused(refusal);

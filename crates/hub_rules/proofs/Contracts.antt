@@ -57,6 +57,6 @@ pub rows-free : (n : ℕ) (ns ws ns' ws' : List ℕ) → IsHub n ns ws → IsHub
     → (kind period holder sink q : ℕ) → hubContracts kind period holder sink ns ws q n ≡ hubContracts kind period holder sink ns' ws' q n
 rows-free n ns ws ns' ws' hub hub' perm kind period holder sink q =
     rows-same kind period holder sink ns ws q ns' ws' n (λ m b.
-        share-is n ns ws hub q m
-        ∙ ap (λ (weight : ℕ → ℕ). share n weight q m) (weights-free ns ws ns' ws' (hub .once) (hub' .once) perm)
-        ∙ sym (share-is n ns' ws' hub' q m))
+    share-is n ns ws hub q m
+    ∙ ap (λ (weight : ℕ → ℕ). share n weight q m) (weights-free ns ws ns' ws' (hub .once) (hub' .once) perm)
+    ∙ sym (share-is n ns' ws' hub' q m))

@@ -1,6 +1,5 @@
 -- `check_given`: each part by what was found.
 use mathlib.Core.Path.{_≡_, sym, ap, _∙_}
-use native.Mathlib.Omega.{arith}
 use Prim.Native.Nat.{ℕ}
 use Rattle.tariff.specs.declared.refusals.Checked.the-variants.{Passed}
 use Rattle.tariff.specs.Refusals.{first}
@@ -41,7 +40,8 @@ terms-told : (c : tie.After-check-terms) → let a = c .before .before .before .
     first (termChecks (endsBelow (bookFormIn (a .book .now)) (a .nodes)) (a .terms) (a .hub .now) (a .quantity)) ≡ c .check-terms .result
 terms-told c =
     let a = c .before .before .before .before .before .before .before .before .before .args in
-    ap (λ (b : ℕ). first (termChecks b (a .terms) (a .hub .now) (a .quantity))) (ap (λ (f : Form). endsBelow f (a .nodes)) (sym (c .before .before .book-form .ensures)) ∙ sym (c .before .ends-below .ensures))
+    let ends = ap (λ (f : Form). endsBelow f (a .nodes)) (sym (c .before .before .book-form .ensures)) ∙ sym (c .before .ends-below .ensures) in
+    ap (λ (b : ℕ). first (termChecks b (a .terms) (a .hub .now) (a .quantity))) ends
     ∙ sym (c .check-terms .ensures)
 
 returns-2 : tie.Need-returns-2
