@@ -97,13 +97,13 @@ module _ (n : ℕ) (ns ws : List ℕ) (hub : IsHub n ns ws) (q : ℕ) where
   few-over = ⊎-elim (λ e. omega (arith, leftover-is, hub .some-nodes)) (λ l. omega (arith, leftover-is, positives-is, pairs-length ns ws (λ x w. ltb 0 (shareRest q w)))) (few n W q total-some)
 
   -- ahead of a positive remainder stand positive ones only, so all that are ahead are listed
-  nothing-ahead : (x r m : ℕ) → 0 < r → bit (isAhead 0 x r m) ≡ 0
-  nothing-ahead x r m h = by (ltb r 0) (eqb 0 r) (ltb x m) (ltb→lt r 0) (eqb→eq 0 r)
+  nothing-ahead : (r : ℕ) → 0 < r → (tie : Bool) → bit (ltb r 0 || (eqb 0 r && tie)) ≡ 0
+  nothing-ahead r h tie = by (ltb r 0) (eqb 0 r) (ltb→lt r 0) (eqb→eq 0 r)
     where
-      by : (a b c : Bool) → (T a → r < 0) → (T b → 0 ≡ r) → bit (a || (b && c)) ≡ 0
-      by true b c f g = absurd (omega (arith, f tt))
-      by false true c f g = absurd (omega (arith, g tt))
-      by false false c f g = refl
+      by : (a b : Bool) → (T a → r < 0) → (T b → 0 ≡ r) → bit (a || (b && tie)) ≡ 0
+      by true b f g = absurd (omega (arith, f tt))
+      by false true f g = absurd (omega (arith, g tt))
+      by false false f g = refl
 
   pub rank-is : (m : ℕ) → 0 < shareRest q (W m) → rank n W q m ≡ aheadOf ns ws q m
   unfolding rank rankOf aheadOf
@@ -111,14 +111,14 @@ module _ (n : ℕ) (ns ws : List ℕ) (hub : IsHub n ns ws) (q : ℕ) where
       count-is-sum n (λ j. beforeBy (rest n W q) j m)
       ∙ addTo-cong n {g = λ j. bit (isAhead (shareRest q (W j)) j (shareRest q (W m)) m)} (λ j b. ap₂ (λ (s r : ℕ). bit (isAhead s j r m)) (rest-is j) (rest-is m))
       ∙ nodes-pairs n ns ws (hub .once) (hub .low) (λ x w. bit (isAhead (shareRest q w) x (shareRest q (W m)) m))
-      (λ x. ap (λ (s : ℕ). bit (isAhead s x (shareRest q (W m)) m)) rest-none ∙ nothing-ahead x (shareRest q (W m)) m h)
+      (λ x. ap (λ (s : ℕ). bit (isAhead s x (shareRest q (W m)) m)) rest-none ∙ nothing-ahead (shareRest q (W m)) h _)
 
   -- ahead of the remainder 0 stand all positive ones
   pub zero-behind : (m : ℕ) → shareRest q (W m) ≡ 0 → leftOver q ws ≤ aheadOf ns ws q m
   unfolding aheadOf
   zero-behind m e =
       let all : addPairs ns ws (λ x w. bit (ltb 0 (shareRest q w))) ≤ addPairs ns ws (λ x w. bit (isAhead (shareRest q w) x (shareRest q (W m)) m))
-      = pairs-mono ns ws (λ x w. rw e (left (ltb 0 (shareRest q w)) (eqb (shareRest q w) 0 && ltb x m))) in
+      = pairs-mono ns ws (λ x w. rw e (left (ltb 0 (shareRest q w)) _)) in
       ⊎-elim (λ z. omega (arith, leftover-is)) (λ l. omega (arith, leftover-is, positives-is, all)) (few n W q total-some)
     where
       left : (a b : Bool) → bit a ≤ bit (a || b)
