@@ -1,40 +1,29 @@
--- `Amount::whole`: the size divided, below zero upwards, with the sign put back.
-use mathlib.Core.Path.{_≡_, refl, _∙_}
-use mathlib.Core.Bool.{true, false}
-use Prim.Native.Nat.{_+_, _/_, _≤_}
+-- `Amount::whole`.
+use mathlib.Core.Path.{_≡_, refl, ap, _∙_}
+use Prim.Native.Nat.{_≤_}
 use native.Mathlib.Omega.{arith}
-use lib.IntN.{pos, natAbs}
-use lib.Signed.{ltZ}
-use borrow.Author.Needs.{needs}
-use Rattle.integers.proofs.Machine.{back, cast-back}
-use Rattle.tariff.specs.Settlement.{wholeCents}
+use lib.IntN.{ℤ, natAbs}
+use mir.Syntax.{w64}
+use mir.Val.{toZ, ofZ}
+use Rattle.integers.specs.Division.{floorDiv}
+use Rattle.integers.proofs.Machine.{back}
+use Rattle.tariff.specs.Units.{perCent}
 use Rattle.tariff.specs.Inner.{maxCents}
-use Rattle.tariff.proofs.Sizes.{whole-sized}
-use Rattle.tariff.proofs.Rounding.{cast-minus-fits, cast-minus-is, negative-whole, positive-whole}
+use Rattle.tariff.proofs.Sizes.{floor-sized}
 use Rattle.tariff.proofs.units.Amount.whole.Statement.{statement}
 use Rattle.tariff.proofs.units.Amount.whole.Tie as tie
 
-sub-result : tie.Need-sub-result
-sub-result c = cast-minus-fits ((c .before .before .before .size .result + 99999999) / 100000000) (omega arith)
+kept : (c : tie.Start) → toZ w64 (ofZ w64 (c .args .self .0)) ≡ c .args .self .0
+kept c = back (c .args .self .0) (omega (arith, c .pre))
 
-sized : (c : tie.Start) → natAbs (wholeCents (c .args .self .0)) ≤ maxCents
-sized c = whole-sized (c .args .self .0) maxCents (c .pre)
+sized : (c : tie.Start) → natAbs (floorDiv (c .args .self .0) perCent) ≤ maxCents
+sized c = floor-sized (c .args .self .0) maxCents perCent (omega arith) (omega (arith, c .pre))
 
 returns : tie.Need-returns
 returns c =
-    let f = c .before .before .before in
-    let z = f .before .args .self .0 in
-    let below : ltZ z (pos 0) ≡ true = rw (back z (omega (arith, f .before .pre))) at (c .if1 .taken) in
-    rw (cast-minus-is ((f .size .result + 99999999) / 100000000) (omega arith) ∙ negative-whole z (f .size .result) (f .size .ensures) below) (refl, sized (f .before))
-
-returns-2 : tie.Need-returns-2
-returns-2 c =
-    let f = c .before .before .before in
-    let z = f .before .args .self .0 in
-    let from : ltZ z (pos 0) ≡ false = rw (back z (omega (arith, f .before .pre))) at (c .if1 .left) in
-    rw (cast-back _ (omega arith) ∙ positive-whole z (f .size .result) (f .size .ensures) from) (refl, sized (f .before))
+    let s = c .before .before in
+    let is : c .floor-quotient .result ≡ floorDiv (s .args .self .0) perCent = c .floor-quotient .ensures ∙ ap (λ (z : ℤ). floorDiv z perCent) (kept s) in
+    rw (is, back (floorDiv (s .args .self .0) perCent) (omega (arith, sized s))) (refl, sized s)
 
 pub whole-spec : {M : Type 1} → statement M
-whole-spec =
-    tie.close
-    (tie.spec (λ c κs. search needs) (λ c. search needs) (λ c. search needs) sub-result (λ c. search needs) returns returns-2)
+whole-spec = tie.close (tie.spec (λ c κs. rw (kept (c .before)) (omega (arith, c .before .pre), omega arith)) returns)
