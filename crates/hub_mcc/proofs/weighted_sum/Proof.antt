@@ -28,7 +28,7 @@ loop-holds c = (omega arith, +ℤ-idl _, omega (arith, c .before .before .before
 node-mcc-requires : tie.Need-node-mcc-requires Inv-loop μ-loop
 node-mcc-requires c κs =
     let s = c .before .before .before .before .before .before in
-    (s .pre .0, node-below (s .args .nodes) (s .args .hub .now) (s .pre .1 .low) (c .before .before .loop .i) (omega arith))
+    (s .pre .0, node-below (s .args .nodes) (s .args .hub .now) (s .pre .1 .low) _ (omega arith))
 
 shared-slice-read-weighted : tie.Need-shared-slice-read-weighted Inv-loop μ-loop
 shared-slice-read-weighted c = omega (arith, c .before .before .before .before .before .before .before .before .pre .1 .one-each)
