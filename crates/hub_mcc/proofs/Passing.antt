@@ -20,7 +20,6 @@ use Rattle.tables.proofs.Passing.{hour-tables, hour-of}
 use Rattle.congestion.proofs.Products.{node-sized}
 use Rattle.hub_rules.specs.Hubs.{hubNodeNumber, hubShape, hubTwice, hubSum, hubQuotient}
 use Rattle.hub_rules.specs.Inner.{IsHub}
-use Rattle.hub_rules.specs.Theorems.{Taken}
 use Rattle.hub_rules.proofs.Sharing.{is-hub}
 use Rattle.hub_rules.proofs.Theorems.{hub-mcc-exact}
 use Rattle.hub_mcc.specs.declared.HubMccAnswer.{HubMccAnswer}
@@ -53,9 +52,10 @@ module _ (q : FindHubMccCall) where
       let parts = passed-append allNodes theHub (as-for-all ∙ e) in
       let eleven = passed-cons _ _ (parts .1) in
       let shape = passed-cons _ _ (eleven .1) in
-      let taken : Taken (q .nodes) (q .hub-nodes) (q .hub-weights) =
-          record { below = eleven .0; shaped = shape .0; once = passed-cons _ _ (shape .1) .0 } in
-      (hour-of (hour-tables (q .nodes) (q .constraints) 0 (q .factors) (q .prices) (q .nodes) (parts .0)), is-hub (q .nodes) (q .hub-nodes) (q .hub-weights) taken)
+      let once = passed-cons _ _ (shape .1) .0 in (
+        hour-of (hour-tables (q .nodes) (q .constraints) 0 (q .factors) (q .prices) (q .nodes) (parts .0)),
+        is-hub (q .nodes) (q .hub-nodes) (q .hub-weights) (record { below = eleven .0; shaped = shape .0; once = once }),
+      )
 
   -- the figures given are exact
   pub given-exact : (quotient : ℤ) (remainder : ℕ) → quotient ≡ quotientGiven q → remainder ≡ remainderGiven q → IsExact q quotient remainder

@@ -17,14 +17,6 @@ use Rattle.c_hub_mcc.proofs.crr_find_hub_mcc.Tie as tie
 abbrev call : tie.Start → FindHubMccCall
 call c = let a = c .args in findHubMccCall (a .nodes) (a .constraints) (a .factors .now) (a .prices .now) (a .hub .now) (a .weights .now)
 
-small : (c : tie.After-known-told2) → natAbs (c .before .down .given .0 .0 .0) ≤ maxMcc
-small c =
-    let given = c .before .down .given in
-    found-sized (call (c .before .before .before .before .before .before .before)) _ (c .before .before .before .find-hub-mcc .ensures .mcc-found) (given .0 .0) (given .0 .1 .0) (given .1)
-
-cell-requires : tie.Need-cell-requires
-cell-requires c κs = omega (arith, small c)
-
 returns : tie.Need-returns
 returns c =
     let s = c .before .before .before .before .before .before .before .before in
@@ -38,6 +30,14 @@ returns c =
       remainder-given = refused-keeps (findHubMccChecked q) _ r told (remainderGiven q) (s .args .remainder .now);
       exact = λ h. absurd (some-refuses (findHubMccChecked q) _ r told h);
     }
+
+small : (c : tie.After-known-told2) → natAbs (c .before .down .given .0 .0 .0) ≤ maxMcc
+small c =
+    let given = c .before .down .given in
+    found-sized (call (c .before .before .before .before .before .before .before)) _ (c .before .before .before .find-hub-mcc .ensures .mcc-found) (given .0 .0) (given .0 .1 .0) (given .1)
+
+cell-requires : tie.Need-cell-requires
+cell-requires c κs = omega (arith, small c)
 
 returns-2 : tie.Need-returns-2
 returns-2 c =

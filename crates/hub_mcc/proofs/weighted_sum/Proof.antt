@@ -1,6 +1,7 @@
 -- `weighted_sum`: the sum so far and that of the nodes left are the hub's.
 use mathlib.Core.Path.{_≡_, ap, _∙_}
-use Prim.Native.Nat.{_+_, _-_, _≤_, _<_}
+use mathlib.Core.List.{List}
+use Prim.Native.Nat.{ℕ, _+_, _-_, _≤_, _<_}
 use native.Mathlib.Omega.{arith}
 use lib.ListN.{length, getD, drop, take}
 use lib.IntN.{ℤ, pos, natAbs, _+ℤ_, _*ℤ_, +ℤ-idl}
@@ -12,11 +13,14 @@ use borrow.Author.Needs.{needs}
 use Rattle.hub_mcc.proofs.weighted_sum.Statement.{statement}
 use Rattle.hub_mcc.proofs.weighted_sum.Tie as tie
 
+-- the weighted sum by an hour's tables
+abbrev sumOf : ℕ → ℕ → List ℤ → List ℕ → List ℕ → List ℕ → ℤ
+sumOf n k factors prices = hubSum (factorsOf n k factors) (take k prices)
+
 abbrev Inv-loop : tie.InvT-loop
 Inv-loop nodes constraints factors prices hub weights sum₀ i₀ sum i =
     (i ≤ length hub)
-    × (sum .0 +ℤ hubSum (factorsOf nodes constraints factors) (take constraints prices) (drop i hub) (drop i weights)
-       ≡ hubSum (factorsOf nodes constraints factors) (take constraints prices) hub weights)
+    × (sum .0 +ℤ sumOf nodes constraints factors prices (drop i hub) (drop i weights) ≡ sumOf nodes constraints factors prices hub weights)
     × (natAbs (sum .0) + toCome weights i ≤ maxWeighted)
 
 abbrev μ-loop : tie.MeasureT-loop
