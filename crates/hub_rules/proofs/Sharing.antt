@@ -13,6 +13,7 @@ use Rattle.lists.proofs.Search.{neither}
 use Rattle.largest_remainders.specs.Ranks.{addTo, rankOf}
 use Rattle.largest_remainders.specs.Shares.{beforeBy, total, whole, rest, leftover, rank, given, share, positives}
 use Rattle.largest_remainders.proofs.Counting.{bit, addTo-cong, count-is-sum, bit-same}
+use Rattle.largest_remainders.proofs.Sharing.{wholes-le}
 use Rattle.largest_remainders.proofs.Theorems.{adds-up, near, few, to-positive, no-weight}
 use Rattle.tariff.specs.Units.{hubWeight, maxHubNodes}
 use Rattle.hub_rules.specs.Hubs.{sumBy, addPairs, listed, weightBad, downShare, shareRest, leftOver, weightOf, isAhead, aheadOf, shareOf}
@@ -74,12 +75,16 @@ module _ (n : ℕ) (ns ws : List ℕ) (hub : IsHub n ns ws) (q : ℕ) where
   unfolding shareRest
   rest-none = ap (λ (x : ℕ). x % 100000) {x = q * 0} {y = 0} (omega arith)
 
+  pub downs-are : addTo n (whole n W q) ≡ sumBy (downShare q) ws
+  downs-are =
+      addTo-cong n (λ m b. whole-is m) ∙ nodes-pairs n ns ws (hub .once) (hub .low) (λ m w. downShare q w) (λ m. down-none) ∙ pairs-weights ns ws (hub .one-each) (downShare q)
+
+  pub downs-le : sumBy (downShare q) ws ≤ q
+  downs-le = omega (arith, downs-are, wholes-le n W q total-some)
+
   pub leftover-is : leftover n W q ≡ leftOver q ws
   unfolding leftover leftOver
-  leftover-is =
-      ap (λ (x : ℕ). q - x) (
-      addTo-cong n (λ m b. whole-is m) ∙ nodes-pairs n ns ws (hub .once) (hub .low) (λ m w. downShare q w) (λ m. down-none) ∙ pairs-weights ns ws (hub .one-each) (downShare q)
-      )
+  leftover-is = ap (λ (x : ℕ). q - x) downs-are
 
   positives-is : positives n W q ≡ addPairs ns ws (λ x w. bit (ltb 0 (shareRest q w)))
   unfolding positives
