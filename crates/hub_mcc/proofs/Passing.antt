@@ -14,7 +14,7 @@ use Rattle.tariff.specs.Refusals.{Check, first, given, answered}
 use Rattle.tariff.specs.Checks.{shortTable}
 use Rattle.tariff.proofs.Checks.{first-under, first-passes, passed-cons, passed-append, nodes-some-of}
 use Rattle.tariff.proofs.Answers.{none-refuses, given-values}
-use Rattle.tariff.proofs.Sizes.{floor-sized}
+use Rattle.tariff.proofs.Rounding.{floor-sized}
 use Rattle.tables.specs.Inner.{Hour, hourTableChecks}
 use Rattle.tables.proofs.Passing.{hour-tables, hour-of}
 use Rattle.congestion.proofs.Products.{node-sized}
