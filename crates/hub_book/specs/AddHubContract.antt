@@ -14,39 +14,38 @@ use Rattle.layouts.specs.Writing.{Writes, WritesForC}
 use Rattle.books.specs.BookChecks.{ownChecks}
 use Rattle.hub_rules.specs.Hubs.{hubNodeNumber, hubShape, hubTwice, hubContracts}
 
--- what a hub contract says beside its hub and its quantity
-pub record Terms : Type 0 where
+-- the node count, the book's bytes, the contract's numbers, the hub's two lists, and the place for the new book's bytes as it is at entry
+pub record HubCall : Type 0 where
+  pub nodes : ℕ
+  pub book : List ℕ
   pub kind : ℕ
   pub period : ℕ
   pub holder : ℕ
-  pub sink : ℕ
-
--- the node count, the book's bytes, the terms, the hub's two lists, the quantity, and the place for the new book's bytes as it is at entry
-pub record HubContractCall : Type 0 where
-  pub nodes : ℕ
-  pub book : List ℕ
-  pub terms : Terms
   pub hub-nodes : List ℕ
   pub hub-weights : List ℕ
+  pub sink : ℕ
   pub quantity : ℕ
   pub place : List ℕ
 
-abbrev pub hubContractCall : ℕ → List ℕ → ℕ → ℕ → ℕ → List ℕ → List ℕ → ℕ → ℕ → List ℕ → HubContractCall
-hubContractCall n book kind period holder ns ws sink quantity place =
+abbrev pub hubCall : ℕ → List ℕ → ℕ → ℕ → ℕ → List ℕ → List ℕ → ℕ → ℕ → List ℕ → HubCall
+hubCall n book kind period holder ns ws sink quantity place =
     record {
       nodes = n;
       book = book;
-      terms = record { kind = kind; period = period; holder = holder; sink = sink };
+      kind = kind;
+      period = period;
+      holder = holder;
       hub-nodes = ns;
       hub-weights = ws;
+      sink = sink;
       quantity = quantity;
       place = place;
     }
 
-module _ (q : HubContractCall) where
+module _ (q : HubCall) where
   -- the contracts that the hub contract becomes
   abbrev pub contractsMade : List Contract
-  contractsMade = hubContracts (q .terms .kind) (q .terms .period) (q .terms .holder) (q .terms .sink) (q .hub-nodes) (q .hub-weights) (q .quantity) (q .nodes)
+  contractsMade = hubContracts (q .kind) (q .period) (q .holder) (q .sink) (q .hub-nodes) (q .hub-weights) (q .quantity) (q .nodes)
 
   -- how many the book then has
   abbrev pub countGrown : ℕ
@@ -60,10 +59,10 @@ module _ (q : HubContractCall) where
   unfoldable pub hubContractChecks : List Check
   hubContractChecks =
       ownChecks (q .nodes) (q .book)
-      ++ kindAndPeriod (q .terms .kind) (q .terms .period)
-      ∷ holderRange (q .terms .holder)
+      ++ kindAndPeriod (q .kind) (q .period)
+      ∷ holderRange (q .holder)
       ∷ hubNodeNumber hubEnds (q .hub-nodes)
-      ∷ hubNodeNumber hubEnds (q .terms .sink ∷ [])
+      ∷ hubNodeNumber hubEnds (q .sink ∷ [])
       ∷ quantityRange (q .quantity)
       ∷ hubShape (q .hub-nodes) (q .hub-weights)
       ∷ hubTwice (q .hub-nodes)
@@ -79,8 +78,8 @@ module _ (q : HubContractCall) where
   bookGrown = bookFile (bookFormIn (q .book)) (bookIn (q .book) ++ contractsMade)
 
 -- the promise: the answer, and the place at exit
-abbrev pub AddsHubContract : HubContractCall → WriteAnswer → List ℕ → Type 0
-AddsHubContract q answer exit = Writes (hubContractChecked q) (bookGrown q) (q .place) answer exit
+abbrev pub AddsHub : HubCall → WriteAnswer → List ℕ → Type 0
+AddsHub q answer exit = Writes (hubContractChecked q) (bookGrown q) (q .place) answer exit
 
-abbrev pub AddsHubContractForC : HubContractCall → ℕ → List ℕ → Lent ℕ → Type 0
-AddsHubContractForC q number exit bytes = WritesForC (hubContractChecked q) (bookGrown q) (q .place) (before bytes) number exit (after bytes)
+abbrev pub AddsHubForC : HubCall → ℕ → List ℕ → Lent ℕ → Type 0
+AddsHubForC q number exit bytes = WritesForC (hubContractChecked q) (bookGrown q) (q .place) (before bytes) number exit (after bytes)

@@ -1,1 +1,2 @@
 pub mod AddHubContract
+pub mod Inner
