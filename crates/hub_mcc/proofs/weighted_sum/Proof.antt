@@ -58,9 +58,10 @@ loop-again c =
     let m = c .before .before .before .node-mcc in
     let x = c .before .weighted in
     let inside : l .i < length (a .weights .now) = omega (arith, s .pre .1 .one-each) in
+    let turn = sum-turn (factorsOf (a .nodes) (a .constraints) (a .factors .now)) (take (a .constraints) (a .prices .now)) (a .hub .now) (a .weights .now) in
     let is = x .ensures ∙ ap (λ (z : ℤ). pos (getD (a .weights .now) (l .i) 0) *ℤ z) (m .ensures .0) in (
       omega arith,
-      sum-turn (factorsOf (a .nodes) (a .constraints) (a .factors .now)) (take (a .constraints) (a .prices .now)) (a .hub .now) (a .weights .now) (l .i) (omega arith) inside (l .sum .0) (x .result .0) (c .plus .result .0) is (c .plus .ensures) (l .inv .1),
+      turn (l .i) (omega arith) inside (l .sum .0) (x .result .0) (c .plus .result .0) is (c .plus .ensures) (l .inv .1),
       room-left (a .weights .now) (l .i) inside (l .sum .0) (l .inv .2) (m .result .0) (m .ensures .1) (x .result .0) (x .ensures) (c .plus .result .0) (c .plus .ensures),
     )
 
@@ -68,7 +69,8 @@ returns : tie.Need-returns Inv-loop μ-loop
 returns c =
     let a = c .before .before .before .before .before .args in
     let l = c .before .loop in
-    (sum-end (factorsOf (a .nodes) (a .constraints) (a .factors .now)) (take (a .constraints) (a .prices .now)) (a .hub .now) (a .weights .now) (l .i) (omega arith) (l .sum .0) (l .inv .1), omega arith)
+    let end = sum-end (factorsOf (a .nodes) (a .constraints) (a .factors .now)) (take (a .constraints) (a .prices .now)) (a .hub .now) (a .weights .now) in
+    (end (l .i) (omega arith) (l .sum .0) (l .inv .1), omega arith)
 
 pub weighted-sum-spec : {M : Type 1} → statement M
 weighted-sum-spec =
