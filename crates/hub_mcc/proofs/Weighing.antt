@@ -1,7 +1,7 @@
 -- A turn of the weighted sum. What is left of the weights bounds what is still to come: a partial sum fits only because all weights are together 100,000.
 use mathlib.Core.Path.{_≡_, sym, ap, ap₂, _∙_}
 use mathlib.Core.Bool.{false}
-use mathlib.Core.List.{List}
+use mathlib.Core.List.{List, [], _∷_}
 use Prim.Native.Nat.{ℕ, _+_, _*_, _≤_, _<_, _^_}
 use native.Mathlib.Omega.{arith}
 use borrow.Author.Tests.{leb-false}
@@ -9,7 +9,7 @@ use lib.Dec.{leb}
 use lib.ListN.{length, getD, drop, drop-of-length-le}
 use lib.IntN.{ℤ, pos, natAbs, _+ℤ_, _*ℤ_, +ℤ-assoc, +ℤ-idr}
 use Rattle.lists.specs.Lists.{some}
-use Rattle.lists.proofs.Search.{none-bad}
+use Rattle.lists.proofs.Search.{neither, none-bad}
 use Rattle.integers.proofs.Sizes.{natAbs-add, natAbs-times}
 use Rattle.tariff.specs.Units.{Factors, hubWeight}
 use Rattle.tariff.specs.Inner.{maxMcc, maxWeighted}
@@ -54,3 +54,19 @@ module _ (f : Factors) (p ns ws : List ℕ) (i : ℕ) where
   pub sum-end : length ns ≤ i → (s : ℤ) → s +ℤ hubSum f p (drop i ns) (drop i ws) ≡ hubSum f p ns ws → s ≡ hubSum f p ns ws
   unfolding hubSum
   sum-end h s so-far = sym (+ℤ-idr s) ∙ ap (λ (l : List ℕ). s +ℤ hubSum f p l (drop i ws)) (sym (drop-of-length-le ns h)) ∙ so-far
+
+-- ---- the whole sum
+
+module _ (f : Factors) (p : List ℕ) (sized : (m : ℕ) → m < f .nodes → natAbs (mcc f p m) ≤ maxMcc) where
+  pub sum-sized : (ns ws : List ℕ) → some (leb (f .nodes)) ns ≡ false → natAbs (hubSum f p ns ws) ≤ maxMcc * sumBy (λ w. w) ws
+  unfolding some hubSum sumBy
+  sum-sized [] ws low = omega arith
+  sum-sized (x ∷ ns) [] low = omega arith
+  sum-sized (x ∷ ns) (w ∷ ws) low =
+      let here = neither (leb (f .nodes) x) (some (leb (f .nodes)) ns) low in
+      omega (
+        arith,
+        natAbs-add (pos w *ℤ mcc f p x) (hubSum f p ns ws),
+        natAbs-times (pos w) (mcc f p x) {A = w} (omega arith) (sized x (leb-false (f .nodes) x (here .0))),
+        sum-sized ns ws (here .1),
+      )

@@ -1,8 +1,8 @@
 -- A figure's sign and size, what an amount's size says of its cents, and division rounded down.
 use mathlib.Core.Path.{_≡_, refl, ap, _∙_}
 use mathlib.Core.Bool.{true, false}
-use Prim.Native.Nat.{ℕ, zero, suc, _+_, _-_, _/_, _%_, _^_, _<_}
-use native.Mathlib.Nat.{div-le-self}
+use Prim.Native.Nat.{ℕ, zero, suc, _+_, _-_, _*_, _/_, _%_, _^_, _≤_, _<_}
+use native.Mathlib.Nat.{mul-comm, div-le-self, div-le-of-le-mul, div-lt-iff-lt-mul}
 use native.Mathlib.Omega.{arith}
 use borrow.Author.Tests.{ltb-true, le-ltb}
 use lib.IntN.{ℤ, pos, negsuc, negℤ, natAbs, _-ℤ_, +ℤ-idl}
@@ -129,3 +129,25 @@ module _ (z : ℤ) (h : natAbs z < 2 ^ 63) (e : ltZ (toZ w64 (ofZ w64 z)) (pos 0
       by : (z : ℤ) → ltZ z (pos 0) ≡ false → natAbs z % d ≡ floorMod z d
       by (pos n) b = refl
       by (negsuc n) b = let z : _≡_ {A = ℕ} 0 1 = cc in absurd (omega arith)
+
+-- a quotient of a number of size at most B × d, rounded down, has size at most B
+pub floor-sized : (a : ℤ) (B d : ℕ) → 0 < d → natAbs a ≤ B * d → natAbs (floorDiv a d) ≤ B
+floor-sized (pos n) B d h e = div-le-of-le-mul d (omega (arith, mul-comm B d))
+floor-sized (negsuc n) B d h e = div-lt-iff-lt-mul {k = d} {x = n} {y = B} h .1 (omega arith)
+
+-- ---- a figure divided, as the machine keeps it; B bounds the quotient
+
+module _ (z : ℤ) (B d : ℕ) (some : 0 < d) (h : natAbs z ≤ B * d) (fits : (B * d < 2 ^ 63) × (B < 2 ^ 63)) where
+  same : toZ w64 (ofZ w64 z) ≡ z
+  same = back z (omega arith)
+
+  pub divisible : (natAbs (toZ w64 (ofZ w64 z)) < 2 ^ 63) × (0 < d)
+  divisible = rw same (omega arith, some)
+
+  pub quotient-kept : (r : ℤ) → r ≡ floorDiv (toZ w64 (ofZ w64 z)) d → (toZ w64 (ofZ w64 r) ≡ floorDiv z d) × (natAbs (toZ w64 (ofZ w64 r)) ≤ B)
+  quotient-kept r e =
+      let size = floor-sized z B d some h in
+      rw (e, same, back (floorDiv z d) (omega arith)) (refl, size)
+
+  pub remainder-kept : (r : ℕ) → (r ≡ floorMod (toZ w64 (ofZ w64 z)) d) × (r < d) → (r ≡ floorMod z d) × (r < d)
+  remainder-kept r e = rw same at e

@@ -2,13 +2,12 @@
 use mathlib.Core.Bool.{Bool, true, false, cond}
 use mathlib.Core.List.{List, [], _∷_}
 use Prim.Native.Nat.{ℕ, suc, _+_, _*_, _≤_, _<_}
-use native.Mathlib.Nat.{mul-le-mul, mul-comm, le-trans, div-le-of-le-mul, div-lt-iff-lt-mul}
+use native.Mathlib.Nat.{mul-le-mul, le-trans}
 use native.Mathlib.Omega.{arith}
 use lib.ListN.{length}
 use lib.IntN.{ℤ, pos, negsuc, natAbs, _-ℤ_, _*ℤ_}
 use Rattle.integers.proofs.Sizes.{natAbs-sub, natAbs-neg, natAbs-times, natAbs-sumTo, natAbs-sumOver}
 use Rattle.lists.specs.Lists.{Each}
-use Rattle.integers.specs.Division.{floorDiv}
 use Rattle.integers.proofs.Division.{natAbs-roundAway}
 use Rattle.tariff.specs.declared.contracts.Kind.{Kind}
 use Rattle.tariff.specs.declared.contracts.Kind.the-variants.{Obligation, Option}
@@ -62,11 +61,7 @@ module _ (f : Factors) (p : List ℕ) (few : f .constraints ≤ maxConstraints) 
   unfolding exactTotal
   total-sized cs h = natAbs-sumOver maxAmount (amount f p) cs (amounts-sized cs h)
 
--- a quotient by d of a number of size at most B × d, rounded down, and by 10^8 to the nearest, has size at most B
-pub floor-sized : (a : ℤ) (B d : ℕ) → 0 < d → natAbs a ≤ B * d → natAbs (floorDiv a d) ≤ B
-floor-sized (pos n) B d h e = div-le-of-le-mul d (omega (arith, mul-comm B d))
-floor-sized (negsuc n) B d h e = div-lt-iff-lt-mul {k = d} {x = n} {y = B} h .1 (omega arith)
-
+-- a quotient by 10^8 of a number of size at most B × 10^8, rounded to the nearest, has size at most B
 pub cents-sized : (a : ℤ) (B : ℕ) → natAbs a ≤ B * perCent → natAbs (cents a) ≤ B
 cents-sized a B h = rw (natAbs-roundAway a perCent) (omega arith)
 

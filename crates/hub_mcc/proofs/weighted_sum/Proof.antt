@@ -1,6 +1,7 @@
 -- `weighted_sum`: the sum so far and that of the nodes left are the hub's.
 use mathlib.Core.Path.{_≡_, ap, _∙_}
-use Prim.Native.Nat.{_+_, _-_, _≤_, _<_}
+use mathlib.Core.List.{List}
+use Prim.Native.Nat.{ℕ, _+_, _-_, _≤_, _<_}
 use native.Mathlib.Omega.{arith}
 use lib.ListN.{length, getD, drop, take}
 use lib.IntN.{ℤ, pos, natAbs, _+ℤ_, _*ℤ_, +ℤ-idl}
@@ -12,11 +13,14 @@ use borrow.Author.Needs.{needs}
 use Rattle.hub_mcc.proofs.weighted_sum.Statement.{statement}
 use Rattle.hub_mcc.proofs.weighted_sum.Tie as tie
 
+-- the weighted sum by an hour's tables
+abbrev sumOf : ℕ → ℕ → List ℤ → List ℕ → List ℕ → List ℕ → ℤ
+sumOf n k factors prices = hubSum (factorsOf n k factors) (take k prices)
+
 abbrev Inv-loop : tie.InvT-loop
 Inv-loop nodes constraints factors prices hub weights sum₀ i₀ sum i =
     (i ≤ length hub)
-    × (sum .0 +ℤ hubSum (factorsOf nodes constraints factors) (take constraints prices) (drop i hub) (drop i weights)
-       ≡ hubSum (factorsOf nodes constraints factors) (take constraints prices) hub weights)
+    × (sum .0 +ℤ sumOf nodes constraints factors prices (drop i hub) (drop i weights) ≡ sumOf nodes constraints factors prices hub weights)
     × (natAbs (sum .0) + toCome weights i ≤ maxWeighted)
 
 abbrev μ-loop : tie.MeasureT-loop
@@ -28,7 +32,7 @@ loop-holds c = (omega arith, +ℤ-idl _, omega (arith, c .before .before .before
 node-mcc-requires : tie.Need-node-mcc-requires Inv-loop μ-loop
 node-mcc-requires c κs =
     let s = c .before .before .before .before .before .before in
-    (s .pre .0, node-below (s .args .nodes) (s .args .hub .now) (s .pre .1 .low) (c .before .before .loop .i) (omega arith))
+    (s .pre .0, node-below (s .args .nodes) (s .args .hub .now) (s .pre .1 .low) _ (omega arith))
 
 shared-slice-read-weighted : tie.Need-shared-slice-read-weighted Inv-loop μ-loop
 shared-slice-read-weighted c = omega (arith, c .before .before .before .before .before .before .before .before .pre .1 .one-each)
@@ -54,9 +58,10 @@ loop-again c =
     let m = c .before .before .before .node-mcc in
     let x = c .before .weighted in
     let inside : l .i < length (a .weights .now) = omega (arith, s .pre .1 .one-each) in
+    let turn = sum-turn (factorsOf (a .nodes) (a .constraints) (a .factors .now)) (take (a .constraints) (a .prices .now)) (a .hub .now) (a .weights .now) in
     let is = x .ensures ∙ ap (λ (z : ℤ). pos (getD (a .weights .now) (l .i) 0) *ℤ z) (m .ensures .0) in (
       omega arith,
-      sum-turn (factorsOf (a .nodes) (a .constraints) (a .factors .now)) (take (a .constraints) (a .prices .now)) (a .hub .now) (a .weights .now) (l .i) (omega arith) inside (l .sum .0) (x .result .0) (c .plus .result .0) is (c .plus .ensures) (l .inv .1),
+      turn (l .i) (omega arith) inside (l .sum .0) (x .result .0) (c .plus .result .0) is (c .plus .ensures) (l .inv .1),
       room-left (a .weights .now) (l .i) inside (l .sum .0) (l .inv .2) (m .result .0) (m .ensures .1) (x .result .0) (x .ensures) (c .plus .result .0) (c .plus .ensures),
     )
 
@@ -64,7 +69,8 @@ returns : tie.Need-returns Inv-loop μ-loop
 returns c =
     let a = c .before .before .before .before .before .args in
     let l = c .before .loop in
-    (sum-end (factorsOf (a .nodes) (a .constraints) (a .factors .now)) (take (a .constraints) (a .prices .now)) (a .hub .now) (a .weights .now) (l .i) (omega arith) (l .sum .0) (l .inv .1), omega arith)
+    let end = sum-end (factorsOf (a .nodes) (a .constraints) (a .factors .now)) (take (a .constraints) (a .prices .now)) (a .hub .now) (a .weights .now) in
+    (end (l .i) (omega arith) (l .sum .0) (l .inv .1), omega arith)
 
 pub weighted-sum-spec : {M : Type 1} → statement M
 weighted-sum-spec =

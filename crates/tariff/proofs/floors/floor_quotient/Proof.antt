@@ -25,6 +25,12 @@ cast-result c =
 negative : (c : tie.Then1) → suc (natAbs (c .before .args .z) - 1) < 2 ^ 63
 negative c = omega (arith, c .before .pre)
 
+returns : tie.Need-returns
+returns c =
+    let s = c .before in
+    let z = s .args .z in
+    rw (mirror-is z (s .pre .0) (c .if1 .taken)) (less-is (natAbs z - 1) (s .args .d) (negative c) ∙ negative-quotient z (s .pre .0) (c .if1 .taken) (s .args .d))
+
 sub-result : tie.Need-sub-result
 sub-result c = let s = c .before in rw (mirror-is (s .args .z) (s .pre .0) (c .if1 .taken)) (less-fits (natAbs (s .args .z) - 1) (s .args .d) (negative c))
 
@@ -35,12 +41,6 @@ cast-result-3 : tie.Need-cast-result-3
 cast-result-3 c =
     let s = c .before in
     rw (positive-is (s .args .z) (s .pre .0) (c .if1 .left)) (fits64 _ (omega (arith, s .pre, div-le-self (natAbs (s .args .z)) (s .args .d))))
-
-returns : tie.Need-returns
-returns c =
-    let s = c .before in
-    let z = s .args .z in
-    rw (mirror-is z (s .pre .0) (c .if1 .taken)) (less-is (natAbs z - 1) (s .args .d) (negative c) ∙ negative-quotient z (s .pre .0) (c .if1 .taken) (s .args .d))
 
 returns-2 : tie.Need-returns-2
 returns-2 c =

@@ -1,13 +1,15 @@
 -- `Amount::parts`.
 use native.Mathlib.Omega.{arith}
-use Rattle.integers.proofs.Machine.{back}
+use Rattle.tariff.specs.Units.{perCent}
+use Rattle.tariff.specs.Inner.{maxCents}
+use Rattle.tariff.proofs.Rounding.{divisible, remainder-kept}
 use Rattle.tariff.proofs.units.Amount.parts.Statement.{statement}
 use Rattle.tariff.proofs.units.Amount.parts.Tie as tie
 
 returns : tie.Need-returns
 returns c =
     let s = c .before .before in
-    rw (back (s .args .self .0) (omega (arith, s .pre))) at (c .floor-remainder .ensures)
+    remainder-kept (s .args .self .0) maxCents perCent (omega arith) (omega (arith, s .pre)) (omega arith) (c .floor-remainder .result) (c .floor-remainder .ensures)
 
 pub parts-spec : {M : Type 1} → statement M
-parts-spec = tie.close (tie.spec (λ c κs. rw (back (c .before .args .self .0) (omega (arith, c .before .pre))) (omega (arith, c .before .pre), omega arith)) returns)
+parts-spec = tie.close (tie.spec (λ c κs. divisible (c .before .args .self .0) maxCents perCent (omega arith) (omega (arith, c .before .pre)) (omega arith)) returns)
