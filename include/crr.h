@@ -62,10 +62,10 @@
  * and grids or books that differ in nothing else give the same answers. Writers are
  * told the form by a number: 0 (CRR_NARROW) is narrow, any other number is wide
  * (CRR_WIDE is 1). Readers give 0 or 1, so that what was read can be written again,
- * byte for byte; a remapped book keeps its form. Write the wide form where a node
- * number needs it, and otherwise the narrow one: it is shorter, and it is the one
- * that libraries without forms take, which refuse every wide file. The layouts are
- * in crates/layouts/specs.
+ * byte for byte; a remapped book and the market's view keep the book's form. Write
+ * the wide form where a node number needs it, and otherwise the narrow one: it is
+ * shorter, and it is the one that libraries without forms take, which refuse every
+ * wide file. The layouts are in crates/layouts/specs.
  *
  *
  * ANSWERS. Every function returns 0, or the number of the refusal (below). Its
@@ -114,6 +114,7 @@ extern "C" {
 /* The longest files. One byte more is never accepted. */
 #define CRR_MAX_GRID_BYTES 576220
 #define CRR_MAX_BOOK_BYTES 7002
+#define CRR_MAX_HOLDER_VIEW_BYTES 9000
 #define CRR_MAX_PRICE_BYTES 153
 
 /* The longest grid's file that crr_write_statement and crr_write_report take. */
@@ -256,6 +257,55 @@ uint64_t crr_remap_book(size_t nodes,
                         const uint64_t *new_nodes, size_t new_len,
                         uint8_t *file, size_t file_len,
                         size_t *bytes);
+
+/*
+ * Writes the market's view of a book's file, for a grid of so many nodes: the same
+ * contracts, in the same order and form, with holder 0 in each. It is itself a
+ * book's file, and its flows, verdicts and amounts are the book's.
+ *
+ * On success writes the file to the first bytes of file, and its length, which is
+ * book_len, to *bytes.
+ *
+ * No holder number reaches the market: for one node count and places of equal
+ * length, two books that differ in nothing but holder numbers give the same answer
+ * and the same bytes, also where they are refused. That is said of what is answered
+ * and written, not of the time that it takes.
+ *
+ * Refusals, in this order: 2, 1, 10, 4, 5, then contract by contract 11, 13; and 9 if
+ * the bytes don't fit.
+ */
+uint64_t crr_write_market_view(size_t nodes,
+                               const uint8_t *book, size_t book_len,
+                               uint8_t *file, size_t file_len,
+                               size_t *bytes);
+
+/*
+ * Writes a holder's view of a book's file, for a grid of so many nodes: the holder's
+ * contracts of both periods, in the order of the book. Each is its number in the
+ * book, counted from 0, in two bytes, the more significant first, and then the
+ * contract's own bytes, six of a narrow book and seven of a wide one, as they stand
+ * in the file. Nothing stands before, between or behind them: the view says neither
+ * how many contracts the book has nor which form, and is no book's file.
+ *
+ * On success writes the view to the first bytes of view, and its length to *bytes:
+ * 8 for each of the holder's contracts where the book is narrow, 9 where it is wide.
+ * The longest has CRR_MAX_HOLDER_VIEW_BYTES. For a holder without contracts it is 0,
+ * which is no refusal, and view may then have no byte.
+ *
+ * Nothing of other holders' contracts reaches the holder: for one node count and
+ * places of equal length, two accepted books of one form in which the holder has the
+ * same contracts with the same numbers give the same answer and the same bytes. That
+ * is said of what is answered and written, not of time: a call takes the longer, the
+ * more contracts match the holder.
+ *
+ * Refusals, in this order: 2, 1, 10, 4, 5, then contract by contract 11, 13; 18, and 9
+ * if the view doesn't fit.
+ */
+uint64_t crr_write_holder_view(size_t nodes,
+                               const uint8_t *book, size_t book_len,
+                               uint64_t holder,
+                               uint8_t *view, size_t view_len,
+                               size_t *bytes);
 
 /*
  * Reads a price file, for a grid of so many constraints.

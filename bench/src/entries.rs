@@ -12,12 +12,13 @@ pub struct Entry {
     pub run: fn(&Inputs) -> Result<Times, String>,
 }
 
-pub const ENTRIES: [Entry; 14] = [
+pub const ENTRIES: [Entry; 15] = [
     Entry { name: "read_grid", run: read_grid },
     Entry { name: "write_grid", run: write_grid },
     Entry { name: "read_book", run: read_book },
     Entry { name: "write_book", run: write_book },
     Entry { name: "remap_book", run: remap_book },
+    Entry { name: "write_market_view", run: write_market_view },
     Entry { name: "read_prices", run: read_prices },
     Entry { name: "write_prices", run: write_prices },
     Entry { name: "test_book", run: test_book },
@@ -136,6 +137,23 @@ fn remap_book(inputs: &Inputs) -> Result<Times, String> {
         },
         &mut || {
             let _ = black_box(plain::remap_book(nodes, black_box(book), old, new, &mut plain_file));
+        },
+    ))
+}
+
+fn write_market_view(inputs: &Inputs) -> Result<Times, String> {
+    let (nodes, book) = (inputs.size.nodes, &inputs.book_file);
+    let (mut file, mut plain_file, mut bytes) = (vec![0; BOOK_BYTES], vec![0; BOOK_BYTES], 0);
+    let proved = library::write_market_view(nodes, book, &mut file, &mut bytes);
+    let plain = plain::write_market_view(nodes, book, &mut plain_file);
+    agree(&(proved, Ok(bytes)), &(0, plain))?;
+    agree(&file, &plain_file)?;
+    Ok(side_by_side(
+        &mut || {
+            black_box(library::write_market_view(nodes, black_box(book), &mut file, &mut bytes));
+        },
+        &mut || {
+            let _ = black_box(plain::write_market_view(nodes, black_box(book), &mut plain_file));
         },
     ))
 }

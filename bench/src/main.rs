@@ -12,6 +12,7 @@ mod shares;
 #[path = "../../tests/differential/src/splitmix.rs"]
 mod splitmix;
 mod timing;
+mod views;
 
 use entries::{Entry, ENTRIES};
 use inputs::{Inputs, Size, LARGEST, WIDEST, WIDEST_TEXT};
@@ -20,8 +21,17 @@ use std::process::ExitCode;
 use timing::Times;
 
 /// The entries whose cost grows with the contracts, the constraints and the nodes.
-const BY_CONTRACTS: [&str; 8] =
-    ["read_book", "write_book", "remap_book", "test_book", "find_cuts", "settle_hour", "write_report", "write_statement"];
+const BY_CONTRACTS: [&str; 9] = [
+    "read_book",
+    "write_book",
+    "remap_book",
+    "write_market_view",
+    "test_book",
+    "find_cuts",
+    "settle_hour",
+    "write_report",
+    "write_statement",
+];
 const BY_CONSTRAINTS: [&str; 9] =
     ["read_grid", "write_grid", "read_prices", "write_prices", "test_book", "find_mcc", "settle_hour", "write_report", "write_statement"];
 const BY_NODES: [&str; 8] =
@@ -31,12 +41,13 @@ const BY_WIDE_NODES: [&str; 8] =
     ["read_grid", "write_grid", "read_book", "write_book", "remap_book", "test_book", "find_mcc", "settle_hour"];
 
 /// The entries that take nodes or their numbers, by the largest inputs that they take in the wide form.
-const WIDE: [(&str, Size); 12] = [
+const WIDE: [(&str, Size); 13] = [
     ("read_grid", WIDEST),
     ("write_grid", WIDEST),
     ("read_book", WIDEST),
     ("write_book", WIDEST),
     ("remap_book", WIDEST),
+    ("write_market_view", WIDEST),
     ("test_book", WIDEST),
     ("find_flows", WIDEST),
     ("find_cuts", WIDEST),
@@ -53,11 +64,11 @@ fn line(label: &str, entry: &Entry, size: Size, form: Form) -> Result<(), String
 }
 
 fn row(label: &str, times: &Times) {
-    println!("{label:<26} | {:>10.2} | {:>10.2} | {:>5.2}", times.proved, times.plain, times.proved / times.plain);
+    println!("{label:<29} | {:>10.2} | {:>10.2} | {:>5.2}", times.proved, times.plain, times.proved / times.plain);
 }
 
 fn heading(what: &str) {
-    println!("\n{what:<26} | proved µs  | plain µs   | ratio");
+    println!("\n{what:<29} | proved µs  | plain µs   | ratio");
 }
 
 fn growth(count: &str, names: &[&str], form: Form, sizes: &[(usize, Size)]) -> Result<(), String> {
@@ -86,6 +97,12 @@ fn shared(label: &str, coordinators: usize) -> Result<(), String> {
     Ok(())
 }
 
+/// A holder's view of the largest book of a form, of which so many contracts match.
+fn viewed(label: &str, size: Size, form: Form, matching: usize) -> Result<(), String> {
+    row(label, &views::write_holder_view(size, form, matching).map_err(|why| format!("write_holder_view, {matching}: {why}"))?);
+    Ok(())
+}
+
 fn wide() -> Result<(), String> {
     heading("entry, wide");
     for (name, size) in WIDE {
@@ -93,6 +110,7 @@ fn wide() -> Result<(), String> {
             line(&format!("{name}, {} nodes", size.nodes), entry, size, Form::Wide)?;
         }
     }
+    viewed("write_holder_view, 4000 nodes", WIDEST, Form::Wide, views::MATCHING)?;
     growth("wide, nodes", &BY_WIDE_NODES, Form::Wide, &[200, 1000, 4000].map(|nodes| (nodes, Size { nodes, ..WIDEST })))
 }
 
@@ -101,6 +119,7 @@ fn tables() -> Result<(), String> {
     for entry in &ENTRIES {
         line(entry.name, entry, LARGEST, Form::Narrow)?;
     }
+    viewed("write_holder_view", LARGEST, Form::Narrow, views::MATCHING)?;
     shared("share_balance", shares::MOST)?;
     calendar()?;
     let narrow = Form::Narrow;
@@ -110,6 +129,10 @@ fn tables() -> Result<(), String> {
     heading("share_balance, coordinators");
     for coordinators in [4, 16, 64, shares::MOST] {
         shared(&coordinators.to_string(), coordinators)?;
+    }
+    heading("write_holder_view, matching");
+    for matching in [0, 125, 250, 500, 1000] {
+        viewed(&matching.to_string(), LARGEST, narrow, matching)?;
     }
     wide()
 }

@@ -80,6 +80,40 @@ class Refusals(unittest.TestCase):
         self.refused(9, crr.remap_book, 3, book, [0, 1], [0])
         self.refused(2, crr.remap_book, 0, book, [], [])
 
+    def test_views(self):
+        book = crr.write_book(3, [(0, 1, 7, 0, 1, 10), (1, 0, 8, 2, 1, 20)])
+        self.assertEqual(crr.write_holder_view(3, book, 9), b"")
+        for view, arguments in ((crr.write_market_view, ()), (crr.write_holder_view, (1024,))):  # 18 comes last
+            self.refused(2, view, 0, book, *arguments)
+            self.refused(1, view, 3, b"\0", *arguments)
+            self.refused(10, view, 3, bits([(10, 1001), (6, 1)]), *arguments)
+            self.refused(4, view, 3, bits([(10, 1), (6, 1)]), *arguments)
+            self.refused(5, view, 3, book + b"\0", *arguments)
+            self.refused(11, view, 2, book, *arguments)
+            self.refused(13, view, 3, bits([(10, 1), (6, 0), (12, 0), (16, 0), (20, 0)]), *arguments)
+        for holder in (1024, 2**16 + 7, 2**64 - 1):
+            self.refused(18, crr.write_holder_view, 3, book, holder)
+        with self.assertRaises(OverflowError):
+            crr.write_holder_view(3, book, -1)
+
+    def test_places_for_views(self):
+        """The functions in Python lend places for the longest views: 9 is asked of the entries themselves."""
+        book = crr.write_book(2, [(0, 1, 7, 0, 1, 10), (0, 1, 7, 1, 0, 20)])
+        for name, arguments, length in (("crr_write_market_view", (), 14), ("crr_write_holder_view", (7,), 16), ("crr_write_holder_view", (8,), 0)):
+
+            def written(room, figure):
+                place = Lent(bytearray(b"x" * room), "B", True)
+                Entry(name)(2, Lent(book, "B"), *arguments, place, figure)
+                return bytes(place.owner[length:])
+
+            figure = c_uint64(99)
+            if length:
+                self.refused(9, written, length - 1, figure)
+                self.refused(9, written, 0, figure)
+            self.assertEqual(figure.value, 99)
+            self.assertEqual((written(length, figure), figure.value), (b"", length))
+            self.assertEqual((written(length + 2, figure), figure.value), (b"xx", length))
+
     def test_same_ends(self):
         self.assertEqual(len(crr.write_book(2, [(0, 1, 7, 1, 1, 10)])), 8)
 
@@ -225,6 +259,36 @@ class Figures(unittest.TestCase):
     def test_many_cuts(self):
         grid = crr.Grid(2, 1, [9_999], [1_000, 0])
         self.assertEqual(crr.find_cuts(grid, crr.write_book(2, [(0, 1, 7, 0, 1, 1_000)] * 1000), 2, 1), [(number, 100) for number in range(1000)])
+
+    def test_views(self):
+        """In both forms: the market's by a second packing, each holder's by the rows, and all of them together the book."""
+        rng = random.Random(SEED)
+        for form, nodes in ((0, 200), (1, 4000), (0, 2), (1, 2)):
+            widths = (1, 1, 10, 12, 12, 20) if form else (1, 1, 10, 8, 8, 20)
+
+            def packed(rows):
+                return bits([(10, len(rows)), (6, 63 * form)] + [field for row in rows for field in zip(widths, row)])
+
+            for contracts in (0, 1, 40, 1000):
+                rows = [crr.Contract(*row)._replace(holder=rng.choice((0, 5, 6, 7, 1023))) for row in draw_book(rng, nodes, contracts)[1]]
+                book = crr.write_book(nodes, rows, form)
+                self.assertEqual(book, packed(rows))
+                self.assertEqual(crr.write_market_view(nodes, book), packed([row._replace(holder=0) for row in rows]))
+                together = []
+                for holder in (0, 4, 5, 6, 7, 1023):
+                    held = [(number, row) for number, row in enumerate(rows) if row.holder == holder]
+                    view = crr.write_holder_view(nodes, book, holder)
+                    self.assertEqual(view, b"".join(bits([(16, number), *zip(widths, row)]) for number, row in held))
+                    self.assertEqual(crr.read_holder_view(nodes, view, form), held)
+                    together += held
+                self.assertEqual(sorted(together), list(enumerate(rows)))
+
+    def test_what_is_no_view(self):
+        one, most = (crr.write_holder_view(2, crr.write_book(2, [(0, 1, 7, 0, 1, 10)] * count), 7) for count in (1, 1000))
+        for data, number in ((one[:-1], 5), (one + b"\0", 5), (one[:6] + b"\0\0", 13), (most + one, 10), (2 * most, 10)):
+            with self.assertRaises(crr.Refused) as caught:
+                crr.read_holder_view(2, data)
+            self.assertEqual(caught.exception.number, number)
 
     def test_mcc(self):
         grid = crr.read_grid((CASE_L / "grid.bin").read_bytes())

@@ -1,8 +1,8 @@
 /*
  * Calls every function of crr.h, on case L of document 01: each file read and written
- * again, the grid and the book in both forms, a node retired, the test, the flows,
- * the cuts, the released shares, the MCC, the hour, the two texts; the calendar; and a
- * balance shared. Also a C++ program.
+ * again, the grid and the book in both forms, a node retired, the market's view and a
+ * holder's, the test, the flows, the cuts, the released shares, the MCC, the hour, the
+ * two texts; the calendar; and a balance shared. Also a C++ program.
  */
 #include <stdint.h>
 #include <stdio.h>
@@ -24,6 +24,12 @@ static const uint8_t wide_book[] = {0x01, 0x3f, 0x40, 0x70, 0x00, 0x00, 0x10, 0x
 /* Case L's book after node 2 was retired into node 1, and the cell after it. */
 static const uint8_t remapped[] = {0x01, 0x00, 0x40, 0x70, 0x00, 0x10, 0x27, 0x10, 0xc0, 0x80, 0x00, 0x10, 0x01, 0xf4,
                                    0x40, 0x70, 0x00, 0x10, 0x00, 0x01, 0x00, 0x90, 0x00, 0x10, 0x00, 0x05, 7};
+/* Case L's book as the market sees it, what holder 7 sees of it in both forms, and the cell after each. */
+static const uint8_t market[] = {0x01, 0x00, 0x40, 0x00, 0x00, 0x10, 0x27, 0x10, 0xc0, 0x00, 0x00, 0x20, 0x01, 0xf4,
+                                 0x40, 0x00, 0x00, 0x20, 0x00, 0x01, 0x00, 0x00, 0x00, 0x10, 0x00, 0x05, 7};
+static const uint8_t view_7[] = {0x00, 0x00, 0x40, 0x70, 0x00, 0x10, 0x27, 0x10, 0x00, 0x02, 0x40, 0x70, 0x00, 0x20, 0x00, 0x01, 7};
+static const uint8_t wide_view_7[] = {0x00, 0x00, 0x40, 0x70, 0x00, 0x00, 0x10, 0x27, 0x10, 0x00, 0x02, 0x40, 0x70, 0x00, 0x00, 0x20, 0x00, 0x01, 7};
+static uint8_t view[CRR_MAX_HOLDER_VIEW_BYTES];
 static int64_t factors[CRR_MAX_NODES * CRR_MAX_CONSTRAINTS], flows[CRR_MAX_CONSTRAINTS], mcc[CRR_MAX_NODES], cents[CRR_MAX_CONTRACTS];
 static const uint64_t demands[] = {5, 3, 1}, no_demands[] = {0, 0};
 static int64_t shares[4];
@@ -80,6 +86,22 @@ int main(void) {
     copy[26] = 7;
     expect("crr_remap_book", crr_remap_book(nodes, book_file, book_len, old_nodes, 1, new_nodes, 1, copy, sizeof copy, &bytes) == CRR_OK
                                  && bytes == book_len && memcmp(copy, remapped, sizeof remapped) == 0);
+    copy[26] = 7;
+    expect("crr_write_market_view", crr_write_market_view(nodes, book_file, book_len, copy, sizeof copy, &bytes) == CRR_OK
+                                        && bytes == book_len && memcmp(copy, market, sizeof market) == 0);
+    copy[0] = copy[25] = 7;
+    expect("crr_write_market_view, too few cells", crr_write_market_view(nodes, book_file, book_len, copy, book_len - 1, &bytes) == CRR_SHORT_TABLE
+                                                       && bytes == book_len && copy[0] == 7 && copy[25] == 7);
+    view[16] = 7;
+    expect("crr_write_holder_view", crr_write_holder_view(nodes, book_file, book_len, 7, view, sizeof view, &bytes) == CRR_OK
+                                        && bytes == 16 && memcmp(view, view_7, sizeof view_7) == 0);
+    view[18] = 7;
+    expect("crr_write_holder_view, wide", crr_write_holder_view(nodes, wide_book, 30, 7, view, 18, &bytes) == CRR_OK
+                                              && bytes == 18 && memcmp(view, wide_view_7, sizeof wide_view_7) == 0);
+    expect("crr_write_holder_view, too few cells", crr_write_holder_view(nodes, book_file, book_len, 7, view, 15, &bytes) == CRR_SHORT_TABLE
+                                                       && bytes == 18 && memcmp(view, wide_view_7, sizeof wide_view_7) == 0);
+    expect("crr_write_holder_view, no such holder", crr_write_holder_view(nodes, book_file, book_len, 1024, view, 0, &bytes) == CRR_HOLDER_RANGE && bytes == 18);
+    expect("crr_write_holder_view, no contract", crr_write_holder_view(nodes, book_file, book_len, 0, view, 0, &bytes) == CRR_OK && bytes == 0);
     expect("crr_read_prices", crr_read_prices(constraints, price_file, price_len, prices, CRR_MAX_CONSTRAINTS, &period) == CRR_OK && period == CRR_ON_PEAK && prices[1] == 2550);
     expect("crr_write_prices", crr_write_prices(period, constraints, prices, CRR_MAX_CONSTRAINTS, copy, sizeof copy, &bytes) == CRR_OK
                                    && bytes == price_len && memcmp(copy, price_file, bytes) == 0);

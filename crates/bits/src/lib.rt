@@ -169,7 +169,7 @@ fn store1(buf: &mut [u8], at: usize, v: u64)
 }
 
 // Stores the two lowest bytes of `v` from place `at` on. The lower one goes first, here and below: in that order the compiler makes one store of four bytes.
-fn store2(buf: &mut [u8], at: usize, v: u64)
+pub fn store2(buf: &mut [u8], at: usize, v: u64)
     requires { ⌜ at + 2 ≤ length (now buf) ⌝ }
     ensures { λ r. ⌜ after buf ≡ take at (before buf) ++ digits 8 2 v ++ drop (at + 2) (before buf) ⌝ }
 {

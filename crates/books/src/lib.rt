@@ -67,7 +67,7 @@ fn contract_of(v: u64, width: usize) -> Contract
 }
 
 // The eight bytes that end with contract i of a book's bytes, as one number: the header's two bytes stand before the first contract, so they are there.
-fn bits_at(file: &[u8], form: Form, i: usize) -> u64
+pub fn bits_at(file: &[u8], form: Form, i: usize) -> u64
     requires { ⌜ (i < 1024) × (bookBytes form i + recordBytes form ≤ length (now file)) ⌝ }
     ensures { λ r. ⌜ contractIn form (before file) i ≡ contractOf (endWidth form) r ⌝ }
 {

@@ -6,4 +6,5 @@ fn main() {
     calendar_vectors::go_through();
     share_vectors::go_through();
     cut_vectors::go_through();
+    view_vectors::go_through();
 }

@@ -26,6 +26,7 @@ from .native import Refused
 from .settlement import Hour, HourTotal, Settler, find_mcc, settle_hour
 from .shares import share_balance
 from .texts import write_report, write_statement
+from .views import Held, read_holder_view, write_holder_view, write_market_view
 
 __all__ = [
     "MEANINGS",
@@ -35,6 +36,7 @@ __all__ = [
     "Cut",
     "Flows",
     "Grid",
+    "Held",
     "Hour",
     "HourTotal",
     "PriceFile",
@@ -52,6 +54,7 @@ __all__ = [
     "read_book_cells",
     "read_book_form",
     "read_grid",
+    "read_holder_view",
     "read_prices",
     "released_percent",
     "remap_book",
@@ -62,6 +65,8 @@ __all__ = [
     "weekday",
     "write_book",
     "write_grid",
+    "write_holder_view",
+    "write_market_view",
     "write_prices",
     "write_report",
     "write_statement",

@@ -55,6 +55,8 @@ _COMMANDS: Dict[str, Callable[[argparse.Namespace], Answer]] = {
     "settle": lambda o: commands.settle(o.folder, o.out, o.jobs, o.round_prices, Bar("settle")),
     "report": _report,
     "remap": lambda o: commands.remap(o.folder, o.pairs, o.out, o.round_prices),
+    "market": lambda o: commands.market(o.folder, o.out),
+    "holder": lambda o: commands.holder(o.folder, o.holder, o.out),
     "hours": lambda o: commands.hours(*o.months),
     "share": lambda o: commands.share(o.balance, o.demands),
 }
@@ -67,6 +69,8 @@ _HELP = {
     "settle": "settle every hour: holder by month, hour by hour, contract by contract",
     "report": "one HTML page: verdicts, loading of constraints, payments",
     "remap": "move the ends of contracts from old nodes to new ones",
+    "market": "the book as the market sees it: its file with holder 0 in every contract",
+    "holder": "what one holder sees of the book: its contracts, each with its number",
     "hours": "the on-peak days and hours of months, 2010 to 2037",
     "share": "a balance shared among coordinators by their demands, to the cent",
 }
@@ -104,9 +108,11 @@ def _parser() -> argparse.ArgumentParser:
         if name in ("check", "pack", "settle", "report", "remap"):
             command.add_argument("--round-prices", action="store_true", help="round prices of more than two decimals to the nearest cent")
     of["remap"].add_argument("pairs", type=Path, metavar="PAIRS", help="a CSV file OLD_NODE,NEW_NODE")
+    of["holder"].add_argument("holder", metavar="HOLDER", help="its name, as in OWNER, or its number, 0 to 1023")
     places = {"pack": "a folder", "unpack": "a folder", "settle": "a folder for the result files", "report": "the HTML file", "remap": "a folder"}
+    places.update({"market": "the market's file", "holder": "a file for the view as the library writes it"})
     for name, what in places.items():
-        of[name].add_argument("-o", "--out", type=Path, metavar="OUT", required=name == "remap", help=what)
+        of[name].add_argument("-o", "--out", type=Path, metavar="OUT", required=name in ("remap", "market"), help=what)
     of["unpack"].add_argument("--force", action="store_true", help="write over CSV files that differ")
     for name in ("test", "cuts"):
         of[name].add_argument("--period", choices=list(_PERIODS), default="both")

@@ -6,22 +6,23 @@ from concurrent.futures import Executor
 from pathlib import Path
 from typing import Dict, Iterable, List, NamedTuple, Optional, Sequence, Tuple
 
-from .case import TIMES_OF_USE, Case, Names
+from .case import TIMES_OF_USE, Case, Names, plain_number
 from .dates import HOURS_A_DAY, month_hours
 from .decimals import decimal, whole
-from .faults import Fault, raise_any
+from .faults import Fault, Faults, raise_any
 from .feasibility import PROCESSES, Cut, Verdict, find_cuts, test_book
-from .files import Contract, read_book, read_grid, remap_book
-from .from_csv import DEMANDS, load, read_demands
+from .files import Contract, read_book, read_book_form, read_grid, remap_book
+from .from_csv import BOOK, DEMANDS, load, read_demands
 from .hours import Progress, Settled, settle_hours
-from .interface import BALANCE, FLOW_PLACES, QUANTITY
+from .interface import BALANCE, FLOW_PLACES, HOLDER, QUANTITY
 from .native import Refused
 from .packed import Packed, hour_name, packed, read_packed, unpacked, write_bin, write_packed
 from .results import HOLDERS, HOURS, Time, dollars, exact_dollars, holder_months, hour_rows, result_files
 from .shares import share_balance
 from .sheet import Sheet
 from .slices import settle_sliced
-from .to_csv import csv_text, write_csv, write_files
+from .to_csv import book_row, csv_text, write_csv, write_files
+from .views import read_holder_view, write_holder_view, write_market_view
 
 PASSES, FAILS, FAULTY = 0, 1, 2  # exit statuses
 
@@ -275,6 +276,54 @@ def remap(folder: Path, pairs: Path, out: Path, round_prices: bool) -> Answer:
         write_bin(moved, out)
     text = f"{out}: {_counted(len(old), 'pair')} applied, {_counted(changed, 'contract')} of {len(contracts):,} changed\n"
     return Answer(PASSES, text, {"out": str(out), "pairs": len(old), "changed": changed, "contracts": len(contracts)})
+
+
+_CASE_FILES = ("grid.bin", "book.bin", "prices.bin", "names.csv", "constraints.csv", "factors.csv", "book.csv", "prices.csv")
+
+
+def _write_view(folder: Path, out: Path, view: bytes) -> None:
+    """Writes a view, over no file of the case that it is of."""
+    if out.name in _CASE_FILES and out.resolve().parent == folder.resolve():
+        raise_any([Fault(str(out), 0, "", "that is a file of the case itself: choose another")])
+    write_files(out.parent, {out.name: view})
+
+
+def market(folder: Path, out: Path) -> Answer:
+    """Writes the book as the market sees it."""
+    found = opened(folder, prices=False)
+    files = files_of(found)
+    view = write_market_view(read_grid(files.grid).nodes, files.book)
+    _write_view(folder, out, view)
+    many = counts(found)
+    text = f"{out}: {_counted(many['contracts'], 'contract')} of {_counted(many['holders'], 'holder')}, all as holder 0; {len(view):,} bytes written\n"
+    return Answer(PASSES, text, {"out": str(out), "contracts": many["contracts"], "bytes": len(view)})
+
+
+def _holder(asked: str, names: Names) -> int:
+    """The number of a holder that is asked for by name or by number."""
+    number = {name: number for number, name in names.holders.items()}.get(asked, plain_number(asked))
+    if number is None:
+        raise Faults([Fault("HOLDER", 0, "", f"{asked!r} is neither a holder's name nor a number from {HOLDER.low} to {HOLDER.high}")])
+    return number
+
+
+VIEW = ("NUMBER", *BOOK)
+
+
+def holder(folder: Path, asked: str, out: Optional[Path]) -> Answer:
+    """What a holder sees of the book, read from the view; with `out` writes the view itself there."""
+    found = opened(folder, prices=False)
+    files, number = files_of(found), _holder(asked, found.names)
+    nodes = read_grid(files.grid).nodes
+    view = write_holder_view(nodes, files.book, number)
+    held = read_holder_view(nodes, view, read_book_form(nodes, files.book))
+    rows = [(own.number, *book_row(found.names, found.names.contracts[own.number], own.contract)) for own in held]
+    told = f"{found.names.holder(number)}: {_counted(len(rows), 'contract')} of {len(found.book):,}"
+    data: Dict[str, object] = {"holder": found.names.holder(number), "number": number, "contracts": _objects(VIEW, rows), "bytes": len(view)}
+    if out:
+        _write_view(folder, out, view)
+        told, data["out"] = f"{told}; {out}: {_counted(len(view), 'byte')} written", str(out)
+    return Answer(PASSES, csv_text(VIEW, rows), data, f"{told}\n")
 
 
 ON_PEAK = ("MONTH", "ON_PEAK_DAYS", "ON_PEAK_HOURS")

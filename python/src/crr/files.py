@@ -52,7 +52,7 @@ class Prices(NamedTuple):
 Book = Union[Iterable[Sequence[int]], Cells]
 
 
-def _written(entry: Entry, longest: int, given: Sequence[Given]) -> bytes:
+def written(entry: Entry, longest: int, given: Sequence[Given]) -> bytes:
     """What a writer writes into a buffer that is long enough for its longest file."""
     file, count = bytearray(longest), c_uint64()
     entry(*given, Lent(file, "B", writable=True), count)
@@ -71,7 +71,7 @@ def read_grid(file: Bytes, name: str = "") -> Grid:
 def write_grid(grid: Grid) -> bytes:
     """The grid's file."""
     tables = (lend_cells(grid.limits, "Q"), lend_cells(grid.factors, "q"))
-    return _written(_write_grid, MAX_GRID_BYTES, (grid.form, grid.nodes, grid.constraints, *tables))
+    return written(_write_grid, MAX_GRID_BYTES, (grid.form, grid.nodes, grid.constraints, *tables))
 
 
 def _read_cells(nodes: int, file: Bytes, name: str) -> Tuple["array[int]", int]:
@@ -107,12 +107,12 @@ def book_cells(book: Book) -> Cells:
 def write_book(nodes: int, book: Book, form: int = NARROW) -> bytes:
     """The book's file, for a grid of so many nodes, from contracts or from a buffer of six cells for each."""
     cells = lend_cells(book_cells(book), "Q")
-    return _written(_write_book, MAX_BOOK_BYTES, (form, nodes, cells.cells // 6, cells))
+    return written(_write_book, MAX_BOOK_BYTES, (form, nodes, cells.cells // 6, cells))
 
 
 def remap_book(nodes: int, book: Bytes, old_nodes: Cells, new_nodes: Cells) -> bytes:
     """The book's file with both ends of every contract moved, one pair of old and new node after another."""
-    return _written(_remap_book, MAX_BOOK_BYTES, (nodes, lend_bytes(book), lend_cells(old_nodes, "Q"), lend_cells(new_nodes, "Q")))
+    return written(_remap_book, MAX_BOOK_BYTES, (nodes, lend_bytes(book), lend_cells(old_nodes, "Q"), lend_cells(new_nodes, "Q")))
 
 
 def read_prices(constraints: int, file: Bytes, name: str = "") -> Prices:
@@ -125,4 +125,4 @@ def read_prices(constraints: int, file: Bytes, name: str = "") -> Prices:
 def write_prices(period: int, prices: Cells) -> bytes:
     """The price file of an hour, with as many constraints as there are prices."""
     cells = lend_cells(prices, "Q")
-    return _written(_write_prices, MAX_PRICE_BYTES, (period, cells.cells, cells))
+    return written(_write_prices, MAX_PRICE_BYTES, (period, cells.cells, cells))

@@ -16,6 +16,7 @@ MAX_CONTRACTS = 1000
 MAX_COORDINATORS = 256
 MAX_GRID_BYTES = 576220
 MAX_BOOK_BYTES = 7002
+MAX_HOLDER_VIEW_BYTES = 9000
 MAX_PRICE_BYTES = 153
 MAX_TEXT_GRID_BYTES = 32768
 STATEMENT_BYTES = 29085
@@ -89,6 +90,8 @@ DECLARATIONS: Dict[str, str] = {
     "crr_write_book": "uint64_t form, size_t nodes, size_t contracts, const uint64_t *book, size_t book_len, uint8_t *file, size_t file_len, size_t *bytes",
     "crr_remap_book": "size_t nodes, const uint8_t *book, size_t book_len, const uint64_t *old_nodes, size_t old_len, "
     "const uint64_t *new_nodes, size_t new_len, uint8_t *file, size_t file_len, size_t *bytes",
+    "crr_write_market_view": "size_t nodes, const uint8_t *book, size_t book_len, uint8_t *file, size_t file_len, size_t *bytes",
+    "crr_write_holder_view": "size_t nodes, const uint8_t *book, size_t book_len, uint64_t holder, uint8_t *view, size_t view_len, size_t *bytes",
     "crr_read_prices": "size_t constraints, const uint8_t *file, size_t file_len, uint64_t *prices, size_t prices_len, uint64_t *period",
     "crr_write_prices": "uint64_t period, size_t constraints, const uint64_t *prices, size_t prices_len, uint8_t *file, size_t file_len, size_t *bytes",
     "crr_test_book": "size_t nodes, size_t constraints, uint64_t process, uint64_t period, const uint64_t *limits, size_t limits_len, "

@@ -6,11 +6,12 @@ import csv
 import io
 import os
 from pathlib import Path
-from typing import Dict, Iterable, List, Sequence
+from typing import Dict, Iterable, List, Sequence, Tuple
 
-from .case import HEDGE_TYPES, TIMES_OF_USE, Case, PricedHour
+from .case import HEDGE_TYPES, TIMES_OF_USE, Case, Names, PricedHour
 from .decimals import decimal
 from .faults import Fault, raise_any
+from .files import Contract
 from .from_csv import BOOK, PRICES
 from .interface import LIMIT, QUANTITY, SHADOW_PRICE, SHIFT_FACTOR
 from .names_csv import HEADING, name_rows
@@ -32,23 +33,19 @@ def _price_rows(case: Case, hour: PricedHour) -> List[Sequence[object]]:
     return list(posted) or [(*time, "", "")]
 
 
+def book_row(names: Names, crr_id: str, contract: Contract) -> Tuple[str, ...]:
+    """A contract's row of book.csv."""
+    ends = (names.nodes[contract.source], names.nodes[contract.sink])
+    kind, period = HEDGE_TYPES[contract.kind], TIMES_OF_USE[contract.period]
+    return (crr_id, names.holder(contract.holder), kind, period, *ends, decimal(contract.quantity, QUANTITY.places))
+
+
 def csv_files(case: Case, hour_name: str = "") -> Dict[str, str]:
     """The text of each CSV file of a case."""
     names, count = case.names, len(case.names.constraints)
     limits = [decimal(limit, LIMIT.places) for limit in case.limits]
     factors = [decimal(factor, SHIFT_FACTOR.places) for factor in case.factors]
-    book = [
-        (
-            crr_id,
-            names.holder(contract.holder),
-            HEDGE_TYPES[contract.kind],
-            TIMES_OF_USE[contract.period],
-            names.nodes[contract.source],
-            names.nodes[contract.sink],
-            decimal(contract.quantity, QUANTITY.places),
-        )
-        for crr_id, contract in zip(names.contracts, case.book)
-    ]
+    book = [book_row(names, crr_id, contract) for crr_id, contract in zip(names.contracts, case.book)]
     files = {
         "constraints.csv": csv_text(("CONSTRAINT_ID", "LIMIT_MW"), zip(names.constraints, limits)),
         "factors.csv": csv_text(

@@ -56,6 +56,23 @@ mod c {
             file_len: usize,
             bytes: *mut usize,
         ) -> u64;
+        pub fn crr_write_market_view(
+            nodes: usize,
+            book: *const u8,
+            book_len: usize,
+            file: *mut u8,
+            file_len: usize,
+            bytes: *mut usize,
+        ) -> u64;
+        pub fn crr_write_holder_view(
+            nodes: usize,
+            book: *const u8,
+            book_len: usize,
+            holder: u64,
+            view: *mut u8,
+            view_len: usize,
+            bytes: *mut usize,
+        ) -> u64;
         pub fn crr_read_prices(
             constraints: usize,
             file: *const u8,
@@ -232,6 +249,14 @@ pub fn remap_book(nodes: usize, book: &[u8], old: &[u64], new: &[u64], file: &mu
             bytes,
         )
     }
+}
+
+pub fn write_market_view(nodes: usize, book: &[u8], file: &mut [u8], bytes: &mut usize) -> u64 {
+    unsafe { c::crr_write_market_view(nodes, book.as_ptr(), book.len(), file.as_mut_ptr(), file.len(), bytes) }
+}
+
+pub fn write_holder_view(nodes: usize, book: &[u8], holder: u64, view: &mut [u8], bytes: &mut usize) -> u64 {
+    unsafe { c::crr_write_holder_view(nodes, book.as_ptr(), book.len(), holder, view.as_mut_ptr(), view.len(), bytes) }
 }
 
 pub fn read_prices(constraints: usize, file: &[u8], prices: &mut [u64], period: &mut u64) -> u64 {

@@ -46,15 +46,15 @@ impl Tally {
 
     pub fn print(&self, entry: &Entry) {
         let counts: Vec<String> = self.refusals.iter().map(|(number, count)| format!("{number}:{count}")).collect();
-        println!("{:<16} | {:>7} | {:>6} | {}", entry.name, self.calls, self.failed, counts.join(" "));
+        println!("{:<17} | {:>7} | {:>6} | {}", entry.name, self.calls, self.failed, counts.join(" "));
         for &(file, _) in entry.files {
             let of_file = self.files.iter().filter(|((name, _), _)| *name == file);
             let counts: Vec<String> = of_file.map(|((_, number), count)| format!("{number}:{count}")).collect();
-            println!("{:<16} | {:>7} | {:>6} | {}", format!("  refused,{file}"), "", "", counts.join(" "));
+            println!("{:<17} | {:>7} | {:>6} | {}", format!("  refused,{file}"), "", "", counts.join(" "));
         }
         if !entry.cases.is_empty() {
             let counts: Vec<String> = self.cases.iter().map(|(case, count)| format!("{case}: {count}")).collect();
-            println!("{:<16} | {:>7} | {:>6} | {}", "  cases", "", "", counts.join(", "));
+            println!("{:<17} | {:>7} | {:>6} | {}", "  cases", "", "", counts.join(", "));
         }
     }
 }

@@ -4,6 +4,7 @@ mod calendar;
 mod cuts;
 mod forms;
 mod shares;
+mod views;
 
 use crate::second::book::{self, Contract};
 use crate::second::grid::{self, Grid};
@@ -211,7 +212,8 @@ fn remap_refusals() -> [bool; 8] {
 /// Prints how many hold; how many do not.
 pub fn check() -> usize {
     let base = [&settlement_values()[..], &priced_values(), &room_values(), &test_values(), &file_values()].concat();
-    let all = [&base[..], &same_ends_values(), &remap_values(), &remap_refusals(), &forms::values(), &calendar::values(), &shares::values(), &cuts::values()].concat();
+    let remaps = [&same_ends_values()[..], &remap_values(), &remap_refusals()].concat();
+    let all = [base, remaps, forms::values(), calendar::values(), shares::values(), cuts::values(), views::values()].concat();
     let wrong = all.iter().filter(|holds| !**holds).count();
     println!("second implementation on the papers' checked values: {} hold, {wrong} do not", all.len() - wrong);
     wrong

@@ -15,6 +15,8 @@ pub mod settlement;
 pub mod shares;
 pub mod test;
 pub mod text;
+pub mod view_pairs;
+pub mod views;
 
 use crate::draw::Draw;
 use crate::second::{Answer, Form};

@@ -12,6 +12,7 @@ pub mod settlement;
 pub mod shares;
 pub mod test;
 pub mod text;
+pub mod views;
 pub mod word;
 
 pub type Answer<T> = Result<T, u64>;

@@ -1,0 +1,67 @@
+// The market's view of a book (document 02, paper 10): the book with every holder 0.
+ghost use mathlib.Core.Path.{_≡_};
+ghost use mathlib.Core.List.{List};
+ghost use Prim.Native.Nat.{ℕ, _≤_};
+ghost use lib.ListN.{length};
+ghost use Rattle.lists.specs.Lists.{listTo};
+ghost use Rattle.lists.specs.Lent.{before, after, overwrite};
+ghost use Rattle.tariff.specs.Units.{maxContracts};
+ghost use Rattle.layouts.specs.BookFile.{bookBytes, bookFile, contractIn};
+ghost use Rattle.view_rules.specs.Views.{anonymous};
+ghost use Rattle.view_rules.specs.MarketView.{marketViewCall, marketViewChecked, WritesMarketView};
+ghost use Rattle.market_view.specs.Inner.{clearedNumber};
+use layouts::Form;
+use layouts::WriteAnswer;
+use tariff::Checked;
+use tariff::Refusal;
+
+// A contract's bits with the holder's ten cleared: the two above them, and all below.
+fn cleared(form: Form, v: u64) -> u64
+    ensures { λ r. ⌜ r ≡ clearedNumber form v ⌝ }
+{
+    match form {
+        Form::Narrow => bits::part(v, 46, 2) * 70368744177664 + bits::part(v, 0, 36),
+        Form::Wide => bits::part(v, 54, 2) * 18014398509481984 + bits::part(v, 0, 44),
+    }
+}
+
+// Writes the book of the first `count` contracts in its form, without their holders.
+fn write_anonymous(book: &[u8], form: Form, count: usize, file: &mut [u8])
+    requires { ⌜ (count ≤ maxContracts) × (bookBytes form count ≤ length (now book)) × (bookBytes form count ≤ length (now file)) ⌝ }
+    ensures { λ r. ⌜ after file ≡ overwrite (bookFile form (listTo count (λ i. anonymous (contractIn form (before book) i)))) (before file) ⌝ }
+{
+    books::store_header(file, form, count);
+    let mut i = 0;
+    while i < count {
+        let own = books::bits_at(book, form, i);
+        books::store_bits(file, form, i, cleared(form, own));
+        i += 1;
+    }
+}
+
+// All checks, with `bytes` lent bytes for the view: the book's own, 9.
+fn check_market_view(nodes: usize, book: &[u8], bytes: usize) -> Checked
+    ensures { λ r. ⌜ ((place : List ℕ) → length place ≡ bytes → r ≡ marketViewChecked (marketViewCall nodes (before book) place)) ⌝ }
+{
+    if let Checked::Refused(refusal) = books::check_own(nodes, book) {
+        return Checked::Refused(refusal);
+    }
+    if bytes < book.len() {
+        return Checked::Refused(Refusal::ShortTable);
+    }
+    Checked::Passed
+}
+
+// Writes the market's view of a book for a grid of `nodes` nodes.
+pub fn write_market_view(nodes: usize, book: &[u8], file: &mut [u8]) -> WriteAnswer
+    ensures { λ r. ⌜ WritesMarketView (marketViewCall nodes (before book) (before file)) r (after file) ⌝ }
+{
+    match check_market_view(nodes, book, file.len()) {
+        Checked::Refused(refusal) => WriteAnswer::Refused(refusal),
+        Checked::Passed => {
+            let form = books::book_form(book);
+            write_anonymous(book, form, books::contract_count(book), file);
+            WriteAnswer::Written { bytes: book.len() }
+        }
+    }
+}

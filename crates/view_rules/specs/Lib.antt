@@ -1,0 +1,4 @@
+pub mod Views
+pub mod MarketView
+pub mod HolderView
+pub mod Theorems
