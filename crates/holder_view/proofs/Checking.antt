@@ -1,9 +1,11 @@
 -- The checks of a holder's view, one part after the other.
-use mathlib.Core.Path.{_≡_, refl, ap, ap₂, sym, _∙_}
+use mathlib.Core.Path.{_≡_, refl, _∙_}
+use mathlib.Core.Bool.{true, false}
 use mathlib.Core.List.{List, [], _∷_}
-use Prim.Native.Nat.{ℕ, _+_, _*_, _≤_, _<_}
+use Prim.Native.Nat.{ℕ, _≤_, _<_}
 use native.Mathlib.Omega.{arith}
 use borrow.Author.Tests.{lt-ltb, le-ltb, ltb-false}
+use lib.Dec.{ltb}
 use lib.ListN.{length}
 use Rattle.tariff.specs.declared.refusals.Refusal.{Refusal}
 use Rattle.tariff.specs.declared.refusals.Refusal.the-variants.{HolderRange, ShortTable}
@@ -12,26 +14,18 @@ use Rattle.tariff.specs.Units.{maxHolder}
 use Rattle.tariff.specs.Refusals.{Check, first}
 use Rattle.tariff.specs.Checks.{holderRange, shortTable}
 use Rattle.tariff.proofs.Checks.{first-passes, first-refuses, last-passes, append-refuses, append-passes, passed-append, passed-cons}
-use Rattle.layouts.specs.declared.forms.Form.{Form}
-use Rattle.layouts.specs.Forms.{recordBytes}
-use Rattle.layouts.specs.BookFile.{bookFormIn, contractCountIn, contractIn}
+use Rattle.layouts.specs.BookFile.{bookFormIn, contractCountIn}
 use Rattle.layouts.proofs.BookFile.{book-bytes-least}
 use Rattle.books.specs.BookChecks.{ownChecks}
 use Rattle.books.proofs.Accepted.{own-accepted}
-use Rattle.view_rules.specs.Views.{heldTo, holderView}
+use Rattle.view_rules.specs.Views.{holderView}
 use Rattle.view_rules.specs.HolderView.{HolderViewCall, holderViewChecks, holderViewChecked}
 use Rattle.holder_view.specs.Inner.{rowsTo}
-use Rattle.holder_view.proofs.Rows.{length-rowsTo}
 
 -- the view by the rows of all contracts
 pub view-rows : (h : ℕ) (s : List ℕ) → holderView h s ≡ rowsTo (bookFormIn s) h s (contractCountIn s)
 unfolding holderView rowsTo
 view-rows h s = refl
-
--- and its length by how many there are
-pub view-size : (h : ℕ) (s : List ℕ) (f : Form) (m r held : ℕ) → f ≡ bookFormIn s → m ≡ contractCountIn s → r ≡ 2 + recordBytes f → held ≡ length (heldTo h (contractIn f s) m)
-    → r * held ≡ length (holderView h s)
-view-size h s f m r held ef em er eh = ap₂ _*_ er eh ∙ sym (length-rowsTo f h s m) ∙ (λ k. length (rowsTo (ef k) h s (em k))) ∙ ap length (sym (view-rows h s))
 
 -- an accepted book has its header
 pub header-of : (n : ℕ) (s : List ℕ) → first (ownChecks n s) ≡ Passed → 2 ≤ length s
@@ -54,11 +48,11 @@ module _ (q : HolderViewCall) where
     no-holder h = holder-next ∙ first-refuses _ _ (lt-ltb maxHolder (q .holder) h)
 
     module _ (few : q .holder ≤ maxHolder) where
-      pub no-room : length (q .place) < length (holderView (q .holder) (q .book)) → holderViewChecked q ≡ Refused ShortTable
-      no-room h = holder-next ∙ first-passes _ _ (le-ltb maxHolder (q .holder) few) ∙ first-refuses _ _ (lt-ltb (length (q .place)) _ h)
+      pub no-room : ltb (length (q .place)) (length (holderView (q .holder) (q .book))) ≡ true → holderViewChecked q ≡ Refused ShortTable
+      no-room h = holder-next ∙ first-passes _ _ (le-ltb maxHolder (q .holder) few) ∙ first-refuses _ _ h
 
-      pub room : length (holderView (q .holder) (q .book)) ≤ length (q .place) → holderViewChecked q ≡ Passed
-      room h = holder-next ∙ first-passes _ _ (le-ltb maxHolder (q .holder) few) ∙ last-passes _ (le-ltb (length (q .place)) _ h)
+      pub room : ltb (length (q .place)) (length (holderView (q .holder) (q .book))) ≡ false → holderViewChecked q ≡ Passed
+      room h = holder-next ∙ first-passes _ _ (le-ltb maxHolder (q .holder) few) ∙ last-passes _ h
 
   -- what holds where no check refuses
   module _ (pass : holderViewChecked q ≡ Passed) where

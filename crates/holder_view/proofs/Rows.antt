@@ -1,11 +1,13 @@
 -- A holder's rows from the contracts' bits.
 use mathlib.Core.Path.{_≡_, refl, ap, sym, _∙_}
 use mathlib.Core.Logic.{⊎-elim}
-use mathlib.Core.List.{List, [], _++_, flatMap, append-nil, append-assoc}
+use mathlib.Core.Bool.{Bool, true, false, cond}
+use mathlib.Core.List.{List, [], _∷_, _++_, flatMap, append-nil, append-assoc}
 use Prim.Native.Nat.{ℕ, zero, suc, _+_, _*_, _≤_}
 use native.Mathlib.Nat.{add-assoc, eq-or-lt-of-le}
 use native.Mathlib.Numerals.{add-one}
 use native.Mathlib.Omega.{arith}
+use lib.Dec.{eqb}
 use lib.ListN.{length, take, drop, length-append, take-append-drop}
 use lib.Seq.{take-at, drop-at, length-take-le}
 use Rattle.lists.proofs.Lists.{flatMap-append}
@@ -85,6 +87,14 @@ module _ (f : Form) (h : ℕ) (s : List ℕ) where
 
 -- ---- how many
 
+held-few : (h i : ℕ) (c : Contract) → length (heldAt h i c) ≤ 1
+unfolding heldAt
+held-few h i c = by (eqb (c .holder) h)
+  where
+    by : (b : Bool) → length (cond b (numbered i c ∷ []) []) ≤ 1
+    by true = omega arith
+    by false = omega arith
+
 pub held-more : (h : ℕ) (g : ℕ → Contract) (m : ℕ) → length (heldTo h g (m + 1)) ≡ length (heldTo h g m) + length (heldAt h m (g m))
 unfolding heldTo
 held-more h g m = rw add-one (length-append (heldTo h g m) (heldAt h m (g m)))
@@ -92,6 +102,12 @@ held-more h g m = rw add-one (length-append (heldTo h g m) (heldAt h m (g m)))
 pub held-begin : (h : ℕ) (g : ℕ → Contract) → length (heldTo h g 0) ≡ 0
 unfolding heldTo
 held-begin h g = refl
+
+-- no more than there are
+pub held-most : (h : ℕ) (g : ℕ → Contract) (m : ℕ) → length (heldTo h g m) ≤ m
+unfolding heldTo
+held-most h g zero = omega arith
+held-most h g (suc m) = omega (arith, length-append (heldTo h g m) (heldAt h m (g m)), held-most h g m, held-few h m (g m))
 
 pub one-held : (h i : ℕ) (c : Contract) → c .holder ≡ h → 1 ≡ length (heldAt h i c)
 one-held h i c e = rw (held-there h i c e)

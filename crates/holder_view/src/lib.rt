@@ -2,6 +2,7 @@
 ghost use mathlib.Core.Path.{_≡_};
 ghost use mathlib.Core.List.{List, _++_};
 ghost use Prim.Native.Nat.{ℕ, _+_, _*_, _≤_, _<_};
+ghost use lib.Dec.{ltb};
 ghost use lib.ListN.{length, take, drop};
 ghost use Rattle.lists.specs.Lent.{before, after, overwrite};
 ghost use Rattle.tariff.specs.Units.{maxContracts};
@@ -63,6 +64,18 @@ fn held_count(book: &[u8], form: Form, count: usize, holder: u64) -> usize
     held
 }
 
+// Whether `bytes` bytes are too few for the holder's rows. Where there is room for a row of every contract, none is counted.
+fn room_short(book: &[u8], form: Form, count: usize, holder: u64, bytes: usize) -> bool
+    requires { ⌜ (count ≤ maxContracts) × (bookBytes form count ≤ length (now book)) ⌝ }
+    ensures { λ r. ⌜ r ≡ ltb bytes (length (rowsTo form holder (before book) count)) ⌝ }
+{
+    let row = row_bytes(form);
+    if row * count <= bytes {
+        return false;
+    }
+    bytes < row * held_count(book, form, count, holder)
+}
+
 // All checks, with `bytes` lent bytes for the view: the book's own, 18, 9.
 fn check_holder_view(nodes: usize, book: &[u8], holder: u64, bytes: usize) -> Checked
     ensures { λ r. ⌜ ((place : List ℕ) → length place ≡ bytes → r ≡ holderViewChecked (holderViewCall nodes (before book) holder place)) ⌝ }
@@ -74,8 +87,7 @@ fn check_holder_view(nodes: usize, book: &[u8], holder: u64, bytes: usize) -> Ch
         return Checked::Refused(Refusal::HolderRange);
     }
     let form = books::book_form(book);
-    let held = held_count(book, form, books::contract_count(book), holder);
-    if bytes < row_bytes(form) * held {
+    if room_short(book, form, books::contract_count(book), holder, bytes) {
         return Checked::Refused(Refusal::ShortTable);
     }
     Checked::Passed
