@@ -62,9 +62,9 @@
  * and grids or books that differ in nothing else give the same answers. Writers are
  * told the form by a number: 0 (CRR_NARROW) is narrow, any other number is wide
  * (CRR_WIDE is 1). Readers give 0 or 1, so that what was read can be written again,
- * byte for byte; a remapped book and the market's view keep the book's form. Write
- * the wide form where a node number needs it, and otherwise the narrow one: it is
- * shorter, and it is the one that libraries without forms take, which refuse every
+ * byte for byte; a book made from a book (remapped, settled, for the market) keeps its
+ * form. Write the wide form where a node number needs it, and otherwise the narrow one:
+ * it is shorter, and it is the one that libraries without forms take, which refuse every
  * wide file. The layouts are in crates/layouts/specs.
  *
  *
@@ -306,6 +306,31 @@ uint64_t crr_write_holder_view(size_t nodes,
                                uint64_t holder,
                                uint8_t *view, size_t view_len,
                                size_t *bytes);
+
+/*
+ * Writes the settled form of a book's file, for a grid of so many nodes: one form for
+ * all copies of a book, whatever the order of their rows and however they are split.
+ * Contracts are sorted by kind, period, holder, source and sink, each by its number;
+ * those that agree in all five are added together, and their total is cut into rows
+ * of 1,000,000, with what is left, where it is not 0, in one row behind them.
+ *
+ * On success writes the file to the first bytes of file, and its length to *bytes. The
+ * form stays. There are never more rows than the book has, so book_len bytes are
+ * enough, and fewer often are. The rows are sorted in 16,000 bytes of stack.
+ *
+ * Two books of one form have equal bytes in the settled form exactly when, for each
+ * kind, period, holder, source and sink, their total quantities are equal. The settled
+ * form of a settled form is itself. For a book and its settled form crr_test_book and
+ * crr_find_flows give the same but for *counted, and crr_settle_hour the same *whole
+ * and *parts. Cents are rounded row by row, so they and their *sum may differ.
+ *
+ * Refusals, in this order: 2, 1, 10, 4, 5, then contract by contract 11, 13, and 9 if
+ * the bytes of the settled form don't fit.
+ */
+uint64_t crr_write_settled_book(size_t nodes,
+                                const uint8_t *book, size_t book_len,
+                                uint8_t *file, size_t file_len,
+                                size_t *bytes);
 
 /*
  * Reads a price file, for a grid of so many constraints.

@@ -61,6 +61,18 @@ impl Inputs {
         Inputs { size, form, limits, factors, prices, book, grid_file, book_file, price_file, old, new }
     }
 
+    /// A book of as many rows for a quarter of the contracts: each has four rows, with quantities of their own and none beside another.
+    pub fn split_book(&self) -> Vec<u8> {
+        let Size { nodes, contracts, .. } = self.size;
+        let rows: Vec<&[u64]> = self.book.chunks_exact(6).collect();
+        let few = contracts.div_ceil(4);
+        let split: Vec<u64> = (0..contracts).flat_map(|i| [&rows[i % few][..5], &rows[i][5..]].concat()).collect();
+        let mut file = vec![0; BOOK_BYTES];
+        let length = plain::write_book(self.form, nodes, contracts, &split, &mut file).expect("a book in range");
+        file.truncate(length);
+        file
+    }
+
     /// Limits that the on-peak book exceeds in the monthly process, at the constraint in the middle alone and by 10 MW. The others have 1,000 MW to spare.
     pub fn tight_limits(&self) -> Result<Vec<u64>, String> {
         let Size { nodes, constraints, .. } = self.size;

@@ -21,11 +21,12 @@ use std::process::ExitCode;
 use timing::Times;
 
 /// The entries whose cost grows with the contracts, the constraints and the nodes.
-const BY_CONTRACTS: [&str; 9] = [
+const BY_CONTRACTS: [&str; 10] = [
     "read_book",
     "write_book",
     "remap_book",
     "write_market_view",
+    "write_settled_book",
     "test_book",
     "find_cuts",
     "settle_hour",
@@ -41,13 +42,16 @@ const BY_WIDE_NODES: [&str; 8] =
     ["read_grid", "write_grid", "read_book", "write_book", "remap_book", "test_book", "find_mcc", "settle_hour"];
 
 /// The entries that take nodes or their numbers, by the largest inputs that they take in the wide form.
-const WIDE: [(&str, Size); 13] = [
+const WIDE: [(&str, Size); 16] = [
     ("read_grid", WIDEST),
     ("write_grid", WIDEST),
     ("read_book", WIDEST),
     ("write_book", WIDEST),
     ("remap_book", WIDEST),
     ("write_market_view", WIDEST),
+    ("write_settled_book", WIDEST),
+    ("settled, of split rows", WIDEST),
+    ("settled again", WIDEST),
     ("test_book", WIDEST),
     ("find_flows", WIDEST),
     ("find_cuts", WIDEST),
@@ -64,11 +68,11 @@ fn line(label: &str, entry: &Entry, size: Size, form: Form) -> Result<(), String
 }
 
 fn row(label: &str, times: &Times) {
-    println!("{label:<29} | {:>10.2} | {:>10.2} | {:>5.2}", times.proved, times.plain, times.proved / times.plain);
+    println!("{label:<34} | {:>10.2} | {:>10.2} | {:>5.2}", times.proved, times.plain, times.proved / times.plain);
 }
 
 fn heading(what: &str) {
-    println!("\n{what:<29} | proved µs  | plain µs   | ratio");
+    println!("\n{what:<34} | proved µs  | plain µs   | ratio");
 }
 
 fn growth(count: &str, names: &[&str], form: Form, sizes: &[(usize, Size)]) -> Result<(), String> {

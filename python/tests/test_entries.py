@@ -114,6 +114,29 @@ class Refusals(unittest.TestCase):
             self.assertEqual((written(length, figure), figure.value), (b"", length))
             self.assertEqual((written(length + 2, figure), figure.value), (b"xx", length))
 
+    def test_settled(self):
+        rows = [(0, 1, 7, 0, 1, 600_000)] * 3
+        for form, file in ((0, "0080 4070001f4240 4070001c3500"), (1, "00bf 407000001f4240 407000001c3500")):
+            self.assertEqual(crr.write_settled_book(2, crr.write_book(2, rows, form)), bytes.fromhex(file))
+        book = crr.write_book(2, rows[:1])
+        self.refused(2, crr.write_settled_book, 0, book)
+        self.refused(1, crr.write_settled_book, 2, b"")
+        self.refused(10, crr.write_settled_book, 2, bits([(10, 1001), (6, 0)]))
+        self.refused(4, crr.write_settled_book, 2, bits([(10, 0), (6, 1)]))
+        self.refused(5, crr.write_settled_book, 2, book + b"\0")
+        self.refused(11, crr.write_settled_book, 1, book)
+        self.refused(13, crr.write_settled_book, 2, book[:-3] + b"\x1f\xff\xff")
+
+    def test_place_for_the_settled_form(self):
+        """The function in Python lends a place for any book: 9 is asked of the entry itself."""
+        entry, book = Entry("crr_write_settled_book"), crr.write_book(2, [(0, 1, 7, 0, 1, 5)] * 2)
+        place, count = bytearray(b"\7" * 9), c_uint64(7)
+        with self.assertRaises(crr.Refused) as caught:
+            entry(2, Lent(book, "B"), Lent(memoryview(place)[:7], "B", True), count)
+        self.assertEqual((caught.exception.number, bytes(place), count.value), (9, b"\7" * 9, 7))
+        entry(2, Lent(book, "B"), Lent(memoryview(place)[:8], "B", True), count)
+        self.assertEqual((bytes(place), count.value), (bytes.fromhex("004040700010000a07"), 8))
+
     def test_same_ends(self):
         self.assertEqual(len(crr.write_book(2, [(0, 1, 7, 1, 1, 10)])), 8)
 
@@ -241,6 +264,25 @@ class Figures(unittest.TestCase):
                     found.append((cut, number))
                     break
         return [(number, cut) for cut, number in sorted(found)]
+
+    def test_settled_books(self):
+        """Shuffled and split copies have one form, that of the totals; a thousandth more has another."""
+        rng = random.Random(SEED)
+        for _ in range(200):
+            _, drawn = draw_book(rng, rng.choice((2, 3, 200)), rng.randint(1, 40))
+            rows = [(*rng.choice(drawn[:5])[:5], row[5]) for row in drawn]
+            totals = {}
+            for row in rows:
+                totals[row[:5]] = totals.get(row[:5], 0) + row[5]
+            cut = [(*five, min(10**6, total - done)) for five, total in sorted(totals.items()) for done in range(0, total, 10**6)]
+            form = crr.write_book(200, cut)
+            self.assertEqual(crr.write_settled_book(200, crr.write_book(200, rows)), form)
+            self.assertEqual(crr.write_settled_book(200, form), form)
+            split = [(*row[:5], part) for row in rows for part in (row[5] // 2, row[5] - row[5] // 2) if part]
+            rng.shuffle(split)
+            self.assertEqual(crr.write_settled_book(200, crr.write_book(200, split)), form)
+            split[0] = (*split[0][:5], split[0][5] + 1)
+            self.assertNotEqual(crr.write_settled_book(200, crr.write_book(200, split)), form)
 
     def test_cuts(self):
         rng, listed = random.Random(SEED), 0

@@ -1,8 +1,8 @@
 /*
  * Calls every function of crr.h, on case L of document 01: each file read and written
  * again, the grid and the book in both forms, a node retired, the market's view and a
- * holder's, the test, the flows, the cuts, the released shares, the MCC, the hour, the
- * two texts; the calendar; and a balance shared. Also a C++ program.
+ * holder's, the book settled, the test, the flows, the cuts, the released shares, the
+ * MCC, the hour, the two texts; the calendar; and a balance shared. Also a C++ program.
  */
 #include <stdint.h>
 #include <stdio.h>
@@ -30,6 +30,12 @@ static const uint8_t market[] = {0x01, 0x00, 0x40, 0x00, 0x00, 0x10, 0x27, 0x10,
 static const uint8_t view_7[] = {0x00, 0x00, 0x40, 0x70, 0x00, 0x10, 0x27, 0x10, 0x00, 0x02, 0x40, 0x70, 0x00, 0x20, 0x00, 0x01, 7};
 static const uint8_t wide_view_7[] = {0x00, 0x00, 0x40, 0x70, 0x00, 0x00, 0x10, 0x27, 0x10, 0x00, 0x02, 0x40, 0x70, 0x00, 0x00, 0x20, 0x00, 0x01, 7};
 static uint8_t view[CRR_MAX_HOLDER_VIEW_BYTES];
+/* Case L's book in the settled form, and the cell after it. */
+static const uint8_t settled[] = {0x01, 0x00, 0x00, 0x90, 0x00, 0x10, 0x00, 0x05, 0x40, 0x70, 0x00, 0x10, 0x27, 0x10,
+                                  0x40, 0x70, 0x00, 0x20, 0x00, 0x01, 0xc0, 0x80, 0x00, 0x20, 0x01, 0xf4, 7};
+/* Two rows of one contract, wide, and their sum; the cell after it. */
+static const uint8_t split[] = {0x00, 0xbf, 0x40, 0x70, 0x00, 0x00, 0x10, 0x00, 0x05, 0x40, 0x70, 0x00, 0x00, 0x10, 0x00, 0x05};
+static const uint8_t added[] = {0x00, 0x7f, 0x40, 0x70, 0x00, 0x00, 0x10, 0x00, 0x0a, 7};
 static int64_t factors[CRR_MAX_NODES * CRR_MAX_CONSTRAINTS], flows[CRR_MAX_CONSTRAINTS], mcc[CRR_MAX_NODES], cents[CRR_MAX_CONTRACTS];
 static const uint64_t demands[] = {5, 3, 1}, no_demands[] = {0, 0};
 static int64_t shares[4];
@@ -102,6 +108,15 @@ int main(void) {
                                                        && bytes == 18 && memcmp(view, wide_view_7, sizeof wide_view_7) == 0);
     expect("crr_write_holder_view, no such holder", crr_write_holder_view(nodes, book_file, book_len, 1024, view, 0, &bytes) == CRR_HOLDER_RANGE && bytes == 18);
     expect("crr_write_holder_view, no contract", crr_write_holder_view(nodes, book_file, book_len, 0, view, 0, &bytes) == CRR_OK && bytes == 0);
+    expect("crr_write_settled_book", crr_write_settled_book(nodes, book_file, book_len, copy, sizeof copy, &bytes) == CRR_OK
+                                         && bytes == 26 && memcmp(copy, settled, sizeof settled) == 0);
+    expect("crr_write_settled_book, again", crr_write_settled_book(nodes, settled, 26, copy, 26, &bytes) == CRR_OK
+                                                && bytes == 26 && memcmp(copy, settled, sizeof settled) == 0);
+    copy[9] = bytes = 7;
+    expect("crr_write_settled_book, too few bytes", crr_write_settled_book(nodes, split, 16, copy, 8, &bytes) == CRR_SHORT_TABLE
+                                                        && bytes == 7 && memcmp(copy, settled, 9) == 0);
+    expect("crr_write_settled_book, fewer rows, wide", crr_write_settled_book(nodes, split, 16, copy, 9, &bytes) == CRR_OK
+                                                           && bytes == 9 && memcmp(copy, added, sizeof added) == 0);
     expect("crr_read_prices", crr_read_prices(constraints, price_file, price_len, prices, CRR_MAX_CONSTRAINTS, &period) == CRR_OK && period == CRR_ON_PEAK && prices[1] == 2550);
     expect("crr_write_prices", crr_write_prices(period, constraints, prices, CRR_MAX_CONSTRAINTS, copy, sizeof copy, &bytes) == CRR_OK
                                    && bytes == price_len && memcmp(copy, price_file, bytes) == 0);

@@ -22,14 +22,14 @@ const fn end_bits(bytes: usize) -> u32 {
 
 /// A contract's bytes as one number.
 #[inline]
-fn record<const BYTES: usize>(bytes: &[u8]) -> u64 {
+pub fn record<const BYTES: usize>(bytes: &[u8]) -> u64 {
     let mut record = [0; 8];
     record[8 - BYTES..].copy_from_slice(bytes);
     u64::from_be_bytes(record)
 }
 
 #[inline]
-fn store<const BYTES: usize>(bytes: &mut [u8], record: u64) {
+pub fn store<const BYTES: usize>(bytes: &mut [u8], record: u64) {
     bytes.copy_from_slice(&record.to_be_bytes()[8 - BYTES..]);
 }
 

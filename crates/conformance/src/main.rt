@@ -7,4 +7,5 @@ fn main() {
     share_vectors::go_through();
     cut_vectors::go_through();
     view_vectors::go_through();
+    settled_vectors::go_through();
 }

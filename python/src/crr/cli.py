@@ -1,6 +1,7 @@
 """The command `crr`.
 
-Exit status: 0; 1 where `crr test` or `crr cuts` finds that the book fails; 2 where the input has faults, or something can't be read or written.
+Exit status: 0; 1 where `crr test` or `crr cuts` finds that the book fails, or `crr same` that two books differ; 2 where the input has faults, or something
+can't be read or written.
 """
 
 from __future__ import annotations
@@ -14,7 +15,7 @@ import time
 from pathlib import Path
 from typing import Callable, Dict, List, Optional, Tuple
 
-from . import commands
+from . import commands, copies
 from .commands import FAULTY, Answer, Month
 from .faults import Faults
 from .native import Refused
@@ -57,6 +58,8 @@ _COMMANDS: Dict[str, Callable[[argparse.Namespace], Answer]] = {
     "remap": lambda o: commands.remap(o.folder, o.pairs, o.out, o.round_prices),
     "market": lambda o: commands.market(o.folder, o.out),
     "holder": lambda o: commands.holder(o.folder, o.holder, o.out),
+    "settled": lambda o: copies.settled(o.folder, o.out),
+    "same": lambda o: copies.same(o.folder, o.other),
     "hours": lambda o: commands.hours(*o.months),
     "share": lambda o: commands.share(o.balance, o.demands),
 }
@@ -71,6 +74,8 @@ _HELP = {
     "remap": "move the ends of contracts from old nodes to new ones",
     "market": "the book as the market sees it: its file with holder 0 in every contract",
     "holder": "what one holder sees of the book: its contracts, each with its number",
+    "settled": "the settled form of a book: sorted, equal contracts added together; one for all copies with rows shuffled or split",
+    "same": "whether two folders have the same book, rows shuffled or split or not, and the totals that differ",
     "hours": "the on-peak days and hours of months, 2010 to 2037",
     "share": "a balance shared among coordinators by their demands, to the cent",
 }
@@ -93,7 +98,8 @@ def _months(text: str) -> Tuple[Month, Month]:
 
 def _parser() -> argparse.ArgumentParser:
     parser = argparse.ArgumentParser(prog="crr", description="Congestion revenue rights: feasibility test and hourly settlement.")
-    parser.epilog = "Exit status: 0; 1 the book fails (crr test, crr cuts); 2 the input has faults, or something can't be read or written."
+    fails = "1 the book fails (crr test, crr cuts), or two books differ (crr same)"
+    parser.epilog = f"Exit status: 0; {fails}; 2 the input has faults, or something can't be read or written."
     adding = parser.add_subparsers(dest="command", required=True, metavar="COMMAND")
     of = {name: adding.add_parser(name, help=text, description=text) for name, text in _HELP.items()}
     for name, command in of.items():
@@ -109,8 +115,10 @@ def _parser() -> argparse.ArgumentParser:
             command.add_argument("--round-prices", action="store_true", help="round prices of more than two decimals to the nearest cent")
     of["remap"].add_argument("pairs", type=Path, metavar="PAIRS", help="a CSV file OLD_NODE,NEW_NODE")
     of["holder"].add_argument("holder", metavar="HOLDER", help="its name, as in OWNER, or its number, 0 to 1023")
+    of["same"].add_argument("other", type=Path, metavar="FOLDER", help="another such folder")
     places = {"pack": "a folder", "unpack": "a folder", "settle": "a folder for the result files", "report": "the HTML file", "remap": "a folder"}
     places.update({"market": "the market's file", "holder": "a file for the view as the library writes it"})
+    places["settled"] = "a file for the settled book, as the library reads it"
     for name, what in places.items():
         of[name].add_argument("-o", "--out", type=Path, metavar="OUT", required=name in ("remap", "market"), help=what)
     of["unpack"].add_argument("--force", action="store_true", help="write over CSV files that differ")
@@ -124,7 +132,7 @@ def _parser() -> argparse.ArgumentParser:
 def _faulty(options: argparse.Namespace, problem: Exception) -> Answer:
     """The answer where something is wrong, all of it."""
     if isinstance(problem, Faults):
-        count, where = len(problem.faults), "" if options.command == "share" else f" in {options.folder}"
+        count, where = len(problem.faults), "" if options.command in ("same", "share") else f" in {options.folder}"
         text = f"{problem}\ncrr: {count} fault{'' if count == 1 else 's'}{where}; nothing was written\n"
         return Answer(FAULTY, text, {"faults": [fault._asdict() for fault in problem.faults]})
     if isinstance(problem, Refused):

@@ -75,19 +75,20 @@ def files_of(found: Opened) -> Packed:
     return found.files
 
 
-def _counted(number: int, what: str) -> str:
+def counted(number: int, what: str) -> str:
+    """A number of things in words."""
     return f"{number:,} {what}{'' if number == 1 else 's'}"
 
 
 def _rounded(count: int) -> str:
-    return f"; {_counted(count, 'price')} rounded to cents" if count else ""
+    return f"; {counted(count, 'price')} rounded to cents" if count else ""
 
 
 def pack(folder: Path, out: Path, round_prices: bool) -> Answer:
     """CSV files to bin files, read back and compared."""
     case, rounded = load(folder, round_prices=round_prices)
     written = write_packed(case, out)
-    text = f"{out}: grid.bin, book.bin, names.csv and {_counted(len(case.hours), 'hour')} of prices written and read back{_rounded(rounded)}\n"
+    text = f"{out}: grid.bin, book.bin, names.csv and {counted(len(case.hours), 'hour')} of prices written and read back{_rounded(rounded)}\n"
     return Answer(PASSES, text, {"out": str(out), "written": written, "rounded_prices": rounded})
 
 
@@ -111,7 +112,7 @@ def counts(found: Opened) -> Dict[str, int]:
 
 def counts_told(found: Opened) -> str:
     """The counts in words."""
-    return ", ".join(_counted(number, what[:-1]) for what, number in counts(found).items())
+    return ", ".join(counted(number, what[:-1]) for what, number in counts(found).items())
 
 
 def check(folder: Path, round_prices: bool) -> Answer:
@@ -148,7 +149,7 @@ def test(folder: Path, periods: Sequence[int], processes: Sequence[int]) -> Answ
     rows = [_verdict_row(found.names, period, process, verdict) for (period, process), verdict in answers.items()]
     status = PASSES if all(verdict.passed for verdict in answers.values()) else FAILS
     text = csv_text(VERDICTS, ((*row[:-1], "; ".join(row[-1])) for row in rows))
-    return Answer(status, text, {"passed": status == PASSES, "verdicts": _objects(VERDICTS, rows)})
+    return Answer(status, text, {"passed": status == PASSES, "verdicts": objects(VERDICTS, rows)})
 
 
 CUTS = ("CRR_ID", "OWNER", "MW", "CUT_MW", "LEFT_MW")
@@ -176,8 +177,8 @@ def cuts(folder: Path, periods: Sequence[int], processes: Sequence[int]) -> Answ
     listed = cut_rows(found, answers)
     status = FAILS if listed else PASSES
     text = csv_text(("TIME_OF_USE", "PROCESS", *CUTS), ((*_line(line), *row) for line, rows in listed.items() for row in rows))
-    told = _objects(VERDICTS, [_verdict_row(found.names, *line, verdict) for line, verdict in answers.items()])
-    data = [{**verdict, "cuts": _objects(CUTS, listed.get(line, []))} for line, verdict in zip(answers, told)]
+    told = objects(VERDICTS, [_verdict_row(found.names, *line, verdict) for line, verdict in answers.items()])
+    data = [{**verdict, "cuts": objects(CUTS, listed.get(line, []))} for line, verdict in zip(answers, told)]
     return Answer(status, text, {"passed": status == PASSES, "verdicts": data}, _cuts_told(found.names, answers, listed))
 
 
@@ -229,20 +230,21 @@ def settle(folder: Path, out: Optional[Path], jobs: int, round_prices: bool, pro
         files = result_files(result, found.names, found.book, found.times)
         write_files(out, {name: text.encode() for name, text in files.items()})
     rows = [(found.names.holder(holder), month, dollars(cents)) for (holder, month), cents in holder_months(result, found.book).items()]
-    told = f"{_counted(len(result.hours), 'hour')}: sum {dollars(result.sum)}, exact total {exact_dollars(result.exact)}{_rounded(found.rounded)}\n"
+    told = f"{counted(len(result.hours), 'hour')}: sum {dollars(result.sum)}, exact total {exact_dollars(result.exact)}{_rounded(found.rounded)}\n"
     data: Dict[str, object] = {
         "hours": len(result.hours),
         "sum": dollars(result.sum),
         "exact_total": exact_dollars(result.exact),
-        "by_holder": _objects(HOLDERS, rows),
-        "by_hour": _objects(HOURS, hour_rows(result, found.times)),
+        "by_holder": objects(HOLDERS, rows),
+        "by_hour": objects(HOURS, hour_rows(result, found.times)),
         "rounded_prices": found.rounded,
     }
     text = f"{out}: hours.csv, holders.csv and contracts.csv written\n" if out else csv_text(HOLDERS, rows)
     return Answer(PASSES, text, data, told)
 
 
-def _objects(heading: Sequence[str], rows: Iterable[Sequence[object]]) -> List[Dict[str, object]]:
+def objects(heading: Sequence[str], rows: Iterable[Sequence[object]]) -> List[Dict[str, object]]:
+    """Rows of a table as objects."""
     return [{name.lower(): value for name, value in zip(heading, row)} for row in rows]
 
 
@@ -274,7 +276,7 @@ def remap(folder: Path, pairs: Path, out: Path, round_prices: bool) -> Answer:
         write_csv(unpacked(moved), out, hour_name(files.hours))
     else:
         write_bin(moved, out)
-    text = f"{out}: {_counted(len(old), 'pair')} applied, {_counted(changed, 'contract')} of {len(contracts):,} changed\n"
+    text = f"{out}: {counted(len(old), 'pair')} applied, {counted(changed, 'contract')} of {len(contracts):,} changed\n"
     return Answer(PASSES, text, {"out": str(out), "pairs": len(old), "changed": changed, "contracts": len(contracts)})
 
 
@@ -295,7 +297,7 @@ def market(folder: Path, out: Path) -> Answer:
     view = write_market_view(read_grid(files.grid).nodes, files.book)
     _write_view(folder, out, view)
     many = counts(found)
-    text = f"{out}: {_counted(many['contracts'], 'contract')} of {_counted(many['holders'], 'holder')}, all as holder 0; {len(view):,} bytes written\n"
+    text = f"{out}: {counted(many['contracts'], 'contract')} of {counted(many['holders'], 'holder')}, all as holder 0; {len(view):,} bytes written\n"
     return Answer(PASSES, text, {"out": str(out), "contracts": many["contracts"], "bytes": len(view)})
 
 
@@ -318,11 +320,11 @@ def holder(folder: Path, asked: str, out: Optional[Path]) -> Answer:
     view = write_holder_view(nodes, files.book, number)
     held = read_holder_view(nodes, view, read_book_form(nodes, files.book))
     rows = [(own.number, *book_row(found.names, found.names.contracts[own.number], own.contract)) for own in held]
-    told = f"{found.names.holder(number)}: {_counted(len(rows), 'contract')} of {len(found.book):,}"
-    data: Dict[str, object] = {"holder": found.names.holder(number), "number": number, "contracts": _objects(VIEW, rows), "bytes": len(view)}
+    told = f"{found.names.holder(number)}: {counted(len(rows), 'contract')} of {len(found.book):,}"
+    data: Dict[str, object] = {"holder": found.names.holder(number), "number": number, "contracts": objects(VIEW, rows), "bytes": len(view)}
     if out:
         _write_view(folder, out, view)
-        told, data["out"] = f"{told}; {out}: {_counted(len(view), 'byte')} written", str(out)
+        told, data["out"] = f"{told}; {out}: {counted(len(view), 'byte')} written", str(out)
     return Answer(PASSES, csv_text(VIEW, rows), data, f"{told}\n")
 
 
@@ -336,8 +338,8 @@ def hours(first: Month, last: Month) -> Answer:
         _on_peak(*named)  # refused as it was written, such as month 13
     rows = [_on_peak(number // 12, number % 12 + 1) for number in range(12 * first[0] + first[1] - 1, 12 * last[0] + last[1])]
     days, total = sum(row[1] for row in rows), sum(row[2] for row in rows)
-    told = f"{_counted(len(rows), 'month')}: {_counted(days, 'on-peak day')}, {_counted(total, 'on-peak hour')}\n"
-    data: Dict[str, object] = {"months": _objects(ON_PEAK, rows), "on_peak_days": days, "on_peak_hours": total}
+    told = f"{counted(len(rows), 'month')}: {counted(days, 'on-peak day')}, {counted(total, 'on-peak hour')}\n"
+    data: Dict[str, object] = {"months": objects(ON_PEAK, rows), "on_peak_days": days, "on_peak_hours": total}
     return Answer(PASSES, csv_text(ON_PEAK, rows), data, told)
 
 
@@ -372,5 +374,5 @@ def share(balance: str, demands: Path) -> Answer:
     raise_any(faults)
     shares = share_balance(cents, asked.units)
     rows = [(name, text, dollars(own)) for name, text, own in zip(asked.names, asked.texts, shares)]
-    told = f"{_counted(len(rows), 'coordinator')}: sum {dollars(sum(shares))}\n"
-    return Answer(PASSES, csv_text(SHARES, rows), {"balance": dollars(cents), "shares": _objects(SHARES, rows)}, told)
+    told = f"{counted(len(rows), 'coordinator')}: sum {dollars(sum(shares))}\n"
+    return Answer(PASSES, csv_text(SHARES, rows), {"balance": dollars(cents), "shares": objects(SHARES, rows)}, told)

@@ -1,4 +1,4 @@
-"""The three files, grid, book and prices: bytes to tables and back, and a book remapped. Figures are whole numbers in the units of crr.h."""
+"""The three files, grid, book and prices: bytes to tables and back; a book remapped, and settled. Figures are whole numbers in the units of crr.h."""
 
 from __future__ import annotations
 
@@ -15,6 +15,7 @@ _write_grid = Entry("crr_write_grid")
 _read_book = Entry("crr_read_book")
 _write_book = Entry("crr_write_book")
 _remap_book = Entry("crr_remap_book")
+_write_settled_book = Entry("crr_write_settled_book")
 _read_prices = Entry("crr_read_prices")
 _write_prices = Entry("crr_write_prices")
 
@@ -113,6 +114,12 @@ def write_book(nodes: int, book: Book, form: int = NARROW) -> bytes:
 def remap_book(nodes: int, book: Bytes, old_nodes: Cells, new_nodes: Cells) -> bytes:
     """The book's file with both ends of every contract moved, one pair of old and new node after another."""
     return written(_remap_book, MAX_BOOK_BYTES, (nodes, lend_bytes(book), lend_cells(old_nodes, "Q"), lend_cells(new_nodes, "Q")))
+
+
+def write_settled_book(nodes: int, book: Bytes) -> bytes:
+    """The settled form of a book's file, which copies with rows shuffled or split have in common: sorted by kind, period, holder, source and sink, equal
+    ones added together and cut into rows of 1,000,000."""
+    return written(_write_settled_book, MAX_BOOK_BYTES, (nodes, lend_bytes(book)))
 
 
 def read_prices(constraints: int, file: Bytes, name: str = "") -> Prices:

@@ -92,6 +92,7 @@ DECLARATIONS: Dict[str, str] = {
     "const uint64_t *new_nodes, size_t new_len, uint8_t *file, size_t file_len, size_t *bytes",
     "crr_write_market_view": "size_t nodes, const uint8_t *book, size_t book_len, uint8_t *file, size_t file_len, size_t *bytes",
     "crr_write_holder_view": "size_t nodes, const uint8_t *book, size_t book_len, uint64_t holder, uint8_t *view, size_t view_len, size_t *bytes",
+    "crr_write_settled_book": "size_t nodes, const uint8_t *book, size_t book_len, uint8_t *file, size_t file_len, size_t *bytes",
     "crr_read_prices": "size_t constraints, const uint8_t *file, size_t file_len, uint64_t *prices, size_t prices_len, uint64_t *period",
     "crr_write_prices": "uint64_t period, size_t constraints, const uint64_t *prices, size_t prices_len, uint8_t *file, size_t file_len, size_t *bytes",
     "crr_test_book": "size_t nodes, size_t constraints, uint64_t process, uint64_t period, const uint64_t *limits, size_t limits_len, "

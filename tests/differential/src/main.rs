@@ -13,7 +13,7 @@ mod tally;
 mod vectors;
 
 use draw::{Draw, EXTREMES};
-use rounds::{calendar, cuts, demand, forms, headers, priced, shares, text, view_pairs, views};
+use rounds::{calendar, cuts, demand, forms, headers, priced, settled, shares, text, view_pairs, views};
 use std::env;
 use std::process::ExitCode;
 use tally::{Entry, Round, Tally};
@@ -36,7 +36,7 @@ const fn plain(name: &'static str, refusals: &'static [u64], cases: &'static [&'
 }
 
 /// Each entry, with the refusals that the papers list for it, each to be drawn and no other, and the cases that the change requests name.
-const ENTRIES: [Entry; 23] = [
+const ENTRIES: [Entry; 24] = [
     plain("read_grid", &[1, 2, 3, 4, 5, 6, 7, 8, 9], &[&forms::GRIDS_READ], rounds::grid::read),
     Entry { rounds: headers::FIRST_BYTES, ..plain("grid_headers", &[1, 2, 3, 4, 5, 6, 7, 8, 9], &[], headers::grid) },
     plain("write_grid", &[2, 3, 6, 7, 9], &[&forms::GRIDS_WRITTEN], rounds::grid::write),
@@ -46,6 +46,10 @@ const ENTRIES: [Entry; 23] = [
     plain("remap_book", &[1, 2, 4, 5, 9, 10, 11, 13], &[&rounds::remap::CASES], rounds::remap::round),
     plain("write_market_view", &[1, 2, 4, 5, 9, 10, 11, 13], &[&views::MARKET, &view_pairs::MARKET], views::market_round),
     plain("write_holder_view", &[1, 2, 4, 5, 9, 10, 11, 13, 18], &[&views::HOLDER, &view_pairs::HOLDER], views::holder_round),
+    Entry {
+        rounds: settled::FIRST_ROUNDS,
+        ..plain("write_settled_book", &[1, 2, 4, 5, 9, 10, 11, 13], &[&settled::CASES, &forms::BOOKS], settled::round)
+    },
     plain("read_prices", &[1, 3, 5, 8, 9, 14, 15], &[], rounds::prices::read),
     plain("write_prices", &[3, 9, 15, 17], &[], rounds::prices::write),
     plain("test_book", &[1, 2, 3, 4, 5, 6, 7, 9, 10, 11, 13, 16, 17], &[&forms::BOOKS], rounds::test::round),
@@ -84,11 +88,11 @@ fn report(entry: &Entry, tally: &Tally) -> bool {
     tally.print(entry);
     let missing = tally.missing(entry);
     if !missing.is_empty() {
-        println!("{:<17} | never drawn: {}", entry.name, missing.join(", "));
+        println!("{:<18} | never drawn: {}", entry.name, missing.join(", "));
     }
     let unlisted = tally.unlisted(entry);
     if !unlisted.is_empty() {
-        println!("{:<17} | answered and not listed: {}", entry.name, unlisted.join(", "));
+        println!("{:<18} | answered and not listed: {}", entry.name, unlisted.join(", "));
     }
     !missing.is_empty() || !unlisted.is_empty() || tally.calls < LEAST
 }
@@ -105,7 +109,7 @@ fn demand_3(seed: u64) -> u64 {
 }
 
 fn all(seed: u64) -> ExitCode {
-    println!("seed {seed}\n{:<17} | {:>7} | {:>6} | answers (0: none refused), and how often", "entry", "calls", "failed");
+    println!("seed {seed}\n{:<18} | {:>7} | {:>6} | answers (0: none refused), and how often", "entry", "calls", "failed");
     let (mut calls, mut failed, mut lacking) = (0, 0, false);
     for entry in &ENTRIES {
         let tally = run(entry, seed);

@@ -46,15 +46,15 @@ impl Tally {
 
     pub fn print(&self, entry: &Entry) {
         let counts: Vec<String> = self.refusals.iter().map(|(number, count)| format!("{number}:{count}")).collect();
-        println!("{:<17} | {:>7} | {:>6} | {}", entry.name, self.calls, self.failed, counts.join(" "));
+        println!("{:<18} | {:>7} | {:>6} | {}", entry.name, self.calls, self.failed, counts.join(" "));
         for &(file, _) in entry.files {
             let of_file = self.files.iter().filter(|((name, _), _)| *name == file);
             let counts: Vec<String> = of_file.map(|((_, number), count)| format!("{number}:{count}")).collect();
-            println!("{:<17} | {:>7} | {:>6} | {}", format!("  refused,{file}"), "", "", counts.join(" "));
+            println!("{:<18} | {:>7} | {:>6} | {}", format!("  refused,{file}"), "", "", counts.join(" "));
         }
         if !entry.cases.is_empty() {
             let counts: Vec<String> = self.cases.iter().map(|(case, count)| format!("{case}: {count}")).collect();
-            println!("{:<17} | {:>7} | {:>6} | {}", "  cases", "", "", counts.join(", "));
+            println!("{:<18} | {:>7} | {:>6} | {}", "  cases", "", "", counts.join(", "));
         }
     }
 }
@@ -96,9 +96,14 @@ impl<'a> Round<'a> {
 
     /// Two answers of the second implementation that must be the same; the proved ones were compared with them.
     pub fn same(&mut self, holds: bool, what: &str) {
+        self.holds(holds, &format!("{what}: the answers differ"));
+    }
+
+    /// What must hold of several answers together.
+    pub fn holds(&mut self, holds: bool, wrong: &str) {
         if !holds {
             self.tally.failed += 1;
-            println!("FAILED {}: seed {}, round {}: {what}: the answers differ", self.entry, self.seed, self.number);
+            println!("FAILED {}: seed {}, round {}: {wrong}", self.entry, self.seed, self.number);
         }
     }
 

@@ -11,6 +11,7 @@ pub mod headers;
 pub mod priced;
 pub mod prices;
 pub mod remap;
+pub mod settled;
 pub mod settlement;
 pub mod shares;
 pub mod test;

@@ -8,6 +8,7 @@ pub mod flows;
 pub mod grid;
 pub mod prices;
 pub mod remap;
+pub mod settled;
 pub mod settlement;
 pub mod shares;
 pub mod test;

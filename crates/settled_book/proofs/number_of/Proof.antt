@@ -1,0 +1,25 @@
+-- `number_of`: the parts of the bits make the number.
+use native.Mathlib.Omega.{arith}
+use Rattle.settled_book.proofs.Packing.{number-is, end-small}
+use borrow.Author.Needs.{needs}
+use Rattle.settled_book.proofs.number_of.Statement.{statement}
+use Rattle.settled_book.proofs.number_of.Tie as tie
+
+contract-number-requires : tie.Need-contract-number-requires
+contract-number-requires c κs =
+    let s = c .before .before .before .before in
+    let source = end-small _ _ (s .pre) (c .before .before .part2 .ensures .1) in
+    let sink = end-small _ _ (s .pre) (c .before .part3 .ensures .1) in
+    (c .before .before .before .part .ensures .1, omega arith, omega arith, c .part4 .ensures .1)
+
+returns : tie.Need-returns
+returns c =
+    let p = c .before in
+    let a = p .before .before .before .before .args in
+    number-is (a .width) (a .v) _ _ _ _ _ (p .before .before .before .part .ensures .0) (p .before .before .part2 .ensures .0) (p .before .part3 .ensures .0) (p .part4 .ensures .0)
+    (c .contract-number .ensures)
+
+pub number-of-spec : {M : Type 1} → statement M
+number-of-spec =
+    tie.close (tie.spec
+    (λ c. search needs) (λ c. search needs) (λ c κs. search needs) (λ c. search needs) (λ c κs. search needs) (λ c κs. search needs) (λ c κs. search needs) contract-number-requires returns)

@@ -1,0 +1,2 @@
+pub mod SettledBook
+pub mod Inner

@@ -1,0 +1,23 @@
+-- What the settled form of an accepted book keeps of the book.
+use mathlib.Core.List.{List}
+use Prim.Native.Nat.{ℕ}
+use Rattle.tariff.specs.declared.contracts.Period.{Period}
+use Rattle.tariff.specs.declared.processes.Process.{Process}
+use Rattle.tariff.specs.Units.{Grid}
+use Rattle.tariff.specs.Contracts.{ofPeriod}
+use Rattle.layouts.specs.BookFile.{bookIn}
+use Rattle.settled_rules.specs.Settled.{settled, settledFile}
+use Rattle.settled_rules.specs.Theorems.{AcceptedFor, SameTest, SamePayments}
+use Rattle.settled_rules.proofs.Books.{book-five, settled-is-a-book}
+use Rattle.settled_rules.proofs.Surviving.{flows-kept, total-kept, same-test, same-payments}
+
+module _ (n : ℕ) (s : List ℕ) (ok : AcceptedFor n s) (g : Grid) (process : Process) (t : Period) where
+  pub verdicts-survive : SameTest g process (ofPeriod t (bookIn (settledFile s))) (ofPeriod t (bookIn s))
+  verdicts-survive =
+      rw (settled-is-a-book n s ok .rows)
+      (same-test g process (ofPeriod t (settled (bookIn s))) (ofPeriod t (bookIn s)) (flows-kept (g .factors) t (bookIn s) (book-five n s ok)))
+
+  pub totals-survive : SamePayments g process (ofPeriod t (bookIn (settledFile s))) (ofPeriod t (bookIn s))
+  totals-survive =
+      rw (settled-is-a-book n s ok .rows)
+      (same-payments g process (ofPeriod t (settled (bookIn s))) (ofPeriod t (bookIn s)) (total-kept (g .factors) t (bookIn s) (book-five n s ok)))

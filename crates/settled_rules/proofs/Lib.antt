@@ -1,0 +1,10 @@
+pub mod Fives
+pub mod Totals
+pub mod Unique
+pub mod Merging
+pub mod Walking
+pub mod Numbers
+pub mod Surviving
+pub mod Books
+pub mod Kept
+pub mod Theorems

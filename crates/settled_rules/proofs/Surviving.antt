@@ -1,0 +1,107 @@
+-- What the settled rows keep of a book: every flow, so the test's whole answer, and the exact total at every price list.
+use mathlib.Core.Path.{_≡_, refl, sym, ap, _∙_}
+use mathlib.Core.Bool.{Bool, true, false, cond}
+use mathlib.Core.List.{List, [], _∷_}
+use Prim.Native.Nat.{ℕ, _+_}
+use lib.Dec.{eqb}
+use lib.IntN.{ℤ, pos, _+ℤ_, _-ℤ_, *ℤ-zero, +ℤ-idl}
+use lib.Signed.{ltZ}
+use Rattle.lists.specs.Lists.{Each}
+use Rattle.lists.specs.Sets.{setOf, countOf, lowestOf}
+use Rattle.integers.specs.Sums.{sumOver}
+use Rattle.tariff.specs.declared.contracts.Contract.{Contract}
+use Rattle.tariff.specs.declared.contracts.Period.{Period}
+use Rattle.tariff.specs.declared.processes.Process.{Process}
+use Rattle.tariff.specs.Units.{Factors, Grid}
+use Rattle.tariff.specs.Contracts.{counted, samePeriod, ofPeriod}
+use Rattle.tariff.specs.Feasibility.{flow, totalFlow, released, excess, overloaded, overloadSet, overloadCount, lowestOverload}
+use Rattle.tariff.specs.Settlement.{mcc, amount, exactTotal}
+use Rattle.tariff.specs.Shortfall.{netPayment, rent, shortfall, IsWorst}
+use Rattle.feasibility_test.specs.TestBook.{testValues}
+use Rattle.flow_laws.specs.Quantities.{withQuantity}
+use Rattle.flow_laws.proofs.Additive.{counted-product, counted-plus, flow-plus, flow-times}
+use Rattle.settled_rules.specs.Settled.{settled}
+use Rattle.settled_rules.specs.Theorems.{FiveFits, SameTest, SamePayments}
+use Rattle.settled_rules.proofs.Totals.{sum-settled}
+
+-- ---- sums over the contracts of one period
+
+module _ (t : Period) (h : Contract → ℤ) where
+  abbrev within : Contract → ℤ
+  within c = cond (samePeriod (c .period) t) (h c) (pos 0)
+
+  period-sum : (cs : List Contract) → sumOver (ofPeriod t cs) h ≡ sumOver cs within
+  unfolding sumOver ofPeriod
+  period-sum [] = refl
+  period-sum (c ∷ cs) = by (period-sum cs) (samePeriod (c .period) t)
+    where
+      by : sumOver (ofPeriod t cs) h ≡ sumOver cs within → (b : Bool) → sumOver (cond b (c ∷ ofPeriod t cs) (ofPeriod t cs)) h ≡ cond b (h c) (pos 0) +ℤ sumOver cs within
+      by more true = ap (λ (z : ℤ). h c +ℤ z) more
+      by more false = more ∙ sym (+ℤ-idl (sumOver cs within))
+
+  module _ (plus : (c : Contract) (a b : ℕ) → h (withQuantity (a + b) c) ≡ h (withQuantity a c) +ℤ h (withQuantity b c)) (nothing : (c : Contract) → h (withQuantity 0 c) ≡ pos 0) where
+    within-plus : (c : Contract) (a b : ℕ) → within (withQuantity (a + b) c) ≡ within (withQuantity a c) +ℤ within (withQuantity b c)
+    within-plus c a b = by (samePeriod (c .period) t)
+      where
+        by : (s : Bool) → cond s (h (withQuantity (a + b) c)) (pos 0) ≡ cond s (h (withQuantity a c)) (pos 0) +ℤ cond s (h (withQuantity b c)) (pos 0)
+        by true = plus c a b
+        by false = refl
+
+    within-nothing : (c : Contract) → within (withQuantity 0 c) ≡ pos 0
+    within-nothing c = by (samePeriod (c .period) t)
+      where
+        by : (s : Bool) → cond s (h (withQuantity 0 c)) (pos 0) ≡ pos 0
+        by true = nothing c
+        by false = refl
+
+    period-settled : (cs : List Contract) → Each FiveFits cs → sumOver (ofPeriod t (settled cs)) h ≡ sumOver (ofPeriod t cs) h
+    period-settled cs f = period-sum (settled cs) ∙ sum-settled within within-plus within-nothing cs f ∙ sym (period-sum cs)
+
+-- ---- flows and amounts
+
+module _ (f : Factors) (t : Period) (cs : List Contract) (fits : Each FiveFits cs) where
+  pub flows-kept : (k : ℕ) → totalFlow f (ofPeriod t (settled cs)) k ≡ totalFlow f (ofPeriod t cs) k
+  unfolding totalFlow
+  flows-kept k = period-settled t (λ c. flow f c k) (λ c a b. flow-plus f c a b k) (λ c. flow-times f c 0 k ∙ *ℤ-zero (flow f (withQuantity 1 c) k)) cs fits
+
+  pub total-kept : (p : List ℕ) → exactTotal f p (ofPeriod t (settled cs)) ≡ exactTotal f p (ofPeriod t cs)
+  unfolding exactTotal amount
+  total-kept p =
+      period-settled t (amount f p) (λ c a b. counted-plus (c .kind) (mcc f p (c .sink) -ℤ mcc f p (c .source)) a b)
+      (λ c. counted-product (c .kind) (mcc f p (c .sink) -ℤ mcc f p (c .source)) 0 ∙ *ℤ-zero (counted (c .kind) (mcc f p (c .sink) -ℤ mcc f p (c .source)))) cs fits
+
+-- ---- the test's answer is made of the flows
+
+module _ (g : Grid) (process : Process) where
+  valuesOf : (ℕ → ℤ) → List ℤ
+  valuesOf flows =
+      let over : ℕ → Bool = λ k. ltZ (pos (released (g .limits) process k)) (flows k) in
+      let n = g .factors .constraints in
+      cond (eqb (setOf n over) 0) []
+      (pos (setOf n over) ∷ pos (countOf n over) ∷ pos (lowestOf n over) ∷ (flows (lowestOf n over) -ℤ pos (released (g .limits) process (lowestOf n over))) ∷ [])
+
+  values-of : (cs : List Contract) → testValues g process cs ≡ valuesOf (totalFlow (g .factors) cs)
+  unfolding testValues overloadSet overloadCount lowestOverload excess overloaded valuesOf
+  values-of cs = refl
+
+  pub same-test : (xs ys : List Contract) → ((k : ℕ) → totalFlow (g .factors) xs k ≡ totalFlow (g .factors) ys k) → SameTest g process xs ys
+  same-test xs ys e = record { flows = e; figures = values-of xs ∙ (λ i. valuesOf (λ k. e k i)) ∙ sym (values-of ys) }
+
+  pub same-payments : (xs ys : List Contract) → ((p : List ℕ) → exactTotal (g .factors) p xs ≡ exactTotal (g .factors) p ys) → SamePayments g process xs ys
+  unfolding netPayment shortfall
+  same-payments xs ys e =
+      record {
+        exact-total = e;
+        net-payment = net;
+        shortfalls = short xs ys e;
+        worst = λ w. (worst xs ys e w, worst ys xs (λ p. sym (e p)) w);
+      }
+    where
+      net : (p : List ℕ) → netPayment (g .factors) xs p ≡ netPayment (g .factors) ys p
+      net p = e p
+
+      short : (us vs : List Contract) → ((p : List ℕ) → exactTotal (g .factors) p us ≡ exactTotal (g .factors) p vs) → (p : List ℕ) → shortfall g process us p ≡ shortfall g process vs p
+      short us vs d p = ap (λ (z : ℤ). z -ℤ rent g process p) (d p)
+
+      worst : (us vs : List Contract) → ((p : List ℕ) → exactTotal (g .factors) p us ≡ exactTotal (g .factors) p vs) → (w : ℤ) → IsWorst g process us w → IsWorst g process vs w
+      worst us vs d w x = record { prices = x .prices; is-list = x .is-list; reached = sym (short us vs d (x .prices)) ∙ x .reached; most = λ p l. rw (← short us vs d p) (x .most p l) }
