@@ -22,6 +22,7 @@
  *   parts          10^-8 cents, 0 to 99,999,999
  *   balance        cents, -1,000,000,000 to 1,000,000,000
  *   demand         units of any one kind, 0 to 1,000,000,000
+ *   weight         hundred-thousandths of a hub, 1 to 100,000
  *   period         0 off-peak, 1 on-peak
  *   process        0 annual, 1 Tier LT, 2 monthly: 65, 60 and 100 percent of each
  *                  limit is released
@@ -33,7 +34,8 @@
  *
  *
  * TABLES. Each may be longer than is needed: only the first cells are read or
- * written. demands alone is read whole: its length says how many there are.
+ * written. Lists are exact and read whole, their lengths say how many there are:
+ * demands, a hub's two lists, and those of crr_remap_book.
  *
  *   limits    one cell for each constraint
  *   factors   one cell for each node and constraint; the factor of node n on
@@ -52,6 +54,16 @@
  *             constraint k
  *   demands   one cell for each coordinator, and no other
  *   shares    one cell for each coordinator
+ *   hub_nodes, hub_weights
+ *             one cell of each for each node of a hub, and no other: its number, and
+ *             beside it its weight
+ *
+ *
+ * HUBS. A trading hub is 1 to CRR_MAX_HUB_NODES nodes, each with a weight of 1 to
+ * 100,000, together CRR_HUB_WEIGHT, no node twice. The order in which they are listed
+ * has no effect on any answer. A book never holds a hub: a contract from a hub becomes
+ * contracts from its nodes (crr_add_hub_contract), and the test and the settlement
+ * know these alone.
  *
  *
  * FORMS. The file of a grid and that of a book have two forms each. The narrow one
@@ -62,10 +74,10 @@
  * and grids or books that differ in nothing else give the same answers. Writers are
  * told the form by a number: 0 (CRR_NARROW) is narrow, any other number is wide
  * (CRR_WIDE is 1). Readers give 0 or 1, so that what was read can be written again,
- * byte for byte; a book made from a book (remapped, settled, for the market) keeps its
- * form. Write the wide form where a node number needs it, and otherwise the narrow one:
- * it is shorter, and it is the one that libraries without forms take, which refuse every
- * wide file. The layouts are in crates/layouts/specs.
+ * byte for byte; a book made from a book (remapped, settled, for the market, grown by a
+ * hub's contract) keeps its form. Write the wide form where a node number needs it, and
+ * otherwise the narrow one: it is shorter, and it is the one that libraries without
+ * forms take, which refuse every wide file. The layouts are in crates/layouts/specs.
  *
  *
  * ANSWERS. Every function returns 0, or the number of the refusal (below). Its
@@ -110,6 +122,10 @@ extern "C" {
 #define CRR_MAX_CONSTRAINTS 64
 #define CRR_MAX_CONTRACTS 1000
 #define CRR_MAX_COORDINATORS 256
+#define CRR_MAX_HUB_NODES 32
+
+/* The weights of a hub's nodes together. */
+#define CRR_HUB_WEIGHT 100000
 
 /* The longest files. One byte more is never accepted. */
 #define CRR_MAX_GRID_BYTES 576220
@@ -152,16 +168,18 @@ extern "C" {
 #define CRR_FACTOR_RANGE 7     /* a factor below -100,000 or above 100,000 */
 #define CRR_PADDING 8          /* a padding bit at a file's end is set */
 #define CRR_SHORT_TABLE 9      /* a lent table, or a place for an answer, of too few cells; remapping, unequal lists */
-#define CRR_CONTRACT_COUNT 10  /* more than 1,000 contracts */
+#define CRR_CONTRACT_COUNT 10  /* more than 1,000 contracts, or a book that would grow past 1,000 */
 #define CRR_NODE_NUMBER 11     /* a source, sink or listed node not below the node count; written to a narrow book, above 255 */
 /* 12 is no longer given: a contract whose source equals its sink is accepted. */
 #define CRR_QUANTITY_RANGE 13  /* quantity 0 or above 1,000,000 */
 #define CRR_PRICE_COUNT 14     /* the price file's constraint count differs from the one stated */
 #define CRR_PRICE_RANGE 15     /* a price above 500,000 */
 #define CRR_PROCESS_NUMBER 16  /* process not 0 to 2 */
-#define CRR_PERIOD_OR_KIND 17  /* a period not 0 or 1; writing a book, a kind or period not 0 or 1 */
+#define CRR_PERIOD_OR_KIND 17  /* a period not 0 or 1; writing a book or adding to one, a kind or period not 0 or 1 */
 #define CRR_HOLDER_RANGE 18    /* holder above 1,023 */
 #define CRR_NO_SUCH_DATE 19    /* a date or month that does not exist or is outside 2010 to 2037, given or reached */
+#define CRR_HUB_SHAPE 24       /* a hub not of 1 to 32 nodes, unequal lists, or weights outside 1 to 100,000 or not together 100,000 */
+#define CRR_HUB_NODE_TWICE 25  /* a node listed twice in a hub */
 #define CRR_SHARE_RANGE 26     /* sharing a balance: no demands or more than 256, or a balance or demand outside its range */
 #define CRR_NO_DEMAND 27       /* sharing a balance: the demands total 0 */
 
@@ -333,6 +351,42 @@ uint64_t crr_write_settled_book(size_t nodes,
                                 size_t *bytes);
 
 /*
+ * Adds a contract from a hub to a sink to a book's file, for a grid of so many nodes,
+ * as contracts from the hub's nodes to the sink, with the kind, period and holder
+ * given.
+ *
+ * A node's share of the quantity is quantity * weight / 100,000 rounded down. The
+ * thousandths that are left over go one each to the largest remainders, of equal ones
+ * to the lower node number. So the shares add up to the quantity, and none is a
+ * thousandth or more from its exact part. A share of 0 makes no contract; one whose
+ * node is the sink makes a contract with equal ends. By weights 33,334, 33,333 and
+ * 33,333 of nodes 0, 1 and 2 a quantity of 1,000 becomes 334, 333 and 333, and one of
+ * 1 a single contract, from node 0.
+ *
+ * On success writes the grown book's file to the first bytes of file, and its length
+ * to *bytes: the contracts of the book as they were, in their order, then the new
+ * ones by rising node number, in the book's form. A new contract may repeat one that
+ * the book has; nothing is added together. CRR_MAX_BOOK_BYTES bytes are always enough.
+ *
+ * An option at a hub becomes options, each of which counts by itself in the test and
+ * in the settlement: it is no option on the hub's price. Allocated contracts are not
+ * combined into one of the hub again, as the text of 003, 36.8.4.1, would have it.
+ *
+ * Refusals, in this order: 2, 1, 10, 4, 5, then contract by contract 11, 13; 17 (kind,
+ * period), 18, 11 (a number of hub_nodes, the sink; where the book is narrow, also one
+ * above 255), 13, 24, 25, 10 (the book's contracts and those made are more than 1,000),
+ * and 9 if the bytes don't fit. Unequal lists are 24.
+ */
+uint64_t crr_add_hub_contract(size_t nodes,
+                              const uint8_t *book, size_t book_len,
+                              uint64_t kind, uint64_t period, uint64_t holder,
+                              const uint64_t *hub_nodes, size_t hub_nodes_len,
+                              const uint64_t *hub_weights, size_t hub_weights_len,
+                              uint64_t sink, uint64_t quantity,
+                              uint8_t *file, size_t file_len,
+                              size_t *bytes);
+
+/*
  * Reads a price file, for a grid of so many constraints.
  *
  * On success writes one price for each constraint to the first cells of prices,
@@ -455,6 +509,25 @@ uint64_t crr_find_mcc(size_t nodes, size_t constraints,
                       const int64_t *factors, size_t factors_len,
                       const uint64_t *prices, size_t prices_len,
                       int64_t *mcc, size_t mcc_len);
+
+/*
+ * Finds the MCC of a hub: the sum over its nodes of weight * MCC of the node, divided
+ * by 100,000. The MCCs are those of crr_find_mcc, worked out afresh.
+ *
+ * On success writes to *quotient the MCC rounded down, also where it is negative, and
+ * to *remainder what is left, 0 to 99,999: *quotient * 100,000 + *remainder is the sum.
+ * A sum of -1 is -1 and 99,999.
+ *
+ * Refusals, in this order: 2, 3, 9 (factors, prices), 7, 15, 11 (a number of hub_nodes),
+ * 24, 25. Those before 11 are of all factors and prices, as for crr_find_mcc. Unequal
+ * lists are 24.
+ */
+uint64_t crr_find_hub_mcc(size_t nodes, size_t constraints,
+                          const int64_t *factors, size_t factors_len,
+                          const uint64_t *prices, size_t prices_len,
+                          const uint64_t *hub_nodes, size_t hub_nodes_len,
+                          const uint64_t *hub_weights, size_t hub_weights_len,
+                          int64_t *quotient, uint64_t *remainder);
 
 /*
  * Settles an hour of a period, for the contracts of a book's file. A contract's

@@ -2,7 +2,7 @@
 
 use crate::inputs::{Inputs, Size, BOOK_BYTES, GRID_BYTES};
 use crate::library;
-use crate::plain::{self, Form, Header, Overload, Totals};
+use crate::plain::{self, Form, Header, Order, Overload, Totals, MAX_CONTRACTS, MAX_HUB_NODES};
 use crate::timing::{side_by_side, Times};
 use std::hint::black_box;
 
@@ -12,7 +12,7 @@ pub struct Entry {
     pub run: fn(&Inputs) -> Result<Times, String>,
 }
 
-pub const ENTRIES: [Entry; 18] = [
+pub const ENTRIES: [Entry; 20] = [
     Entry { name: "read_grid", run: read_grid },
     Entry { name: "write_grid", run: write_grid },
     Entry { name: "read_book", run: read_book },
@@ -22,12 +22,14 @@ pub const ENTRIES: [Entry; 18] = [
     Entry { name: "write_settled_book", run: write_settled_book },
     Entry { name: "settled, of split rows", run: settled_of_split },
     Entry { name: "settled again", run: settled_again },
+    Entry { name: "add_hub_contract", run: add_hub_contract },
     Entry { name: "read_prices", run: read_prices },
     Entry { name: "write_prices", run: write_prices },
     Entry { name: "test_book", run: test_book },
     Entry { name: "find_flows", run: find_flows },
     Entry { name: "find_cuts", run: find_cuts },
     Entry { name: "find_mcc", run: find_mcc },
+    Entry { name: "find_hub_mcc", run: find_hub_mcc },
     Entry { name: "settle_hour", run: settle_hour },
     Entry { name: "write_report", run: write_report },
     Entry { name: "write_statement", run: write_statement },
@@ -193,6 +195,39 @@ fn settled_again(inputs: &Inputs) -> Result<Times, String> {
     settled(nodes, &file[..length])
 }
 
+/// As many contracts as leave room for all that is added.
+fn add_hub_contract(inputs: &Inputs) -> Result<Times, String> {
+    let Size { nodes, contracts, .. } = inputs.size;
+    let (hub_nodes, weights) = (&inputs.hub_nodes, &inputs.hub_weights);
+    let mut book = vec![0; BOOK_BYTES];
+    let rows = contracts.min(MAX_CONTRACTS - MAX_HUB_NODES);
+    let length = plain::write_book(inputs.form, nodes, rows, &inputs.book, &mut book).expect("a book in range");
+    book.truncate(length);
+    let (mut file, mut plain_file, mut bytes) = (vec![0; BOOK_BYTES], vec![0; BOOK_BYTES], 0);
+    let mut order = Order { kind: 1, period: 0, holder: 1_023, sink: nodes as u64 - 1, quantity: 0 };
+    for quantity in [1, 31, 32, 1_000, 999_999, 1_000_000, 123_457] {
+        order.quantity = quantity;
+        let Order { kind, period, holder, sink, .. } = order;
+        let proved =
+            library::add_hub_contract(nodes, &book, kind, period, holder, hub_nodes, weights, sink, quantity, &mut file, &mut bytes);
+        let plain = plain::add_hub_contract(nodes, &book, order, hub_nodes, weights, &mut plain_file);
+        agree(&(proved, Ok(bytes)), &(0, plain))?;
+        agree(&file, &plain_file)?;
+    }
+    let Order { kind, period, holder, sink, quantity } = order;
+    Ok(side_by_side(
+        &mut || {
+            let book = black_box(&book);
+            black_box(library::add_hub_contract(
+                nodes, book, kind, period, holder, hub_nodes, weights, sink, quantity, &mut file, &mut bytes,
+            ));
+        },
+        &mut || {
+            let _ = black_box(plain::add_hub_contract(nodes, black_box(&book), order, hub_nodes, weights, &mut plain_file));
+        },
+    ))
+}
+
 fn read_prices(inputs: &Inputs) -> Result<Times, String> {
     let (constraints, file) = (inputs.size.constraints, &inputs.price_file);
     let (mut prices, mut plain_prices, mut period) = (vec![0; constraints], vec![0; constraints], 0);
@@ -320,6 +355,24 @@ fn find_mcc(inputs: &Inputs) -> Result<Times, String> {
         },
         &mut || {
             let _ = black_box(plain::find_mcc(nodes, constraints, black_box(factors), prices, &mut plain_mcc));
+        },
+    ))
+}
+
+fn find_hub_mcc(inputs: &Inputs) -> Result<Times, String> {
+    let Size { nodes, constraints, .. } = inputs.size;
+    let (factors, prices, hub_nodes, weights) = (&inputs.factors, &inputs.prices, &inputs.hub_nodes, &inputs.hub_weights);
+    let (mut quotient, mut remainder) = (0, 0);
+    let proved = library::find_hub_mcc(nodes, constraints, factors, prices, hub_nodes, weights, &mut quotient, &mut remainder);
+    let plain = plain::find_hub_mcc(nodes, constraints, factors, prices, hub_nodes, weights);
+    agree(&(proved, Ok((quotient, remainder))), &(0, plain))?;
+    Ok(side_by_side(
+        &mut || {
+            let factors = black_box(factors);
+            black_box(library::find_hub_mcc(nodes, constraints, factors, prices, hub_nodes, weights, &mut quotient, &mut remainder));
+        },
+        &mut || {
+            let _ = black_box(plain::find_hub_mcc(nodes, constraints, black_box(factors), prices, hub_nodes, weights));
         },
     ))
 }

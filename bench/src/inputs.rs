@@ -1,6 +1,6 @@
 //! Inputs of a stated size, drawn at random and within every range.
 
-use crate::plain::{self, Form};
+use crate::plain::{self, Form, MAX_HUB_NODES};
 use crate::splitmix::Draw;
 
 /// How large the inputs are.
@@ -34,12 +34,30 @@ pub struct Inputs {
     /// Nodes to remap: as many pairs as there are nodes.
     pub old: Vec<u64>,
     pub new: Vec<u64>,
+    /// A hub of as many nodes as there can be.
+    pub hub_nodes: Vec<u64>,
+    pub hub_weights: Vec<u64>,
 }
 
 fn contract(draw: &mut Draw, nodes: usize) -> [u64; 6] {
     let source = draw.below(nodes as u64);
     let sink = (source + 1 + draw.below(nodes as u64 - 1)) % nodes as u64;
     [draw.below(2), draw.below(2), draw.below(1024), source, sink, 1 + draw.below(1_000_000)]
+}
+
+/// Different nodes in any order, and weights that together are the whole.
+fn hub(draw: &mut Draw, nodes: usize) -> (Vec<u64>, Vec<u64>) {
+    let count = nodes.min(MAX_HUB_NODES);
+    let mut hub_nodes = Vec::new();
+    while hub_nodes.len() < count {
+        let node = draw.below(nodes as u64);
+        if !hub_nodes.contains(&node) {
+            hub_nodes.push(node);
+        }
+    }
+    let mut weights: Vec<u64> = (0..count).map(|_| 1 + draw.below(100_000 / count as u64)).collect();
+    weights[0] += 100_000 - weights.iter().sum::<u64>();
+    (hub_nodes, weights)
 }
 
 impl Inputs {
@@ -58,7 +76,8 @@ impl Inputs {
         let length = plain::write_prices(1, constraints, &prices, &mut price_file).expect("prices in range");
         price_file.truncate(length);
         let (old, new) = (0..nodes).map(|_| (draw.below(nodes as u64), draw.below(nodes as u64))).unzip();
-        Inputs { size, form, limits, factors, prices, book, grid_file, book_file, price_file, old, new }
+        let (hub_nodes, hub_weights) = hub(&mut draw, nodes);
+        Inputs { size, form, limits, factors, prices, book, grid_file, book_file, price_file, old, new, hub_nodes, hub_weights }
     }
 
     /// A book of as many rows for a quarter of the contracts: each has four rows, with quantities of their own and none beside another.

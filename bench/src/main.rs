@@ -42,7 +42,7 @@ const BY_WIDE_NODES: [&str; 8] =
     ["read_grid", "write_grid", "read_book", "write_book", "remap_book", "test_book", "find_mcc", "settle_hour"];
 
 /// The entries that take nodes or their numbers, by the largest inputs that they take in the wide form.
-const WIDE: [(&str, Size); 16] = [
+const WIDE: [(&str, Size); 18] = [
     ("read_grid", WIDEST),
     ("write_grid", WIDEST),
     ("read_book", WIDEST),
@@ -52,10 +52,12 @@ const WIDE: [(&str, Size); 16] = [
     ("write_settled_book", WIDEST),
     ("settled, of split rows", WIDEST),
     ("settled again", WIDEST),
+    ("add_hub_contract", WIDEST),
     ("test_book", WIDEST),
     ("find_flows", WIDEST),
     ("find_cuts", WIDEST),
     ("find_mcc", WIDEST),
+    ("find_hub_mcc", WIDEST),
     ("settle_hour", WIDEST),
     ("write_report", WIDEST_TEXT),
     ("write_statement", WIDEST_TEXT),

@@ -137,6 +137,42 @@ class Refusals(unittest.TestCase):
         entry(2, Lent(book, "B"), Lent(memoryview(place)[:8], "B", True), count)
         self.assertEqual((bytes(place), count.value), (bytes.fromhex("004040700010000a07"), 8))
 
+    def test_add_hub_contract(self):
+        book, hub = crr.write_book(3, [(0, 1, 7, 0, 1, 10)]), ([2, 0, 1], [33_333, 33_333, 33_334])
+        grown = crr.read_book(3, crr.add_hub_contract(3, book, 1, 0, 8, *hub, 2, 1_000))
+        self.assertEqual(grown, [(0, 1, 7, 0, 1, 10), (1, 0, 8, 0, 2, 333), (1, 0, 8, 1, 2, 334), (1, 0, 8, 2, 2, 333)])
+        full = crr.write_book(3, [(0, 1, 7, 0, 1, 10)] * 1000)
+        self.refused(2, crr.add_hub_contract, 0, book, 0, 1, 7, *hub, 2, 10)
+        self.refused(1, crr.add_hub_contract, 3, b"", 0, 1, 7, *hub, 2, 10)
+        self.refused(10, crr.add_hub_contract, 3, bits([(10, 1001), (6, 0)]), 0, 1, 7, *hub, 2, 10)
+        self.refused(4, crr.add_hub_contract, 3, bits([(10, 0), (6, 1)]), 0, 1, 7, *hub, 2, 10)
+        self.refused(5, crr.add_hub_contract, 3, book + b"\0", 0, 1, 7, *hub, 2, 10)
+        self.refused(11, crr.add_hub_contract, 1, book, 0, 1, 7, [0], [100_000], 0, 10)
+        self.refused(17, crr.add_hub_contract, 3, book, 2, 1, 7, *hub, 2, 10)
+        self.refused(17, crr.add_hub_contract, 3, book, 0, 2, 7, *hub, 2, 10)
+        self.refused(18, crr.add_hub_contract, 3, book, 0, 1, 1024, *hub, 2, 10)
+        self.refused(11, crr.add_hub_contract, 3, book, 0, 1, 7, [3], [100_000], 2, 10)
+        self.refused(11, crr.add_hub_contract, 3, book, 0, 1, 7, *hub, 3, 10)
+        self.refused(13, crr.add_hub_contract, 3, book, 0, 1, 7, *hub, 2, 0)
+        self.refused(24, crr.add_hub_contract, 3, book, 0, 1, 7, hub[0], hub[1][:2], 2, 10)
+        self.refused(25, crr.add_hub_contract, 3, book, 0, 1, 7, [0, 0], [50_000, 50_000], 2, 10)
+        self.refused(10, crr.add_hub_contract, 3, full, 0, 1, 7, *hub, 2, 10)
+
+    def test_find_hub_mcc(self):
+        grid = crr.Grid(2, 1, [5], [1, 0])
+        self.assertEqual(crr.find_hub_mcc(grid, [1], [0, 1], [1, 99_999]), (-1, 99_999))
+        self.assertEqual(crr.find_hub_mcc(grid, [1], [1, 0], [99_999, 1]).exact, Fraction(-1, 100_000))
+        self.refused(2, crr.find_hub_mcc, crr.Grid(0, 1, [5], []), [1], [0], [100_000])
+        self.refused(3, crr.find_hub_mcc, crr.Grid(1, 65, [], [0] * 65), [0] * 65, [0], [100_000])
+        self.refused(9, crr.find_hub_mcc, grid, [], [0], [100_000])
+        self.refused(7, crr.find_hub_mcc, crr.Grid(2, 1, [5], [1, 100_001]), [1], [0], [100_000])
+        self.refused(15, crr.find_hub_mcc, grid, [500_001], [0], [100_000])
+        self.refused(11, crr.find_hub_mcc, grid, [1], [2], [100_000])
+        self.refused(24, crr.find_hub_mcc, grid, [1], [0, 1], [50_000, 49_999])
+        self.refused(24, crr.find_hub_mcc, grid, [1], [0, 1], [2**63, 2**63 + 100_000])
+        self.refused(24, crr.find_hub_mcc, grid, [1], [], [])
+        self.refused(25, crr.find_hub_mcc, grid, [1], [1, 1], [50_000, 50_000])
+
     def test_same_ends(self):
         self.assertEqual(len(crr.write_book(2, [(0, 1, 7, 1, 1, 10)])), 8)
 
@@ -374,6 +410,34 @@ class Figures(unittest.TestCase):
                 shares[own] += 1 if missing > 0 else -1
             self.assertEqual(list(crr.share_balance(balance, array("Q", demands))), shares)
             self.assertTrue(sum(shares) == balance and all(abs(share - own) < 1 for share, own in zip(shares, exact)))
+
+    def test_hubs(self):
+        """Shares by fractions: each leftover thousandth goes to the node that is the furthest below its part, the MCC is a weighted mean of the nodes'."""
+        rng = random.Random(SEED)
+        for _ in range(300):
+            nodes, constraints, form = *rng.choice(((3, 2), (40, 3), (200, 4), (4000, 1))), rng.choice((0, 1))
+            count = rng.randint(1, min(32, nodes))
+            hub_nodes = rng.sample(range(min(nodes, (256, 4000)[form])), count)
+            cuts = [0, *sorted(rng.sample(range(1, 100_000), count - 1)), 100_000]
+            weights = [high - low for low, high in zip(cuts, cuts[1:])] if rng.random() < 0.6 or 100_000 % count else [100_000 // count] * count
+            quantity = rng.choice((1, count, rng.randint(1, 100), rng.randint(1, 1_000_000)))
+            parts = {node: Fraction(quantity * weight, 100_000) for node, weight in zip(hub_nodes, weights)}
+            shares = {node: int(parts[node]) for node in sorted(parts)}
+            by_size = sorted(shares, key=lambda node: shares[node] - parts[node])  # equal ones stay in order
+            for node in by_size[: quantity - sum(shares.values())]:
+                shares[node] += 1
+            old = [(0, 0, 9, 0, 1, 5)] * rng.randint(0, 3)
+            order = (rng.randint(0, 1), rng.randint(0, 1), rng.randint(0, 1023))
+            sink = rng.choice(hub_nodes)
+            grown = crr.add_hub_contract(nodes, crr.write_book(nodes, old, form), *order, hub_nodes, array("Q", weights), sink, quantity)
+            expected = [(*order, node, sink, share) for node, share in shares.items() if share]
+            self.assertEqual((crr.read_book(nodes, grown), crr.read_book_form(nodes, grown)), (old + expected, form))
+            factors, prices = rng.choices(range(-100_000, 100_001), k=nodes * constraints), rng.choices(range(500_001), k=constraints)
+            grid = crr.Grid(nodes, constraints, [0] * constraints, array("q", factors))
+            mcc = crr.find_mcc(grid, prices)
+            found = crr.find_hub_mcc(grid, prices, array("Q", hub_nodes), weights)
+            self.assertEqual(found.exact, sum(Fraction(mcc[node] * weight, 100_000) for node, weight in zip(hub_nodes, weights)))
+            self.assertEqual(found.quotient, found.exact.__floor__())
 
     def test_texts(self):
         files = [(CASE_L / name).read_bytes() for name in ("grid.bin", "book.bin", "prices.bin")]

@@ -196,6 +196,92 @@ class DamagedDemands(FolderTest):
         self.assertEqual(command("share", "1", missing)[2].splitlines()[0], f"nowhere.csv: No such file or directory: {missing}")
 
 
+# What is wrong with a file of hubs or of contracts from hubs, and what is said, line by line.
+NORTH = "North,Bus 2,50\nNorth,Bus 3,50"
+CONTRACT = "H,Ash,OBL,ON,North,Bus 4,1"
+HUBS = [
+    ("North,Bus 2,50\nNorth,Bus 3,49.999", CONTRACT, ["hubs.csv:3:PERCENT: the percents of North total 99.999 and not 100.000 (refusal 24)"]),
+    ("North,Bus 2,50\nNorth,Bus 3,50.001", CONTRACT, ["hubs.csv:3:PERCENT: the percents of North total 100.001 and not 100.000 (refusal 24)"]),
+    ("North,Bus 2,50\nWest,Bus 3,50\nNorth,Bus 4,50", CONTRACT, ["hubs.csv:3:PERCENT: the percents of West total 50.000 and not 100.000 (refusal 24)"]),
+    ("North,Bus 2,50\nNorth,Bus 2,50", CONTRACT, ["hubs.csv:3:NODE_ID: Bus 2 occurs twice in this hub (refusal 25)"]),
+    ("North,Bus 15,50\nNorth,Bus 16,50", CONTRACT, [
+        "hubs.csv:2:NODE_ID: no node 'Bus 15' in the grid (refusal 11)",
+        "hubs.csv:3:NODE_ID: no node 'Bus 16' in the grid (refusal 11)",
+    ]),
+    ("North,Bus 2,0\nNorth,Bus 3,100", CONTRACT, ["hubs.csv:2:PERCENT: 0 is outside 0.001 to 100.000 (refusal 24)"]),
+    ("North,Bus 2,100.001", CONTRACT, ["hubs.csv:2:PERCENT: 100.001 is outside 0.001 to 100.000 (refusal 24)"]),
+    ("North,Bus 2,99.9995\nNorth,Bus 3,0.0005", CONTRACT, [
+        "hubs.csv:2:PERCENT: 99.9995 has more than 3 decimals",
+        "hubs.csv:3:PERCENT: 0.0005 has more than 3 decimals",
+    ]),
+    (f",Bus 2,50\n{NORTH}", CONTRACT, ["hubs.csv:2:HUB: empty"]),
+    ("", CONTRACT, ["hubs.csv:1:HUB: no hub"]),
+    (NORTH, "H,Ash,OBL,ON,South,Bus 4,1", ["contracts.csv:2:SOURCE: no such hub: 'South'"]),
+    (NORTH, "H,Ash,OBL,ON,Bus 2,Bus 4,1", ["contracts.csv:2:SOURCE: no such hub: 'Bus 2'"]),
+    (NORTH, "H,Ash,OBL,ON,North,North,1", ["contracts.csv:2:SINK: no node 'North' in the grid (refusal 11)"]),
+    (NORTH, "H,Ash,FWD,24H,North,Bus 4,1", [
+        "contracts.csv:2:HEDGE_TYPE: 'FWD' is neither OBL nor OPT (refusal 17)",
+        "contracts.csv:2:TIME_OF_USE: '24H' is neither ON nor OFF; split such a contract into an ON and an OFF row (refusal 17)",
+    ]),
+    (NORTH, "H,Ash,OBL,ON,North,Bus 4,0", ["contracts.csv:2:MW: 0 is outside 0.001 to 1000.000 (refusal 13)"]),
+    (NORTH, "H,,OBL,ON,North,Bus 4,1", ["contracts.csv:2:OWNER: empty"]),
+    (NORTH, "H,0,OBL,ON,North,Bus 4,1", ["contracts.csv:2:OWNER: 0 stands for holder 0, and that one is Alder Power here"]),
+    (NORTH, f"{CONTRACT}\n{CONTRACT}", ["contracts.csv:3:CRR_ID: H occurs twice"]),
+    (NORTH, f"{CONTRACT}\nH Bus 2,Ash,OBL,ON,North,Bus 4,1\nH,Ash,OBL,ON,North,Bus 4", ["contracts.csv:4:MW: 6 fields where the heading has 7"]),
+    ("North,Bus 2,50", "H,Ash,OBL,ON,South,Bus 4,1", [
+        "hubs.csv:2:PERCENT: the percents of North total 50.000 and not 100.000 (refusal 24)",
+        "contracts.csv:2:SOURCE: no such hub: 'South'",
+    ]),
+]
+
+
+class DamagedHubs(FolderTest):
+    BOOK = "CRR_ID,OWNER,HEDGE_TYPE,TIME_OF_USE,SOURCE,SINK,MW\n"
+
+    def said(self, case, hubs, contracts):
+        (self.folder / "hubs.csv").write_text(f"HUB,NODE_ID,PERCENT\n{hubs}\n")
+        (self.folder / "contracts.csv").write_text(f"{self.BOOK}{contracts}\n")
+        status, out, err = command("hub-add", case, self.folder / "hubs.csv", self.folder / "contracts.csv", "-o", self.folder / "out")
+        self.assertEqual((status, out, (self.folder / "out").exists()), (2, "", False))
+        return err.splitlines()
+
+    def test_each_is_told_where_it_is(self):
+        for hubs, contracts, faults in HUBS:
+            with self.subTest(faults=faults):
+                end = f"crr: {len(faults)} fault{'s' * (len(faults) > 1)} in {IEEE14}; nothing was written"
+                self.assertEqual(self.said(IEEE14, hubs, contracts), [*faults, end])
+                if faults[0].startswith("hubs"):
+                    own = [fault for fault in faults if fault.startswith("hubs")]
+                    status, out, err = command("hub-mcc", IEEE14, self.folder / "hubs.csv")
+                    self.assertEqual((status, out, err.splitlines()[:-1]), (2, "", own))
+
+    def test_sizes(self):
+        case = self.folder / "case"
+        shutil.copytree(IEEE14, case)
+        heading, nodes = "NODE_ID," + ",".join(line.split(",")[0] for line in (case / "constraints.csv").read_text().splitlines()[1:]), 40
+        (case / "factors.csv").write_text(heading + "\n" + "".join(f"Bus {n}{',0' * 40}\n" for n in range(1, nodes)))
+        many = "\n".join(f"North,Bus {n},{'3' if n < 33 else '4'}" for n in range(1, 34))
+        self.assertEqual(self.said(case, many, CONTRACT)[0], "hubs.csv:34:NODE_ID: more than 32 nodes in this hub (refusal 24)")
+        (case / "book.csv").write_text(self.BOOK + "".join(f"{i},Ash,OBL,ON,Bus 1,Bus 2,1\n" for i in range(999)))
+        growth = "contracts.csv:2:CRR_ID: more than 1,000 contracts, or a book that would grow past 1,000 (refusal 10)"
+        self.assertEqual(self.said(case, NORTH, CONTRACT)[0], growth)
+        (case / "book.csv").write_text(self.BOOK + "H Bus 2,Ash,OBL,ON,Bus 1,Bus 2,1\n")
+        self.assertEqual(self.said(case, NORTH, CONTRACT)[0], "contracts.csv:2:CRR_ID: H Bus 2 occurs twice")
+
+    def test_owners(self):
+        case = self.folder / "case"
+        shutil.copytree(IEEE14, case)
+        (case / "book.csv").write_text(self.BOOK + "".join(f"{i},name {i},OBL,ON,Bus 1,Bus 2,1\n" for i in range(999)))
+        rows = "\n".join(f"H{i},new {i},OBL,ON,North,Bus 4,0.001" for i in range(30))
+        self.assertEqual(self.said(case, NORTH, rows)[0], "contracts.csv:27:OWNER: more than 1024 owners (refusal 18)")
+
+    def test_whole_files(self):
+        missing = self.folder / "nowhere.csv"
+        self.assertEqual(command("hub-mcc", IEEE14, missing)[2].splitlines()[0], f"nowhere.csv: No such file or directory: {missing}")
+        (self.folder / "hubs.csv").write_text("HUB,NODE_ID,WEIGHT\nNorth,Bus 2,100\n")
+        self.assertEqual(command("hub-mcc", IEEE14, self.folder / "hubs.csv")[2].splitlines()[0], "hubs.csv:1:PERCENT: the column is missing")
+
+
 class Drawn(FolderTest):
     """Files damaged at random: each is read, or gives faults that have a line; nothing else comes out."""
 

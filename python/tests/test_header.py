@@ -44,13 +44,16 @@ class Header(unittest.TestCase):
             (interface.HOLDER, r"holder", 0),
             (interface.BALANCE, "balance +cents", 2),
             (interface.DEMAND, "demand +units of any one kind", 0),
+            (interface.WEIGHT, "weight +hundred-thousandths of a hub", 3),
         ):
             low, high = re.search(words + r"(?:, | \()(-?[\d,]*\d) to ([\d,]*\d)", HEADER).groups()
             self.assertEqual((unit.places, unit.low, unit.high), (places, int(low.replace(",", "")), int(high.replace(",", ""))), words)
             self.assertIn(unit.refusal, interface.MEANINGS)
         self.assertRegex(HEADER, r"flow, excess +10\^-8 MW")
         self.assertRegex(HEADER, r"parts +10\^-8 cents")
-        self.assertEqual((interface.FLOW_PLACES, interface.PART_PLACES), (8, 8))
+        self.assertRegex(HEADER, r"MCC +10\^-5 cents per MWh")
+        self.assertEqual((interface.FLOW_PLACES, interface.PART_PLACES, interface.MCC_PLACES), (8, 8, 5))
+        self.assertEqual(interface.HUB_WEIGHT, 10**interface.HUB_PLACES)
 
     def test_processes_and_periods(self):
         self.assertRegex(HEADER, r"period +0 off-peak, 1 on-peak")

@@ -1,8 +1,9 @@
 /*
  * Calls every function of crr.h, on case L of document 01: each file read and written
  * again, the grid and the book in both forms, a node retired, the market's view and a
- * holder's, the book settled, the test, the flows, the cuts, the released shares, the
- * MCC, the hour, the two texts; the calendar; and a balance shared. Also a C++ program.
+ * holder's, the book settled, a contract from a hub added, the test, the flows, the
+ * cuts, the released shares, the MCC, that of a hub, the hour, the two texts; the
+ * calendar; and a balance shared. Also a C++ program.
  */
 #include <stdint.h>
 #include <stdio.h>
@@ -36,6 +37,11 @@ static const uint8_t settled[] = {0x01, 0x00, 0x00, 0x90, 0x00, 0x10, 0x00, 0x05
 /* Two rows of one contract, wide, and their sum; the cell after it. */
 static const uint8_t split[] = {0x00, 0xbf, 0x40, 0x70, 0x00, 0x00, 0x10, 0x00, 0x05, 0x40, 0x70, 0x00, 0x00, 0x10, 0x00, 0x05};
 static const uint8_t added[] = {0x00, 0x7f, 0x40, 0x70, 0x00, 0x00, 0x10, 0x00, 0x0a, 7};
+/* A hub of all three nodes, and case L's book with a contract of 1,000 from it to node 2 added, and the cell after it. */
+static const uint64_t hub_nodes[] = {2, 0, 1}, hub_weights[] = {33333, 33333, 33334}, twice[] = {2, 0, 2}, many[CRR_MAX_HUB_NODES + 1] = {0};
+static const uint8_t grown[] = {0x01, 0xc0, 0x40, 0x70, 0x00, 0x10, 0x27, 0x10, 0xc0, 0x80, 0x00, 0x20, 0x01, 0xf4, 0x40,
+                                0x70, 0x00, 0x20, 0x00, 0x01, 0x00, 0x90, 0x00, 0x10, 0x00, 0x05, 0x40, 0x70, 0x00, 0x20,
+                                0x01, 0x4d, 0x40, 0x70, 0x10, 0x20, 0x01, 0x4e, 0x40, 0x70, 0x20, 0x20, 0x01, 0x4d, 7};
 static int64_t factors[CRR_MAX_NODES * CRR_MAX_CONSTRAINTS], flows[CRR_MAX_CONSTRAINTS], mcc[CRR_MAX_NODES], cents[CRR_MAX_CONTRACTS];
 static const uint64_t demands[] = {5, 3, 1}, no_demands[] = {0, 0};
 static int64_t shares[4];
@@ -66,8 +72,8 @@ int main(void) {
     size_t book_len = load("book.bin", book_file, sizeof book_file);
     size_t price_len = load("prices.bin", price_file, sizeof price_file);
     size_t nodes = 0, constraints = 0, contracts = 0, bytes = 0, count = 7, lowest = 7, counted = 7, listed = 7;
-    uint64_t form = 7, period = 7, set = 7, percent = 7, parts = 0, hours = 7, weekday = 0, year = 7, month = 7, day = 7;
-    int64_t excess = 7, sum = 0, whole = 0;
+    uint64_t form = 7, period = 7, set = 7, percent = 7, parts = 0, hours = 7, weekday = 0, year = 7, month = 7, day = 7, remainder = 7;
+    int64_t excess = 7, sum = 0, whole = 0, quotient = 7;
 
     expect("crr_read_grid", crr_read_grid(grid_file, grid_len, limits, CRR_MAX_CONSTRAINTS, factors, CRR_MAX_NODES * CRR_MAX_CONSTRAINTS, &nodes, &constraints, &form) == CRR_OK
                                 && form == CRR_NARROW && nodes == 3 && constraints == 2 && limits[0] == 100000 && factors[0] == 60000 && factors[4] == -10000);
@@ -117,6 +123,14 @@ int main(void) {
                                                         && bytes == 7 && memcmp(copy, settled, 9) == 0);
     expect("crr_write_settled_book, fewer rows, wide", crr_write_settled_book(nodes, split, 16, copy, 9, &bytes) == CRR_OK
                                                            && bytes == 9 && memcmp(copy, added, sizeof added) == 0);
+    copy[44] = 7;
+    expect("crr_add_hub_contract", crr_add_hub_contract(nodes, book_file, book_len, 0, CRR_ON_PEAK, 7, hub_nodes, 3, hub_weights, 3, 2, 1000, copy, sizeof copy, &bytes) == CRR_OK
+                                       && bytes == 44 && memcmp(copy, grown, sizeof grown) == 0);
+    expect("crr_add_hub_contract, too few bytes", crr_add_hub_contract(nodes, book_file, book_len, 0, CRR_ON_PEAK, 7, hub_nodes, 3, hub_weights, 3, 2, 999, copy, 43, &bytes) == CRR_SHORT_TABLE
+                                                      && bytes == 44 && memcmp(copy, grown, sizeof grown) == 0);
+    expect("crr_add_hub_contract, a node twice", crr_add_hub_contract(nodes, book_file, book_len, 0, CRR_ON_PEAK, 7, twice, 3, hub_weights, 3, 2, 1000, copy, 0, &bytes) == CRR_HUB_NODE_TWICE);
+    expect("crr_add_hub_contract, unequal lists", crr_add_hub_contract(nodes, book_file, book_len, 0, CRR_ON_PEAK, 7, twice, 3, hub_weights, 2, 2, 1000, copy, 0, &bytes) == CRR_HUB_SHAPE
+                                                      && bytes == 44);
     expect("crr_read_prices", crr_read_prices(constraints, price_file, price_len, prices, CRR_MAX_CONSTRAINTS, &period) == CRR_OK && period == CRR_ON_PEAK && prices[1] == 2550);
     expect("crr_write_prices", crr_write_prices(period, constraints, prices, CRR_MAX_CONSTRAINTS, copy, sizeof copy, &bytes) == CRR_OK
                                    && bytes == price_len && memcmp(copy, price_file, bytes) == 0);
@@ -144,6 +158,11 @@ int main(void) {
     expect("crr_released_percent, 3", crr_released_percent(3, &percent) == CRR_PROCESS_NUMBER && percent == 100);
     expect("crr_find_mcc", crr_find_mcc(nodes, constraints, factors, nodes * constraints, prices, constraints, mcc, CRR_MAX_NODES) == CRR_OK
                                && mcc[0] == -9000000 && mcc[1] == 0 && mcc[2] == -92000000);
+    expect("crr_find_hub_mcc", crr_find_hub_mcc(nodes, constraints, factors, nodes * constraints, prices, constraints, hub_nodes, 3, hub_weights, 3, &quotient, &remainder) == CRR_OK
+                                   && quotient == -33666330 && remainder == 0);
+    expect("crr_find_hub_mcc, more than 32 nodes", crr_find_hub_mcc(nodes, constraints, factors, nodes * constraints, prices, constraints, many, CRR_MAX_HUB_NODES + 1,
+                                                                    many, CRR_MAX_HUB_NODES + 1, &quotient, &remainder) == CRR_HUB_SHAPE
+                                                       && quotient == -33666330 && remainder == 0);
     cents[3] = cents[4] = 7;
     priced[3] = priced[4] = 7;
     expect("crr_settle_hour", crr_settle_hour(nodes, constraints, period, factors, nodes * constraints, prices, constraints, book_file, book_len,

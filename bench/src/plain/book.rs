@@ -100,19 +100,32 @@ pub fn read_book(nodes: usize, file: &[u8], book: &mut [u64]) -> Result<(usize, 
 }
 
 /// The numbers that an end may have: below the node count, and held by its field.
-fn ends_below(form: Form, nodes: usize) -> u64 {
+pub fn ends_below(form: Form, nodes: usize) -> u64 {
     match form {
         Form::Narrow => nodes.min(256) as u64,
         Form::Wide => nodes as u64,
     }
 }
 
-fn store_rows<const BYTES: usize>(rows: &[u64], file: &mut [u8]) {
+/// A contract's cells as one number.
+#[inline]
+fn row_record<const BYTES: usize>([kind, period, holder, source, sink, quantity]: [u64; 6]) -> u64 {
     let end = end_bits(BYTES);
+    let start = kind << (31 + 2 * end) | period << (30 + 2 * end) | holder << (20 + 2 * end);
+    start | source << (20 + end) | sink << 20 | quantity
+}
+
+fn store_rows<const BYTES: usize>(rows: &[u64], file: &mut [u8]) {
     for (bytes, row) in file[2..].chunks_exact_mut(BYTES).zip(rows.chunks_exact(6)) {
         let &[kind, period, holder, source, sink, quantity] = row else { unreachable!() };
-        let start = kind << (31 + 2 * end) | period << (30 + 2 * end) | holder << (20 + 2 * end);
-        store::<BYTES>(bytes, start | source << (20 + end) | sink << 20 | quantity);
+        store::<BYTES>(bytes, row_record::<BYTES>([kind, period, holder, source, sink, quantity]));
+    }
+}
+
+/// Contracts stored one behind the other.
+pub fn store_contracts<const BYTES: usize>(rows: impl Iterator<Item = [u64; 6]>, file: &mut [u8]) {
+    for (bytes, row) in file.chunks_exact_mut(BYTES).zip(rows) {
+        store::<BYTES>(bytes, row_record::<BYTES>(row));
     }
 }
 
@@ -139,7 +152,7 @@ pub fn write_book(form: Form, nodes: usize, contracts: usize, book: &[u64], file
     Ok(size)
 }
 
-fn check_listed(below: u64, list: &[u64]) -> Result<(), Refusal> {
+pub fn check_listed(below: u64, list: &[u64]) -> Result<(), Refusal> {
     demand(list.iter().all(|&node| node < below), NODE_NUMBER)
 }
 

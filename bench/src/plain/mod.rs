@@ -5,6 +5,7 @@ mod book;
 mod calendar;
 mod cuts;
 mod grid;
+mod hubs;
 mod prices;
 mod settled;
 mod settlement;
@@ -17,6 +18,7 @@ pub use book::{read_book, remap_book, write_book};
 pub use calendar::{month_hours, month_later, weekday};
 pub use cuts::find_cuts;
 pub use grid::{read_grid, write_grid, Header};
+pub use hubs::{add_hub_contract, find_hub_mcc, Order};
 pub use prices::{read_prices, write_prices};
 pub use settled::write_settled_book;
 pub use settlement::{find_mcc, settle_hour, Totals};
@@ -46,6 +48,8 @@ pub const PROCESS_NUMBER: Refusal = 16;
 pub const PERIOD_OR_KIND: Refusal = 17;
 pub const HOLDER_RANGE: Refusal = 18;
 pub const NO_SUCH_DATE: Refusal = 19;
+pub const HUB_SHAPE: Refusal = 24;
+pub const HUB_NODE_TWICE: Refusal = 25;
 pub const SHARE_RANGE: Refusal = 26;
 pub const NO_DEMAND: Refusal = 27;
 
@@ -54,6 +58,7 @@ pub const MAX_NARROW_NODES: usize = 200;
 pub const MAX_CONSTRAINTS: usize = 64;
 pub const MAX_CONTRACTS: usize = 1000;
 pub const MAX_COORDINATORS: usize = 256;
+pub const MAX_HUB_NODES: usize = 32;
 
 /// The two forms of a grid's file and of a book's.
 #[derive(Clone, Copy, Debug, PartialEq, Eq)]

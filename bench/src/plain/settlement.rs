@@ -11,10 +11,15 @@ pub struct Totals {
 
 const CENT: i64 = 100_000_000;
 
+#[inline]
+pub fn node_mcc(constraints: usize, factors: &[i64], prices: &[u64], node: usize) -> i64 {
+    let row = &factors[node * constraints..][..constraints];
+    -row.iter().zip(prices).map(|(&factor, &price)| factor * price as i64).sum::<i64>()
+}
+
 fn fill_mcc(constraints: usize, factors: &[i64], prices: &[u64], mcc: &mut [i64]) {
     for (node, cell) in mcc.iter_mut().enumerate() {
-        let row = &factors[node * constraints..][..constraints];
-        *cell = -row.iter().zip(prices).map(|(&factor, &price)| factor * price as i64).sum::<i64>();
+        *cell = node_mcc(constraints, factors, prices, node);
     }
 }
 

@@ -2,14 +2,14 @@
 use mathlib.Core.Path.{_≡_, refl, sym, ap, subst, _∙_}
 use mathlib.Core.Bool.{Bool, true, false, cond}
 use mathlib.Core.List.{List, [], _∷_, _++_}
-use Prim.Native.Nat.{ℕ, zero, suc, _+_, _-_, _<_}
+use Prim.Native.Nat.{ℕ, suc, _+_, _<_}
 use native.Mathlib.Omega.{arith}
 use native.Mathlib.Nat.{lt-irrefl}
 use borrow.Author.Tests.{ltb-true, ltb-false, leb-false, eqb-true, eqb-false}
 use lib.Dec.{leb, ltb, eqb}
 use lib.ListN.{length, getD, set, drop}
 use lib.Seq.{drop-cons, drop-length, getD-set-same, getD-set-other}
-use Rattle.lists.specs.Lists.{some, above}
+use Rattle.lists.specs.Lists.{some}
 use Rattle.lists.proofs.Search.{neither}
 use Rattle.book_remap.specs.RemapBook.{movedEnd}
 
@@ -52,11 +52,6 @@ module _ (n : ℕ) (olds news ends : List ℕ) (i : ℕ) (ho : i < length olds) 
       by false q = getD-set-other ends (getD olds i 0) e _ 0 (eqb-false e (getD olds i 0) q) ∙ each e h ∙ sent false q
 
 -- ---- listed numbers
-
--- not below n is above n − 1
-pub listed-above : (n : ℕ) → 0 < n → (xs : List ℕ) → some (above (n - 1)) xs ≡ some (leb n) xs
-listed-above zero h xs = absurd (omega arith)
-listed-above (suc n) h xs = ap (λ (m : ℕ). some (above m) xs) {x = suc n - 1} {y = n} (omega arith)
 
 pub moved-below : (n : ℕ) (olds news : List ℕ) (e : ℕ) → some (leb n) news ≡ false → e < n → movedEnd olds news e < n
 unfolding movedEnd some

@@ -9,7 +9,7 @@ ghost use Rattle.tariff.specs.Refusals.{first};
 ghost use Rattle.tariff.specs.Units.{maxNodes, maxContracts};
 ghost use Rattle.layouts.specs.Forms.{recordBytes};
 ghost use Rattle.layouts.specs.BookFile.{bookBytes, bookFile, contractIn};
-ghost use Rattle.book_remap.specs.RemapBook.{listedNodes, remapBookCall, remapBookChecked, RemapsBook};
+ghost use Rattle.book_remap.specs.RemapBook.{remapBookCall, remapBookChecked, RemapsBook};
 ghost use Rattle.book_remap.specs.Inner.{listChecks, movedBy, Moves, Listed, Movable};
 use layouts::Form;
 use layouts::WriteAnswer;
@@ -18,23 +18,15 @@ use tariff::Contract;
 use tariff::MAX_NODES;
 use tariff::Refusal;
 
-// 11: whether a listed number is not below `nodes`.
-fn listed_outside(nodes: usize, list: &[u64]) -> bool
-    requires { ⌜ 0 < nodes ⌝ }
-    ensures { λ r. ⌜ r ≡ listedNodes nodes (before list) .fails ⌝ }
-{
-    tables::cell_above(list, list.len(), (nodes - 1) as u64)
-}
-
 // The lists' checks: 11 for the old numbers, 11 for the new ones, which a book of this form must have room for, 9 where there are not as many of each.
 fn check_lists(form: Form, nodes: usize, old: &[u64], new: &[u64]) -> Checked
     requires { ⌜ 0 < nodes ⌝ }
     ensures { λ r. ⌜ r ≡ first (listChecks form nodes (before old) (before new)) ⌝ }
 {
-    if listed_outside(nodes, old) {
+    if tables::listed_outside(nodes, old) {
         return Checked::Refused(Refusal::NodeNumber);
     }
-    if listed_outside(form.ends_below(nodes), new) {
+    if tables::listed_outside(form.ends_below(nodes), new) {
         return Checked::Refused(Refusal::NodeNumber);
     }
     if old.len() != new.len() {

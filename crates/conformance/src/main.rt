@@ -8,4 +8,5 @@ fn main() {
     cut_vectors::go_through();
     view_vectors::go_through();
     settled_vectors::go_through();
+    hub_vectors::go_through();
 }

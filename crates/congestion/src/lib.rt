@@ -44,7 +44,13 @@ fn add_product(
 }
 
 // The MCC of a node (002 part C, MCCi = -(Σ PTDFik * FSPk)): the products summed from the first constraint to the last, then one negation.
-fn node_mcc(nodes: usize, constraints: usize, factors: &[i64], prices: &[u64], node: usize) -> Mcc
+pub fn node_mcc(
+    nodes: usize,
+    constraints: usize,
+    factors: &[i64],
+    prices: &[u64],
+    node: usize,
+) -> Mcc
     requires { ⌜ Hour nodes constraints (now factors) (now prices) ⌝ }
     requires { ⌜ node < nodes ⌝ }
     ensures { λ r. ⌜ (r .0 ≡ mccIn nodes constraints (before factors) (before prices) node) × (natAbs (r .0) ≤ maxMcc) ⌝ }

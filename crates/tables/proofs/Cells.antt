@@ -1,9 +1,11 @@
--- Laws of a table of limits or prices that no check refuses.
-use mathlib.Core.Path.{_≡_}
+-- Laws of a table of limits or prices that no check refuses, and of listed numbers.
+use mathlib.Core.Path.{_≡_, ap}
 use mathlib.Core.Bool.{false}
 use mathlib.Core.List.{List}
-use Prim.Native.Nat.{ℕ, _≤_, _<_}
+use Prim.Native.Nat.{ℕ, zero, suc, _-_, _≤_, _<_}
+use native.Mathlib.Omega.{arith}
 use borrow.Author.Tests.{ltb-false}
+use lib.Dec.{leb}
 use lib.ListN.{length, getD, take}
 use lib.Seq.{getD-take}
 use Rattle.lists.specs.Lists.{some, above}
@@ -20,3 +22,10 @@ good-cells most k table long none =
 -- the cells of the cut table are in range too
 pub cut-sized : (most k : ℕ) (table : List ℕ) → GoodCells most k table → (j : ℕ) → j < k → getD (take k table) j 0 ≤ most
 cut-sized most k table g j h = rw (getD-take k table j 0 h) (g .sized j h)
+
+-- ---- listed numbers
+
+-- not below n is above n − 1
+pub listed-above : (n : ℕ) → 0 < n → (xs : List ℕ) → some (above (n - 1)) xs ≡ some (leb n) xs
+listed-above zero h xs = absurd (omega arith)
+listed-above (suc n) h xs = ap (λ (m : ℕ). some (above m) xs) {x = suc n - 1} {y = n} (omega arith)

@@ -2,7 +2,8 @@
 ghost use mathlib.Core.Path.{_≡_};
 ghost use mathlib.Core.Bool.{false};
 ghost use mathlib.Core.List.{[], _∷_};
-ghost use Prim.Native.Nat.{_+_, _*_, _≤_};
+ghost use Prim.Native.Nat.{_+_, _*_, _≤_, _<_};
+ghost use lib.Dec.{leb};
 ghost use lib.ListN.{length, take};
 ghost use Rattle.lists.specs.Lists.{some, above};
 ghost use Rattle.lists.specs.Lent.{before};
@@ -31,6 +32,14 @@ pub fn cell_above(cells: &[u64], count: usize, most: u64) -> bool
         i += 1;
     }
     false
+}
+
+// Whether a listed number is not below `bound`.
+pub fn listed_outside(bound: usize, list: &[u64]) -> bool
+    requires { ⌜ 0 < bound ⌝ }
+    ensures { λ r. ⌜ r ≡ some (leb bound) (before list) ⌝ }
+{
+    cell_above(list, list.len(), (bound - 1) as u64)
 }
 
 // The least factor.

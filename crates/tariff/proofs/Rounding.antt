@@ -1,17 +1,18 @@
--- An amount's sign and size, and what its size says of its cents, whole cents and parts. s is the size.
+-- A figure's sign and size, what an amount's size says of its cents, and division rounded down.
 use mathlib.Core.Path.{_≡_, refl, ap, _∙_}
 use mathlib.Core.Bool.{true, false}
-use Prim.Native.Nat.{ℕ, suc, _+_, _-_, _/_, _%_, _^_, _≤_, _<_}
+use Prim.Native.Nat.{ℕ, zero, suc, _+_, _-_, _*_, _/_, _%_, _^_, _≤_, _<_}
+use native.Mathlib.Nat.{mul-comm, div-le-self, div-le-of-le-mul, div-lt-iff-lt-mul}
 use native.Mathlib.Omega.{arith}
-use borrow.Author.Tests.{ltb-true}
+use borrow.Author.Tests.{ltb-true, le-ltb}
 use lib.IntN.{ℤ, pos, negsuc, negℤ, natAbs, _-ℤ_, +ℤ-idl}
 use lib.Signed.{ltZ}
 use mir.Syntax.{w64}
 use mir.Val.{SFits, toZ, ofZ}
-use Rattle.integers.specs.Division.{roundUp}
+use Rattle.integers.specs.Division.{floorDiv, floorMod, roundUp}
 use Rattle.integers.proofs.Sizes.{natAbs-sub}
-use Rattle.integers.proofs.Machine.{cast-back, op-fits, op-is}
-use Rattle.tariff.specs.Settlement.{cents, wholeCents, parts}
+use Rattle.integers.proofs.Machine.{back, cast-back, op-fits, op-is}
+use Rattle.tariff.specs.Settlement.{cents}
 
 -- ---- a machine negation
 
@@ -60,36 +61,93 @@ module _ (z : ℤ) (r : ℕ) (e : r ≡ roundUp (natAbs z) 100000000) where
       by (pos n) h = refl
       by (negsuc n) h = cc
 
--- ---- below zero
+-- ---- division rounded down, by d. Below zero it goes by -1 - z, which is not negative.
 
-module _ (z : ℤ) (s : ℕ) (size : s ≡ natAbs z) (e : ltZ z (pos 0) ≡ true) where
-  pub negative-whole : negℤ (pos ((s + 99999999) / 100000000)) ≡ wholeCents z
-  negative-whole = rw size (by z e)
+mirrored : (z : ℤ) → ltZ z (pos 0) ≡ true → negsuc 0 -ℤ z ≡ pos (natAbs z - 1)
+mirrored (pos n) e = absurd (not-below n e)
+mirrored (negsuc n) e = rw (le-ltb (suc n) 1 (omega arith))
+
+minus-one-less : (n : ℕ) → negsuc 0 -ℤ pos n ≡ negsuc n
+minus-one-less zero = refl
+minus-one-less (suc n) = ap negsuc {x = suc (0 + n)} {y = suc n} (omega arith)
+
+module _ (z : ℤ) (h : natAbs z < 2 ^ 63) (e : ltZ (toZ w64 (ofZ w64 z)) (pos 0) ≡ true) where
+  below : ltZ z (pos 0) ≡ true
+  below = rw (back z h) at e
+
+  mirror-small : natAbs (negsuc 0 -ℤ z) < 2 ^ 63
+  mirror-small = rw (mirrored z below) (omega arith)
+
+  pub mirror-fits : SFits w64 (negsuc 0 -ℤ toZ w64 (ofZ w64 z))
+  mirror-fits = op-fits _-ℤ_ {v = negsuc 0} refl (back z h) mirror-small
+
+  pub mirror-is : toZ w64 (ofZ w64 (negsuc 0 -ℤ toZ w64 (ofZ w64 z))) ≡ pos (natAbs z - 1)
+  mirror-is = op-is _-ℤ_ {v = negsuc 0} refl (back z h) mirror-small ∙ mirrored z below
+
+  pub negative-quotient : (d : ℕ) → negsuc ((natAbs z - 1) / d) ≡ floorDiv z d
+  negative-quotient d = by z below
     where
-      by : (z : ℤ) → ltZ z (pos 0) ≡ true → negℤ (pos ((natAbs z + 99999999) / 100000000)) ≡ wholeCents z
-      by (pos n) e = absurd (not-below n e)
-      by (negsuc n) e = ap (λ (x : ℕ). negℤ (pos x)) {x = (suc n + 99999999) / 100000000} {y = suc (n / 100000000)} (omega arith)
+      by : (z : ℤ) → ltZ z (pos 0) ≡ true → negsuc ((natAbs z - 1) / d) ≡ floorDiv z d
+      by (pos n) b = absurd (not-below n b)
+      by (negsuc n) b = ap (λ (m : ℕ). negsuc (m / d)) {x = suc n - 1} {y = n} (omega arith)
 
-  pub negative-parts : (1 ≤ s) × (99999999 - (s - 1) % 100000000 ≡ parts z)
-  negative-parts = rw size (by z e)
+  pub negative-remainder : (d : ℕ) → d - 1 - (natAbs z - 1) % d ≡ floorMod z d
+  negative-remainder d = by z below
     where
-      by : (z : ℤ) → ltZ z (pos 0) ≡ true → (1 ≤ natAbs z) × (99999999 - (natAbs z - 1) % 100000000 ≡ parts z)
-      by (pos n) e = absurd (not-below n e)
-      by (negsuc n) e = (omega arith, omega arith)
+      by : (z : ℤ) → ltZ z (pos 0) ≡ true → d - 1 - (natAbs z - 1) % d ≡ floorMod z d
+      by (pos n) b = absurd (not-below n b)
+      by (negsuc n) b = let same : suc n - 1 ≡ n = omega arith in rw same (omega arith)
 
--- ---- from zero on
+-- -1 less a quotient
+module _ (n d : ℕ) (h : suc n < 2 ^ 63) where
+  less-small : natAbs (negsuc 0 -ℤ pos (n / d)) < 2 ^ 63
+  less-small = rw (minus-one-less (n / d)) (omega (arith, div-le-self n d))
 
-module _ (z : ℤ) (s : ℕ) (size : s ≡ natAbs z) (e : ltZ z (pos 0) ≡ false) where
-  pub positive-whole : pos (s / 100000000) ≡ wholeCents z
-  positive-whole = rw size (by z e)
+  pub less-fits : SFits w64 (negsuc 0 -ℤ toZ w64 (n / d))
+  less-fits = op-fits _-ℤ_ {v = negsuc 0} refl (cast-back (n / d) (omega (arith, div-le-self n d))) less-small
+
+  pub less-is : toZ w64 (ofZ w64 (negsuc 0 -ℤ toZ w64 (n / d))) ≡ negsuc (n / d)
+  less-is = op-is _-ℤ_ {v = negsuc 0} refl (cast-back (n / d) (omega (arith, div-le-self n d))) less-small ∙ minus-one-less (n / d)
+
+module _ (z : ℤ) (h : natAbs z < 2 ^ 63) (e : ltZ (toZ w64 (ofZ w64 z)) (pos 0) ≡ false) where
+  from-zero : ltZ z (pos 0) ≡ false
+  from-zero = rw (back z h) at e
+
+  pub positive-is : toZ w64 (ofZ w64 z) ≡ pos (natAbs z)
+  positive-is = back z h ∙ positive-size z from-zero
+
+  pub positive-quotient : (d : ℕ) → pos (natAbs z / d) ≡ floorDiv z d
+  positive-quotient d = by z from-zero
     where
-      by : (z : ℤ) → ltZ z (pos 0) ≡ false → pos (natAbs z / 100000000) ≡ wholeCents z
-      by (pos n) e = refl
-      by (negsuc n) e = cc
+      by : (z : ℤ) → ltZ z (pos 0) ≡ false → pos (natAbs z / d) ≡ floorDiv z d
+      by (pos n) b = refl
+      by (negsuc n) b = cc
 
-  pub positive-parts : s % 100000000 ≡ parts z
-  positive-parts = rw size (by z e)
+  pub positive-remainder : (d : ℕ) → natAbs z % d ≡ floorMod z d
+  positive-remainder d = by z from-zero
     where
-      by : (z : ℤ) → ltZ z (pos 0) ≡ false → natAbs z % 100000000 ≡ parts z
-      by (pos n) e = refl
-      by (negsuc n) e = let z : _≡_ {A = ℕ} 0 1 = cc in absurd (omega arith)
+      by : (z : ℤ) → ltZ z (pos 0) ≡ false → natAbs z % d ≡ floorMod z d
+      by (pos n) b = refl
+      by (negsuc n) b = let z : _≡_ {A = ℕ} 0 1 = cc in absurd (omega arith)
+
+-- a quotient of a number of size at most B × d, rounded down, has size at most B
+pub floor-sized : (a : ℤ) (B d : ℕ) → 0 < d → natAbs a ≤ B * d → natAbs (floorDiv a d) ≤ B
+floor-sized (pos n) B d h e = div-le-of-le-mul d (omega (arith, mul-comm B d))
+floor-sized (negsuc n) B d h e = div-lt-iff-lt-mul {k = d} {x = n} {y = B} h .1 (omega arith)
+
+-- ---- a figure divided, as the machine keeps it; B bounds the quotient
+
+module _ (z : ℤ) (B d : ℕ) (some : 0 < d) (h : natAbs z ≤ B * d) (fits : (B * d < 2 ^ 63) × (B < 2 ^ 63)) where
+  same : toZ w64 (ofZ w64 z) ≡ z
+  same = back z (omega arith)
+
+  pub divisible : (natAbs (toZ w64 (ofZ w64 z)) < 2 ^ 63) × (0 < d)
+  divisible = rw same (omega arith, some)
+
+  pub quotient-kept : (r : ℤ) → r ≡ floorDiv (toZ w64 (ofZ w64 z)) d → (toZ w64 (ofZ w64 r) ≡ floorDiv z d) × (natAbs (toZ w64 (ofZ w64 r)) ≤ B)
+  quotient-kept r e =
+      let size = floor-sized z B d some h in
+      rw (e, same, back (floorDiv z d) (omega arith)) (refl, size)
+
+  pub remainder-kept : (r : ℕ) → (r ≡ floorMod (toZ w64 (ofZ w64 z)) d) × (r < d) → (r ≡ floorMod z d) × (r < d)
+  remainder-kept r e = rw same at e

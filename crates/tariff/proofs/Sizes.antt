@@ -19,7 +19,7 @@ use Rattle.tariff.specs.Units.{Factors, Grid, factor, price, maxFactor, 
 use Rattle.tariff.specs.Contracts.{counted, samePeriod, ofPeriod}
 use Rattle.tariff.specs.Inner.{FactorsInRange, LimitsInRange, PricesInRange, InRange, maxFlow, maxReleased, maxMcc, maxSpread, maxAmount}
 use Rattle.tariff.specs.Processes.{percent}
-use Rattle.tariff.specs.Settlement.{congestion, mcc, amount, exactTotal, cents, wholeCents}
+use Rattle.tariff.specs.Settlement.{congestion, mcc, amount, exactTotal, cents}
 use Rattle.tariff.proofs.Kept.{spread-small}
 use Rattle.tariff.specs.Feasibility.{flow, totalFlow, released, excess}
 
@@ -61,13 +61,9 @@ module _ (f : Factors) (p : List ℕ) (few : f .constraints ≤ maxConstraints) 
   unfolding exactTotal
   total-sized cs h = natAbs-sumOver maxAmount (amount f p) cs (amounts-sized cs h)
 
--- a quotient by 10^8 of a number of size at most B × 10^8, rounded to the nearest or down, has size at most B
+-- a quotient by 10^8 of a number of size at most B × 10^8, rounded to the nearest, has size at most B
 pub cents-sized : (a : ℤ) (B : ℕ) → natAbs a ≤ B * perCent → natAbs (cents a) ≤ B
 cents-sized a B h = rw (natAbs-roundAway a perCent) (omega arith)
-
-pub whole-sized : (a : ℤ) (B : ℕ) → natAbs a ≤ B * perCent → natAbs (wholeCents a) ≤ B
-whole-sized (pos n) B h = omega arith
-whole-sized (negsuc n) B h = omega arith
 
 -- ---- the test
 

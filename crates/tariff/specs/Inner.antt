@@ -3,7 +3,7 @@ use Prim.Native.Nat.{ℕ, _*_, _/_, _≤_, _<_}
 use mathlib.Core.List.{List}
 use lib.IntN.{natAbs}
 use Rattle.tariff.specs.declared.contracts.Contract.{Contract}
-use Rattle.tariff.specs.Units.{Factors, factor, limit, price, maxQuantity, maxFactor, maxLimit, maxPrice, maxConstraints, perCent}
+use Rattle.tariff.specs.Units.{Factors, factor, limit, price, maxQuantity, maxFactor, maxLimit, maxPrice, maxConstraints, hubWeight, perCent}
 
 pub record FactorsInRange (f : Factors) : Type 0 where
   pub factor-sized : (n k : ℕ) → n < f .nodes → k < f .constraints → natAbs (factor f n k) ≤ maxFactor
@@ -42,3 +42,7 @@ maxAmount = maxSpread * maxQuantity
 -- an amount in cents
 abbrev pub maxCents : ℕ
 maxCents = maxAmount / perCent
+
+-- a hub's weighted sum of MCCs: its weights are together at most 100,000
+abbrev pub maxWeighted : ℕ
+maxWeighted = hubWeight * maxMcc

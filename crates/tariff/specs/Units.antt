@@ -46,6 +46,13 @@ maxBalance = 1000000000
 abbrev pub maxDemand : ℕ
 maxDemand = 1000000000
 
+-- document 02, paper 7: "a hub is 1 to 32 nodes, each weighted 1 to 100,000, together 100,000"
+abbrev pub maxHubNodes : ℕ
+maxHubNodes = 32
+
+abbrev pub hubWeight : ℕ
+hubWeight = 100000
+
 -- "Exact amount: 10^-8 cents": so many parts in a cent
 abbrev pub perCent : ℕ
 perCent = 100000000

@@ -1,5 +1,6 @@
 // Document 01's units, contracts, processes and refusals as types, and its counts and ranges as constants.
 mod contracts;
+mod floors;
 mod processes;
 mod refusals;
 mod units;
@@ -18,6 +19,7 @@ pub use units::Flow;
 pub use units::Mcc;
 pub use units::Price;
 pub use units::Quantity;
+pub use units::WeightedMcc;
 
 // Counts: 1 to 4,000 nodes, 200 in a narrow file, 0 to 64 constraints, 0 to 1,000 contracts.
 pub const MAX_NODES: usize = 4000;
@@ -45,6 +47,11 @@ pub const MAX_COORDINATORS: usize = 256;
 pub const MAX_BALANCE: i64 = 1000000000;
 
 pub const MAX_DEMAND: u64 = 1000000000;
+
+// Document 02, paper 7: nodes of a hub, and what their weights total.
+pub const MAX_HUB_NODES: usize = 32;
+
+pub const HUB_WEIGHT: u64 = 100000;
 
 // Parts of a cent: 10^-8.
 pub const PER_CENT: u64 = 100000000;

@@ -25,6 +25,8 @@ pub enum Refusal {
     PeriodOrKind,
     HolderRange,
     NoSuchDate,
+    HubShape,
+    HubNodeTwice,
     ShareRange,
     NoDemand,
 }
@@ -52,6 +54,8 @@ impl Refusal {
             Refusal::PeriodOrKind => 17,
             Refusal::HolderRange => 18,
             Refusal::NoSuchDate => 19,
+            Refusal::HubShape => 24,
+            Refusal::HubNodeTwice => 25,
             Refusal::ShareRange => 26,
             Refusal::NoDemand => 27,
         }

@@ -1,19 +1,18 @@
 // Units as tuple structs. Sums keep their unit: a quantity, a price or an MCC is opened only here: in its own sums, in the product rules, and to go into a cell.
 ghost use mathlib.Core.Path.{_≡_};
-ghost use Prim.Native.Nat.{_+_, _^_, _≤_, _<_};
+ghost use Prim.Native.Nat.{_+_, _*_, _/_, _%_, _^_, _≤_, _<_};
 ghost use lib.Dec.{ltb};
 ghost use lib.IntN.{pos, natAbs, negℤ, _+ℤ_, _-ℤ_, _*ℤ_};
 ghost use lib.Signed.{ltZ};
-ghost use Rattle.integers.specs.Division.{roundUp};
-ghost use Rattle.tariff.specs.Units.{maxFactor, maxQuantity, maxPrice, perCent};
+ghost use Rattle.integers.specs.Division.{floorDiv, floorMod, roundUp};
+ghost use Rattle.tariff.specs.Units.{maxFactor, maxQuantity, maxPrice, hubWeight, perCent};
 ghost use Rattle.tariff.specs.Contracts.{counted as countedAs};
 ghost use Rattle.tariff.specs.Settlement.{cents as centsOf, wholeCents, parts as partsOf};
-ghost use Rattle.tariff.specs.Inner.{maxSpread, maxAmount, maxCents};
+ghost use Rattle.tariff.specs.Inner.{maxMcc, maxSpread, maxWeighted, maxAmount, maxCents};
+use crate::HUB_WEIGHT;
 use crate::PER_CENT;
 use crate::contracts::Kind;
-
-// The largest parts of a cent.
-const LAST_PART: u64 = PER_CENT - 1;
+use crate::floors;
 
 // Thousandths of a MW.
 pub struct Quantity(pub u64);
@@ -57,6 +56,22 @@ impl Quantity {
             Kind::Obligation => self.flow(source, sink),
             Kind::Option => self.option_flow(source, sink),
         }
+    }
+
+    // The product rule of a hub's shares (02, paper 7): quantity × weight, over the whole hub's weight, rounded down.
+    pub fn share(self, weight: u64) -> Quantity
+        requires { ⌜ (self .0 ≤ maxQuantity) × (weight ≤ hubWeight) ⌝ }
+        ensures { λ r. ⌜ r .0 ≡ self .0 * weight / hubWeight ⌝ }
+    {
+        Quantity(self.0 * weight / HUB_WEIGHT)
+    }
+
+    // What that leaves, by which leftover thousandths are given.
+    pub fn share_rest(self, weight: u64) -> u64
+        requires { ⌜ (self .0 ≤ maxQuantity) × (weight ≤ hubWeight) ⌝ }
+        ensures { λ r. ⌜ r ≡ self .0 * weight % hubWeight ⌝ }
+    {
+        self.0 * weight % HUB_WEIGHT
     }
 }
 
@@ -122,6 +137,43 @@ impl Mcc {
     {
         let q = quantity.0 as i64;
         Amount(self.0 * q)
+    }
+
+    // The product rule of a hub's MCC (02, paper 7): a node's weight × its MCC.
+    pub fn weighted(self, weight: u64) -> WeightedMcc
+        requires { ⌜ (natAbs (self .0) ≤ maxMcc) × (weight ≤ hubWeight) ⌝ }
+        ensures { λ r. ⌜ r .0 ≡ pos weight *ℤ self .0 ⌝ }
+    {
+        let w = weight as i64;
+        WeightedMcc(w * self.0)
+    }
+}
+
+// MCCs times hub weights: 10^-10 cents per MWh.
+pub struct WeightedMcc(pub i64);
+
+impl WeightedMcc {
+    pub fn plus(self, other: WeightedMcc) -> WeightedMcc
+        requires { ⌜ natAbs (self .0) + natAbs (other .0) < 2 ^ 63 ⌝ }
+        ensures { λ r. ⌜ r .0 ≡ self .0 +ℤ other .0 ⌝ }
+    {
+        WeightedMcc(self.0 + other.0)
+    }
+
+    // Over the whole hub's weight, rounded down.
+    pub fn quotient(self) -> Mcc
+        requires { ⌜ natAbs (self .0) ≤ maxWeighted ⌝ }
+        ensures { λ r. ⌜ (r .0 ≡ floorDiv (self .0) hubWeight) × (natAbs (r .0) ≤ maxMcc) ⌝ }
+    {
+        Mcc(floors::floor_quotient(self.0, HUB_WEIGHT))
+    }
+
+    // What is left above it.
+    pub fn remainder(self) -> u64
+        requires { ⌜ natAbs (self .0) ≤ maxWeighted ⌝ }
+        ensures { λ r. ⌜ (r ≡ floorMod (self .0) hubWeight) × (r < hubWeight) ⌝ }
+    {
+        floors::floor_remainder(self.0, HUB_WEIGHT)
     }
 }
 
@@ -204,12 +256,7 @@ impl Amount {
         requires { ⌜ natAbs (self .0) ≤ maxAmount ⌝ }
         ensures { λ r. ⌜ (r ≡ wholeCents (self .0)) × (natAbs r ≤ maxCents) ⌝ }
     {
-        let size = self.size();
-        if self.0 < 0 {
-            -(((size + LAST_PART) / PER_CENT) as i64)
-        } else {
-            (size / PER_CENT) as i64
-        }
+        floors::floor_quotient(self.0, PER_CENT)
     }
 
     // What is left above the whole cents.
@@ -217,11 +264,6 @@ impl Amount {
         requires { ⌜ natAbs (self .0) ≤ maxAmount ⌝ }
         ensures { λ r. ⌜ (r ≡ partsOf (self .0)) × (r < perCent) ⌝ }
     {
-        let size = self.size();
-        if self.0 < 0 {
-            LAST_PART - (size - 1) % PER_CENT
-        } else {
-            size % PER_CENT
-        }
+        floors::floor_remainder(self.0, PER_CENT)
     }
 }

@@ -10,6 +10,7 @@ from .files import (
     Contract,
     Grid,
     Prices,
+    add_hub_contract,
     read_book,
     read_book_cells,
     read_book_form,
@@ -24,7 +25,7 @@ from .files import (
 from .hours import PriceFile, Settled, settle_hours
 from .interface import MEANINGS
 from .native import Refused
-from .settlement import Hour, HourTotal, Settler, find_mcc, settle_hour
+from .settlement import Hour, HourTotal, HubMcc, Settler, find_hub_mcc, find_mcc, settle_hour
 from .shares import share_balance
 from .texts import write_report, write_statement
 from .views import Held, read_holder_view, write_holder_view, write_market_view
@@ -40,14 +41,17 @@ __all__ = [
     "Held",
     "Hour",
     "HourTotal",
+    "HubMcc",
     "PriceFile",
     "Prices",
     "Refused",
     "Settled",
     "Settler",
     "Verdict",
+    "add_hub_contract",
     "find_cuts",
     "find_flows",
+    "find_hub_mcc",
     "find_mcc",
     "month_hours",
     "month_later",

@@ -60,6 +60,8 @@ _COMMANDS: Dict[str, Callable[[argparse.Namespace], Answer]] = {
     "holder": lambda o: commands.holder(o.folder, o.holder, o.out),
     "settled": lambda o: copies.settled(o.folder, o.out),
     "same": lambda o: copies.same(o.folder, o.other),
+    "hub-mcc": lambda o: commands.hub_mcc(o.folder, o.hubs, o.round_prices),
+    "hub-add": lambda o: commands.hub_add(o.folder, o.hubs, o.contracts, o.out, o.round_prices),
     "hours": lambda o: commands.hours(*o.months),
     "share": lambda o: commands.share(o.balance, o.demands),
 }
@@ -76,6 +78,8 @@ _HELP = {
     "holder": "what one holder sees of the book: its contracts, each with its number",
     "settled": "the settled form of a book: sorted, equal contracts added together; one for all copies with rows shuffled or split",
     "same": "whether two folders have the same book, rows shuffled or split or not, and the totals that differ",
+    "hub-mcc": "the marginal cost of congestion of trading hubs, hour by hour",
+    "hub-add": "add contracts from trading hubs to the book, as contracts from their nodes",
     "hours": "the on-peak days and hours of months, 2010 to 2037",
     "share": "a balance shared among coordinators by their demands, to the cent",
 }
@@ -111,16 +115,19 @@ def _parser() -> argparse.ArgumentParser:
         else:
             command.add_argument("folder", type=Path, metavar="FOLDER", help="a folder of CSV files, or of bin files")
         command.add_argument("--json", action="store_true", help="the answer, or the faults, as one JSON object")
-        if name in ("check", "pack", "settle", "report", "remap"):
+        if name in ("check", "pack", "settle", "report", "remap", "hub-mcc", "hub-add"):
             command.add_argument("--round-prices", action="store_true", help="round prices of more than two decimals to the nearest cent")
     of["remap"].add_argument("pairs", type=Path, metavar="PAIRS", help="a CSV file OLD_NODE,NEW_NODE")
     of["holder"].add_argument("holder", metavar="HOLDER", help="its name, as in OWNER, or its number, 0 to 1023")
     of["same"].add_argument("other", type=Path, metavar="FOLDER", help="another such folder")
+    for name in ("hub-mcc", "hub-add"):
+        of[name].add_argument("hubs", type=Path, metavar="HUBS", help="a CSV file HUB,NODE_ID,PERCENT")
+    of["hub-add"].add_argument("contracts", type=Path, metavar="CONTRACTS", help="a CSV file like book.csv, with hubs for sources")
     places = {"pack": "a folder", "unpack": "a folder", "settle": "a folder for the result files", "report": "the HTML file", "remap": "a folder"}
     places.update({"market": "the market's file", "holder": "a file for the view as the library writes it"})
-    places["settled"] = "a file for the settled book, as the library reads it"
+    places.update({"settled": "a file for the settled book, as the library reads it", "hub-add": "a folder"})
     for name, what in places.items():
-        of[name].add_argument("-o", "--out", type=Path, metavar="OUT", required=name in ("remap", "market"), help=what)
+        of[name].add_argument("-o", "--out", type=Path, metavar="OUT", required=name in ("remap", "market", "hub-add"), help=what)
     of["unpack"].add_argument("--force", action="store_true", help="write over CSV files that differ")
     for name in ("test", "cuts"):
         of[name].add_argument("--period", choices=list(_PERIODS), default="both")

@@ -6,18 +6,19 @@ from concurrent.futures import Executor
 from pathlib import Path
 from typing import Dict, Iterable, List, NamedTuple, Optional, Sequence, Tuple
 
-from .case import TIMES_OF_USE, Case, Names, plain_number
+from .case import NARROW_ENDS, TIMES_OF_USE, Case, Names, holder_numbers, plain_number
 from .dates import HOURS_A_DAY, month_hours
 from .decimals import decimal, whole
 from .faults import Fault, Faults, raise_any
 from .feasibility import PROCESSES, Cut, Verdict, find_cuts, test_book
-from .files import Contract, read_book, read_book_form, read_grid, remap_book
-from .from_csv import BOOK, DEMANDS, load, read_demands
+from .files import Contract, add_hub_contract, read_book, read_book_form, read_grid, remap_book, write_book
+from .from_csv import BOOK, DEMANDS, Hub, HubContract, load, read_demands, read_hub_contracts, read_hubs
 from .hours import Progress, Settled, settle_hours
-from .interface import BALANCE, FLOW_PLACES, HOLDER, QUANTITY
+from .interface import BALANCE, FLOW_PLACES, HOLDER, NARROW, QUANTITY, WIDE
 from .native import Refused
 from .packed import Packed, hour_name, packed, read_packed, unpacked, write_bin, write_packed
-from .results import HOLDERS, HOURS, Time, dollars, exact_dollars, holder_months, hour_rows, result_files
+from .results import HOLDERS, HOURS, Time, dollars, exact_dollars, holder_months, hour_rows, mcc_dollars, result_files
+from .settlement import find_hub_mcc
 from .shares import share_balance
 from .sheet import Sheet
 from .slices import settle_sliced
@@ -272,12 +273,17 @@ def remap(folder: Path, pairs: Path, out: Path, round_prices: bool) -> Answer:
     moved = Packed(found.names, files.grid, remap_book(nodes, files.book, old, new), files.hours)
     contracts = read_book(nodes, moved.book)
     changed = sum(before != after for before, after in zip(found.book, contracts))
-    if found.case:
-        write_csv(unpacked(moved), out, hour_name(files.hours))
-    else:
-        write_bin(moved, out)
+    _write_like(found, moved, out)
     text = f"{out}: {counted(len(old), 'pair')} applied, {counted(changed, 'contract')} of {len(contracts):,} changed\n"
     return Answer(PASSES, text, {"out": str(out), "pairs": len(old), "changed": changed, "contracts": len(contracts)})
+
+
+def _write_like(found: Opened, files: Packed, out: Path) -> None:
+    """Writes files to a folder as CSV or bin files, whichever the folder that was opened has."""
+    if found.case:
+        write_csv(unpacked(files), out, hour_name(files.hours))
+    else:
+        write_bin(files, out)
 
 
 _CASE_FILES = ("grid.bin", "book.bin", "prices.bin", "names.csv", "constraints.csv", "factors.csv", "book.csv", "prices.csv")
@@ -326,6 +332,85 @@ def holder(folder: Path, asked: str, out: Optional[Path]) -> Answer:
         _write_view(folder, out, view)
         told, data["out"] = f"{told}; {out}: {counted(len(view), 'byte')} written", str(out)
     return Answer(PASSES, csv_text(VIEW, rows), data, f"{told}\n")
+
+
+HUB_MCC = ("OPR_DT", "OPR_HR", "TIME_OF_USE", "HUB", "MCC")
+
+
+def hub_mcc(folder: Path, hubs: Path, round_prices: bool) -> Answer:
+    """The MCC of each hub of a file in each hour."""
+    found = opened(folder, round_prices)
+    faults: List[Fault] = []
+    of_file = read_hubs(hubs, found.names.nodes, faults)
+    raise_any(faults)
+    case = found.case or unpacked(files_of(found))
+    rows = [
+        (hour.day, hour.hour or "", TIMES_OF_USE[hour.period], name, mcc_dollars(find_hub_mcc(case.grid, hour.prices, hub.nodes, hub.weights)))
+        for hour in case.hours
+        for name, hub in of_file.items()
+    ]
+    told = f"{counted(len(of_file), 'hub')}, {counted(len(case.hours), 'hour')}{_rounded(found.rounded)}\n"
+    return Answer(PASSES, csv_text(HUB_MCC, rows), {"mcc": objects(HUB_MCC, rows), "rounded_prices": found.rounded}, told)
+
+
+def _owner_numbers(found: Opened, sheet: Sheet, rows: Sequence[HubContract]) -> Dict[str, int]:
+    """The number of each owner, of the book and of the rows. Those of the book stay as they are."""
+    names = found.names
+    for row in rows:
+        number = plain_number(row.owner)
+        if number in names.holders:
+            sheet.fault(row.line, "OWNER", f"{row.owner} stands for holder {row.owner}, and that one is {names.holder(int(row.owner))} here")
+    owners = [names.holder(contract.holder) for contract in found.book] + [row.owner for row in rows]
+    numbers = holder_numbers(owners, names.holders)
+    too_many = next((row for row in rows if numbers[row.owner] > HOLDER.high), None)
+    if too_many:
+        sheet.fault(too_many.line, "OWNER", f"more than {HOLDER.high + 1} owners", 18)
+    return numbers
+
+
+def _form_for(found: Opened, rows: Sequence[HubContract], hubs: Dict[str, Hub]) -> bytes:
+    """The book's file, in the wide form where a node of a hub, or a sink, needs it."""
+    book, nodes = files_of(found).book, len(found.names.nodes)
+    far = any(max(row.sink, *hubs[row.hub].nodes) >= NARROW_ENDS for row in rows)
+    return write_book(nodes, found.book, WIDE) if far and read_book_form(nodes, book) == NARROW else book
+
+
+def _grown(found: Opened, sheet: Sheet, rows: Sequence[HubContract], hubs: Dict[str, Hub]) -> Packed:
+    """The files with every row's contracts behind those of the book. A contract is called by its row's name and its node's."""
+    owners, names, files = _owner_numbers(found, sheet, rows), found.names, files_of(found)
+    raise_any(sheet.faults)
+    book, nodes = _form_for(found, rows, hubs), len(names.nodes)
+    ids, taken = list(names.contracts), set(names.contracts)
+    for row in rows:
+        hub = hubs[row.hub]
+        try:
+            book = add_hub_contract(nodes, book, row.kind, row.period, owners[row.owner], hub.nodes, hub.weights, row.sink, row.quantity)
+        except Refused as refused:  # for too many contracts: all else was looked at
+            sheet.fault(row.line, "CRR_ID", refused.meaning, refused.number)
+            break
+        new = [f"{row.crr_id} {names.nodes[contract.source]}" for contract in read_book(nodes, book)[len(ids) :]]
+        for crr_id in (crr_id for crr_id in new if crr_id in taken):
+            sheet.fault(row.line, "CRR_ID", f"{crr_id} occurs twice")
+        ids += new
+        taken.update(new)
+    raise_any(sheet.faults)
+    holders = {**names.holders, **{number: name for name, number in owners.items() if name != str(number)}}
+    return Packed(Names(names.nodes, names.constraints, ids, holders), files.grid, book, files.hours)
+
+
+def hub_add(folder: Path, hubs: Path, contracts: Path, out: Path, round_prices: bool) -> Answer:
+    """Adds contracts from hubs to a book, as contracts from their nodes, and writes the whole case to another folder in the form that it had."""
+    found = opened(folder, round_prices)
+    faults: List[Fault] = []
+    of_file = read_hubs(hubs, found.names.nodes, faults)
+    sheet, rows = read_hub_contracts(contracts, of_file, found.names.nodes, faults)
+    raise_any(faults)
+    grown = _grown(found, sheet, rows, of_file)
+    _write_like(found, grown, out)
+    book = read_book(len(found.names.nodes), grown.book)
+    added = [book_row(grown.names, grown.names.contracts[number], book[number]) for number in range(len(found.book), len(book))]
+    text = f"{out}: {counted(len(rows), 'hub contract')} added as {counted(len(added), 'contract')}, {counted(len(book), 'contract')} in all\n"
+    return Answer(PASSES, text, {"out": str(out), "hub_contracts": len(rows), "added": objects(BOOK, added), "contracts": len(book)})
 
 
 ON_PEAK = ("MONTH", "ON_PEAK_DAYS", "ON_PEAK_HOURS")

@@ -1,4 +1,4 @@
-"""The three files, grid, book and prices: bytes to tables and back; a book remapped, and settled. Figures are whole numbers in the units of crr.h."""
+"""The three files, grid, book and prices: bytes to tables and back; a book remapped, settled, and grown. Figures are whole numbers in the units of crr.h."""
 
 from __future__ import annotations
 
@@ -16,6 +16,7 @@ _read_book = Entry("crr_read_book")
 _write_book = Entry("crr_write_book")
 _remap_book = Entry("crr_remap_book")
 _write_settled_book = Entry("crr_write_settled_book")
+_add_hub_contract = Entry("crr_add_hub_contract")
 _read_prices = Entry("crr_read_prices")
 _write_prices = Entry("crr_write_prices")
 
@@ -120,6 +121,14 @@ def write_settled_book(nodes: int, book: Bytes) -> bytes:
     """The settled form of a book's file, which copies with rows shuffled or split have in common: sorted by kind, period, holder, source and sink, equal
     ones added together and cut into rows of 1,000,000."""
     return written(_write_settled_book, MAX_BOOK_BYTES, (nodes, lend_bytes(book)))
+
+
+def add_hub_contract(
+    nodes: int, book: Bytes, kind: int, period: int, holder: int, hub_nodes: Cells, hub_weights: Cells, sink: int, quantity: int
+) -> bytes:
+    """The book's file with a contract from a hub behind its own, as contracts from the hub's nodes. Weights are hundred-thousandths."""
+    hub = (lend_cells(hub_nodes, "Q"), lend_cells(hub_weights, "Q"))
+    return written(_add_hub_contract, MAX_BOOK_BYTES, (nodes, lend_bytes(book), kind, period, holder, *hub, sink, quantity))
 
 
 def read_prices(constraints: int, file: Bytes, name: str = "") -> Prices:

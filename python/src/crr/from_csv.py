@@ -6,7 +6,8 @@ book.csv         CRR_ID,OWNER,HEDGE_TYPE,TIME_OF_USE,SOURCE,SINK,MW
 prices.csv       OPR_DT,OPR_HR,TIME_OF_USE,CONSTRAINT_ID,SHADOW_PRICE   (may be missing; a price that is not listed is 0)
 names.csv        TABLE,NUMBER,NAME                                      (may be missing; numbers that holders had before)
 
-Beside a folder, a file of its own: demands, COORDINATOR,MEASURED_DEMAND.
+Beside a folder, files of their own: demands, COORDINATOR,MEASURED_DEMAND; hubs, HUB,NODE_ID,PERCENT; contracts from hubs, as book.csv with a hub's name
+for the source.
 """
 
 from __future__ import annotations
@@ -15,12 +16,27 @@ import re
 from array import array
 from datetime import date
 from pathlib import Path
-from typing import Dict, List, NamedTuple, Optional, Set, Tuple
+from typing import Dict, List, NamedTuple, Optional, Sequence, Set, Tuple
 
 from .case import FORMS, Case, Names, PricedHour, book_form, grid_form, holder_numbers
+from .decimals import decimal
 from .faults import Fault, raise_any
 from .files import Contract
-from .interface import DEMAND, HOLDER, LIMIT, MAX_CONSTRAINTS, MAX_CONTRACTS, MAX_COORDINATORS, MAX_NODES, QUANTITY, SHADOW_PRICE, SHIFT_FACTOR
+from .interface import (
+    DEMAND,
+    HOLDER,
+    HUB_WEIGHT,
+    LIMIT,
+    MAX_CONSTRAINTS,
+    MAX_CONTRACTS,
+    MAX_COORDINATORS,
+    MAX_HUB_NODES,
+    MAX_NODES,
+    QUANTITY,
+    SHADOW_PRICE,
+    SHIFT_FACTOR,
+    WEIGHT,
+)
 from .names_csv import read_names
 from .sheet import Sheet
 
@@ -292,3 +308,84 @@ def read_demands(path: Path, faults: List[Fault]) -> Demands:
         sheet.fault(line, "MEASURED_DEMAND", "the demands total 0", 27)
     faults[sound:] = sorted(faults[sound:], key=lambda fault: fault.line)  # those of rows that can't be read were found first
     return Demands(list(names), texts, units)
+
+
+HUBS = ("HUB", "NODE_ID", "PERCENT")
+
+
+class Hub(NamedTuple):
+    """A hub's nodes by number, and their weights in hundred-thousandths."""
+
+    nodes: List[int]
+    weights: List[int]
+
+
+def read_hubs(path: Path, nodes: Sequence[str], faults: List[Fault]) -> Dict[str, Hub]:
+    """The hubs of a file HUB,NODE_ID,PERCENT by name."""
+    sheet = Sheet(path, HUBS, faults)
+    hubs: Dict[str, Hub] = {}
+    ends: Dict[str, int] = {}
+    if len(sheet.at) < len(HUBS):
+        return hubs
+    hub_at, node_at, percent_at = (sheet.at[ours] for ours in HUBS)
+    numbers = {name: number for number, name in enumerate(nodes)}
+    for line, row in sheet.rows():
+        if sheet.name_in(line, "HUB", row[hub_at]):
+            hub = hubs.setdefault(row[hub_at], Hub([], []))
+            _read_hub_node(sheet, line, row[node_at], numbers, hub)
+            hub.weights.append(sheet.figure(line, percent_at, row[percent_at], WEIGHT))
+            ends[row[hub_at]] = line
+    for name, hub in hubs.items():
+        if all(hub.weights) and sum(hub.weights) != HUB_WEIGHT:  # a weight of 0 is a fault that was told
+            total = decimal(sum(hub.weights), WEIGHT.places)
+            sheet.fault(ends[name], "PERCENT", f"the percents of {name} total {total} and not {decimal(HUB_WEIGHT, WEIGHT.places)}", 24)
+    if not hubs:
+        sheet.fault(1, "HUB", "no hub")
+    return hubs
+
+
+def _read_hub_node(sheet: Sheet, line: int, name: str, numbers: Dict[str, int], hub: Hub) -> None:
+    number = numbers.get(name)
+    if number is None:
+        sheet.fault(line, "NODE_ID", f"no node {name!r} in the grid", 11)
+    elif number in hub.nodes:
+        sheet.fault(line, "NODE_ID", f"{name} occurs twice in this hub", 25)
+    hub.nodes.append(-1 if number is None else number)
+    if len(hub.nodes) == MAX_HUB_NODES + 1:
+        sheet.fault(line, "NODE_ID", f"more than {MAX_HUB_NODES} nodes in this hub", 24)
+
+
+class HubContract(NamedTuple):
+    """A contract from a hub, by the names of the hub and the owner, and the line that it stands in."""
+
+    line: int
+    crr_id: str
+    owner: str
+    kind: int
+    period: int
+    hub: str
+    sink: int
+    quantity: int
+
+
+def read_hub_contracts(path: Path, hubs: Dict[str, Hub], nodes: Sequence[str], faults: List[Fault]) -> Tuple[Sheet, List[HubContract]]:
+    """The contracts of a file with the columns of book.csv, whose sources are hubs; and the sheet, for faults that are found later."""
+    sheet = Sheet(path, BOOK, faults)
+    rows: List[HubContract] = []
+    if len(sheet.at) < len(BOOK):
+        return sheet, rows
+    crr_id, owner, kind, period, source, sink, mw = (sheet.at[ours] for ours in BOOK)
+    numbers = {name: number for number, name in enumerate(nodes)}
+    ids: Dict[str, int] = {}
+    for line, row in sheet.rows():
+        _new_name(sheet, line, "CRR_ID", row[crr_id], ids)
+        sheet.name_in(line, "OWNER", row[owner])
+        if row[source] not in hubs and hubs:
+            sheet.fault(line, "SOURCE", f"no such hub: {row[source]!r}")
+        if row[sink] not in numbers:
+            sheet.fault(line, "SINK", f"no node {row[sink]!r} in the grid", 11)
+        of_kind = _choice(sheet, line, "HEDGE_TYPE", row[kind], _KINDS, "OBL nor OPT")
+        of_period = _choice(sheet, line, "TIME_OF_USE", row[period], _PERIODS, "ON nor OFF")
+        quantity = sheet.figure(line, mw, row[mw], QUANTITY)
+        rows.append(HubContract(line, row[crr_id], row[owner], of_kind, of_period, row[source], numbers.get(row[sink], 0), quantity))
+    return sheet, rows

@@ -14,6 +14,7 @@ MAX_NARROW_NODES = 200
 MAX_CONSTRAINTS = 64
 MAX_CONTRACTS = 1000
 MAX_COORDINATORS = 256
+MAX_HUB_NODES = 32
 MAX_GRID_BYTES = 576220
 MAX_BOOK_BYTES = 7002
 MAX_HOLDER_VIEW_BYTES = 9000
@@ -21,6 +22,9 @@ MAX_PRICE_BYTES = 153
 MAX_TEXT_GRID_BYTES = 32768
 STATEMENT_BYTES = 29085
 REPORT_BYTES = 2048
+
+# The weights of a hub's nodes together.
+HUB_WEIGHT = 100000
 
 # The years of the calendar.
 FIRST_YEAR = 2010
@@ -54,7 +58,10 @@ SHADOW_PRICE = Unit(2, 0, 500_000, 15)  # dollars per MWh
 HOLDER = Unit(0, 0, 1_023, 18)
 BALANCE = Unit(2, -1_000_000_000, 1_000_000_000, 26)  # dollars
 DEMAND = Unit(0, 0, 1_000_000_000, 26)
+WEIGHT = Unit(3, 1, 100_000, 24)  # percent of a hub
 FLOW_PLACES = 8  # of a MW
+MCC_PLACES = 5  # of a cent
+HUB_PLACES = 5  # of an MCC: those of the hub's weight
 PART_PLACES = 8  # of a cent
 
 MEANINGS: Dict[int, str] = {
@@ -67,15 +74,17 @@ MEANINGS: Dict[int, str] = {
     7: "a factor below -100,000 or above 100,000",
     8: "a padding bit at a file's end is set",
     9: "a lent table, or a place for an answer, of too few cells; remapping, unequal lists",
-    10: "more than 1,000 contracts",
+    10: "more than 1,000 contracts, or a book that would grow past 1,000",
     11: "a source, sink or listed node not below the node count; written to a narrow book, above 255",
     13: "quantity 0 or above 1,000,000",
     14: "the price file's constraint count differs from the one stated",
     15: "a price above 500,000",
     16: "process not 0 to 2",
-    17: "a period not 0 or 1; writing a book, a kind or period not 0 or 1",
+    17: "a period not 0 or 1; writing a book or adding to one, a kind or period not 0 or 1",
     18: "holder above 1,023",
     19: "a date or month that does not exist or is outside 2010 to 2037, given or reached",
+    24: "a hub not of 1 to 32 nodes, unequal lists, or weights outside 1 to 100,000 or not together 100,000",
+    25: "a node listed twice in a hub",
     26: "sharing a balance: no demands or more than 256, or a balance or demand outside its range",
     27: "sharing a balance: the demands total 0",
 }
@@ -93,6 +102,9 @@ DECLARATIONS: Dict[str, str] = {
     "crr_write_market_view": "size_t nodes, const uint8_t *book, size_t book_len, uint8_t *file, size_t file_len, size_t *bytes",
     "crr_write_holder_view": "size_t nodes, const uint8_t *book, size_t book_len, uint64_t holder, uint8_t *view, size_t view_len, size_t *bytes",
     "crr_write_settled_book": "size_t nodes, const uint8_t *book, size_t book_len, uint8_t *file, size_t file_len, size_t *bytes",
+    "crr_add_hub_contract": "size_t nodes, const uint8_t *book, size_t book_len, uint64_t kind, uint64_t period, uint64_t holder, "
+    "const uint64_t *hub_nodes, size_t hub_nodes_len, const uint64_t *hub_weights, size_t hub_weights_len, "
+    "uint64_t sink, uint64_t quantity, uint8_t *file, size_t file_len, size_t *bytes",
     "crr_read_prices": "size_t constraints, const uint8_t *file, size_t file_len, uint64_t *prices, size_t prices_len, uint64_t *period",
     "crr_write_prices": "uint64_t period, size_t constraints, const uint64_t *prices, size_t prices_len, uint8_t *file, size_t file_len, size_t *bytes",
     "crr_test_book": "size_t nodes, size_t constraints, uint64_t process, uint64_t period, const uint64_t *limits, size_t limits_len, "
@@ -105,6 +117,9 @@ DECLARATIONS: Dict[str, str] = {
     "crr_released_percent": "uint64_t process, uint64_t *percent",
     "crr_find_mcc": "size_t nodes, size_t constraints, const int64_t *factors, size_t factors_len, "
     "const uint64_t *prices, size_t prices_len, int64_t *mcc, size_t mcc_len",
+    "crr_find_hub_mcc": "size_t nodes, size_t constraints, const int64_t *factors, size_t factors_len, "
+    "const uint64_t *prices, size_t prices_len, const uint64_t *hub_nodes, size_t hub_nodes_len, "
+    "const uint64_t *hub_weights, size_t hub_weights_len, int64_t *quotient, uint64_t *remainder",
     "crr_settle_hour": "size_t nodes, size_t constraints, uint64_t period, const int64_t *factors, size_t factors_len, "
     "const uint64_t *prices, size_t prices_len, const uint8_t *book, size_t book_len, int64_t *cents, size_t cents_len, "
     "uint64_t *priced, size_t priced_len, int64_t *sum, int64_t *whole, uint64_t *parts",

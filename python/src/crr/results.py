@@ -9,7 +9,8 @@ from .case import HEDGE_TYPES, TIMES_OF_USE, Names
 from .decimals import decimal
 from .files import Contract
 from .hours import Settled
-from .interface import PART_PLACES
+from .interface import HUB_PLACES, HUB_WEIGHT, MCC_PLACES, PART_PLACES
+from .settlement import HubMcc
 from .to_csv import csv_text
 
 _CENTS = 2  # decimals of a dollar
@@ -24,6 +25,11 @@ def dollars(cents: int) -> str:
 def exact_dollars(cents: Fraction) -> str:
     """An exact total of cents in dollars, with every one of its ten decimals."""
     return decimal(int(cents * 10**PART_PLACES), _CENTS + PART_PLACES)
+
+
+def mcc_dollars(mcc: HubMcc) -> str:
+    """A hub's MCC in dollars per MWh, with every one of its twelve decimals."""
+    return decimal(mcc.quotient * HUB_WEIGHT + mcc.remainder, _CENTS + MCC_PLACES + HUB_PLACES)
 
 
 def holder_months(settled: Settled, book: Sequence[Contract]) -> Dict[Tuple[int, str], int]:

@@ -1,4 +1,4 @@
-"""The marginal cost of congestion, and an hour's settlement."""
+"""The marginal cost of congestion, of nodes and of hubs, and an hour's settlement."""
 
 from __future__ import annotations
 
@@ -8,10 +8,11 @@ from fractions import Fraction
 from typing import NamedTuple
 
 from .files import Grid, read_book_cells
-from .interface import MAX_CONSTRAINTS, PART_PLACES
+from .interface import HUB_WEIGHT, MAX_CONSTRAINTS, PART_PLACES
 from .native import Bytes, Cells, Entry, Lent, Refused, lend_bytes, lend_cells, zeros
 
 _find_mcc = Entry("crr_find_mcc")
+_find_hub_mcc = Entry("crr_find_hub_mcc")
 _settle_hour = Entry("crr_settle_hour")
 _read_prices = Entry("crr_read_prices")
 
@@ -43,6 +44,26 @@ def find_mcc(grid: Grid, prices: Cells) -> "array[int]":
     mcc = zeros("q", grid.nodes)
     _find_mcc(grid.nodes, grid.constraints, lend_cells(grid.factors, "q"), lend_cells(prices, "Q"), Lent(mcc, "q", True))
     return mcc
+
+
+class HubMcc(NamedTuple):
+    """A hub's MCC: rounded down, in 10^-5 cents per MWh, and what is left of it in hundred-thousandths of that."""
+
+    quotient: int
+    remainder: int
+
+    @property
+    def exact(self) -> Fraction:
+        """The MCC in 10^-5 cents per MWh."""
+        return self.quotient + Fraction(self.remainder, HUB_WEIGHT)
+
+
+def find_hub_mcc(grid: Grid, prices: Cells, hub_nodes: Cells, hub_weights: Cells) -> HubMcc:
+    """The MCC of a hub of nodes with weights in hundred-thousandths."""
+    quotient, remainder = c_int64(), c_uint64()
+    tables = (lend_cells(grid.factors, "q"), lend_cells(prices, "Q"))
+    _find_hub_mcc(grid.nodes, grid.constraints, *tables, lend_cells(hub_nodes, "Q"), lend_cells(hub_weights, "Q"), quotient, remainder)
+    return HubMcc(quotient.value, remainder.value)
 
 
 def settle_hour(grid: Grid, book: Bytes, period: int, prices: Cells) -> Hour:

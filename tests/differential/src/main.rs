@@ -13,7 +13,7 @@ mod tally;
 mod vectors;
 
 use draw::{Draw, EXTREMES};
-use rounds::{calendar, cuts, demand, forms, headers, priced, settled, shares, text, view_pairs, views};
+use rounds::{calendar, cuts, demand, forms, headers, hub_book, hub_mcc, hubs, priced, settled, shares, text, view_pairs, views};
 use std::env;
 use std::process::ExitCode;
 use tally::{Entry, Round, Tally};
@@ -36,7 +36,7 @@ const fn plain(name: &'static str, refusals: &'static [u64], cases: &'static [&'
 }
 
 /// Each entry, with the refusals that the papers list for it, each to be drawn and no other, and the cases that the change requests name.
-const ENTRIES: [Entry; 24] = [
+const ENTRIES: [Entry; 26] = [
     plain("read_grid", &[1, 2, 3, 4, 5, 6, 7, 8, 9], &[&forms::GRIDS_READ], rounds::grid::read),
     Entry { rounds: headers::FIRST_BYTES, ..plain("grid_headers", &[1, 2, 3, 4, 5, 6, 7, 8, 9], &[], headers::grid) },
     plain("write_grid", &[2, 3, 6, 7, 9], &[&forms::GRIDS_WRITTEN], rounds::grid::write),
@@ -50,6 +50,7 @@ const ENTRIES: [Entry; 24] = [
         rounds: settled::FIRST_ROUNDS,
         ..plain("write_settled_book", &[1, 2, 4, 5, 9, 10, 11, 13], &[&settled::CASES, &forms::BOOKS], settled::round)
     },
+    plain("add_hub_contract", &[1, 2, 4, 5, 9, 10, 11, 13, 17, 18, 24, 25], &[&hub_book::CASES, &hubs::SHAPES], hub_book::round),
     plain("read_prices", &[1, 3, 5, 8, 9, 14, 15], &[], rounds::prices::read),
     plain("write_prices", &[3, 9, 15, 17], &[], rounds::prices::write),
     plain("test_book", &[1, 2, 3, 4, 5, 6, 7, 9, 10, 11, 13, 16, 17], &[&forms::BOOKS], rounds::test::round),
@@ -60,6 +61,10 @@ const ENTRIES: [Entry; 24] = [
     },
     plain("released_percent", &[16], &[], rounds::flows::percent),
     plain("find_mcc", &[2, 3, 7, 9, 15], &[], rounds::settlement::mcc),
+    Entry {
+        rounds: hub_mcc::FIRST_ROUNDS,
+        ..plain("find_hub_mcc", &[2, 3, 7, 9, 11, 15, 24, 25], &[&hub_mcc::CASES, &hubs::SHAPES], hub_mcc::round)
+    },
     plain("settle_hour", &[1, 2, 3, 4, 5, 7, 9, 10, 11, 13, 15, 17], &[&priced::CASES, &forms::BOOKS], rounds::settlement::hour),
     Entry { rounds: shares::ROUNDS, ..plain("share_balance", &[9, 26, 27], &[&shares::CASES], shares::round) },
     Entry { files: &[("grid", GRID), ("book", BOOK)], ..plain("write_report", &[9], &[&text::CASES], text::report) },

@@ -6,6 +6,7 @@ pub mod calendar;
 pub mod cuts;
 pub mod flows;
 pub mod grid;
+pub mod hubs;
 pub mod prices;
 pub mod remap;
 pub mod settled;

@@ -1,0 +1,5 @@
+pub mod Checking
+pub mod Copying
+pub mod Growing
+pub mod Sums
+pub mod Theorems

@@ -1,0 +1,3 @@
+pub mod AddHubContract
+pub mod Theorems
+pub mod Inner
