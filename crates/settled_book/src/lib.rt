@@ -1,6 +1,6 @@
 // The settled form of a book (document 02, paper 11): its contracts as numbers, sorted, added together and cut in one walk, written in the book's form.
 ghost use mathlib.Core.Path.{_≡_};
-ghost use mathlib.Core.List.{List, map, _++_};
+ghost use mathlib.Core.List.{map, _++_};
 ghost use Prim.Native.Nat.{ℕ, _+_, _≤_, _<_};
 ghost use lib.ListN.{length, getD, take, drop};
 ghost use Rattle.lists.specs.Lists.{Each, listTo};
