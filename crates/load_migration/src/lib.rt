@@ -190,7 +190,8 @@ pub fn migrate_load(
     ) {
         return WriteAnswer::Refused(refusal);
     }
-    let square = load_transfers::net_square(customers, rates, olds, news);
+    let none = load_transfers::no_transfers();
+    let square = load_transfers::net_square(none, customers, rates, olds, news);
     if load_transfers::loads_exceeded(&square, loads) {
         return WriteAnswer::Refused(Refusal::LoadExceeded);
     }

@@ -50,11 +50,13 @@ blank-wide (r ∷ rs) e zero h =
     eqb-true (length r) maxEntities (both (eqb (length r) maxEntities) (blankRow r) (p .0) .0)
 blank-wide (r ∷ rs) e (suc i) h = blank-wide rs (both (eqb (length r) maxEntities && blankRow r) (blank rs) e .1) i (omega arith)
 
-pub blank-shape : (rows : List (List ℤ)) → blank rows ≡ true → length rows ≡ maxEntities → Shaped rows
-blank-shape rows e long = record { long = long; wide = λ i h. blank-wide rows e i (omega (arith, long)) }
-
-pub blank-nets : (rows : List (List ℤ)) → blank rows ≡ true → Nets [] rows
-blank-nets rows e = record { cells = λ i j hi hj. blank-cell rows e i j ∙ sym (net-none (suc i) (suc j)) }
+pub blank-square : (rows : List (List ℤ)) → blank rows ≡ true → length rows ≡ maxEntities → NetSquare [] rows
+blank-square rows e long =
+    record {
+      nets = record { cells = λ i j hi hj. blank-cell rows e i j ∙ sym (net-none (suc i) (suc j)) };
+      shape = record { long = long; wide = λ i h. blank-wide rows e i (omega (arith, long)) };
+      size = record { sized = λ i j hi hj. rw (blank-cell rows e i j) (omega arith) };
+    }
 
 -- ---- row i more
 

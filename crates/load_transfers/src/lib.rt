@@ -1,5 +1,6 @@
 // The square of net transfers (document 02, paper 5): rows of moved customers checked and netted, and each LSE's losses held against its load.
 ghost use mathlib.Core.Path.{_≡_};
+ghost use mathlib.Core.List.{[]};
 ghost use Prim.Native.Nat.{suc, _+_, _≤_, _<_};
 ghost use lib.ListN.{length};
 ghost use lib.IntN.{natAbs, _+ℤ_};
@@ -135,19 +136,33 @@ fn cell_with(cell: i64, load: Transfer) -> i64
     Transfer(cell).plus(load).cell()
 }
 
-// The net transfers of rows, all of them in range: each is added in the cell of its loser and gainer, and taken off in the mirror of that cell.
-pub fn net_square(customers: &[u64], rates: &[u64], olds: &[u64], news: &[u64]) -> Square
-    requires { ⌜ RowsIn (now customers) (now rates) (now olds) (now news) ⌝ }
+// The square of no rows.
+pub fn no_transfers() -> Square
+    ensures { λ r. ⌜ NetSquare [] r ⌝ }
+{
+    [[0i64; MAX_ENTITIES]; MAX_ENTITIES]
+}
+
+// Rows, all of them in range, put into the square of none: each is added in the cell of its loser and gainer, and taken off in the mirror of that cell.
+pub fn net_square(
+    none: Square,
+    customers: &[u64],
+    rates: &[u64],
+    olds: &[u64],
+    news: &[u64],
+) -> Square
+    requires { ⌜ RowsIn (now customers) (now rates) (now olds) (now news) × NetSquare [] none ⌝ }
     ensures { λ r. ⌜ NetSquare (rowsOf (before customers) (before rates) (before olds) (before news)) r ⌝ }
 {
-    let mut square = [[0i64; MAX_ENTITIES]; MAX_ENTITIES];
+    let mut square = none;
     let mut i = 0;
     while i < customers.len() {
         let load = Transfer::of_row(customers[i], rates[i]);
         let from = (olds[i] - 1) as usize;
         let to = (news[i] - 1) as usize;
         let lost = cell_with(square[from][to], load);
-        let gained = cell_with(square[to][from], load.negated());
+        let back = load.negated();
+        let gained = cell_with(square[to][from], back);
         square[from][to] = lost;
         square[to][from] = gained;
         i += 1;
