@@ -148,8 +148,10 @@ fn store_pair(
     if quantity.cell() == 0 {
         return at;
     }
-    books::store_contract(file, form, at, gained_by(c, gainer, quantity));
-    books::store_contract(file, form, at + 1, countered_by(c, quantity));
+    let gained = gained_by(c, gainer, quantity);
+    let countered = countered_by(c, quantity);
+    books::store_contract(file, form, at, gained);
+    books::store_contract(file, form, at + 1, countered);
     at + 2
 }
 
