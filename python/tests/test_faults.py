@@ -263,7 +263,7 @@ class DamagedHubs(FolderTest):
         many = "\n".join(f"North,Bus {n},{'3' if n < 33 else '4'}" for n in range(1, 34))
         self.assertEqual(self.said(case, many, CONTRACT)[0], "hubs.csv:34:NODE_ID: more than 32 nodes in this hub (refusal 24)")
         (case / "book.csv").write_text(self.BOOK + "".join(f"{i},Ash,OBL,ON,Bus 1,Bus 2,1\n" for i in range(999)))
-        growth = "contracts.csv:2:CRR_ID: more than 1,000 contracts, or a book that would grow past 1,000 (refusal 10)"
+        growth = "contracts.csv:2:CRR_ID: more than 1,000 contracts, a book that would grow past 1,000, or a 1,001st award (refusal 10)"
         self.assertEqual(self.said(case, NORTH, CONTRACT)[0], growth)
         (case / "book.csv").write_text(self.BOOK + "H Bus 2,Ash,OBL,ON,Bus 1,Bus 2,1\n")
         self.assertEqual(self.said(case, NORTH, CONTRACT)[0], "contracts.csv:2:CRR_ID: H Bus 2 occurs twice")
