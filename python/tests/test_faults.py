@@ -329,6 +329,45 @@ class DamagedMigrations(FolderTest):
         self.assertEqual(self.said(heading.replace("OLD_LSE", "OLD_NODE"), "LSE,LOAD_MW\n1,1\n")[0], "rows.csv:1:OLD_LSE: the column is missing")
 
 
+# What is wrong with the operations of a running test, and what is said, line by line.
+TIERS = [
+    ("keep,1,,,,,,,", ["awards.csv:2:OPERATION: 'keep' is neither add nor mark nor return"]),
+    (",1,,,,,,,", ["awards.csv:2:OPERATION: '' is neither add nor mark nor return"]),
+    ("mark,5,,,,,,,", ["awards.csv:2:TIER: '5' is none of the tiers 1, 2, 3 and LT (refusal 20)"]),
+    ("return,0,,,,,,,", ["awards.csv:2:TIER: '0' is none of the tiers 1, 2, 3 and LT (refusal 20)"]),
+    ("mark,,,,,,,,", ["awards.csv:2:TIER: empty"]),
+    ("mark,1,A,,,,,,5", ["awards.csv:2:CRR_ID: mark has a tier and no award", "awards.csv:2:MW: mark has a tier and no award"]),
+    ("add,1,A,Ash,OBL,ON,Bus 1,Bus 2,5", ["awards.csv:2:TIER: an award has no tier: a row of its own marks the tier"]),
+    ("add,,,Ash,OBL,ON,Bus 1,Bus 2,5", ["awards.csv:2:CRR_ID: empty"]),
+    ("add,,A,,OBL,ON,Bus 1,Bus 2,5", ["awards.csv:2:OWNER: empty"]),
+    ("add,,A,0,OBL,ON,Bus 1,Bus 2,5", ["awards.csv:2:OWNER: 0 stands for holder 0, and that one is Alder Power here"]),
+    ("add,,A,Ash,OBL,ON,Bus 15,Bus 2,5", ["awards.csv:2:SOURCE: no node 'Bus 15' in the grid (refusal 11)"]),
+    ("add,,A,Ash,FWD,24H,Bus 1,Hub,0", ["awards.csv:2:SINK: no node 'Hub' in the grid (refusal 11)", "awards.csv:2:HEDGE_TYPE: 'FWD' is neither OBL nor OPT (refusal 17)",
+        "awards.csv:2:TIME_OF_USE: '24H' is neither ON nor OFF; split such a contract into an ON and an OFF row (refusal 17)", "awards.csv:2:MW: 0 is outside 0.001 to 1000.000 (refusal 13)"]),
+    ("add,,A,Ash,OBL,OFF,Bus 1,Bus 2,5\nadd,,A,Ash,OBL,OFF,Bus 1,Bus 2,6", ["awards.csv:3:CRR_ID: A is held already"]),
+    ("mark,9,,,,,,,\nadd,,A,Ash,OBL,ON,Bus 1,Bus 2,x", ["awards.csv:2:TIER: '9' is none of the tiers 1, 2, 3 and LT (refusal 20)", "awards.csv:3:MW: 'x' is not a decimal number"]),
+]
+
+
+class DamagedTiers(FolderTest):
+    def said(self, text):
+        (self.folder / "awards.csv").write_text(text)
+        arguments = (self.folder / "awards.csv", "--period", "on", "--process", "monthly", "-o", self.folder / "out")
+        status, out, err = command("tiers", IEEE14, *arguments)
+        self.assertEqual((status, out, (self.folder / "out").exists()), (2, "", False))
+        return err.splitlines()
+
+    def test_each_is_told_where_it_is(self):
+        for rows, faults in TIERS:
+            with self.subTest(faults=faults):
+                end = f"crr: {len(faults)} fault{'s' * (len(faults) > 1)} in {IEEE14}; nothing was written"
+                self.assertEqual(self.said(f"OPERATION,TIER,CRR_ID,OWNER,HEDGE_TYPE,TIME_OF_USE,SOURCE,SINK,MW\n{rows}\n"), [*faults, end])
+
+    def test_whole_files(self):
+        self.assertEqual(self.said("")[0], "awards.csv:1:OPERATION: the file is empty: its first line is the heading")
+        self.assertEqual(self.said("OPERATION,CRR_ID,OWNER,HEDGE_TYPE,TIME_OF_USE,SOURCE,SINK,MW\n")[0], "awards.csv:1:TIER: the column is missing")
+
+
 class Drawn(FolderTest):
     """Files damaged at random: each is read, or gives faults that have a line; nothing else comes out."""
 

@@ -56,7 +56,8 @@ def _migrate(options: argparse.Namespace) -> Answer:
 def _tiers(options: argparse.Namespace) -> Answer:
     from .tiers import tiers  # asked for by this command alone
 
-    return tiers(options.folder, _PERIODS[options.period][0], _PROCESSES[options.process][0], options.awards, options.out)
+    period, process = _PERIODS[options.period][0], _PROCESSES[options.process][0]
+    return tiers(options.folder, period, process, options.awards, options.out, options.round_prices)
 
 
 _COMMANDS: Dict[str, Callable[[argparse.Namespace], Answer]] = {
@@ -130,7 +131,7 @@ def _parser() -> argparse.ArgumentParser:
         else:
             command.add_argument("folder", type=Path, metavar="FOLDER", help="a folder of CSV files, or of bin files")
         command.add_argument("--json", action="store_true", help="the answer, or the faults, as one JSON object")
-        if name in ("check", "pack", "settle", "report", "remap", "hub-mcc", "hub-add", "migrate"):
+        if name in ("check", "pack", "settle", "report", "remap", "hub-mcc", "hub-add", "tiers", "migrate"):
             command.add_argument("--round-prices", action="store_true", help="round prices of more than two decimals to the nearest cent")
     of["remap"].add_argument("pairs", type=Path, metavar="PAIRS", help="a CSV file OLD_NODE,NEW_NODE")
     of["holder"].add_argument("holder", metavar="HOLDER", help="its name, as in OWNER, or its number, 0 to 1023")

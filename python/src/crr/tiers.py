@@ -91,10 +91,10 @@ def _play(grid: Grid, names: Names, running: RunningTest, operations: Sequence[O
     return Played(running, rows, refusals, ids)
 
 
-def tiers(folder: Path, period: int, process: int, operations: Optional[Path], out: Optional[Path]) -> Answer:
+def tiers(folder: Path, period: int, process: int, operations: Optional[Path], out: Optional[Path], round_prices: bool) -> Answer:
     """Plays operations on a running test on the grid of a folder, or the contracts of its book as awards; with `out` writes the whole case there, with the
     awards held for its book, in the form that it had."""
-    found = opened(folder)
+    found = opened(folder, round_prices, prices=out is not None)
     files, names = files_of(found), found.names
     grid, wanted, sheet = read_grid(files.grid), _of_book(found), None
     if operations:
