@@ -174,10 +174,10 @@ class Refusals(unittest.TestCase):
         self.refused(25, crr.find_hub_mcc, grid, [1], [1, 1], [50_000, 50_000])
 
     def test_running(self):
-        for nodes, constraints, process, period, limit, factor, number in (
-            (0, 1, 3, 2, 5, 1, 2), (2, 65, 3, 2, 5, 1, 3), (2, 1, 3, 2, 10**9, 1, 16), (2, 1, 2, 2, 10**9, 1, 17), (2, 1, 2, 1, 10**9, 10**6, 6), (2, 1, 2, 1, 5, 10**6, 7)
-        ):
-            self.refused(number, crr.open_running, crr.Grid(nodes, constraints, [limit], [factor, 0]), process, period)
+        for number, nodes, constraints, process, period, limit in ((2, 0, 65, 3, 2, 5), (3, 2, 65, 3, 2, 5), (16, 2, 1, 3, 2, 5), (17, 2, 1, 2, 2, 5)):
+            self.refused(number, crr.open_running, crr.Grid(nodes, constraints, [limit], [10**6, 0]), process, period)
+        self.refused(6, crr.open_running, crr.Grid(2, 1, [10**9], [10**6, 0]), 2, 1)
+        self.refused(7, crr.open_running, crr.Grid(2, 1, [5], [10**6, 0]), 2, 1)
         self.refused(9, crr.open_running, crr.Grid(2, 1, [10**9], [1]), 2, 1)
         running, row = crr.open_running(crr.Grid(2, 1, [5], [50_000, 0]), 2, 1), [0, 1, 7, 0, 1, 10]
         crr.add_award(running, row)

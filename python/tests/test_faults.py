@@ -343,9 +343,11 @@ TIERS = [
     ("add,,A,0,OBL,ON,Bus 1,Bus 2,5", ["awards.csv:2:OWNER: 0 stands for holder 0, and that one is Alder Power here"]),
     ("add,,A,Ash,OBL,ON,Bus 15,Bus 2,5", ["awards.csv:2:SOURCE: no node 'Bus 15' in the grid (refusal 11)"]),
     ("add,,A,Ash,FWD,24H,Bus 1,Hub,0", ["awards.csv:2:SINK: no node 'Hub' in the grid (refusal 11)", "awards.csv:2:HEDGE_TYPE: 'FWD' is neither OBL nor OPT (refusal 17)",
-        "awards.csv:2:TIME_OF_USE: '24H' is neither ON nor OFF; split such a contract into an ON and an OFF row (refusal 17)", "awards.csv:2:MW: 0 is outside 0.001 to 1000.000 (refusal 13)"]),
+                                        "awards.csv:2:TIME_OF_USE: '24H' is neither ON nor OFF; split such a contract into an ON and an OFF row (refusal 17)",
+                                        "awards.csv:2:MW: 0 is outside 0.001 to 1000.000 (refusal 13)"]),
     ("add,,A,Ash,OBL,OFF,Bus 1,Bus 2,5\nadd,,A,Ash,OBL,OFF,Bus 1,Bus 2,6", ["awards.csv:3:CRR_ID: A is held already"]),
-    ("mark,9,,,,,,,\nadd,,A,Ash,OBL,ON,Bus 1,Bus 2,x", ["awards.csv:2:TIER: '9' is none of the tiers 1, 2, 3 and LT (refusal 20)", "awards.csv:3:MW: 'x' is not a decimal number"]),
+    ("mark,9,,,,,,,\nadd,,A,Ash,OBL,ON,Bus 1,Bus 2,x", ["awards.csv:2:TIER: '9' is none of the tiers 1, 2, 3 and LT (refusal 20)",
+                                                       "awards.csv:3:MW: 'x' is not a decimal number"]),
 ]
 
 
