@@ -1,4 +1,4 @@
-"""The documents: every command of the tutorial, of load migration, of tiers and of the README's first section is run, and what it prints is compared with the page."""
+"""The documents: every command of the tutorial, its further pages and the README's first section is run, and what it prints is compared with the page."""
 
 import os
 import re
