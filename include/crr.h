@@ -100,10 +100,10 @@
  * What callers owe for this: the state was opened by crr_open_running, no cell of it
  * was altered but by these functions, and counts, process, period and tables are the
  * opening's in every crr_add_award. Otherwise the checks up to 7 still hold, a refusal
- * still changes nothing, and no call reads or writes outside its buffers; flows and
- * verdict are then no one's promise. crr_add_award answers 10 for any number held of
- * 1,000 or more, and for an award of the period 21 also where the count exceeds the
- * number held, or a flow 200,000,000,000 * count in size.
+ * still changes nothing, and no call reads or writes outside its buffers, but nothing
+ * is said of flows and verdict. crr_add_award answers 10 for any number held of 1,000
+ * or more, and for an award of the period 21 also where the count exceeds the number
+ * held, or some flow exceeds 200,000,000,000 * count in size.
  *
  *
  * FORMS. The file of a grid and that of a book have two forms each. The narrow one

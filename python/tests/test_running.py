@@ -148,6 +148,20 @@ class Tiers(FolderTest):
         self.assertEqual(err, "16 awards held, 10 of them ON; 0 operations of 16 refused\n")
         self.assertEqual(command("tiers", IEEE14, "--period", "on", "--process", "annual")[0], command("test", IEEE14, "--period", "on", "--process", "annual")[0])
 
+    def test_a_wide_book_where_it_is_needed(self):
+        case, out = self.folder / "case", self.folder / "out"
+        case.mkdir()
+        (case / "constraints.csv").write_text("CONSTRAINT_ID,LIMIT_MW\nK,1\n")
+        (case / "factors.csv").write_text("NODE_ID,K\n" + "".join(f"N{n},{n % 2}\n" for n in range(300)))
+        (case / "book.csv").write_text(f"{self.HEADING[15:]}1,Ash,OBL,ON,N0,N1,1\n")
+        command("pack", case, "-o", self.folder / "bin")
+        for rows, form in (("", 0), ("add,,A,Ash,OBL,ON,N0,N255,2\n", 0), ("add,,A,Ash,OBL,ON,N299,N0,1\nadd,,B,Ash,OPT,ON,N299,N0,0.001\n", 1)):
+            shutil.rmtree(out, ignore_errors=True)
+            status, said, _ = self.played(self.folder / "bin", "-o", out, rows=rows)
+            book = (out / "book.bin").read_bytes()
+            self.assertEqual((status, crr.read_book_form(300, book), len(crr.read_book(300, book))), (form, form, min(1, rows.count("add"))))
+        self.assertEqual(said.splitlines()[-1], "add,B,refused 21,1,1,1,K,0.00100000")
+
     def test_json(self):
         status, out, err = self.played(IEEE14, "--json")
         found = json.loads(out)

@@ -86,11 +86,10 @@ pub fn cells(round: &mut Round, own: &Own, row: &[u64]) {
                 state.flows[..64].copy_from_slice(&flows);
             });
         }
-        let before = Buffers { awards: kept.second.awards.clone(), numbers: kept.second.numbers.clone(), flows: kept.second.flows.clone() };
+        let mut before = kept.second.clone();
         let (opening, rooms) = (own.opening(), kept.rooms);
         let answer =
             kept.call(round, rooms, |state| library::add_award(&opening, &row, state), |state| add_by_cells(&opening, &row, state));
-        let mut before = before;
         round.shown(&shown(own, &row, &before.state(rooms), answer));
     }
     round.shown(&CASES[8..]);
