@@ -19,7 +19,8 @@ TIERS = {1: "1", 2: "2", 3: "3", MARK_LT: "LT"}  # by number
 
 def _own(cells: Cells, code: str) -> Lent:
     """A copy of a table: those of a running test stay the opening's, whatever becomes of what was handed in."""
-    return Lent(array(code, memoryview(lend_cells(cells, code).owner).tobytes()), code)
+    copy: "array[int]" = array(code, memoryview(lend_cells(cells, code).owner).tobytes())
+    return Lent(copy, code)
 
 
 class RunningTest:

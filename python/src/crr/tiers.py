@@ -96,7 +96,8 @@ def tiers(folder: Path, period: int, process: int, operations: Optional[Path], o
     awards held for its book, in the form that it had."""
     found = opened(folder, round_prices, prices=out is not None)
     files, names = files_of(found), found.names
-    grid, wanted, sheet = read_grid(files.grid), _of_book(found), None
+    grid, wanted = read_grid(files.grid), _of_book(found)
+    sheet: Optional[Sheet] = None
     if operations:
         faults: List[Fault] = []
         sheet, wanted = read_operations(operations, names.nodes, faults)
