@@ -1,14 +1,10 @@
 // Marks of a running test: a tier is marked, and returned to. Cells are copied and compared, and nothing is worked out.
 ghost use mathlib.Core.Path.{_≡_};
-ghost use mathlib.Core.List.{_++_, _∷_, []};
-ghost use Prim.Native.Nat.{_+_, _≤_};
-ghost use lib.Dec.{eqb};
-ghost use lib.ListN.{length, getD};
+ghost use Prim.Native.Nat.{_≤_};
+ghost use lib.ListN.{length};
 ghost use Rattle.lists.specs.Lent.{before, after};
-ghost use Rattle.tariff.specs.Units.{maxConstraints};
-ghost use Rattle.tariff.specs.Refusals.{first};
-ghost use Rattle.tier_rules.specs.Checks.{maxTier, markChecks};
-ghost use Rattle.tier_rules.specs.Cells.{stateNumbers, flagCell, stateBuffers, copied, markedNumbers, dropMark, returnedNumbers};
+ghost use Rattle.tier_rules.specs.Checks.{maxTier};
+ghost use Rattle.tier_rules.specs.Cells.{stateNumbers, copied, markedNumbers, dropMark, dropMarks, returnedNumbers};
 ghost use Rattle.tier_marks.specs.MarkTier.{markTierCall, markTierChecked, MarksTier};
 ghost use Rattle.tier_marks.specs.ReturnToTier.{returnToTierCall, returnToTierChecked, ReturnsToTier};
 ghost use Rattle.tier_marks.specs.Inner.{Apart};
@@ -108,6 +104,17 @@ fn drop_mark(numbers: &mut [u64], most: u64, j: usize)
     }
 }
 
+// Unsets every mark made when more awards were held.
+fn drop_marks(numbers: &mut [u64], most: u64)
+    requires { ⌜ stateNumbers ≤ length (now numbers) ⌝ }
+    ensures { λ r. ⌜ after numbers ≡ dropMarks most maxTier (before numbers) ⌝ }
+{
+    drop_mark(numbers, most, 1);
+    drop_mark(numbers, most, 2);
+    drop_mark(numbers, most, 3);
+    drop_mark(numbers, most, 4);
+}
+
 // The numbers after returning to the mark of tier i.
 fn return_numbers(numbers: &mut [u64], i: usize)
     requires { ⌜ (1 ≤ i) × (i ≤ maxTier) × (stateNumbers ≤ length (now numbers)) ⌝ }
@@ -115,10 +122,7 @@ fn return_numbers(numbers: &mut [u64], i: usize)
 {
     let held = numbers[3 * i];
     let counted = numbers[3 * i + 1];
-    drop_mark(numbers, held, 1);
-    drop_mark(numbers, held, 2);
-    drop_mark(numbers, held, 3);
-    drop_mark(numbers, held, 4);
+    drop_marks(numbers, held);
     numbers[0] = held;
     numbers[1] = counted;
 }

@@ -9,7 +9,6 @@ use native.Mathlib.Omega.{arith}
 use borrow.Author.Tests.{ltb-false, eqb-false, eq-eqb}
 use lib.Dec.{ltb, eqb}
 use lib.ListN.{length, getD}
-use lib.IntN.{ℤ}
 use Rattle.lists.proofs.Search.{neither}
 use Rattle.tariff.specs.declared.contracts.Period.{Period}
 use Rattle.tariff.specs.declared.processes.Process.{Process}
@@ -19,29 +18,34 @@ use Rattle.tariff.specs.declared.refusals.Checked.the-variants.{Passed, Refused
 use Rattle.tariff.specs.Units.{Grid}
 use Rattle.tariff.specs.Refusals.{Check, first, decided}
 use Rattle.tariff.proofs.Checks.{first-append, passed-cons, passed-append}
-use Rattle.tier_rules.specs.Tiers.{Tiers, opened, Reached}
+use Rattle.tier_rules.specs.Tiers.{Tiers, Reached}
 use Rattle.tier_rules.specs.Checks.{maxTier, tierNumber, isUnset}
-use Rattle.tier_rules.specs.Cells.{flagCell, StateCells, stateCells, bufferAfter, MarkIs, Holds, Running, GoesOn}
+use Rattle.tier_rules.specs.Cells.{flagCell, StateCells, bufferAfter, MarkIs, Holds, Running, GoesOn}
 use Rattle.tier_rules.proofs.States.{reached-worst, reached-values}
 
 module _ (g : Grid) (process : Process) (t : Period) where
   pub running : (s : Tiers) (cells : StateCells) → Reached g process t s → Holds g t s cells → Running g process t s cells
   running s cells r h = record { reached = r; holds = h; worst-zero = reached-worst g process t s r; passes = reached-values g process t s r }
 
-  module _ (checked : Checked) (checks : Tiers → List Check) (next : Tiers → Tiers) (awards madeAwards numbers madeNumbers : List ℕ) (flows madeFlows : List ℤ) where
-    abbrev entry : StateCells
-    entry = stateCells awards numbers flows
-
-    -- the cells at exit are those made where no check refuses
+  -- the cells at exit, by what the checks found: as at entry where one refuses
+  module _ (checked : Checked) (checks : Tiers → List Check) (next : Tiers → Tiers) (entry : StateCells) (exit : Checked → StateCells) (keeps : (q : Refusal) → exit (Refused q) ≡ entry) where
     pub goes-on : ((s : Tiers) → Reached g process t s → Holds g t s entry → checked ≡ first (checks s))
-        → ((s : Tiers) → Reached g process t s → Holds g t s entry → checked ≡ Passed → Reached g process t (next s) × Holds g t (next s) (stateCells madeAwards madeNumbers madeFlows))
-        → GoesOn g process t checked checks next entry (stateCells (bufferAfter checked madeAwards awards) (bufferAfter checked madeNumbers numbers) (bufferAfter checked madeFlows flows))
+        → ((s : Tiers) → Reached g process t s → Holds g t s entry → checked ≡ Passed → Reached g process t (next s) × Holds g t (next s) (exit Passed))
+        → GoesOn g process t checked checks next entry (exit checked)
     goes-on are then = record { checks-are = are; runs-on = λ s r h. by s r h checked refl }
       where
-        by : (s : Tiers) → Reached g process t s → Holds g t s entry → (x : Checked) → checked ≡ x
-            → Running g process t (decided x (λ q. s) (next s)) (stateCells (bufferAfter x madeAwards awards) (bufferAfter x madeNumbers numbers) (bufferAfter x madeFlows flows))
-        by s r h Passed e = let n = then s r h e in running (next s) (stateCells madeAwards madeNumbers madeFlows) (n .0) (n .1)
-        by s r h (Refused q) e = running s entry r h
+        by : (s : Tiers) → Reached g process t s → Holds g t s entry → (x : Checked) → checked ≡ x → Running g process t (decided x (λ q. s) (next s)) (exit x)
+        by s r h Passed e = let n = then s r h e in running (next s) (exit Passed) (n .0) (n .1)
+        by s r h (Refused q) e = rw (keeps q) (running s entry r h)
+
+-- ---- a buffer at exit: x is what the checking function gave
+
+module _ {A : Type 0} (x checked : Checked) (found : x ≡ checked) where
+  pub buffer-refused : (r : Refusal) → x ≡ Refused r → (made entry : List A) → entry ≡ bufferAfter checked made entry
+  buffer-refused r told made entry = rw (← found, told)
+
+  pub buffer-passed : x ≡ Passed → (made entry last : List A) → last ≡ made → last ≡ bufferAfter checked made entry
+  buffer-passed told made entry last e = rw (← found, told) e
 
 -- ---- checks that find the same
 
