@@ -16,11 +16,12 @@ use Rattle.tariff.specs.declared.refusals.Refusal.{Refusal}
 use Rattle.tariff.specs.declared.refusals.Checked.{Checked}
 use Rattle.tariff.specs.declared.refusals.Checked.the-variants.{Passed, Refused}
 use Rattle.tariff.specs.Units.{Grid}
-use Rattle.tariff.specs.Refusals.{Check, first, decided}
+use Rattle.tariff.specs.Refusals.{Check, first, decided, Outcome, answered, numberAfter}
 use Rattle.tariff.proofs.Checks.{first-append, passed-cons, passed-append}
+use Rattle.tier_rules.specs.declared.RunningAnswer.{RunningAnswer}
 use Rattle.tier_rules.specs.Tiers.{Tiers, Reached}
 use Rattle.tier_rules.specs.Checks.{maxTier, tierNumber, isUnset}
-use Rattle.tier_rules.specs.Cells.{flagCell, StateCells, bufferAfter, MarkIs, Holds, Running, GoesOn}
+use Rattle.tier_rules.specs.Cells.{flagCell, StateCells, runningOutcome, bufferAfter, MarkIs, Holds, Running, GoesOn}
 use Rattle.tier_rules.proofs.States.{reached-worst, reached-values}
 
 module _ (g : Grid) (process : Process) (t : Period) where
@@ -46,6 +47,14 @@ module _ {A : Type 0} (x checked : Checked) (found : x ≡ checked) where
 
   pub buffer-passed : x ≡ Passed → (made entry last : List A) → last ≡ made → last ≡ bufferAfter checked made entry
   buffer-passed told made entry last e = rw (← found, told) e
+
+-- the number alone, for C
+pub number-given : (checked : Checked) (answer : RunningAnswer) → runningOutcome answer ≡ answered checked [] → (n : ℕ) → n ≡ runningOutcome answer .number → n ≡ numberAfter checked
+number-given checked answer a n e = e ∙ ap (λ (o : Outcome). o .number) a ∙ by checked
+  where
+    by : (x : Checked) → answered x [] .number ≡ numberAfter x
+    by Passed = refl
+    by (Refused r) = refl
 
 -- ---- checks that find the same
 

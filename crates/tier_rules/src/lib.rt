@@ -1,10 +1,24 @@
 // The running test of tiers (document 02, paper 4): what its operations answer, and the sizes of the buffers that hold its state.
+ghost use mathlib.Core.Path.{_≡_};
+ghost use Rattle.tier_rules.specs.Cells.{runningOutcome};
 use tariff::Refusal;
 
 // What an operation answers: the state holds what it made, or nothing has changed.
 pub enum RunningAnswer {
     Held,
     Refused(Refusal),
+}
+
+impl RunningAnswer {
+    // For C: the refusal's number, 0 for none.
+    pub fn number(self) -> u64
+        ensures { λ r. ⌜ r ≡ runningOutcome self .number ⌝ }
+    {
+        match self {
+            RunningAnswer::Refused(refusal) => refusal.number(),
+            RunningAnswer::Held => 0,
+        }
+    }
 }
 
 // The lent buffers: six cells for each of 1,000 awards; two numbers and three more for each tier; a flow for each constraint and as many more for each tier.
