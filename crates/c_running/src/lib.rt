@@ -1,5 +1,6 @@
 // A running test for C: the answer is the refusal's number, 0 for none.
-ghost use Rattle.lists.specs.Lent.{before, after};
+ghost use Rattle.lists.specs.Lent.{after};
+ghost use Rattle.tier_rules.specs.Cells.{leftIn};
 ghost use Rattle.running_test.specs.OpenRunning.{openRunningCall, OpensRunningForC};
 ghost use Rattle.running_test.specs.AddAward.{addAwardCall, AddsAwardForC};
 
@@ -16,9 +17,7 @@ pub extern "C" fn crr_open_running(
     numbers: &mut [u64],
     flows: &mut [i64],
 ) -> u64
-    ensures { λ r. ⌜ OpensRunningForC
-        (openRunningCall nodes constraints process period (before limits) (before factors) (before awards) (before numbers) (before flows))
-        r (after numbers) (after flows) ⌝ }
+    ensures { λ r. ⌜ OpensRunningForC (openRunningCall nodes constraints process period limits factors awards numbers flows) r (after numbers) (after flows) ⌝ }
 {
     let answer = running_test::open_running(
         nodes,
@@ -48,9 +47,7 @@ pub extern "C" fn crr_add_award(
     numbers: &mut [u64],
     flows: &mut [i64],
 ) -> u64
-    ensures { λ r. ⌜ AddsAwardForC
-        (addAwardCall nodes constraints process period (before limits) (before factors) (before award) (before awards) (before numbers) (before flows))
-        r (after awards) (after numbers) (after flows) ⌝ }
+    ensures { λ r. ⌜ AddsAwardForC (addAwardCall nodes constraints process period limits factors award awards numbers flows) r (leftIn awards numbers flows) ⌝ }
 {
     let answer = running_test::add_award(
         nodes,

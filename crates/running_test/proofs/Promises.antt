@@ -84,7 +84,8 @@ module _ (q : AddAwardCall) where
       ∙ sym (in-parts (awardOver (addGrid q) (addProcess q) (addPeriod q) (s .awards) (awarded q) .fails))
       ∙ ap (λ (m : ℕ). first (addListed q m (awardOver (addGrid q) (addProcess q) (addPeriod q) (s .awards) (awarded q)))) e
 
-  award-passes : (s : Tiers) → first (addAwardChecks q s) ≡ Passed → first (awardChecks (q .nodes) (length (s .awards)) (q .award) (awardOver (addGrid q) (addProcess q) (addPeriod q) (s .awards) (awarded q))) ≡ Passed
+  award-passes : (s : Tiers) → first (addAwardChecks q s) ≡ Passed
+      → first (awardChecks (q .nodes) (length (s .awards)) (q .award) (awardOver (addGrid q) (addProcess q) (addPeriod q) (s .awards) (awarded q))) ≡ Passed
   unfolding addListed
   award-passes s e = passed-append (tablesListed q) _ e .1
 
@@ -98,7 +99,7 @@ module _ (q : AddAwardCall) where
             (omega (arith, f .room, st .1 .held-is)) (f .before .awards-long),
       )
 
-  add-goes-on : AddGoesOn q (awardsAdded q) (numbersAdded q) (flowsAdded q)
+  add-goes-on : AddGoesOn q (stateCells (awardsAdded q) (numbersAdded q) (flowsAdded q))
   add-goes-on =
       goes-on (addGrid q) (addProcess q) (addPeriod q) (addAwardChecked q) (addAwardChecks q) (withAward (awarded q)) (stateCells (q .awards) (q .numbers) (q .flows))
       (λ x. stateCells (bufferAfter x (withAwardRow held (awarded q) (q .awards)) (q .awards)) (bufferAfter x (withAwardNumbers (ownPeriod q) (q .numbers)) (q .numbers))
@@ -106,17 +107,18 @@ module _ (q : AddAwardCall) where
       (λ z. refl) (λ s r h. same-checks s (r, h)) (λ s r h e. next-state s (r, h) e)
 
   adds-award : (answer : RunningAnswer) (awards numbers : List ℕ) (flows : List ℤ) → runningOutcome answer ≡ answered (addAwardChecked q) []
-      → awards ≡ awardsAdded q → numbers ≡ numbersAdded q → flows ≡ flowsAdded q → AddsAward q answer awards numbers flows
+      → awards ≡ awardsAdded q → numbers ≡ numbersAdded q → flows ≡ flowsAdded q → AddsAward q answer (stateCells awards numbers flows)
   adds-award answer awards numbers flows a ea en ef =
       record { answer-given = a; awards-added = ea; numbers-added = en; flows-added = ef; running = rw (ea, en, ef) add-goes-on }
 
-  pub adds-refused : (r : Refusal) → addAwardChecked q ≡ Refused r → AddsAward q (is.Refused r) (q .awards) (q .numbers) (q .flows)
+  pub adds-refused : (r : Refusal) → addAwardChecked q ≡ Refused r → AddsAward q (is.Refused r) (stateCells (q .awards) (q .numbers) (q .flows))
   adds-refused r e = adds-award (is.Refused r) (q .awards) (q .numbers) (q .flows) (rw e) (rw e) (rw e) (rw e)
 
   -- 21, where the buffers that were to be written are as they were
-  pub adds-21 : addAwardChecked q ≡ Refused AwardOverload → (numbers : List ℕ) (flows : List ℤ) → numbers ≡ q .numbers → flows ≡ q .flows → AddsAward q (is.Refused AwardOverload) (q .awards) numbers flows
+  pub adds-21 : addAwardChecked q ≡ Refused AwardOverload → (numbers : List ℕ) (flows : List ℤ) → numbers ≡ q .numbers → flows ≡ q .flows
+      → AddsAward q (is.Refused AwardOverload) (stateCells (q .awards) numbers flows)
   adds-21 e numbers flows en ef = adds-award (is.Refused AwardOverload) (q .awards) numbers flows (rw e) (rw e) (rw e en) (rw e ef)
 
   pub adds-passed : addAwardChecked q ≡ Passed → (awards numbers : List ℕ) (flows : List ℤ) → awards ≡ withAwardRow held (awarded q) (q .awards)
-      → numbers ≡ withAwardNumbers (ownPeriod q) (q .numbers) → flows ≡ withAwardFlows (ownPeriod q) (addFactors q) (awarded q) (q .flows) → AddsAward q is.Held awards numbers flows
+      → numbers ≡ withAwardNumbers (ownPeriod q) (q .numbers) → flows ≡ withAwardFlows (ownPeriod q) (addFactors q) (awarded q) (q .flows) → AddsAward q is.Held (stateCells awards numbers flows)
   adds-passed e awards numbers flows ea en ef = adds-award is.Held awards numbers flows (rw e) (rw e ea) (rw e en) (rw e ef)

@@ -9,6 +9,7 @@ use lib.ListN.{length, take}
 use lib.IntN.{ℤ, pos, natAbs}
 use lib.Signed.{ltZ}
 use Rattle.lists.specs.Lists.{some}
+use Rattle.lists.specs.Lent.{Lent, before}
 use Rattle.lists.specs.Sets.{setOf}
 use Rattle.tariff.specs.declared.contracts.Contract.{Contract}
 use Rattle.tariff.specs.declared.contracts.Period.{Period}
@@ -41,8 +42,8 @@ pub record AddAwardCall : Type 0 where
   pub numbers : List ℕ
   pub flows : List ℤ
 
-abbrev pub addAwardCall : ℕ → ℕ → ℕ → ℕ → List ℕ → List ℤ → List ℕ → List ℕ → List ℕ → List ℤ → AddAwardCall
-addAwardCall n k process period limits factors award awards numbers flows =
+abbrev pub addAwardOn : ℕ → ℕ → ℕ → ℕ → List ℕ → List ℤ → List ℕ → List ℕ → List ℕ → List ℤ → AddAwardCall
+addAwardOn n k process period limits factors award awards numbers flows =
     record {
       nodes = n;
       constraints = k;
@@ -55,6 +56,11 @@ addAwardCall n k process period limits factors award awards numbers flows =
       numbers = numbers;
       flows = flows;
     }
+
+-- of what a function is lent
+abbrev pub addAwardCall : ℕ → ℕ → ℕ → ℕ → Lent (List ℕ) → Lent (List ℤ) → Lent (List ℕ) → Lent (List ℕ) → Lent (List ℕ) → Lent (List ℤ) → AddAwardCall
+addAwardCall n k process period limits factors award awards numbers flows =
+    addAwardOn n k process period (before limits) (before factors) (before award) (before awards) (before numbers) (before flows)
 
 -- ---- 21 over the cells alone, whatever they hold
 
@@ -114,23 +120,22 @@ module _ (q : AddAwardCall) where
   flowsAdded = bufferAfter addAwardChecked (withAwardFlows ownPeriod addFactors awarded (q .flows)) (q .flows)
 
   -- of every running test of this grid, process and period in the buffers at entry
-  abbrev pub AddGoesOn : List ℕ → List ℕ → List ℤ → Type 0
-  AddGoesOn awards numbers flows =
-      GoesOn addGrid addProcess addPeriod addAwardChecked addAwardChecks (withAward awarded)
-      (stateCells (q .awards) (q .numbers) (q .flows)) (stateCells awards numbers flows)
+  abbrev pub AddGoesOn : StateCells → Type 0
+  AddGoesOn exit =
+      GoesOn addGrid addProcess addPeriod addAwardChecked addAwardChecks (withAward awarded) (stateCells (q .awards) (q .numbers) (q .flows)) exit
 
 -- the promise: the answer, and each buffer at exit
-pub record AddsAward (q : AddAwardCall) (answer : RunningAnswer) (awards numbers : List ℕ) (flows : List ℤ) : Type 0 where
+pub record AddsAward (q : AddAwardCall) (answer : RunningAnswer) (exit : StateCells) : Type 0 where
   pub answer-given : runningOutcome answer ≡ answered (addAwardChecked q) []
-  pub awards-added : awards ≡ awardsAdded q
-  pub numbers-added : numbers ≡ numbersAdded q
-  pub flows-added : flows ≡ flowsAdded q
-  pub running : AddGoesOn q awards numbers flows
+  pub awards-added : exit .awards ≡ awardsAdded q
+  pub numbers-added : exit .numbers ≡ numbersAdded q
+  pub flows-added : exit .flows ≡ flowsAdded q
+  pub running : AddGoesOn q exit
 
 -- the same for C: the refusal's number
-pub record AddsAwardForC (q : AddAwardCall) (number : ℕ) (awards numbers : List ℕ) (flows : List ℤ) : Type 0 where
+pub record AddsAwardForC (q : AddAwardCall) (number : ℕ) (exit : StateCells) : Type 0 where
   pub refusal-number : number ≡ numberAfter (addAwardChecked q)
-  pub awards-added : awards ≡ awardsAdded q
-  pub numbers-added : numbers ≡ numbersAdded q
-  pub flows-added : flows ≡ flowsAdded q
-  pub running : AddGoesOn q awards numbers flows
+  pub awards-added : exit .awards ≡ awardsAdded q
+  pub numbers-added : exit .numbers ≡ numbersAdded q
+  pub flows-added : exit .flows ≡ flowsAdded q
+  pub running : AddGoesOn q exit

@@ -4,6 +4,7 @@ use mathlib.Core.List.{List, [], _∷_}
 use Prim.Native.Nat.{ℕ}
 use lib.ListN.{length}
 use lib.IntN.{ℤ}
+use Rattle.lists.specs.Lent.{Lent, before}
 use Rattle.tariff.specs.declared.refusals.Checked.{Checked}
 use Rattle.tariff.specs.declared.refusals.Checked.the-variants.{Passed}
 use Rattle.tariff.specs.Units.{gridOf}
@@ -28,8 +29,8 @@ pub record OpenRunningCall : Type 0 where
   pub numbers : List ℕ
   pub flows : List ℤ
 
-abbrev pub openRunningCall : ℕ → ℕ → ℕ → ℕ → List ℕ → List ℤ → List ℕ → List ℕ → List ℤ → OpenRunningCall
-openRunningCall n k process period limits factors awards numbers flows =
+abbrev pub openRunningOn : ℕ → ℕ → ℕ → ℕ → List ℕ → List ℤ → List ℕ → List ℕ → List ℤ → OpenRunningCall
+openRunningOn n k process period limits factors awards numbers flows =
     record {
       nodes = n;
       constraints = k;
@@ -41,6 +42,11 @@ openRunningCall n k process period limits factors awards numbers flows =
       numbers = numbers;
       flows = flows;
     }
+
+-- of what a function is lent
+abbrev pub openRunningCall : ℕ → ℕ → ℕ → ℕ → Lent (List ℕ) → Lent (List ℤ) → Lent (List ℕ) → Lent (List ℕ) → Lent (List ℤ) → OpenRunningCall
+openRunningCall n k process period limits factors awards numbers flows =
+    openRunningOn n k process period (before limits) (before factors) (before awards) (before numbers) (before flows)
 
 module _ (q : OpenRunningCall) where
   -- 2, 3, 16, 17, 9 for the tables and the buffers, 6, 7

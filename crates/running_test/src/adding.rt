@@ -9,7 +9,7 @@ ghost use Rattle.tariff.specs.Units.{factorsOf, maxConstraints, maxContracts};
 ghost use Rattle.tariff.specs.Inner.{InRange, maxFlow};
 ghost use Rattle.tables.specs.Inner.{GoodFactors};
 ghost use Rattle.layouts.specs.BookTable.{contractCells, rowAt};
-ghost use Rattle.tier_rules.specs.Cells.{awardsCells, stateNumbers, heldIn, withAwardRow};
+ghost use Rattle.tier_rules.specs.Cells.{awardsCells, stateNumbers, heldIn, leftIn, withAwardRow};
 ghost use Rattle.running_test.specs.AddAward.{addAwardCall, noState, AddsAward};
 ghost use Rattle.running_test.specs.Inner.{Addable, StateLike, SameFlows, FlowsWith, AddsFlows};
 use crate::checks;
@@ -149,7 +149,8 @@ fn add_flows(
 // Stores an award behind those held.
 fn store_award(c: Contract, awards: &mut [u64], numbers: &mut [u64])
     requires { ⌜ (awardsCells ≤ length (now awards)) × (stateNumbers ≤ length (now numbers)) × (heldIn (now numbers) < maxContracts) ⌝ }
-    ensures { λ r. ⌜ (after awards ≡ withAwardRow (heldIn (before numbers)) c (before awards)) × (after numbers ≡ set (before numbers) 0 (heldIn (before numbers) + 1)) ⌝ }
+    ensures { λ r. ⌜ (after awards ≡ withAwardRow (heldIn (before numbers)) c (before awards))
+        × (after numbers ≡ set (before numbers) 0 (heldIn (before numbers) + 1)) ⌝ }
 {
     let held = numbers[0];
     book_file::store_row(awards, CONTRACT_CELLS * (held as usize), c);
@@ -169,9 +170,7 @@ pub fn add_award(
     numbers: &mut [u64],
     flows: &mut [i64],
 ) -> RunningAnswer
-    ensures { λ r. ⌜ AddsAward
-        (addAwardCall nodes constraints process period (before limits) (before factors) (before award) (before awards) (before numbers) (before flows))
-        r (after awards) (after numbers) (after flows) ⌝ }
+    ensures { λ r. ⌜ AddsAward (addAwardCall nodes constraints process period limits factors award awards numbers flows) r (leftIn awards numbers flows) ⌝ }
 {
     let checked = checks::check_award(
         nodes,

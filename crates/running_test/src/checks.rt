@@ -71,9 +71,7 @@ pub fn check_award(
     numbers: &[u64],
     flows: &[i64],
 ) -> Checked
-    ensures { λ r. ⌜ r ≡ first (upTo13
-        (addAwardCall nodes constraints process period (before limits) (before factors) (before award) (before awards) (before numbers) (before flows))
-        (heldIn (before numbers))) ⌝ }
+    ensures { λ r. ⌜ r ≡ first (upTo13 (addAwardCall nodes constraints process period limits factors award awards numbers flows) (heldIn (before numbers))) ⌝ }
 {
     let award_short = award.len() < CONTRACT_CELLS;
     let short = award_short | state_short(awards.len(), numbers.len(), flows.len());

@@ -47,9 +47,7 @@ pub fn open_running(
     numbers: &mut [u64],
     flows: &mut [i64],
 ) -> RunningAnswer
-    ensures { λ r. ⌜ OpensRunning
-        (openRunningCall nodes constraints process period (before limits) (before factors) (before awards) (before numbers) (before flows))
-        r (after numbers) (after flows) ⌝ }
+    ensures { λ r. ⌜ OpensRunning (openRunningCall nodes constraints process period limits factors awards numbers flows) r (after numbers) (after flows) ⌝ }
 {
     let short = checks::state_short(awards.len(), numbers.len(), flows.len());
     match checks::check_tables(nodes, constraints, process, period, limits, factors, short) {

@@ -48,7 +48,8 @@ module _ (q : ReturnToTierCall) where
   -- of every running test in the buffers at entry, with whatever awards' cells, which are not taken
   abbrev pub ReturnGoesOn : List ℕ → List ℤ → Type 0
   ReturnGoesOn numbers flows = (g : Grid) (process : Process) (t : Period) (awards : List ℕ)
-      → GoesOn g process t returnToTierChecked returnToTierChecks (returnedTo (q .tier)) (stateCells awards (q .numbers) (q .flows)) (stateCells awards numbers flows)
+      → GoesOn g process t returnToTierChecked returnToTierChecks (returnedTo (q .tier))
+      (stateCells awards (q .numbers) (q .flows)) (stateCells awards numbers flows)
 
 -- the promise: the answer, and each buffer at exit
 pub record ReturnsToTier (q : ReturnToTierCall) (answer : RunningAnswer) (numbers : List ℕ) (flows : List ℤ) : Type 0 where

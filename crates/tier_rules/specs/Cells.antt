@@ -8,7 +8,7 @@ use lib.Dec.{ltb}
 use lib.ListN.{length, getD, set, take, drop, replicate}
 use lib.IntN.{ℤ, pos, _+ℤ_}
 use Rattle.lists.specs.Lists.{listTo}
-use Rattle.lists.specs.Lent.{overwrite}
+use Rattle.lists.specs.Lent.{Lent, after, overwrite}
 use Rattle.tariff.specs.declared.contracts.Contract.{Contract}
 use Rattle.tariff.specs.declared.contracts.Period.{Period}
 use Rattle.tariff.specs.declared.processes.Process.{Process}
@@ -65,6 +65,10 @@ pub record StateCells : Type 0 where
 
 abbrev pub stateCells : List ℕ → List ℕ → List ℤ → StateCells
 stateCells awards numbers flows = record { awards = awards; numbers = numbers; flows = flows }
+
+-- the buffers as a function leaves them
+abbrev pub leftIn : Lent (List ℕ) → Lent (List ℕ) → Lent (List ℤ) → StateCells
+leftIn awards numbers flows = stateCells (after awards) (after numbers) (after flows)
 
 -- 9 for each of the two buffers that every operation takes
 abbrev pub stateBuffers : List ℕ → List ℤ → List Check

@@ -17,7 +17,7 @@ use Rattle.layouts.specs.BookTable.{rowAt}
 use Rattle.books.proofs.Accepted.{contract-in-range}
 use Rattle.tier_rules.specs.Cells.{heldIn, countedIn, withAwardRow, withAwardFlows}
 use Rattle.tier_rules.proofs.Runs.{row-award}
-use Rattle.running_test.specs.AddAward.{AddAwardCall, addAwardCall, addProcess, addFactors, awarded, ownPeriod, cellsOver}
+use Rattle.running_test.specs.AddAward.{AddAwardCall, addAwardOn, addProcess, addFactors, awarded, ownPeriod, cellsOver}
 use Rattle.running_test.specs.Inner.{upTo13, AddsFlows}
 use Rattle.running_test.proofs.Checking.{Fields, fields}
 use Rattle.running_test.proofs.Overs.{adds-as, counts-kept}
@@ -27,7 +27,7 @@ use Rattle.running_test.proofs.adding.add_award.Tie as tie
 
 abbrev call : tie.Start → AddAwardCall
 call c =
-    addAwardCall (c .args .nodes) (c .args .constraints) (c .args .process) (c .args .period) (c .args .limits .now) (c .args .factors .now) (c .args .award .now) (c .args .awards .now)
+    addAwardOn (c .args .nodes) (c .args .constraints) (c .args .process) (c .args .period) (c .args .limits .now) (c .args .factors .now) (c .args .award .now) (c .args .awards .now)
     (c .args .numbers .now) (c .args .flows .now)
 
 abbrev asked : tie.After-check-award → AddAwardCall

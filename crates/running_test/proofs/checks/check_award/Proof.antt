@@ -8,7 +8,7 @@ use lib.ListN.{length, getD}
 use Rattle.tariff.specs.Refusals.{first}
 use Rattle.layouts.specs.BookTable.{contractCells}
 use Rattle.tier_rules.specs.Checks.{runningChecks}
-use Rattle.running_test.specs.AddAward.{AddAwardCall, addAwardCall}
+use Rattle.running_test.specs.AddAward.{AddAwardCall, addAwardOn}
 use Rattle.running_test.specs.Inner.{shortIf}
 use Rattle.running_test.proofs.Checking.{addShort, AddTables, tables-refuse, tables-pass, one-too-many, then-row}
 use borrow.Author.Needs.{needs}
@@ -17,7 +17,7 @@ use Rattle.running_test.proofs.checks.check_award.Tie as tie
 
 abbrev call : tie.Start → AddAwardCall
 call c =
-    addAwardCall (c .args .nodes) (c .args .constraints) (c .args .process) (c .args .period) (c .args .limits .now) (c .args .factors .now) (c .args .award .now) (c .args .awards .now)
+    addAwardOn (c .args .nodes) (c .args .constraints) (c .args .process) (c .args .period) (c .args .limits .now) (c .args .factors .now) (c .args .award .now) (c .args .awards .now)
     (c .args .numbers .now) (c .args .flows .now)
 
 abbrev start : tie.After-check-tables → tie.Start

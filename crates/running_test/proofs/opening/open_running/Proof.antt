@@ -11,7 +11,7 @@ use Rattle.tariff.proofs.Answers.{answer-refused, answer-passed}
 use Rattle.tier_rules.specs.Checks.{runningChecks}
 use Rattle.tier_rules.specs.Cells.{openedNumbers, openedFlows}
 use Rattle.tier_rules.proofs.Going.{buffer-refused, buffer-passed}
-use Rattle.running_test.specs.OpenRunning.{OpenRunningCall, openRunningCall, openRunningChecked}
+use Rattle.running_test.specs.OpenRunning.{OpenRunningCall, openRunningOn, openRunningChecked}
 use Rattle.running_test.specs.Inner.{shortIf}
 use Rattle.running_test.proofs.Checking.{open-is, Openable, openable}
 use Rattle.running_test.proofs.Promises.{opens-running}
@@ -20,7 +20,7 @@ use Rattle.running_test.proofs.opening.open_running.Tie as tie
 
 abbrev call : tie.Start → OpenRunningCall
 call c =
-    openRunningCall (c .args .nodes) (c .args .constraints) (c .args .process) (c .args .period) (c .args .limits .now) (c .args .factors .now) (c .args .awards .now) (c .args .numbers .now)
+    openRunningOn (c .args .nodes) (c .args .constraints) (c .args .process) (c .args .period) (c .args .limits .now) (c .args .factors .now) (c .args .awards .now) (c .args .numbers .now)
     (c .args .flows .now)
 
 abbrev start : tie.After-check-tables → tie.Start
