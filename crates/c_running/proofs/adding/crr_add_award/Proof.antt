@@ -2,8 +2,8 @@
 use Rattle.running_test.specs.AddAward.{addAwardOn, addAwardChecked}
 use Rattle.tier_rules.proofs.Going.{number-given}
 use borrow.Author.Needs.{needs}
-use Rattle.c_running.proofs.crr_add_award.Statement.{statement}
-use Rattle.c_running.proofs.crr_add_award.Tie as tie
+use Rattle.c_running.proofs.adding.crr_add_award.Statement.{statement}
+use Rattle.c_running.proofs.adding.crr_add_award.Tie as tie
 
 returns : tie.Need-returns
 returns c =

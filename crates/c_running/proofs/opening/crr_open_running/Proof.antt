@@ -2,8 +2,8 @@
 use Rattle.running_test.specs.OpenRunning.{openRunningOn, openRunningChecked}
 use Rattle.tier_rules.proofs.Going.{number-given}
 use borrow.Author.Needs.{needs}
-use Rattle.c_running.proofs.crr_open_running.Statement.{statement}
-use Rattle.c_running.proofs.crr_open_running.Tie as tie
+use Rattle.c_running.proofs.opening.crr_open_running.Statement.{statement}
+use Rattle.c_running.proofs.opening.crr_open_running.Tie as tie
 
 returns : tie.Need-returns
 returns c =
