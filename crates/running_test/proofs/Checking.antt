@@ -169,7 +169,8 @@ module _ (q : AddAwardCall) where
     pub then-row : x ≡ Passed → held < 1000 → (y : Checked) → y ≡ first (rowChecks (q .nodes) (q .award) 0) → y ≡ first (upTo13 q held)
     unfolding upTo13
     then-row told h y e =
-        e ∙ sym (append-passes tablesListed _ (sym (found ∙ tables-are) ∙ told) ∙ first-passes (contractCount (held + 1)) (rowChecks (q .nodes) (q .award) 0) (le-ltb maxContracts (held + 1) (omega arith)))
+        e ∙ sym (append-passes tablesListed _ (sym (found ∙ tables-are) ∙ told)
+        ∙ first-passes (contractCount (held + 1)) (rowChecks (q .nodes) (q .award) 0) (le-ltb maxContracts (held + 1) (omega arith)))
 
   -- what holds where none before 21 refuses
   pub record Fields (held : ℕ) : Type 0 where

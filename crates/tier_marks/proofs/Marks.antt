@@ -23,7 +23,8 @@ use Rattle.tariff.proofs.Checks.{first-append, passed-cons, passed-append}
 use Rattle.tier_rules.specs.Checks.{maxTier, markChecks, returnChecks, unsetMark, isUnset}
 use Rattle.tier_rules.specs.Runs.{returnedTo}
 use Rattle.tier_rules.specs.declared.RunningAnswer.{RunningAnswer}
-use Rattle.tier_rules.specs.Cells.{stateNumbers, stateFlows, flagCell, heldCell, stateBuffers, stateCells, runningOutcome, bufferAfter, dropMark, markedNumbers, markedFlows, returnedNumbers, returnedFlows, Holds}
+use Rattle.tier_rules.specs.Cells.{stateNumbers, stateFlows, flagCell, heldCell, stateBuffers, stateCells, runningOutcome, bufferAfter}
+use Rattle.tier_rules.specs.Cells.{dropMark, markedNumbers, markedFlows, returnedNumbers, returnedFlows, Holds}
 use Rattle.tier_rules.specs.Tiers.{Tiers, marked}
 use Rattle.tier_rules.proofs.Cells.{behind}
 use Rattle.tier_rules.proofs.States.{marked-reached, returned-reached}

@@ -1,6 +1,6 @@
 -- From the cells to the promise: an operation whose checks are those over the state, and whose cells at exit hold the next one, goes on.
 use mathlib.Core.Path.{_≡_, refl, sym, ap, _∙_}
-use mathlib.Core.Bool.{Bool, true, false, _||_}
+use mathlib.Core.Bool.{Bool, false}
 use mathlib.Core.List.{List, [], _∷_, _++_}
 use mathlib.Core.Option.{Option, none, some, Option·getD}
 use Prim.Native.Nat.{ℕ, _≤_, _<_}
@@ -67,13 +67,6 @@ last-same xs a b r e =
     by : (x : Checked) → first xs ≡ x → decided x Refused (first (record { fails = a; refusal = r } ∷ [])) ≡ decided x Refused (first (record { fails = b; refusal = r } ∷ []))
     by Passed q = ap (λ (f : Bool). first (record { fails = f; refusal = r } ∷ [])) (e q)
     by (Refused z) q = refl
-
--- two conditions of one refusal are one
-pub first-either : (a b : Bool) (r : Refusal) (rest : List Check)
-    → first (record { fails = a; refusal = r } ∷ record { fails = b; refusal = r } ∷ rest) ≡ first (record { fails = a || b; refusal = r } ∷ rest)
-unfolding first
-first-either true b r rest = refl
-first-either false b r rest = refl
 
 -- ---- tiers and marks
 

@@ -29,7 +29,8 @@ use Rattle.layouts.proofs.BookTable.{length-cells}
 use Rattle.tier_rules.specs.Tiers.{Tiers, opened, withAward, marked, kept, returned, Reached}
 use Rattle.tier_rules.specs.Checks.{maxTier}
 use Rattle.tier_rules.specs.Cells.{awardsCells, stateNumbers, stateFlows, heldIn, countedIn, flagCell, heldCell, countedCell, markBlock, StateCells, stateCells, openedNumbers, openedFlows}
-use Rattle.tier_rules.specs.Cells.{withAwardRow, withAwardNumbers, flowWith, withAwardFlows, copied, markedNumbers, markedFlows, dropMarks, returnedNumbers, returnedFlows, Block, MarkAt, MarkIs, Holds}
+use Rattle.tier_rules.specs.Cells.{withAwardRow, withAwardNumbers, flowWith, withAwardFlows, copied, markedNumbers, markedFlows, dropMarks, returnedNumbers, returnedFlows}
+use Rattle.tier_rules.specs.Cells.{Block, MarkAt, MarkIs, Holds}
 use Rattle.tier_rules.proofs.Cells.{behind, copied-before, copied-here, copied-behind, length-drop-marks, drop-marks-else, drop-marks-held, drop-marks-flag}
 
 zero-side : (b : Bool) → cond {A = ℕ} b 0 0 ≡ 0

@@ -50,7 +50,8 @@ returns-2 c =
     let q = call (k .before .before .before .before) in
     let told = e .enum-told .given .1 in
     marks-tier q _ _ _ (answer-passed (k .check-tier .result) (markTierChecked q) (k .check-tier .ensures) told [])
-    (buffer-passed (k .check-tier .result) (markTierChecked q) (k .check-tier .ensures) told (markedNumbers (q .tier) (q .numbers)) (q .numbers) _ (c .before .before .before .before .before .mark-numbers .ensures))
+    (buffer-passed (k .check-tier .result) (markTierChecked q) (k .check-tier .ensures) told (markedNumbers (q .tier) (q .numbers)) (q .numbers) _
+    (c .before .before .before .before .before .mark-numbers .ensures))
     (buffer-passed (k .check-tier .result) (markTierChecked q) (k .check-tier .ensures) told (markedFlows (q .tier) (q .flows)) (q .flows) _ (c .before .copy-block .ensures))
 
 pub mark-tier-spec : {M : Type 1} → statement M

@@ -55,7 +55,8 @@ returns-2 c =
     let q = call (k .before .before .before .before) in
     let told = e .enum-told .given .1 in
     returns-to-tier q _ _ _ (answer-passed (k .check-return .result) (returnToTierChecked q) (k .check-return .ensures) told [])
-    (buffer-passed (k .check-return .result) (returnToTierChecked q) (k .check-return .ensures) told (returnedNumbers (q .tier) (q .numbers)) (q .numbers) _ (c .before .before .before .before .before .return-numbers .ensures))
+    (buffer-passed (k .check-return .result) (returnToTierChecked q) (k .check-return .ensures) told (returnedNumbers (q .tier) (q .numbers)) (q .numbers) _
+    (c .before .before .before .before .before .return-numbers .ensures))
     (buffer-passed (k .check-return .result) (returnToTierChecked q) (k .check-return .ensures) told (returnedFlows (q .tier) (q .flows)) (q .flows) _ (c .before .copy-block .ensures))
 
 pub return-to-tier-spec : {M : Type 1} → statement M

@@ -61,7 +61,8 @@ add-flows-requires c κs =
 
 -- what was added, by the call's own terms
 added : (a : tie.After-add-flows) → let q = told (a .before .before .before .before .before .before .before) in
-    AddsFlows (ownPeriod q) (q .limits) (addProcess q) (addFactors q) (awarded q) (q .numbers) (q .flows) (a .add-flows .result) (a .add-flows .last .1 .1 .1 .1 .1 .1 .1 .0) (a .add-flows .last .1 .1 .1 .1 .1 .1 .1 .1 .0)
+    AddsFlows (ownPeriod q) (q .limits) (addProcess q) (addFactors q) (awarded q) (q .numbers) (q .flows) (a .add-flows .result)
+    (a .add-flows .last .1 .1 .1 .1 .1 .1 .1 .0) (a .add-flows .last .1 .1 .1 .1 .1 .1 .1 .1 .0)
 added a =
     let p = a .before .before .before in
     let m = p .before in

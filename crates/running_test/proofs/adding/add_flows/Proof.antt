@@ -38,7 +38,8 @@ returns-2 : tie.Need-returns-2
 returns-2 c =
     let k = c .before in
     let a = k .before .before .before .before .before .before .args in
-    adds-odd (a .own) (a .limits .now) (a .process) (factorsOf (a .nodes) (a .constraints) (a .factors .now)) (a .c) (a .numbers .now) (a .flows .now) (mine k) (sym (k .no-state .ensures) ∙ c .if2 .taken)
+    adds-odd (a .own) (a .limits .now) (a .process) (factorsOf (a .nodes) (a .constraints) (a .factors .now)) (a .c) (a .numbers .now) (a .flows .now) (mine k)
+    (sym (k .no-state .ensures) ∙ c .if2 .taken)
 
 like : (e : tie.Else2) → let a = e .before .before .before .before .before .before .before .args in StateLike (a .constraints) (a .numbers .now) (a .flows .now)
 like e =

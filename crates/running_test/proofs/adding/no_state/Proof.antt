@@ -31,7 +31,8 @@ same c =
     let a = s .args in
     let k = c .before .before .before .loop .k in
     c .flow-beyond .ensures
-    ∙ ap (beyond (getD (a .numbers .now) 1 0)) (toZ-ofZ w64 (getD (a .flows .now) k (pos 0)) (record { sfits = c .before .flow-beyond-arg .given }) ∙ sym (getD-take (a .constraints) (a .flows .now) k (pos 0) (omega arith)))
+    ∙ ap (beyond (getD (a .numbers .now) 1 0))
+    (toZ-ofZ w64 (getD (a .flows .now) k (pos 0)) (record { sfits = c .before .flow-beyond-arg .given }) ∙ sym (getD-take (a .constraints) (a .flows .now) k (pos 0) (omega arith)))
 
 returns : tie.Need-returns Inv-loop μ-loop
 returns c = let a = c .before .before .before .before .args in more-counted (a .constraints) (a .numbers .now) (a .flows .now) (omega arith)
@@ -47,7 +48,8 @@ returns-2 c =
     let s = c .before .before .before .before .before .before .before .before .before in
     let a = s .args in
     let l = c .before .before .before .before .loop in
-    flow-found (a .constraints) (a .numbers .now) (a .flows .now) (l .inv .1) (l .k) (cell-in (a .flows .now) (a .constraints) (l .k) (s .pre .1) (omega arith)) (sym (same (c .before)) ∙ c .if2 .taken)
+    flow-found (a .constraints) (a .numbers .now) (a .flows .now) (l .inv .1) (l .k) (cell-in (a .flows .now) (a .constraints) (l .k) (s .pre .1) (omega arith))
+    (sym (same (c .before)) ∙ c .if2 .taken)
 
 loop-again : tie.Need-loop-again Inv-loop μ-loop
 loop-again c =
@@ -71,4 +73,5 @@ returns-3 c =
 pub no-state-spec : {M : Type 1} → statement M
 no-state-spec =
     tie.close (tie.spec
-    Inv-loop μ-loop (λ c. search needs) (λ c. search needs) returns loop-holds (λ c. search needs) (λ c. search needs) flow-beyond-requires returns-2 (λ c. search needs) (λ c. search needs) loop-again returns-3)
+    Inv-loop μ-loop (λ c. search needs) (λ c. search needs) returns loop-holds (λ c. search needs) (λ c. search needs) flow-beyond-requires returns-2
+    (λ c. search needs) (λ c. search needs) loop-again returns-3)

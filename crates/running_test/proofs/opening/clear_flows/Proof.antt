@@ -27,7 +27,8 @@ loop-again c =
     let h : l .i < stateFlows = omega arith in (
       omega arith,
       length-set (l .flows) (l .i) (pos 0) ∙ l .inv .1,
-      fill-turn (replicate {A = ℤ} stateFlows (pos 0)) (l .flows) (l .i) (l .inv .2) (pos 0) (pos 0) (inside c) (rw (length-replicate {A = ℤ} stateFlows (pos 0)) h) (sym (getD-replicate {A = ℤ} stateFlows (l .i) (pos 0) (pos 0) h)),
+      fill-turn (replicate {A = ℤ} stateFlows (pos 0)) (l .flows) (l .i) (l .inv .2) (pos 0) (pos 0) (inside c)
+          (rw (length-replicate {A = ℤ} stateFlows (pos 0)) h) (sym (getD-replicate {A = ℤ} stateFlows (l .i) (pos 0) (pos 0) h)),
       rest-turn (l .flows) (s .args .flows .now) (l .i) (pos 0) (l .inv .3),
     )
 

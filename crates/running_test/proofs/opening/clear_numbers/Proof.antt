@@ -26,7 +26,8 @@ loop-again c =
     let h : l .i < stateNumbers = omega arith in (
       omega arith,
       length-set (l .numbers) (l .i) 0 ∙ l .inv .1,
-      fill-turn (replicate {A = ℕ} stateNumbers 0) (l .numbers) (l .i) (l .inv .2) 0 0 (inside c) (rw (length-replicate {A = ℕ} stateNumbers 0) h) (sym (getD-replicate {A = ℕ} stateNumbers (l .i) 0 0 h)),
+      fill-turn (replicate {A = ℕ} stateNumbers 0) (l .numbers) (l .i) (l .inv .2) 0 0 (inside c)
+          (rw (length-replicate {A = ℕ} stateNumbers 0) h) (sym (getD-replicate {A = ℕ} stateNumbers (l .i) 0 0 h)),
       rest-turn (l .numbers) (s .args .numbers .now) (l .i) 0 (l .inv .3),
     )
 
