@@ -1,7 +1,7 @@
 -- The figures of the test depend on the flows alone, and flows are sums.
 use mathlib.Core.Path.{_≡_, ap, fun-ext}
 use mathlib.Core.Bool.{Bool}
-use mathlib.Core.List.{List, Perm}
+use mathlib.Core.List.{List}
 use Prim.Native.Nat.{ℕ}
 use Rattle.lists.specs.Sets.{setOf, countOf, lowestOf}
 use Rattle.integers.proofs.Perms.{sumOver-perm}
@@ -9,10 +9,10 @@ use Rattle.tariff.specs.declared.contracts.Contract.{Contract}
 use Rattle.tariff.specs.declared.processes.Process.{Process}
 use Rattle.tariff.specs.Units.{Factors, Grid}
 use Rattle.tariff.specs.Feasibility.{flow, totalFlow, excess, overloaded, overloadSet, overloadCount, lowestOverload}
-use Rattle.reorder_rules.specs.Reordering.{SameFlows, SameOverloads}
+use Rattle.reorder_rules.specs.Reordering.{Reordered, SameFlows, SameOverloads}
 use Rattle.reorder_rules.proofs.Perms.{length-perm}
 
-pub flows-perm : (f : Factors) (cs ds : List Contract) → Perm cs ds → SameFlows f cs ds
+pub flows-perm : (f : Factors) (cs ds : List Contract) → Reordered cs ds → SameFlows f cs ds
 unfolding totalFlow
 flows-perm f cs ds p = record { flows-same = λ k. sumOver-perm (λ (c : Contract). flow f c k) cs ds p; counted-same = length-perm cs ds p }
 
