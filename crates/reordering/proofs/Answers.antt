@@ -37,6 +37,14 @@ use Rattle.reordering.proofs.Values.{verdict-kept, totals-kept}
 
 -- ---- the test
 
+pub still-passes : (q : TestCall) (limits : List ℕ) → ((k : ℕ) → k < q .constraints → limit (q .limits) k ≤ limit limits k)
+    → Passes (testedGrid q) (testedProcess q) (testedContracts q) → Passes (testedGrid (testUnder q limits)) (testedProcess q) (testedContracts q)
+still-passes q limits up =
+    let k = q .constraints in
+    let more : Raised (testedGrid q) (testedGrid (testUnder q limits))
+    = record { factors-same = refl; limits-raised = λ j i. rw (getD-take k (q .limits) j 0 i, getD-take k limits j 0 i) (up j i) } in
+    relief .raised-limit-keeps-pass (testedGrid q) (testedGrid (testUnder q limits)) (testedProcess q) (periodOf (q .period)) (bookIn (q .book)) more
+
 module _ (q : TestCall) (a : TestAnswer) (h : Tested q a) where
   outcome-is : testOutcome a ≡ given (testValues (testedGrid q) (testedProcess q) (testedContracts q))
   outcome-is = h .promised .figures ∙ ap (λ (c : Checked). answered c (testValues (testedGrid q) (testedProcess q) (testedContracts q))) (h .accepted)
@@ -61,12 +69,7 @@ module _ (q : TestCall) (s : List ℕ) (a b : TestAnswer) (h : Tested q a) (l : 
 
 pub test-raised : (q : TestCall) (limits : List ℕ) (a b : TestAnswer) → Tested q a → Tested (testUnder q limits) b
     → ((k : ℕ) → k < q .constraints → limit (q .limits) k ≤ limit limits k) → a ≡ Pass → b ≡ Pass
-test-raised q limits a b h l up e =
-    let k = q .constraints in
-    let more : Raised (testedGrid q) (testedGrid (testUnder q limits))
-    = record { factors-same = refl; limits-raised = λ j i. rw (getD-take k (q .limits) j 0 i, getD-take k limits j 0 i) (up j i) } in
-    pass-is (testUnder q limits) b l .1
-    (relief .raised-limit-keeps-pass (testedGrid q) (testedGrid (testUnder q limits)) (testedProcess q) (periodOf (q .period)) (bookIn (q .book)) more (pass-is q a h .0 e))
+test-raised q limits a b h l up e = pass-is (testUnder q limits) b l .1 (still-passes q limits up (pass-is q a h .0 e))
 
 -- ---- flows
 
@@ -80,12 +83,14 @@ module _ (q : FlowsCall) (a : FlowsAnswer) (x : List ℤ) (h : Found q a x) wher
   counted-is : flowsOutcome a ≡ given (pos (length (countedContracts q)) ∷ [])
   counted-is = h .promised .counted-given ∙ ap (λ (c : Checked). answered c (pos (length (countedContracts q)) ∷ [])) (h .accepted)
 
-  flow-is : (k : ℕ) → k < q .constraints → getD x k (pos 0) ≡ totalFlow (factorsOf (q .nodes) (q .constraints) (q .factors)) (countedContracts q) k
-  flow-is k l =
-      let flow = totalFlow (factorsOf (q .nodes) (q .constraints) (q .factors)) (countedContracts q) in
-      ap (λ (cells : List ℤ). getD cells k (pos 0)) (h .promised .flows-found ∙ ap (λ (c : Checked). cellsAfter c (flowCells q) (q .place)) (h .accepted))
-      ∙ List·getD-append (flowCells q) _ (pos 0) k (rw (length-listTo (q .constraints) flow) l)
-      ∙ getD-listTo (q .constraints) flow k (pos 0) l
+-- cell k of a place that took the flows
+pub flow-is : (q : FlowsCall) (x : List ℤ) → findFlowsChecked q ≡ Passed → x ≡ cellsAfter (findFlowsChecked q) (flowCells q) (q .place)
+    → (k : ℕ) → k < q .constraints → getD x k (pos 0) ≡ totalFlow (factorsOf (q .nodes) (q .constraints) (q .factors)) (countedContracts q) k
+flow-is q x ok is k l =
+    let flow = totalFlow (factorsOf (q .nodes) (q .constraints) (q .factors)) (countedContracts q) in
+    ap (λ (cells : List ℤ). getD cells k (pos 0)) (is ∙ ap (λ (c : Checked). cellsAfter c (flowCells q) (q .place)) ok)
+    ∙ List·getD-append (flowCells q) _ (pos 0) k (rw (length-listTo (q .constraints) flow) l)
+    ∙ getD-listTo (q .constraints) flow k (pos 0) l
 
 pub flows-same : (q : FlowsCall) (s : List ℕ) (place : List ℤ) (a b : FlowsAnswer) (x y : List ℤ) → Found q a x → Found (flowsOn q s place) b y
     → Reordered (bookIn (q .book)) (bookIn s)
@@ -93,7 +98,9 @@ pub flows-same : (q : FlowsCall) (s : List ℕ) (place : List ℤ) (a b : FlowsA
 flows-same q s place a b x y h l p =
     let same = reordering .reorder-keeps-flows (factorsOf (q .nodes) (q .constraints) (q .factors)) (periodOf (q .period)) (bookIn (q .book)) (bookIn s) p in (
       counted-is q a x h ∙ ap (λ (n : ℕ). given (pos n ∷ [])) (same .counted-same) ∙ sym (counted-is (flowsOn q s place) b y l),
-      λ k i. flow-is q a x h k i ∙ same .flows-same k ∙ sym (flow-is (flowsOn q s place) b y l k i),
+      λ k i.
+          flow-is q x (h .accepted) (h .promised .flows-found) k i ∙ same .flows-same k
+          ∙ sym (flow-is (flowsOn q s place) y (l .accepted) (l .promised .flows-found) k i),
     )
 
 -- ---- an hour
@@ -111,15 +118,37 @@ module _ (q : HourCall) (a : SettleAnswer) (cents : Lent (List ℤ)) (sets : Len
   hour-is : settleOutcome a ≡ given (sumGiven q ∷ wholeCents (exactGiven q) ∷ pos (parts (exactGiven q)) ∷ [])
   hour-is = h .promised .totals ∙ ap (λ (c : Checked). answered c (sumGiven q ∷ wholeCents (exactGiven q) ∷ pos (parts (exactGiven q)) ∷ [])) (h .accepted)
 
-  cents-is : (i : ℕ) → i < contractCountIn (q .book) → getD (after cents) i (pos 0) ≡ centsOf (hourFactors q) (hourPrices q) (hourPeriod q) (contractAt (q .book) i)
-  cents-is =
+-- the cells of two accepted calls, by what each promises of them
+module _ (q : HourCall) (cents : Lent (List ℤ)) (sets : Lent (List ℕ)) (ok : settleChecked q cents sets ≡ Passed) where
+  cents-is : after cents ≡ cellsAfter (settleChecked q cents sets) (centsCells q) (before cents)
+      → (i : ℕ) → i < contractCountIn (q .book) → getD (after cents) i (pos 0) ≡ centsOf (hourFactors q) (hourPrices q) (hourPeriod q) (contractAt (q .book) i)
+  cents-is is =
       cell-of (q .book) (centsOf (hourFactors q) (hourPrices q) (hourPeriod q)) (before cents) (after cents) (pos 0)
-      (h .promised .cents-settled ∙ ap (λ (c : Checked). cellsAfter c (centsCells q) (before cents)) (h .accepted))
+      (is ∙ ap (λ (c : Checked). cellsAfter c (centsCells q) (before cents)) ok)
 
-  set-is : (i : ℕ) → i < contractCountIn (q .book) → getD (after sets) i 0 ≡ pricedOf (hourFactors q) (hourPrices q) (hourPeriod q) (contractAt (q .book) i)
-  set-is =
+  set-is : after sets ≡ cellsAfter (settleChecked q cents sets) (pricedCells q) (before sets)
+      → (i : ℕ) → i < contractCountIn (q .book) → getD (after sets) i 0 ≡ pricedOf (hourFactors q) (hourPrices q) (hourPeriod q) (contractAt (q .book) i)
+  set-is is =
       cell-of (q .book) (pricedOf (hourFactors q) (hourPrices q) (hourPeriod q)) (before sets) (after sets) 0
-      (h .promised .sets-handed-on ∙ ap (λ (c : Checked). cellsAfter c (pricedCells q) (before sets)) (h .accepted))
+      (is ∙ ap (λ (c : Checked). cellsAfter c (pricedCells q) (before sets)) ok)
+
+-- what a call promises of its cells
+pub record CellsGiven (q : HourCall) (cents : Lent (List ℤ)) (sets : Lent (List ℕ)) : Type 0 where
+  pub passed : settleChecked q cents sets ≡ Passed
+  pub cents-given : after cents ≡ cellsAfter (settleChecked q cents sets) (centsCells q) (before cents)
+  pub sets-given : after sets ≡ cellsAfter (settleChecked q cents sets) (pricedCells q) (before sets)
+
+pub cells-same : (q : HourCall) (s : List ℕ) (cents cents₂ : Lent (List ℤ)) (sets sets₂ : Lent (List ℕ)) → CellsGiven q cents sets → CellsGiven (hourOn q s) cents₂ sets₂
+    → (i j : ℕ) → i < contractCountIn (q .book) → j < contractCountIn s → contractAt (q .book) i ≡ contractAt s j → SameCells i j cents cents₂ sets sets₂
+cells-same q s cents cents₂ sets sets₂ g h i j x y e =
+    record {
+      same-cents =
+          cents-is q cents sets (g .passed) (g .cents-given) i x ∙ ap (centsOf (hourFactors q) (hourPrices q) (hourPeriod q)) e
+          ∙ sym (cents-is (hourOn q s) cents₂ sets₂ (h .passed) (h .cents-given) j y);
+      same-sets =
+          set-is q cents sets (g .passed) (g .sets-given) i x ∙ ap (pricedOf (hourFactors q) (hourPrices q) (hourPeriod q)) e
+          ∙ sym (set-is (hourOn q s) cents₂ sets₂ (h .passed) (h .sets-given) j y);
+    }
 
 module _ (q : HourCall) (s : List ℕ) (a b : SettleAnswer) (cents cents₂ : Lent (List ℤ)) (sets sets₂ : Lent (List ℕ)) (h : HourSettled q a cents sets)
     (l : HourSettled (hourOn q s) b cents₂ sets₂) where
@@ -130,11 +159,8 @@ module _ (q : HourCall) (s : List ℕ) (a b : SettleAnswer) (cents cents₂ : Le
       ∙ (λ i. given (same .sum-same i ∷ wholeCents (same .exact-same i) ∷ pos (parts (same .exact-same i)) ∷ []))
       ∙ sym (hour-is (hourOn q s) b cents₂ sets₂ l)
 
-  pub cells-same : (i j : ℕ) → i < contractCountIn (q .book) → j < contractCountIn s → contractAt (q .book) i ≡ contractAt s j
+  pub settled-move : (i j : ℕ) → i < contractCountIn (q .book) → j < contractCountIn s → contractAt (q .book) i ≡ contractAt s j
       → SameCells i j cents cents₂ sets sets₂
-  cells-same i j x y e =
-      record {
-        same-cents =
-            cents-is q a cents sets h i x ∙ ap (centsOf (hourFactors q) (hourPrices q) (hourPeriod q)) e ∙ sym (cents-is (hourOn q s) b cents₂ sets₂ l j y);
-        same-sets = set-is q a cents sets h i x ∙ ap (pricedOf (hourFactors q) (hourPrices q) (hourPeriod q)) e ∙ sym (set-is (hourOn q s) b cents₂ sets₂ l j y);
-      }
+  settled-move =
+      cells-same q s cents cents₂ sets sets₂ (record { passed = h .accepted; cents-given = h .promised .cents-settled; sets-given = h .promised .sets-handed-on })
+      (record { passed = l .accepted; cents-given = l .promised .cents-settled; sets-given = l .promised .sets-handed-on })

@@ -1,9 +1,11 @@
--- THE THEOREMS of reordering and relief (document 02, paper 14) in what the entries answer; the statements are in specs/, the proofs in Values, Answers and
--- Acceptance, and over the tariff's rules alone in reorder_rules.
+-- THE THEOREMS of reordering and relief (document 02, paper 14) in what the entries answer; the statements are in specs/, the proofs in Values, Answers, ForC
+-- and Acceptance, and over the tariff's rules alone in reorder_rules.
 use Rattle.reordering.specs.Values.{ReorderedValues}
 use Rattle.reordering.specs.Entries.{Entries}
+use Rattle.reordering.specs.ForC.{EntriesForC}
 use Rattle.reordering.proofs.Values.{verdict-kept, totals-kept, cells-move}
-use Rattle.reordering.proofs.Answers.{test-same, test-option, test-raised, carried-same, flows-same, settle-same, cells-same}
+use Rattle.reordering.proofs.Answers.{test-same, test-option, test-raised, carried-same, flows-same, settle-same, settled-move}
+use Rattle.reordering.proofs.ForC.{test-same-for-c, option-for-c, raised-for-c, flows-for-c, totals-for-c, move-for-c}
 use Rattle.reordering.proofs.Acceptance.{same-width, reads-back}
 
 pub reordered-values : ReorderedValues
@@ -21,9 +23,20 @@ entries =
       flows-reordered = flows-same;
       carried-reordered = carried-same;
       settle-reordered = settle-same;
-      settled-cells-move = cells-same;
+      settled-cells-move = settled-move;
       test-limits-raised = test-raised;
       test-option-added = test-option;
       reordered-is-accepted = same-width;
       reordered-in-either-width = λ n s ds f ok p. reads-back n s ds ok p f;
+    }
+
+pub entries-for-c : EntriesForC
+entries-for-c =
+    record {
+      crr-test-reordered = test-same-for-c;
+      crr-test-limits-raised = raised-for-c;
+      crr-test-option-added = option-for-c;
+      crr-flows-reordered = flows-for-c;
+      crr-settle-reordered = totals-for-c;
+      crr-settled-cells-move = move-for-c;
     }
