@@ -22,7 +22,7 @@ relief =
     record {
       raised-limit-adds-no-overload = λ low high process t cs r. raised-adds-none low high r process (ofPeriod t cs);
       raised-limit-keeps-pass = λ low high process t cs r. raised-passes low high r process (ofPeriod t cs);
-      option-lowers-no-flow = λ f t cs more o. option-flows t cs more o f;
+      option-lowers-no-flow = λ f t cs more o k. option-flows t cs more o f k;
       option-clears-no-overload = λ g process t cs more o. option-overloads t cs more o g process;
       option-keeps-fail = λ g process t cs more o fails p. fails (option-passes t cs more o g process p);
       passed-before-option = λ g process t cs more o. option-passes t cs more o g process;

@@ -19,15 +19,15 @@ reordered-values =
 pub entries : Entries
 entries =
     record {
-      test-reordered = test-same;
+      test-reordered = λ q s a b h l p. test-same q s a b h l p;
       flows-reordered = flows-same;
       carried-reordered = carried-same;
-      settle-reordered = settle-same;
+      settle-reordered = λ q s a b cents cents₂ sets sets₂ h l p. settle-same q s a b cents cents₂ sets sets₂ h l p;
       settled-cells-move = settled-move;
-      test-limits-raised = test-raised;
-      test-option-added = test-option;
+      test-limits-raised = λ q limits a b h l up. test-raised q limits a b h l up;
+      test-option-added = λ q s a b h l o. test-option q s a b h l o;
       reordered-is-accepted = same-width;
-      reordered-in-either-width = λ n s ds f ok p. reads-back n s ds ok p f;
+      reordered-in-either-width = λ n s ds f ok p fits. reads-back n s ds ok p f fits;
     }
 
 pub entries-for-c : EntriesForC
