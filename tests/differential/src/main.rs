@@ -70,6 +70,7 @@ const ENTRIES: [Entry; 28] = [
     },
     plain("settle_hour", &[1, 2, 3, 4, 5, 7, 9, 10, 11, 13, 15, 17], &[&priced::CASES, &forms::BOOKS], rounds::settlement::hour),
     Entry { rounds: shares::ROUNDS, ..plain("share_balance", &[9, 26, 27], &[&shares::CASES], shares::round) },
+    // paper 14's laws, over test_book, find_flows and settle_hour
     plain("reordering", &[6, 10, 11, 13], &[&reordering::CASES], reordering::round),
     plain("migrate_load", &[1, 2, 4, 5, 9, 10, 11, 13, 17, 22, 23], &[&migration::CASES], migration::round),
     Entry { files: &[("grid", GRID), ("book", BOOK)], ..plain("write_report", &[9], &[&text::CASES], text::report) },
