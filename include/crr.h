@@ -23,6 +23,9 @@
  *   balance        cents, -1,000,000,000 to 1,000,000,000
  *   demand         units of any one kind, 0 to 1,000,000,000
  *   weight         hundred-thousandths of a hub, 1 to 100,000
+ *   customers      customers that moved, 0 to 1,000,000
+ *   rate           thousandths of a MW per customer, 0 to 10,000
+ *   load           thousandths of a MW, 0 to 1,000,000,000,000
  *   period         0 off-peak, 1 on-peak
  *   process        0 annual, 1 Tier LT, 2 monthly: 65, 60 and 100 percent of each
  *                  limit is released
@@ -30,12 +33,13 @@
  *   weekday        1 Monday to 7 Sunday
  *
  * Nodes, constraints, contracts and coordinators are numbered from 0: nodes up to
- * 3,999.
+ * 3,999. Load-serving entities (LSEs) are numbered from 1, each being the holder of
+ * that number.
  *
  *
  * TABLES. Each may be longer than is needed: only the first cells are read or
  * written. Lists are exact and read whole, their lengths say how many there are:
- * demands, a hub's two lists, and those of crr_remap_book.
+ * demands, a hub's two lists, and those of crr_remap_book and crr_migrate_load.
  *
  *   limits    one cell for each constraint
  *   factors   one cell for each node and constraint; the factor of node n on
@@ -57,6 +61,7 @@
  *   hub_nodes, hub_weights
  *             one cell of each for each node of a hub, and no other: its number, and
  *             beside it its weight
+ *   loads     one cell for each LSE, and no other: that of LSE i in cell i - 1
  *
  *
  * HUBS. A trading hub is 1 to CRR_MAX_HUB_NODES nodes, each with a weight of 1 to
@@ -75,9 +80,10 @@
  * told the form by a number: 0 (CRR_NARROW) is narrow, any other number is wide
  * (CRR_WIDE is 1). Readers give 0 or 1, so that what was read can be written again,
  * byte for byte; a book made from a book (remapped, settled, for the market, grown by a
- * hub's contract) keeps its form. Write the wide form where a node number needs it, and
- * otherwise the narrow one: it is shorter, and it is the one that libraries without
- * forms take, which refuse every wide file. The layouts are in crates/layouts/specs.
+ * hub's contract or by load migration) keeps its form. Write the wide form where a node
+ * number needs it, and otherwise the narrow one: it is shorter, and it is the one that
+ * libraries without forms take, which refuse every wide file. The layouts are in
+ * crates/layouts/specs.
  *
  *
  * ANSWERS. Every function returns 0, or the number of the refusal (below). Its
@@ -123,9 +129,16 @@ extern "C" {
 #define CRR_MAX_CONTRACTS 1000
 #define CRR_MAX_COORDINATORS 256
 #define CRR_MAX_HUB_NODES 32
+#define CRR_MAX_LSES 16
+#define CRR_MAX_MIGRATION_ROWS 1000
 
 /* The weights of a hub's nodes together. */
 #define CRR_HUB_WEIGHT 100000
+
+/* Figures of load migration: the most that is accepted. */
+#define CRR_MAX_CUSTOMERS 1000000
+#define CRR_MAX_CUSTOMER_LOAD 10000 /* thousandths of a MW per customer */
+#define CRR_MAX_LOAD 1000000000000
 
 /* The longest files. One byte more is never accepted. */
 #define CRR_MAX_GRID_BYTES 576220
@@ -178,6 +191,8 @@ extern "C" {
 #define CRR_PERIOD_OR_KIND 17  /* a period not 0 or 1; writing a book or adding to one, a kind or period not 0 or 1 */
 #define CRR_HOLDER_RANGE 18    /* holder above 1,023 */
 #define CRR_NO_SUCH_DATE 19    /* a date or month that does not exist or is outside 2010 to 2037, given or reached */
+#define CRR_MIGRATION_RANGE 22 /* load migration: a figure, count or LSE number outside its range, unequal lists, or a row whose old and new LSE are one */
+#define CRR_LOAD_EXCEEDED 23   /* load migration: an LSE that loses load has none, or less than its losses to all gainers */
 #define CRR_HUB_SHAPE 24       /* a hub not of 1 to 32 nodes, unequal lists, or weights outside 1 to 100,000 or not together 100,000 */
 #define CRR_HUB_NODE_TWICE 25  /* a node listed twice in a hub */
 #define CRR_SHARE_RANGE 26     /* sharing a balance: no demands or more than 256, or a balance or demand outside its range */
@@ -578,6 +593,54 @@ uint64_t crr_settle_hour(size_t nodes, size_t constraints, uint64_t period,
 uint64_t crr_share_balance(int64_t balance,
                            const uint64_t *demands, size_t demands_len,
                            int64_t *shares, size_t shares_len);
+
+/*
+ * Migrates load: the monthly transfer of CRRs between LSEs whose customers moved, for
+ * one period, from a book's file, for a grid of so many nodes. There are loads_len
+ * LSEs, 1 to CRR_MAX_LSES; the contracts of LSE i are those of holder i, and cell i - 1
+ * of loads is its current load in the period. Row r, of up to CRR_MAX_MIGRATION_ROWS,
+ * stands in cell r of five lists of equal length: a class, which is any byte and
+ * changes nothing; the customers moved, the thousandths of a MW that each has (rates),
+ * and the numbers of their old and their new LSE. The lists may be empty.
+ *
+ * The net transfer from one LSE to another is customers * rate summed over the rows
+ * from the one to the other, less that of the rows back. Where it is above 0 the one
+ * loses load and the other gains it. Each obligation of the period that a loser holds
+ * in the book then gives, for each of its gainers, two obligations of the same period
+ * and of quantity * net transfer / the loser's load, rounded down: the gainer's, with
+ * the contract's own source and sink, and the loser's, with the two exchanged. Where
+ * that is 0 it gives neither. Options, the other period's contracts and those of
+ * holders that are no LSE give none, nor do the contracts made here.
+ *
+ * On success writes the new book's file to the first bytes of file, and its length to
+ * *bytes: the contracts of the book as they were, in their order, then the new ones,
+ * by the contract that gives them, then by gainer, the gainer's before the loser's, in
+ * the book's form. Where no net is above 0 these are the book's own bytes.
+ * CRR_MAX_BOOK_BYTES bytes are always enough.
+ *
+ * Every constraint's flow stays: on the new book crr_find_flows gives the same but for
+ * *counted, crr_test_book the same, and crr_settle_hour the same *whole and *parts.
+ * Cents are rounded contract by contract, so their *sum may differ. The other period
+ * is another call, on the new book, with that period's rates and loads.
+ *
+ * Refusals, in this order: 17, 2, 1, 10, 4, 5, then contract by contract 11, 13; 22 (not
+ * 1 to 16 loads, more than 1,000 rows, lists of unequal length, customers above
+ * 1,000,000, a rate above 10,000, a load above 1,000,000,000,000, an LSE number that is
+ * 0 or above loads_len, a row whose old and new LSE are one), 23 (an LSE with a net
+ * above 0 to some other, whose load is 0 or less than its nets above 0 together; what
+ * it gains is not set off), 10 (the book's contracts and the new ones are more than
+ * 1,000), and 9 if the bytes don't fit.
+ */
+uint64_t crr_migrate_load(size_t nodes, uint64_t period,
+                          const uint8_t *book, size_t book_len,
+                          const uint8_t *classes, size_t classes_len,
+                          const uint64_t *customers, size_t customers_len,
+                          const uint64_t *rates, size_t rates_len,
+                          const uint64_t *olds, size_t olds_len,
+                          const uint64_t *news, size_t news_len,
+                          const uint64_t *loads, size_t loads_len,
+                          uint8_t *file, size_t file_len,
+                          size_t *bytes);
 
 /*
  * Writes the feasibility report on a grid's file and a book's file: a heading and

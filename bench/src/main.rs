@@ -7,6 +7,7 @@ mod inputs;
 #[allow(dead_code)]
 #[path = "../../tests/differential/src/library.rs"]
 mod library;
+mod migration;
 mod plain;
 mod shares;
 #[path = "../../tests/differential/src/splitmix.rs"]
@@ -16,6 +17,7 @@ mod views;
 
 use entries::{Entry, ENTRIES};
 use inputs::{Inputs, Size, LARGEST, WIDEST, WIDEST_TEXT};
+use migration::Load;
 use plain::Form;
 use std::process::ExitCode;
 use timing::Times;
@@ -109,6 +111,12 @@ fn viewed(label: &str, size: Size, form: Form, matching: usize) -> Result<(), St
     Ok(())
 }
 
+/// Migrating so much load.
+fn migrated(label: &str, load: Load, form: Form) -> Result<(), String> {
+    row(label, &migration::migrate_load(load, form).map_err(|why| format!("migrate_load, {label}: {why}"))?);
+    Ok(())
+}
+
 fn wide() -> Result<(), String> {
     heading("entry, wide");
     for (name, size) in WIDE {
@@ -117,6 +125,7 @@ fn wide() -> Result<(), String> {
         }
     }
     viewed("write_holder_view, 4000 nodes", WIDEST, Form::Wide, views::MATCHING)?;
+    migrated("migrate_load, 4000 nodes", migration::WIDEST, Form::Wide)?;
     growth("wide, nodes", &BY_WIDE_NODES, Form::Wide, &[200, 1000, 4000].map(|nodes| (nodes, Size { nodes, ..WIDEST })))
 }
 
@@ -127,6 +136,7 @@ fn tables() -> Result<(), String> {
     }
     viewed("write_holder_view", LARGEST, Form::Narrow, views::MATCHING)?;
     shared("share_balance", shares::MOST)?;
+    migrated("migrate_load", migration::MOST, Form::Narrow)?;
     calendar()?;
     let narrow = Form::Narrow;
     growth("contracts", &BY_CONTRACTS, narrow, &[125, 250, 500, 1000].map(|contracts| (contracts, Size { contracts, ..LARGEST })))?;
@@ -139,6 +149,14 @@ fn tables() -> Result<(), String> {
     heading("write_holder_view, matching");
     for matching in [0, 125, 250, 500, 1000] {
         viewed(&matching.to_string(), LARGEST, narrow, matching)?;
+    }
+    heading("migrate_load, rows");
+    for rows in [125, 250, 500, 1000] {
+        migrated(&rows.to_string(), Load { rows, ..migration::MOST }, narrow)?;
+    }
+    heading("migrate_load, contracts");
+    for contracts in [125, 250, 500, 1000] {
+        migrated(&contracts.to_string(), Load { contracts, ..migration::MOST }, narrow)?;
     }
     wide()
 }

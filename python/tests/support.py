@@ -17,6 +17,7 @@ sys.path[:0] = [str(ROOT / "python" / "src")]
 SEED = int(os.environ.get("CRR_SEED", "1"))
 CASE_L = ROOT / "examples" / "case-l"
 IEEE14 = ROOT / "examples" / "ieee14"
+MIGRATION = ROOT / "examples" / "migration"
 
 
 def bits(fields):

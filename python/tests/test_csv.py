@@ -6,7 +6,9 @@ import unittest
 from support import CASE_L, IEEE14, FolderTest, command, contents, draw_book, draw_grid, draw_prices
 import crr
 from crr.case import holder_numbers
-from crr.from_csv import load
+from crr.from_csv import BOOK, DEMANDS, HUBS, PRICES, load
+from crr.migration_csv import LOADS, ROWS
+from crr.names_csv import HEADING
 from crr.sheet import ALIASES
 
 CSV = ("book.csv", "constraints.csv", "factors.csv", "prices.csv")
@@ -125,7 +127,11 @@ class Habits(FolderTest):
         self.assertEqual(load(self.folder)[0].names.constraints, ["Node", "K1"])
 
     def test_no_alias_twice(self):
-        names = [name for ours, others in ALIASES.items() for name in (ours, *others)]
+        """No heading has two meanings in one file; CLASS, OLD, NEW and MW have another one in the files of load migration."""
+        for need in (("CONSTRAINT_ID", "LIMIT_MW"), BOOK, PRICES, DEMANDS, HUBS, HEADING, ROWS, LOADS):
+            names = [name for ours in need for name in (ours, *ALIASES[ours])]
+            self.assertEqual(len(names), len(set(names)), need)
+        names = [name for ours, others in ALIASES.items() if ours not in ROWS + LOADS for name in (ours, *others)]
         self.assertEqual(len(names), len(set(names)))
 
     def test_rounded_prices(self):

@@ -1,4 +1,4 @@
-"""The documents: every command of the tutorial and of the README's first section is run, and what it prints is compared with what stands there."""
+"""The documents: every command of the tutorial, of load migration and of the README's first section is run, and what it prints is compared with the page."""
 
 import os
 import re
@@ -36,6 +36,9 @@ class Documents(FolderTest):
 
     def test_tutorial(self):
         self.walk((ROOT / "docs" / "TUTORIAL.md").read_text(), 25)
+
+    def test_load_migration(self):
+        self.walk((ROOT / "docs" / "LOAD-MIGRATION.md").read_text(), 8)
 
     def test_readme(self):
         text = (ROOT / "README.md").read_text()

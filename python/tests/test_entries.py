@@ -243,6 +243,30 @@ class Refusals(unittest.TestCase):
             with self.assertRaisesRegex(OverflowError, "balance of crr_share_balance is a number of 64 bits with its sign"):
                 crr.share_balance(balance, [1])
 
+    def test_migrate_load(self):
+        book = crr.write_book(2, [(0, 1, 1, 0, 1, 1000)])
+        one = (b"\7", [10], [1], [1], [2])
+
+        def changed(place, value):
+            return tuple(value if at == place else own for at, own in enumerate(one))
+
+        new = crr.read_book(2, crr.migrate_load(2, 1, book, *one, [40, 0]))
+        self.assertEqual(new, [(0, 1, 1, 0, 1, 1000), (0, 1, 2, 0, 1, 250), (0, 1, 1, 1, 0, 250)])
+        self.assertEqual(crr.migrate_load(2, 0, book, *one, array("Q", [40, 0])), book)
+        self.assertEqual(crr.migrate_load(2, 1, book, b"", [], [], [], [], [0]), book)
+        self.refused(17, crr.migrate_load, 0, 2, book, *one, [0, 0])
+        self.refused(2, crr.migrate_load, 0, 1, book, *one, [0, 0])
+        self.refused(11, crr.migrate_load, 1, 1, book, *one, [0, 0])
+        wrong = [(0, b""), (1, [1_000_001]), (2, [10_001]), (3, [0]), (3, [3]), (4, [0]), (4, [3]), (4, [1]), (4, []), (1, [10, 10])]
+        for place, value in wrong:
+            self.refused(22, crr.migrate_load, 2, 1, book, *changed(place, value), [0, 0])
+        for loads in ([], [0] * 17, [10**12 + 1, 0]):
+            self.refused(22, crr.migrate_load, 2, 1, book, *one, loads)
+        self.refused(22, crr.migrate_load, 2, 1, book, bytes(1001), [0] * 1001, [0] * 1001, [1] * 1001, [2] * 1001, [0, 0])
+        for load in (0, 9):
+            self.refused(23, crr.migrate_load, 2, 1, book, *one, [load, 0])
+        self.refused(10, crr.migrate_load, 2, 1, crr.write_book(2, [(0, 1, 1, 0, 1, 1000)] * 334), *one, [40, 0])
+
     def test_the_file_is_named(self):
         with self.assertRaisesRegex(crr.Refused, "^here/grid.bin: refused 1 by crr_read_grid: a file of fewer bytes"):
             crr.read_grid(b"", "here/grid.bin")

@@ -4,7 +4,7 @@ import json
 import shutil
 import unittest
 
-from support import CASE_L, IEEE14, FolderTest, command, contents
+from support import CASE_L, IEEE14, MIGRATION, FolderTest, command, contents
 from crr.faults import Faults
 from crr.from_csv import load
 
@@ -280,6 +280,53 @@ class DamagedHubs(FolderTest):
         self.assertEqual(command("hub-mcc", IEEE14, missing)[2].splitlines()[0], f"nowhere.csv: No such file or directory: {missing}")
         (self.folder / "hubs.csv").write_text("HUB,NODE_ID,WEIGHT\nNorth,Bus 2,100\n")
         self.assertEqual(command("hub-mcc", IEEE14, self.folder / "hubs.csv")[2].splitlines()[0], "hubs.csv:1:PERCENT: the column is missing")
+
+
+# What is wrong with the rows or the loads of a migration, and what is said, line by line.
+MIGRATIONS = [
+    ("R,1000001,1,1,2", "1,1", ["rows.csv:2:CUSTOMERS: 1000001 is outside 0 to 1000000 (refusal 22)"]),
+    ("R,-1,1,1,2", "1,1", ["rows.csv:2:CUSTOMERS: -1 is outside 0 to 1000000 (refusal 22)"]),
+    ("R,1.5,1,1,2", "1,1", ["rows.csv:2:CUSTOMERS: 1.5 has more than 0 decimals"]),
+    ("R,1,10.001,1,2", "1,1", ["rows.csv:2:MW_PER_CUSTOMER: 10.001 is outside 0.000 to 10.000 (refusal 22)"]),
+    ("R,1,0.0005,1,2", "1,1", ["rows.csv:2:MW_PER_CUSTOMER: 0.0005 has more than 3 decimals"]),
+    ("R,1,1,,2", "1,1", ["rows.csv:2:OLD_LSE: empty"]),
+    ("R,1,1,Elm,2", "1,1", ["rows.csv:2:OLD_LSE: no holder is called 'Elm', and it is no number from 1 to 16 (refusal 22)"]),
+    ("R,1,1,1,0", "1,1", ["rows.csv:2:NEW_LSE: 0 is holder 0, and LSEs are the holders 1 to 16: names.csv gives holders their numbers (refusal 22)"]),
+    ("R,1,1,1,17", "1,1", ["rows.csv:2:NEW_LSE: 17 is holder 17, and LSEs are the holders 1 to 16: names.csv gives holders their numbers (refusal 22)"]),
+    ("R,1,1,1,3", "1,1", ["rows.csv:2:NEW_LSE: LSE 3 has no load (refusal 22)"]),
+    ("R,1,1,2,2", "1,1", ["rows.csv:2:NEW_LSE: the old and the new LSE are one (refusal 22)"]),
+    ("\n".join(["R,0,1,1,2"] * 1001), "1,1", ["rows.csv:1002:CUSTOMERS: more than 1000 rows (refusal 22)"]),
+    ("R,1,1,1,2", "1,1000000000.001", ["loads.csv:3:LOAD_MW: 1000000000.001 is outside 0.000 to 1000000000.000 (refusal 22)"]),
+    ("R,1,1,1,2", "1,1\n2,3", ["loads.csv:4:LSE: 2 occurs twice"]),
+    ("R,10,1,2,1", "1,9.999", ["loads.csv:2:LOAD_MW: 0.000 MW, and the LSE loses 10.000 MW to all gainers (refusal 23)"]),
+    ("R,10,1,1,2\nR,9,1,2,1\nR,2,1,1,2", "1,2.999", ["loads.csv:3:LOAD_MW: 2.999 MW, and the LSE loses 3.000 MW to all gainers (refusal 23)"]),
+    ("R,x,y,1,1", "1,z", ["loads.csv:3:LOAD_MW: 'z' is not a decimal number", "rows.csv:2:CUSTOMERS: 'x' is not a decimal number",
+                          "rows.csv:2:MW_PER_CUSTOMER: 'y' is not a decimal number", "rows.csv:2:NEW_LSE: the old and the new LSE are one (refusal 22)"]),
+]
+
+
+class DamagedMigrations(FolderTest):
+    def said(self, rows, loads):
+        (self.folder / "rows.csv").write_text(rows)
+        (self.folder / "loads.csv").write_text(loads)
+        arguments = (self.folder / "rows.csv", self.folder / "loads.csv", "--period", "on", "-o", self.folder / "out")
+        status, out, err = command("migrate", MIGRATION, *arguments)
+        self.assertEqual((status, out, (self.folder / "out").exists()), (2, "", False))
+        return err.splitlines()
+
+    def test_each_is_told_where_it_is(self):
+        for rows, loads, faults in MIGRATIONS:
+            with self.subTest(faults=faults):
+                heading = "CUSTOMER_CLASS,CUSTOMERS,MW_PER_CUSTOMER,OLD_LSE,NEW_LSE"
+                end = f"crr: {len(faults)} fault{'s' * (len(faults) > 1)} in {MIGRATION}; nothing was written"
+                self.assertEqual(self.said(f"{heading}\n{rows}\n", f"LSE,LOAD_MW\n2,0\n{loads}\n"), [*faults, end])
+
+    def test_whole_files(self):
+        heading = "CUSTOMER_CLASS,CUSTOMERS,MW_PER_CUSTOMER,OLD_LSE,NEW_LSE\n"
+        self.assertEqual(self.said("", "LSE,LOAD_MW\n1,1\n")[0], "rows.csv:1:CUSTOMER_CLASS: the file is empty: its first line is the heading")
+        self.assertEqual(self.said(heading, "LSE,LOAD_MW\n")[0], "loads.csv:1:LSE: no LSE (refusal 22)")
+        self.assertEqual(self.said(heading, "LSE,LOADS\n1,1\n")[0], "loads.csv:1:LOAD_MW: the column is missing")
+        self.assertEqual(self.said(heading.replace("OLD_LSE", "OLD_NODE"), "LSE,LOAD_MW\n1,1\n")[0], "rows.csv:1:OLD_LSE: the column is missing")
 
 
 class Drawn(FolderTest):

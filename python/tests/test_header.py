@@ -45,6 +45,9 @@ class Header(unittest.TestCase):
             (interface.BALANCE, "balance +cents", 2),
             (interface.DEMAND, "demand +units of any one kind", 0),
             (interface.WEIGHT, "weight +hundred-thousandths of a hub", 3),
+            (interface.CUSTOMERS, "customers +customers that moved", 0),
+            (interface.CUSTOMER_LOAD, "rate +thousandths of a MW per customer", 3),
+            (interface.LOAD, "load +thousandths of a MW", 3),
         ):
             low, high = re.search(words + r"(?:, | \()(-?[\d,]*\d) to ([\d,]*\d)", HEADER).groups()
             self.assertEqual((unit.places, unit.low, unit.high), (places, int(low.replace(",", "")), int(high.replace(",", ""))), words)

@@ -3,7 +3,7 @@
  * again, the grid and the book in both forms, a node retired, the market's view and a
  * holder's, the book settled, a contract from a hub added, the test, the flows, the
  * cuts, the released shares, the MCC, that of a hub, the hour, the two texts; the
- * calendar; and a balance shared. Also a C++ program.
+ * calendar; a balance shared; and load migrated. Also a C++ program.
  */
 #include <stdint.h>
 #include <stdio.h>
@@ -45,6 +45,12 @@ static const uint8_t grown[] = {0x01, 0xc0, 0x40, 0x70, 0x00, 0x10, 0x27, 0x10, 
 static int64_t factors[CRR_MAX_NODES * CRR_MAX_CONSTRAINTS], flows[CRR_MAX_CONSTRAINTS], mcc[CRR_MAX_NODES], cents[CRR_MAX_CONTRACTS];
 static const uint64_t demands[] = {5, 3, 1}, no_demands[] = {0, 0};
 static int64_t shares[4];
+/* Ten customers of 1 MW each move from LSE 7, whose load is 40 MW, to LSE 8; case L's book after that, and the cell after it. */
+static const uint8_t classes[] = {1};
+static const uint64_t moved_customers[] = {10}, moved_rates[] = {1000}, old_lses[] = {7}, new_lses[] = {8}, no_loads[CRR_MAX_LSES] = {0};
+static const uint64_t loads[CRR_MAX_LSES] = {0, 0, 0, 0, 0, 0, 40000};
+static const uint8_t migrated[] = {0x01, 0x80, 0x40, 0x70, 0x00, 0x10, 0x27, 0x10, 0xc0, 0x80, 0x00, 0x20, 0x01, 0xf4, 0x40, 0x70, 0x00, 0x20, 0x00, 0x01,
+                                   0x00, 0x90, 0x00, 0x10, 0x00, 0x05, 0x40, 0x80, 0x00, 0x10, 0x09, 0xc4, 0x40, 0x70, 0x10, 0x00, 0x09, 0xc4, 7};
 static int passed, failed;
 
 static void expect(const char *what, int holds) {
@@ -177,6 +183,24 @@ int main(void) {
     expect("crr_share_balance, no demand", crr_share_balance(10, no_demands, 2, shares, 1) == CRR_NO_DEMAND);
     expect("crr_share_balance, too few cells", crr_share_balance(10, demands, 3, shares, 2) == CRR_SHORT_TABLE
                                                    && shares[0] == -6 && shares[1] == -3 && shares[2] == -1 && shares[3] == 7);
+    copy[38] = 7;
+    expect("crr_migrate_load", crr_migrate_load(nodes, CRR_ON_PEAK, book_file, book_len, classes, 1, moved_customers, 1, moved_rates, 1, old_lses, 1, new_lses, 1,
+                                                loads, CRR_MAX_LSES, copy, sizeof copy, &bytes) == CRR_OK
+                                   && bytes == 38 && memcmp(copy, migrated, sizeof migrated) == 0);
+    expect("crr_migrate_load, too few bytes", crr_migrate_load(nodes, CRR_ON_PEAK, wide_book, 30, classes, 1, moved_customers, 1, moved_rates, 1, old_lses, 1, new_lses, 1,
+                                                               loads, CRR_MAX_LSES, copy, 43, &bytes) == CRR_SHORT_TABLE
+                                                  && bytes == 38 && memcmp(copy, migrated, sizeof migrated) == 0);
+    expect("crr_migrate_load, wide", crr_migrate_load(nodes, CRR_ON_PEAK, wide_book, 30, classes, 1, moved_customers, 1, moved_rates, 1, old_lses, 1, new_lses, 1,
+                                                      loads, CRR_MAX_LSES, copy, 44, &bytes) == CRR_OK
+                                         && bytes == 44 && copy[0] == 0x01 && copy[1] == 0xbf && memcmp(copy + 2, wide_book + 2, 28) == 0 && copy[43] == 0xc4);
+    expect("crr_migrate_load, off-peak", crr_migrate_load(nodes, CRR_OFF_PEAK, book_file, book_len, classes, 1, moved_customers, 1, moved_rates, 1, old_lses, 1, new_lses, 1,
+                                                          loads, CRR_MAX_LSES, copy, book_len, &bytes) == CRR_OK
+                                             && bytes == book_len && memcmp(copy, book_file, bytes) == 0);
+    expect("crr_migrate_load, seven LSEs", crr_migrate_load(nodes, CRR_ON_PEAK, book_file, book_len, classes, 1, moved_customers, 1, moved_rates, 1, old_lses, 1, new_lses, 1,
+                                                            loads, 7, copy, sizeof copy, &bytes) == CRR_MIGRATION_RANGE);
+    expect("crr_migrate_load, no load", crr_migrate_load(nodes, CRR_ON_PEAK, book_file, book_len, classes, 1, moved_customers, 1, moved_rates, 1, old_lses, 1, new_lses, 1,
+                                                         no_loads, CRR_MAX_LSES, copy, sizeof copy, &bytes) == CRR_LOAD_EXCEEDED
+                                            && bytes == book_len);
     expect("crr_write_report", crr_write_report(grid_file, grid_len, book_file, book_len, text, sizeof text, &bytes) == CRR_OK
                                    && starts_with("period,process,verdict,overloaded,lowest,excess,constraints\n", bytes));
     expect("crr_write_statement", crr_write_statement(grid_file, grid_len, book_file, book_len, price_file, price_len, text, sizeof text, &bytes) == CRR_OK

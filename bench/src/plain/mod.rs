@@ -6,6 +6,7 @@ mod calendar;
 mod cuts;
 mod grid;
 mod hubs;
+mod migration;
 mod prices;
 mod settled;
 mod settlement;
@@ -19,6 +20,7 @@ pub use calendar::{month_hours, month_later, weekday};
 pub use cuts::find_cuts;
 pub use grid::{read_grid, write_grid, Header};
 pub use hubs::{add_hub_contract, find_hub_mcc, Order};
+pub use migration::{migrate_load, Lists};
 pub use prices::{read_prices, write_prices};
 pub use settled::write_settled_book;
 pub use settlement::{find_mcc, settle_hour, Totals};
@@ -48,6 +50,8 @@ pub const PROCESS_NUMBER: Refusal = 16;
 pub const PERIOD_OR_KIND: Refusal = 17;
 pub const HOLDER_RANGE: Refusal = 18;
 pub const NO_SUCH_DATE: Refusal = 19;
+pub const MIGRATION_RANGE: Refusal = 22;
+pub const LOAD_EXCEEDED: Refusal = 23;
 pub const HUB_SHAPE: Refusal = 24;
 pub const HUB_NODE_TWICE: Refusal = 25;
 pub const SHARE_RANGE: Refusal = 26;
@@ -59,6 +63,8 @@ pub const MAX_CONSTRAINTS: usize = 64;
 pub const MAX_CONTRACTS: usize = 1000;
 pub const MAX_COORDINATORS: usize = 256;
 pub const MAX_HUB_NODES: usize = 32;
+pub const MAX_LSES: usize = 16;
+pub const MAX_MIGRATION_ROWS: usize = 1000;
 
 /// The two forms of a grid's file and of a book's.
 #[derive(Clone, Copy, Debug, PartialEq, Eq)]

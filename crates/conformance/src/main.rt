@@ -9,4 +9,5 @@ fn main() {
     view_vectors::go_through();
     settled_vectors::go_through();
     hub_vectors::go_through();
+    migration_vectors::go_through();
 }

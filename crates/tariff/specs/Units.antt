@@ -46,6 +46,23 @@ maxBalance = 1000000000
 abbrev pub maxDemand : ℕ
 maxDemand = 1000000000
 
+-- document 02, paper 5: "1 to 16 load-serving entities", "up to 1,000 rows", "customers moved (to 1,000,000), thousandths of a MW per customer (to 10,000)",
+-- "loads reach 10^12 thousandths"
+abbrev pub maxEntities : ℕ
+maxEntities = 16
+
+abbrev pub maxRows : ℕ
+maxRows = 1000
+
+abbrev pub maxCustomers : ℕ
+maxCustomers = 1000000
+
+abbrev pub maxRate : ℕ
+maxRate = 10000
+
+abbrev pub maxLoad : ℕ
+maxLoad = 1000000000000
+
 -- document 02, paper 7: "a hub is 1 to 32 nodes, each weighted 1 to 100,000, together 100,000"
 abbrev pub maxHubNodes : ℕ
 maxHubNodes = 32

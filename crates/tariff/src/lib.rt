@@ -19,6 +19,7 @@ pub use units::Flow;
 pub use units::Mcc;
 pub use units::Price;
 pub use units::Quantity;
+pub use units::Transfer;
 pub use units::WeightedMcc;
 
 // Counts: 1 to 4,000 nodes, 200 in a narrow file, 0 to 64 constraints, 0 to 1,000 contracts.
@@ -47,6 +48,17 @@ pub const MAX_COORDINATORS: usize = 256;
 pub const MAX_BALANCE: i64 = 1000000000;
 
 pub const MAX_DEMAND: u64 = 1000000000;
+
+// Document 02, paper 5: load-serving entities, rows, customers of a row, thousandths of a MW per customer, thousandths of a MW.
+pub const MAX_ENTITIES: usize = 16;
+
+pub const MAX_ROWS: usize = 1000;
+
+pub const MAX_CUSTOMERS: u64 = 1000000;
+
+pub const MAX_RATE: u64 = 10000;
+
+pub const MAX_LOAD: u64 = 1000000000000;
 
 // Document 02, paper 7: nodes of a hub, and what their weights total.
 pub const MAX_HUB_NODES: usize = 32;

@@ -4,8 +4,9 @@ ghost use Prim.Native.Nat.{_+_, _*_, _/_, _%_, _^_, _≤_, _<_};
 ghost use lib.Dec.{ltb};
 ghost use lib.IntN.{pos, natAbs, negℤ, _+ℤ_, _-ℤ_, _*ℤ_};
 ghost use lib.Signed.{ltZ};
+ghost use Rattle.integers.specs.Sums.{max0};
 ghost use Rattle.integers.specs.Division.{floorDiv, floorMod, roundUp};
-ghost use Rattle.tariff.specs.Units.{maxFactor, maxQuantity, maxPrice, hubWeight, perCent};
+ghost use Rattle.tariff.specs.Units.{maxFactor, maxQuantity, maxPrice, maxCustomers, maxRate, maxLoad, hubWeight, perCent};
 ghost use Rattle.tariff.specs.Contracts.{counted as countedAs};
 ghost use Rattle.tariff.specs.Settlement.{cents as centsOf, wholeCents, parts as partsOf};
 ghost use Rattle.tariff.specs.Inner.{maxMcc, maxSpread, maxWeighted, maxAmount, maxCents};
@@ -58,12 +59,20 @@ impl Quantity {
         }
     }
 
-    // The product rule of a hub's shares (02, paper 7): quantity × weight, over the whole hub's weight, rounded down.
+    // The product rule of shares (02, papers 5 and 7): quantity × part, over the whole, rounded down.
+    pub fn proportion(self, part: u64, whole: u64) -> Quantity
+        requires { ⌜ (self .0 ≤ maxQuantity) × (part ≤ whole) × (0 < whole) × (whole ≤ maxLoad) ⌝ }
+        ensures { λ r. ⌜ (r .0 ≡ self .0 * part / whole) × (r .0 ≤ self .0) ⌝ }
+    {
+        Quantity(self.0 * part / whole)
+    }
+
+    // A hub's share: its weight, over the whole hub's weight.
     pub fn share(self, weight: u64) -> Quantity
         requires { ⌜ (self .0 ≤ maxQuantity) × (weight ≤ hubWeight) ⌝ }
         ensures { λ r. ⌜ r .0 ≡ self .0 * weight / hubWeight ⌝ }
     {
-        Quantity(self.0 * weight / HUB_WEIGHT)
+        self.proportion(weight, HUB_WEIGHT)
     }
 
     // What that leaves, by which leftover thousandths are given.
@@ -174,6 +183,53 @@ impl WeightedMcc {
         ensures { λ r. ⌜ (r ≡ floorMod (self .0) hubWeight) × (r < hubWeight) ⌝ }
     {
         floors::floor_remainder(self.0, HUB_WEIGHT)
+    }
+}
+
+// Load that went from one LSE to another, less what came back (02, paper 5): thousandths of a MW.
+pub struct Transfer(pub i64);
+
+impl Transfer {
+    // The product rule of a row: customers moved × thousandths of a MW per customer.
+    pub fn of_row(customers: u64, rate: u64) -> Transfer
+        requires { ⌜ (customers ≤ maxCustomers) × (rate ≤ maxRate) ⌝ }
+        ensures { λ r. ⌜ r .0 ≡ pos (customers * rate) ⌝ }
+    {
+        Transfer((customers * rate) as i64)
+    }
+
+    pub fn plus(self, other: Transfer) -> Transfer
+        requires { ⌜ natAbs (self .0) + natAbs (other .0) < 2 ^ 63 ⌝ }
+        ensures { λ r. ⌜ r .0 ≡ self .0 +ℤ other .0 ⌝ }
+    {
+        Transfer(self.0 + other.0)
+    }
+
+    // The same the other way.
+    pub fn negated(self) -> Transfer
+        requires { ⌜ natAbs (self .0) < 2 ^ 63 ⌝ }
+        ensures { λ r. ⌜ r .0 ≡ negℤ (self .0) ⌝ }
+    {
+        Transfer(-self.0)
+    }
+
+    // As a cell of a square.
+    pub fn cell(self) -> i64
+        requires { ⌜ natAbs (self .0) < 2 ^ 63 ⌝ }
+        ensures { λ r. ⌜ r ≡ self .0 ⌝ }
+    {
+        self.0
+    }
+
+    // What is lost: nothing where the transfer is not above 0.
+    pub fn lost(self) -> u64
+        requires { ⌜ natAbs (self .0) < 2 ^ 63 ⌝ }
+        ensures { λ r. ⌜ r ≡ natAbs (max0 (self .0)) ⌝ }
+    {
+        if self.0 < 0 {
+            return 0;
+        }
+        self.0 as u64
     }
 }
 

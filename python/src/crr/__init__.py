@@ -24,6 +24,7 @@ from .files import (
 )
 from .hours import PriceFile, Settled, settle_hours
 from .interface import MEANINGS
+from .migration import migrate_load, net_transfers
 from .native import Refused
 from .settlement import Hour, HourTotal, HubMcc, Settler, find_hub_mcc, find_mcc, settle_hour
 from .shares import share_balance
@@ -53,8 +54,10 @@ __all__ = [
     "find_flows",
     "find_hub_mcc",
     "find_mcc",
+    "migrate_load",
     "month_hours",
     "month_later",
+    "net_transfers",
     "read_book",
     "read_book_cells",
     "read_book_form",

@@ -47,6 +47,12 @@ def _report(options: argparse.Namespace) -> Answer:
     return report(options.folder, options.out, options.round_prices, Bar("settle"))
 
 
+def _migrate(options: argparse.Namespace) -> Answer:
+    from .migrate import migrate  # asked for by this command alone
+
+    return migrate(options.folder, _PERIODS[options.period][0], options.rows, options.loads, options.out, options.round_prices)
+
+
 _COMMANDS: Dict[str, Callable[[argparse.Namespace], Answer]] = {
     "check": lambda o: commands.check(o.folder, o.round_prices),
     "pack": lambda o: commands.pack(o.folder, o.out or o.folder, o.round_prices),
@@ -62,6 +68,7 @@ _COMMANDS: Dict[str, Callable[[argparse.Namespace], Answer]] = {
     "same": lambda o: copies.same(o.folder, o.other),
     "hub-mcc": lambda o: commands.hub_mcc(o.folder, o.hubs, o.round_prices),
     "hub-add": lambda o: commands.hub_add(o.folder, o.hubs, o.contracts, o.out, o.round_prices),
+    "migrate": _migrate,
     "hours": lambda o: commands.hours(*o.months),
     "share": lambda o: commands.share(o.balance, o.demands),
 }
@@ -80,6 +87,7 @@ _HELP = {
     "same": "whether two folders have the same book, rows shuffled or split or not, and the totals that differ",
     "hub-mcc": "the marginal cost of congestion of trading hubs, hour by hour",
     "hub-add": "add contracts from trading hubs to the book, as contracts from their nodes",
+    "migrate": "the transfer of contracts between load-serving entities whose customers moved, for one period",
     "hours": "the on-peak days and hours of months, 2010 to 2037",
     "share": "a balance shared among coordinators by their demands, to the cent",
 }
@@ -115,7 +123,7 @@ def _parser() -> argparse.ArgumentParser:
         else:
             command.add_argument("folder", type=Path, metavar="FOLDER", help="a folder of CSV files, or of bin files")
         command.add_argument("--json", action="store_true", help="the answer, or the faults, as one JSON object")
-        if name in ("check", "pack", "settle", "report", "remap", "hub-mcc", "hub-add"):
+        if name in ("check", "pack", "settle", "report", "remap", "hub-mcc", "hub-add", "migrate"):
             command.add_argument("--round-prices", action="store_true", help="round prices of more than two decimals to the nearest cent")
     of["remap"].add_argument("pairs", type=Path, metavar="PAIRS", help="a CSV file OLD_NODE,NEW_NODE")
     of["holder"].add_argument("holder", metavar="HOLDER", help="its name, as in OWNER, or its number, 0 to 1023")
@@ -123,9 +131,12 @@ def _parser() -> argparse.ArgumentParser:
     for name in ("hub-mcc", "hub-add"):
         of[name].add_argument("hubs", type=Path, metavar="HUBS", help="a CSV file HUB,NODE_ID,PERCENT")
     of["hub-add"].add_argument("contracts", type=Path, metavar="CONTRACTS", help="a CSV file like book.csv, with hubs for sources")
+    of["migrate"].add_argument("rows", type=Path, metavar="ROWS", help="a CSV file CUSTOMER_CLASS,CUSTOMERS,MW_PER_CUSTOMER,OLD_LSE,NEW_LSE")
+    of["migrate"].add_argument("loads", type=Path, metavar="LOADS", help="a CSV file LSE,LOAD_MW")
+    of["migrate"].add_argument("--period", choices=["off", "on"], required=True, help="whose rates and loads these are")
     places = {"pack": "a folder", "unpack": "a folder", "settle": "a folder for the result files", "report": "the HTML file", "remap": "a folder"}
     places.update({"market": "the market's file", "holder": "a file for the view as the library writes it"})
-    places.update({"settled": "a file for the settled book, as the library reads it", "hub-add": "a folder"})
+    places.update({"settled": "a file for the settled book, as the library reads it", "hub-add": "a folder", "migrate": "a folder"})
     for name, what in places.items():
         of[name].add_argument("-o", "--out", type=Path, metavar="OUT", required=name in ("remap", "market", "hub-add"), help=what)
     of["unpack"].add_argument("--force", action="store_true", help="write over CSV files that differ")

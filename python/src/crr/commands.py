@@ -273,12 +273,12 @@ def remap(folder: Path, pairs: Path, out: Path, round_prices: bool) -> Answer:
     moved = Packed(found.names, files.grid, remap_book(nodes, files.book, old, new), files.hours)
     contracts = read_book(nodes, moved.book)
     changed = sum(before != after for before, after in zip(found.book, contracts))
-    _write_like(found, moved, out)
+    write_like(found, moved, out)
     text = f"{out}: {counted(len(old), 'pair')} applied, {counted(changed, 'contract')} of {len(contracts):,} changed\n"
     return Answer(PASSES, text, {"out": str(out), "pairs": len(old), "changed": changed, "contracts": len(contracts)})
 
 
-def _write_like(found: Opened, files: Packed, out: Path) -> None:
+def write_like(found: Opened, files: Packed, out: Path) -> None:
     """Writes files to a folder as CSV or bin files, whichever the folder that was opened has."""
     if found.case:
         write_csv(unpacked(files), out, hour_name(files.hours))
@@ -406,7 +406,7 @@ def hub_add(folder: Path, hubs: Path, contracts: Path, out: Path, round_prices: 
     sheet, rows = read_hub_contracts(contracts, of_file, found.names.nodes, faults)
     raise_any(faults)
     grown = _grown(found, sheet, rows, of_file)
-    _write_like(found, grown, out)
+    write_like(found, grown, out)
     book = read_book(len(found.names.nodes), grown.book)
     added = [book_row(grown.names, grown.names.contracts[number], book[number]) for number in range(len(found.book), len(book))]
     text = f"{out}: {counted(len(rows), 'hub contract')} added as {counted(len(added), 'contract')}, {counted(len(book), 'contract')} in all\n"

@@ -15,6 +15,11 @@ MAX_CONSTRAINTS = 64
 MAX_CONTRACTS = 1000
 MAX_COORDINATORS = 256
 MAX_HUB_NODES = 32
+MAX_LSES = 16
+MAX_MIGRATION_ROWS = 1000
+MAX_CUSTOMERS = 1000000
+MAX_CUSTOMER_LOAD = 10000
+MAX_LOAD = 1000000000000
 MAX_GRID_BYTES = 576220
 MAX_BOOK_BYTES = 7002
 MAX_HOLDER_VIEW_BYTES = 9000
@@ -59,6 +64,9 @@ HOLDER = Unit(0, 0, 1_023, 18)
 BALANCE = Unit(2, -1_000_000_000, 1_000_000_000, 26)  # dollars
 DEMAND = Unit(0, 0, 1_000_000_000, 26)
 WEIGHT = Unit(3, 1, 100_000, 24)  # percent of a hub
+CUSTOMERS = Unit(0, 0, MAX_CUSTOMERS, 22)
+CUSTOMER_LOAD = Unit(3, 0, MAX_CUSTOMER_LOAD, 22)  # MW per customer
+LOAD = Unit(3, 0, MAX_LOAD, 22)  # MW
 FLOW_PLACES = 8  # of a MW
 MCC_PLACES = 5  # of a cent
 HUB_PLACES = 5  # of an MCC: those of the hub's weight
@@ -83,6 +91,8 @@ MEANINGS: Dict[int, str] = {
     17: "a period not 0 or 1; writing a book or adding to one, a kind or period not 0 or 1",
     18: "holder above 1,023",
     19: "a date or month that does not exist or is outside 2010 to 2037, given or reached",
+    22: "load migration: a figure, count or LSE number outside its range, unequal lists, or a row whose old and new LSE are one",
+    23: "load migration: an LSE that loses load has none, or less than its losses to all gainers",
     24: "a hub not of 1 to 32 nodes, unequal lists, or weights outside 1 to 100,000 or not together 100,000",
     25: "a node listed twice in a hub",
     26: "sharing a balance: no demands or more than 256, or a balance or demand outside its range",
@@ -124,6 +134,9 @@ DECLARATIONS: Dict[str, str] = {
     "const uint64_t *prices, size_t prices_len, const uint8_t *book, size_t book_len, int64_t *cents, size_t cents_len, "
     "uint64_t *priced, size_t priced_len, int64_t *sum, int64_t *whole, uint64_t *parts",
     "crr_share_balance": "int64_t balance, const uint64_t *demands, size_t demands_len, int64_t *shares, size_t shares_len",
+    "crr_migrate_load": "size_t nodes, uint64_t period, const uint8_t *book, size_t book_len, const uint8_t *classes, size_t classes_len, "
+    "const uint64_t *customers, size_t customers_len, const uint64_t *rates, size_t rates_len, const uint64_t *olds, size_t olds_len, "
+    "const uint64_t *news, size_t news_len, const uint64_t *loads, size_t loads_len, uint8_t *file, size_t file_len, size_t *bytes",
     "crr_write_report": "const uint8_t *grid_file, size_t grid_file_len, const uint8_t *book_file, size_t book_file_len, "
     "uint8_t *text, size_t text_len, size_t *bytes",
     "crr_write_statement": "const uint8_t *grid_file, size_t grid_file_len, const uint8_t *book_file, size_t book_file_len, "

@@ -35,19 +35,30 @@ ALIASES: Dict[str, Tuple[str, ...]] = {
     "PERCENT": ("WEIGHT_PERCENT", "WEIGHT_PCT", "PCT"),
     "COORDINATOR": ("SCHEDULING_COORDINATOR", "COORDINATOR_ID", "SC", "SC_ID", "SCID"),
     "MEASURED_DEMAND": ("DEMAND", "DEMAND_MWH", "MEASURED_DEMAND_MWH"),
+    "CUSTOMER_CLASS": ("CLASS",),
+    "CUSTOMERS": ("NET_NUMBER_OF_CUSTOMER_TRANSFERRED", "CUSTOMERS_MOVED"),
+    "MW_PER_CUSTOMER": ("MW/CUSTOMER_RATE", "MW/CUSTOMER", "RATE"),
+    "OLD_LSE": ("OLD",),
+    "NEW_LSE": ("NEW",),
+    "LSE": ("LSE_ID", "LSE_NAME"),
+    "LOAD_MW": ("MW", "LOAD", "CURRENT_LOAD", "CURRENT_LOAD_MW"),
     "TABLE": (),
     "NUMBER": (),
     "NAME": (),
 }
-_OURS = {alias: ours for ours, others in ALIASES.items() for alias in (ours, *others)}
+_OURS: Dict[str, Tuple[str, ...]] = {}  # by heading; what some mean, such as CLASS, the file decides
+for _ours, _others in ALIASES.items():
+    for _alias in (_ours, *_others):
+        _OURS[_alias] = (*_OURS.get(_alias, ()), _ours)
 
 Row = Tuple[int, List[str]]  # the line, and the fields in the file's order
 
 
-def our_name(heading: str) -> str:
-    """Our name of a column, or the heading in capitals where it is none of ours."""
+def our_name(heading: str, need: Sequence[str]) -> str:
+    """Our name of a column, one that is needed where it has several, or the heading in capitals where it is none of ours."""
     plain = heading.upper().replace(" ", "_")
-    return _OURS.get(plain, plain)
+    meanings = _OURS.get(plain, (plain,))
+    return next((ours for ours in meanings if ours in need), meanings[0])
 
 
 class Sheet:
@@ -88,7 +99,7 @@ class Sheet:
             self.faults.append(Fault(self.name, 1, need[0], f"the heading can't be read: {error}"))
             return
         self._readable(1, self.heading)
-        names = [our_name(heading) for heading in self.heading[: 1 if first else None]]
+        names = [our_name(heading, need) for heading in self.heading[: 1 if first else None]]
         for ours in need:
             if ours not in names:
                 self.faults.append(Fault(self.name, 1, ours, "the first column must be this one" if first else "the column is missing"))

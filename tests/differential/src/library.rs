@@ -1,10 +1,13 @@
 //! The proved library's C interface (include/crr.h), with slices for pointers and lengths. Each function gives the refusal's number, 0 for none.
 
-// The path is given because the benchmark takes this file in by its path.
+// The paths are given because the benchmark takes this file in by its path.
 #[path = "library/hubs.rs"]
 mod hubs;
+#[path = "library/migration.rs"]
+mod migration;
 
 pub use hubs::{add_hub_contract, find_hub_mcc};
+pub use migration::{migrate_load, Migration};
 
 mod c {
     extern "C" {

@@ -4,6 +4,7 @@ mod calendar;
 mod cuts;
 mod forms;
 mod hubs;
+mod migration;
 mod settled;
 mod shares;
 mod views;
@@ -215,9 +216,17 @@ fn remap_refusals() -> [bool; 8] {
 pub fn check() -> usize {
     let base = [&settlement_values()[..], &priced_values(), &room_values(), &test_values(), &file_values()].concat();
     let remaps = [&same_ends_values()[..], &remap_values(), &remap_refusals()].concat();
-    let requests =
-        [forms::values(), calendar::values(), shares::values(), cuts::values(), views::values(), settled::values(), hubs::values()]
-            .concat();
+    let requests = [
+        forms::values(),
+        calendar::values(),
+        shares::values(),
+        cuts::values(),
+        views::values(),
+        settled::values(),
+        hubs::values(),
+        migration::values(),
+    ]
+    .concat();
     let all = [base, remaps, requests].concat();
     let wrong = all.iter().filter(|holds| !**holds).count();
     println!("second implementation on the papers' checked values: {} hold, {wrong} do not", all.len() - wrong);

@@ -11,6 +11,7 @@ pub mod headers;
 pub mod hub_book;
 pub mod hub_mcc;
 pub mod hubs;
+pub mod migration;
 pub mod priced;
 pub mod prices;
 pub mod remap;

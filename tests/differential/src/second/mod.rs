@@ -7,6 +7,7 @@ pub mod cuts;
 pub mod flows;
 pub mod grid;
 pub mod hubs;
+pub mod migration;
 pub mod prices;
 pub mod remap;
 pub mod settled;

@@ -1,0 +1,5 @@
+pub mod Growing
+pub mod Passing
+pub mod Accepted
+pub mod Made
+pub mod Theorems

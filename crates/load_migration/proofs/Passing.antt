@@ -1,0 +1,133 @@
+-- Migration's checks, one part after the other, and what is known of a call that they accept.
+use mathlib.Core.Path.{_≡_, refl, ap, _∙_}
+use mathlib.Core.Bool.{Bool, true, false, not}
+use mathlib.Core.List.{List, [], _∷_, _++_, append-assoc}
+use Prim.Native.Nat.{ℕ, zero, suc, _≤_, _<_}
+use native.Mathlib.Omega.{arith}
+use borrow.Author.Tests.{ltb-false}
+use lib.Dec.{ltb, eqb}
+use lib.ListN.{length, getD}
+use lib.IntN.{ℤ, natAbs}
+use Rattle.lists.specs.Lists.{listTo, some, above}
+use Rattle.lists.proofs.Search.{neither, none-bad, some-append}
+use Rattle.integers.specs.Sums.{max0}
+use Rattle.tariff.specs.declared.refusals.Refusal.{Refusal}
+use Rattle.tariff.specs.declared.refusals.Refusal.the-variants.{LoadExceeded}
+use Rattle.tariff.specs.declared.refusals.Checked.the-variants.{Passed, Refused}
+use Rattle.tariff.specs.Refusals.{Check, first}
+use Rattle.tariff.specs.Units.{maxEntities, maxRows, maxLoad}
+use Rattle.tariff.proofs.Checks.{first-passes, first-refuses, append-refuses, append-passes, passed-cons, passed-append, same-of}
+use Rattle.layouts.specs.BookFile.{bookFormIn, contractCountIn}
+use Rattle.books.specs.BookChecks.{ownChecks}
+use Rattle.books.proofs.Accepted.{Accepted, own-accepted}
+use Rattle.migration_rules.specs.Transfers.{Row, row, loss, lossesTo, load, exceeded, rowBad, rangeChecks, loadExceeded, loadsExceeded}
+use Rattle.migration_rules.proofs.Nets.{losses-cong}
+use Rattle.load_transfers.specs.Squares.{lostIn, Nets}
+use Rattle.load_transfers.specs.Inner.{RowsIn}
+use Rattle.load_transfers.proofs.Squares.{lost-at}
+use Rattle.load_transfers.proofs.Rows.{rows-many, rows-at, row-in}
+use Rattle.load_migration.specs.MigrateLoad.{MigrateLoadCall, rowsGiven, contractsGrown, migrateLoadChecks, migrateLoadChecked}
+use Rattle.load_migration.specs.Inner.{inputChecks, roomChecks, Readable}
+
+-- ---- the checks' parts
+
+module _ (q : MigrateLoadCall) where
+  abbrev pub inputOf : List Check
+  inputOf = inputChecks (q .nodes) (q .period) (q .book) (q .lists) (q .loads)
+
+  abbrev pub roomOf : List Check
+  roomOf = roomChecks (bookFormIn (q .book)) (length (contractsGrown q)) (length (q .place))
+
+  pub split : migrateLoadChecks q ≡ inputOf ++ loadExceeded (loss (rowsGiven q)) (q .loads) ∷ roomOf
+  unfolding migrateLoadChecks inputChecks
+  split = rw append-assoc
+
+  pub input-refuses : (r : Refusal) → first inputOf ≡ Refused r → migrateLoadChecked q ≡ Refused r
+  input-refuses r e = ap first split ∙ append-refuses inputOf _ r e
+
+  module _ (pass : first inputOf ≡ Passed) where
+    pub load-refuses : loadsExceeded (loss (rowsGiven q)) (q .loads) ≡ true → migrateLoadChecked q ≡ Refused LoadExceeded
+    load-refuses e = ap first split ∙ append-passes inputOf _ pass ∙ first-refuses _ _ e
+
+    pub room-next : loadsExceeded (loss (rowsGiven q)) (q .loads) ≡ false → migrateLoadChecked q ≡ first roomOf
+    room-next e = ap first split ∙ append-passes inputOf _ pass ∙ first-passes _ _ e
+
+-- ---- what holds where 22 passes
+
+pub record Figures (q : MigrateLoadCall) : Type 0 where
+  pub few : length (q .loads) ≤ maxEntities
+  pub most : (i : ℕ) → i < length (q .loads) → getD (q .loads) i 0 ≤ maxLoad
+  pub rows : RowsIn (q .lists .customers) (q .lists .rates) (q .lists .olds) (q .lists .news)
+
+module _ (q : MigrateLoadCall) where
+  figures : first (rangeChecks (q .lists .classes) (q .lists .customers) (q .lists .rates) (q .lists .olds) (q .lists .news) (q .loads)) ≡ Passed → Figures q
+  unfolding rangeChecks
+  figures e =
+      let n = length (q .loads) in
+      let m = length (q .lists .customers) in
+      let a = passed-cons _ _ e in
+      let b = passed-cons _ _ (a .1) in
+      let c = passed-cons _ _ (b .1) in
+      let d = passed-cons _ _ (c .1) in
+      let f = passed-cons _ _ (d .1) in
+      let few = ltb-false maxEntities n (neither (eqb n 0) (ltb maxEntities n) (a .0) .1) in
+      let u = neither (not (eqb (length (q .lists .classes)) m)) _ (c .0) in
+      let v = neither (not (eqb (length (q .lists .rates)) m)) _ (u .1) in
+      let w = neither (not (eqb (length (q .lists .olds)) m)) (not (eqb (length (q .lists .news)) m)) (v .1) in
+      record {
+        few = few;
+        most = λ i h. ltb-false maxLoad (getD (q .loads) i 0) (none-bad (above maxLoad) (q .loads) 0 (d .0) i h);
+        rows =
+            record {
+              few = ltb-false maxRows m (b .0);
+              rates-many = same-of (length (q .lists .rates)) m (v .0);
+              olds-many = same-of (length (q .lists .olds)) m (w .0);
+              news-many = same-of (length (q .lists .news)) m (w .1);
+              each = λ i h.
+                  let long = rows-many (q .lists .customers) (q .lists .rates) (q .lists .olds) (q .lists .news) in
+                  let at = rows-at (q .lists .customers) (q .lists .rates) (q .lists .olds) (q .lists .news) i (row 0 0 0 0) h in
+                  row-in n few _ (rw at at (none-bad (rowBad n) (rowsGiven q) (row 0 0 0 0) (f .0) i (omega (arith, long))));
+            };
+      }
+
+  pub input-figures : first (inputOf q) ≡ Passed → Figures q
+  unfolding inputChecks
+  input-figures e = figures (passed-append (ownChecks (q .nodes) (q .book)) _ (passed-cons _ _ e .1) .1)
+
+  pub input-own : first (inputOf q) ≡ Passed → first (ownChecks (q .nodes) (q .book)) ≡ Passed
+  unfolding inputChecks
+  input-own e = passed-append (ownChecks (q .nodes) (q .book)) _ (passed-cons _ _ e .1) .0
+
+  pub input-accepted : first (inputOf q) ≡ Passed → Accepted (q .nodes) (q .book)
+  input-accepted e = own-accepted (q .nodes) (q .book) (input-own e)
+
+-- a book that is accepted can be read
+pub accepted-readable : (n : ℕ) (book : List ℕ) → Accepted n book → Readable (bookFormIn book) (contractCountIn book) book
+accepted-readable n book a = record { few = a .few; there = omega (arith, a .size); quantities = λ i h. a .each i h .quantity-sized }
+
+-- ---- the losses that the square says
+
+pub square-losses : (rows : List Row) (square : List (List ℤ)) → Nets rows square → (i j : ℕ) → 0 < i → i ≤ maxEntities → 0 < j → j ≤ maxEntities → lostIn square i j ≡ loss rows i j
+unfolding loss
+square-losses rows square nets zero j a b c d = absurd (omega arith)
+square-losses rows square nets (suc i) zero a b c d = absurd (omega arith)
+square-losses rows square nets (suc i) (suc j) a b c d = lost-at square i j ∙ ap (λ (z : ℤ). natAbs (max0 z)) (nets .cells i j (omega arith) (omega arith))
+
+module _ (lost other : ℕ → ℕ → ℕ) (loads : List ℕ) (same : (i j : ℕ) → 0 < i → i ≤ length loads → 0 < j → j ≤ length loads → lost i j ≡ other i j) where
+  abbrev bad : (ℕ → ℕ → ℕ) → ℕ → Bool
+  bad by i = exceeded (lossesTo by i (length loads)) (load loads i)
+
+  to-alike : (m : ℕ) → m ≤ length loads → some (bad lost) (listTo m suc) ≡ some (bad other) (listTo m suc)
+  unfolding listTo some
+  to-alike zero h = refl
+  to-alike (suc m) h =
+      rw (
+        some-append (bad lost) (listTo m suc) (suc m ∷ []),
+        some-append (bad other) (listTo m suc) (suc m ∷ []),
+        to-alike m (omega arith),
+        losses-cong lost other (suc m) (length loads) (λ j some most. same (suc m) j (omega arith) h some most),
+      )
+
+  -- 23 by the one is 23 by the other
+  pub exceeded-alike : loadsExceeded lost loads ≡ loadsExceeded other loads
+  exceeded-alike = to-alike (length loads) (omega arith)

@@ -1,0 +1,2 @@
+pub mod MigrateLoad
+pub mod Inner

@@ -1,0 +1,14 @@
+-- `entity_count_bad`.
+use Rattle.tariff.specs.Units.{maxEntities}
+use Rattle.tariff.proofs.Checks.{zero-bad, above-bad}
+use Rattle.load_transfers.proofs.entity_count_bad.Statement.{statement}
+use Rattle.load_transfers.proofs.entity_count_bad.Tie as tie
+
+returns : tie.Need-returns
+returns c = zero-bad (c .before .args .entities) maxEntities (c .if1 .taken)
+
+returns-2 : tie.Need-returns-2
+returns-2 c = above-bad (c .before .args .entities) maxEntities (c .if1 .left)
+
+pub entity-count-bad-spec : {M : Type 1} → statement M
+entity-count-bad-spec = tie.close (tie.spec returns returns-2)

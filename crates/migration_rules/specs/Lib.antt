@@ -1,0 +1,4 @@
+pub mod Transfers
+pub mod Contracts
+pub mod Theorems
+pub mod Inner

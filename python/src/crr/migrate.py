@@ -1,0 +1,86 @@
+"""The command `crr migrate`."""
+
+from __future__ import annotations
+
+from dataclasses import replace
+from pathlib import Path
+from typing import Dict, List, Optional, Tuple
+
+from .case import Names
+from .commands import PASSES, Answer, Opened, files_of, objects, opened, write_like
+from .decimals import decimal
+from .faults import Fault, raise_any
+from .files import Contract, read_book
+from .from_csv import BOOK
+from .interface import LOAD
+from .migration import migrate_load
+from .migration_csv import Migration, read_migration
+from .names_csv import read_names
+from .packed import Packed
+from .to_csv import book_row, csv_text
+
+
+def _holders(folder: Path, found: Opened) -> Dict[int, str]:
+    """Names of holders by number: the book's, and those that names.csv has beside them."""
+    holders = dict(found.names.holders)
+    for number, name in read_names(folder, [])["holder"].items():
+        if number not in holders and name not in holders.values():
+            holders[number] = name
+    return holders
+
+
+def _pairs(book: List[Contract], migration: Migration, period: int) -> List[Tuple[int, int]]:
+    """The base contract's number and the gainer of each pair of new contracts, in their order."""
+    nets = migration.nets
+    pairs: List[Tuple[int, int]] = []
+    for number, contract in enumerate(book):
+        if contract.kind == 0 and contract.period == period and 1 <= contract.holder <= len(migration.loads):
+            load = migration.loads[contract.holder - 1]
+            pairs += [(number, gainer) for gainer, net in enumerate(nets[contract.holder - 1], 1) if net > 0 and contract.quantity * net >= load]
+    return pairs
+
+
+def _ids(names: Names, pairs: List[Tuple[int, int]]) -> List[str]:
+    """A name for each contract. A new one has its base contract's, LMT for the gainer's or CNT for the loser's counter-flow, and the gainer's, with a number
+    where an earlier month has that name."""
+    ids, taken = list(names.contracts), set(names.contracts)
+    for base, gainer in pairs:
+        for mark in ("LMT", "CNT"):
+            plain = own = f"{names.contracts[base]} {mark} {names.holder(gainer)}"
+            count = 1
+            while own in taken:
+                count += 1
+                own = f"{plain} ({count})"
+            ids.append(own)
+            taken.add(own)
+    return ids
+
+
+def _net_rows(names: Names, migration: Migration) -> List[Tuple[str, ...]]:
+    """A row for each LSE: its net losses to each, gains negative."""
+    nets = migration.nets
+    return [(names.holder(loser), *(decimal(nets[loser - 1][gainer - 1], LOAD.places) for gainer in migration.lses)) for loser in migration.lses]
+
+
+def migrate(folder: Path, period: int, rows: Path, loads: Path, out: Optional[Path], round_prices: bool) -> Answer:
+    """Migrates load in a book for one period: the nets, and the contracts that are added; with `out` the whole case is written there in the form that it
+    had."""
+    found = opened(folder, round_prices)
+    files, holders = files_of(found), _holders(folder, found)
+    faults: List[Fault] = []
+    migration = read_migration(rows, loads, holders, faults)
+    raise_any(faults)
+    nodes = len(found.names.nodes)
+    book = migrate_load(nodes, period, files.book, *migration[:-1])
+    contracts = read_book(nodes, book)
+    names = replace(found.names, holders=holders)
+    names.contracts = _ids(names, _pairs(found.book, migration, period))
+    assert len(names.contracts) == len(contracts)
+    if out:
+        write_like(found, Packed(names, files.grid, book, files.hours), out)
+    added = [book_row(names, names.contracts[number], contracts[number]) for number in range(len(found.book), len(contracts))]
+    lses, nets = [names.holder(number) for number in migration.lses], _net_rows(names, migration)
+    text = csv_text(("LSE", *lses), nets) + "\n" + csv_text(BOOK, added)
+    told = f"{f'{out}: ' if out else ''}{len(added):,} of {len(contracts):,} contracts are new\n"
+    data: Dict[str, object] = {"nets": {row[0]: dict(zip(lses, row[1:])) for row in nets}, "added": objects(BOOK, added), "contracts": len(contracts)}
+    return Answer(PASSES, text, {**data, "out": str(out) if out else ""}, told)
