@@ -29,6 +29,7 @@
  *   period         0 off-peak, 1 on-peak
  *   process        0 annual, 1 Tier LT, 2 monthly: 65, 60 and 100 percent of each
  *                  limit is released
+ *   tier           1, 2, 3, or 4 for LT: the name of a mark, and no process
  *   date           year 2010 to 2037, month 1 to 12, day from 1 to the month's last
  *   weekday        1 Monday to 7 Sunday
  *
@@ -63,12 +64,46 @@
  *             beside it its weight
  *   loads     one cell for each LSE, and no other: that of LSE i in cell i - 1
  *
+ * The awards, numbers and flows of a running test are others: see there.
+ *
  *
  * HUBS. A trading hub is 1 to CRR_MAX_HUB_NODES nodes, each with a weight of 1 to
  * 100,000, together CRR_HUB_WEIGHT, no node twice. The order in which they are listed
  * has no effect on any answer. A book never holds a hub: a contract from a hub becomes
  * contracts from its nodes (crr_add_hub_contract), and the test and the settlement
  * know these alone.
+ *
+ *
+ * RUNNING TEST. Awards are tried one after another, for one period and process, and
+ * dropped again: crr_open_running opens a running test, crr_add_award adds an award
+ * where every flow stays within its released limit, crr_mark_tier marks how far one
+ * has come, and crr_return_to_tier goes back to there. The state is the caller's. It
+ * is three buffers (struct crr_running has them) that may be looked at between calls:
+ *
+ *   awards    6,000 cells: award i, as a row of a book, in cells 6 * i to 6 * i + 5
+ *   numbers   14 cells. Cell 0: how many awards are held, of both periods. Cell 1: how
+ *             many of these are counted, those of the period. Of tier i: in cell
+ *             3 * i - 1 whether it is marked, 1 or 0; in cell 3 * i how many awards
+ *             were held at the mark, in cell 3 * i + 1 how many of these counted
+ *   flows     320 cells. Cell k: the flow on constraint k of the awards counted, as
+ *             crr_find_flows gives it. Cell 64 * i + k: that at tier i's mark. Cells of
+ *             constraints that the grid has not are 0
+ *
+ * Rows from the number held on, and the cells of a tier that is not marked but for
+ * the first, mean nothing: what was dropped is left there.
+ *
+ * After every call, refused or not, flows and count are those worked out afresh over
+ * the awards held. These, written as a book by crr_write_book from the rows as they
+ * stand, pass crr_test_book in the process and period, so that no list of shadow
+ * prices makes their net payment exceed the congestion rent.
+ *
+ * What callers owe for this: the state was opened by crr_open_running, no cell of it
+ * was altered but by these functions, and counts, process, period and tables are the
+ * opening's in every crr_add_award. Otherwise the checks up to 7 still hold, a refusal
+ * still changes nothing, and no call reads or writes outside its buffers, but nothing
+ * is said of flows and verdict. crr_add_award answers 10 for any number held of 1,000
+ * or more, and for an award of the period 21 also where the count exceeds the number
+ * held, or some flow exceeds 200,000,000,000 * count in size.
  *
  *
  * FORMS. The file of a grid and that of a book have two forms each. The narrow one
@@ -132,6 +167,14 @@ extern "C" {
 #define CRR_MAX_LSES 16
 #define CRR_MAX_MIGRATION_ROWS 1000
 
+/* The cells of a running test: its awards, numbers and flows. */
+#define CRR_RUNNING_AWARDS 6000
+#define CRR_RUNNING_NUMBERS 14
+#define CRR_RUNNING_FLOWS 320
+
+/* Tier LT's mark. CRR_TIER_LT is the process, and as a tier it would be tier 1. */
+#define CRR_MARK_LT 4
+
 /* The weights of a hub's nodes together. */
 #define CRR_HUB_WEIGHT 100000
 
@@ -181,16 +224,18 @@ extern "C" {
 #define CRR_FACTOR_RANGE 7     /* a factor below -100,000 or above 100,000 */
 #define CRR_PADDING 8          /* a padding bit at a file's end is set */
 #define CRR_SHORT_TABLE 9      /* a lent table, or a place for an answer, of too few cells; remapping, unequal lists */
-#define CRR_CONTRACT_COUNT 10  /* more than 1,000 contracts, or a book that would grow past 1,000 */
+#define CRR_CONTRACT_COUNT 10  /* more than 1,000 contracts, a book that would grow past 1,000, or a 1,001st award */
 #define CRR_NODE_NUMBER 11     /* a source, sink or listed node not below the node count; written to a narrow book, above 255 */
 /* 12 is no longer given: a contract whose source equals its sink is accepted. */
 #define CRR_QUANTITY_RANGE 13  /* quantity 0 or above 1,000,000 */
 #define CRR_PRICE_COUNT 14     /* the price file's constraint count differs from the one stated */
 #define CRR_PRICE_RANGE 15     /* a price above 500,000 */
 #define CRR_PROCESS_NUMBER 16  /* process not 0 to 2 */
-#define CRR_PERIOD_OR_KIND 17  /* a period not 0 or 1; writing a book or adding to one, a kind or period not 0 or 1 */
+#define CRR_PERIOD_OR_KIND 17  /* a period not 0 or 1; writing a book, adding to one or adding an award, a kind or period not 0 or 1 */
 #define CRR_HOLDER_RANGE 18    /* holder above 1,023 */
 #define CRR_NO_SUCH_DATE 19    /* a date or month that does not exist or is outside 2010 to 2037, given or reached */
+#define CRR_TIER_MARK 20       /* running test: a tier not 1 to 4, or returning to one that is not marked */
+#define CRR_AWARD_OVERLOAD 21  /* running test: with the award some flow would exceed its released limit */
 #define CRR_MIGRATION_RANGE 22 /* load migration: a figure, count or LSE number outside its range, unequal lists, or a row whose old and new LSE are one */
 #define CRR_LOAD_EXCEEDED 23   /* load migration: an LSE that loses load has none, or less than its losses to all gainers */
 #define CRR_HUB_SHAPE 24       /* a hub not of 1 to 32 nodes, unequal lists, or weights outside 1 to 100,000 or not together 100,000 */
@@ -503,6 +548,92 @@ uint64_t crr_find_cuts(size_t nodes, size_t constraints,
                        uint64_t *numbers, size_t numbers_len,
                        uint64_t *cuts, size_t cuts_len,
                        size_t *listed);
+
+/* The state of a running test, which crr_open_running opens. */
+struct crr_running {
+    uint64_t awards[CRR_RUNNING_AWARDS];
+    uint64_t numbers[CRR_RUNNING_NUMBERS];
+    int64_t flows[CRR_RUNNING_FLOWS];
+};
+
+/*
+ * A state's buffers with their lengths, from a pointer to it: all three, as
+ * crr_open_running and crr_add_award take them last, and the two of crr_mark_tier and
+ * crr_return_to_tier.
+ */
+#define CRR_RUNNING(state) (state)->awards, CRR_RUNNING_AWARDS, CRR_RUNNING_MARKS(state)
+#define CRR_RUNNING_MARKS(state) (state)->numbers, CRR_RUNNING_NUMBERS, (state)->flows, CRR_RUNNING_FLOWS
+
+/*
+ * Opens a running test (see RUNNING TEST) on a grid, for a process and a period: no
+ * award is held and no tier is marked. A state in use starts afresh.
+ *
+ * On success writes 0 to the first 14 cells of numbers and the first 320 of flows, and
+ * nothing to awards.
+ *
+ * Refusals, in this order: 2, 3, 16, 17, 9 (limits, factors; awards of fewer than 6,000
+ * cells, numbers of fewer than 14, flows of fewer than 320), 6, 7.
+ */
+uint64_t crr_open_running(size_t nodes, size_t constraints,
+                          uint64_t process, uint64_t period,
+                          const uint64_t *limits, size_t limits_len,
+                          const int64_t *factors, size_t factors_len,
+                          const uint64_t *awards, size_t awards_len,
+                          uint64_t *numbers, size_t numbers_len,
+                          int64_t *flows, size_t flows_len);
+
+/*
+ * Adds an award to a running test: the first six cells of award, a row of a book. It is
+ * held where, with it, no flow exceeds its released limit; a flow that equals it is
+ * none that exceeds it. An award of the other period is held too, as one of the 1,000,
+ * but adds no flow, is not counted, and never draws 21. So the order counts: what is
+ * refused by 21 now may be held after another award.
+ *
+ * On success writes the award to the six cells of awards behind the awards held, to
+ * cell 0 of numbers one more, and, for an award of the period, to cell 1 one more and
+ * to the first cells of flows, one for each constraint, the flows with the award's.
+ *
+ * Refusals, in this order: 2, 3, 16, 17, 9 (as crr_open_running, and an award of fewer
+ * than six cells), 6, 7, 10 (1,000 awards are held), then of the award 17, 18, 11, 13,
+ * and 21 (some flow would exceed its released limit; it is not said which).
+ */
+uint64_t crr_add_award(size_t nodes, size_t constraints,
+                       uint64_t process, uint64_t period,
+                       const uint64_t *limits, size_t limits_len,
+                       const int64_t *factors, size_t factors_len,
+                       const uint64_t *award, size_t award_len,
+                       uint64_t *awards, size_t awards_len,
+                       uint64_t *numbers, size_t numbers_len,
+                       int64_t *flows, size_t flows_len);
+
+/*
+ * Marks a tier of a running test at the awards held now, also where there are none. A
+ * tier that is marked already is marked anew.
+ *
+ * On success writes, of tier i, 1 and cells 0 and 1 to cells 3 * i - 1, 3 * i and
+ * 3 * i + 1 of numbers, and cells 0 to 63 of flows to cells 64 * i to 64 * i + 63.
+ *
+ * Refusals, in this order: 9 (numbers, flows), 20 (a tier not 1 to 4).
+ */
+uint64_t crr_mark_tier(uint64_t tier,
+                       uint64_t *numbers, size_t numbers_len,
+                       int64_t *flows, size_t flows_len);
+
+/*
+ * Returns to a marked tier of a running test: the awards held at its mark are held
+ * again, those added since are dropped, and so is every mark made when more awards
+ * were held, whatever its tier. The mark returned to stays.
+ *
+ * On success writes, of tier i, cells 3 * i and 3 * i + 1 of numbers to cells 0 and 1,
+ * cells 64 * i to 64 * i + 63 of flows to cells 0 to 63, and 0 to cell 3 * j - 1 of
+ * numbers for each tier j whose cell 3 * j is above cell 3 * i.
+ *
+ * Refusals, in this order: 9 (numbers, flows), 20 (a tier not 1 to 4), 20 (one that is
+ * not marked).
+ */
+uint64_t crr_return_to_tier(uint64_t tier,
+                            uint64_t *numbers, size_t numbers_len,
+                            int64_t *flows, size_t flows_len);
 
 /*
  * Gives the share of each limit that a process releases.

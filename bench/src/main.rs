@@ -9,6 +9,7 @@ mod inputs;
 mod library;
 mod migration;
 mod plain;
+mod running;
 mod shares;
 #[path = "../../tests/differential/src/splitmix.rs"]
 mod splitmix;
@@ -117,6 +118,16 @@ fn migrated(label: &str, load: Load, form: Form) -> Result<(), String> {
     Ok(())
 }
 
+/// The running test on a grid: an opening, an award, a tier marked and returned to.
+fn tried(size: Size, suffix: &str) -> Result<(), String> {
+    let entries: [(&str, fn(Size) -> Result<Times, String>); 3] =
+        [("open_running", running::open_running), ("add_award", running::add_award), ("mark and return", running::mark_and_return)];
+    for (name, run) in entries {
+        row(&format!("{name}{suffix}"), &run(size).map_err(|why| format!("{name}{suffix}: {why}"))?);
+    }
+    Ok(())
+}
+
 fn wide() -> Result<(), String> {
     heading("entry, wide");
     for (name, size) in WIDE {
@@ -126,6 +137,7 @@ fn wide() -> Result<(), String> {
     }
     viewed("write_holder_view, 4000 nodes", WIDEST, Form::Wide, views::MATCHING)?;
     migrated("migrate_load, 4000 nodes", migration::WIDEST, Form::Wide)?;
+    tried(WIDEST, ", 4000 nodes")?;
     growth("wide, nodes", &BY_WIDE_NODES, Form::Wide, &[200, 1000, 4000].map(|nodes| (nodes, Size { nodes, ..WIDEST })))
 }
 
@@ -137,6 +149,7 @@ fn tables() -> Result<(), String> {
     viewed("write_holder_view", LARGEST, Form::Narrow, views::MATCHING)?;
     shared("share_balance", shares::MOST)?;
     migrated("migrate_load", migration::MOST, Form::Narrow)?;
+    tried(LARGEST, "")?;
     calendar()?;
     let narrow = Form::Narrow;
     growth("contracts", &BY_CONTRACTS, narrow, &[125, 250, 500, 1000].map(|contracts| (contracts, Size { contracts, ..LARGEST })))?;

@@ -1,4 +1,4 @@
-"""The documents: every command of the tutorial, of load migration and of the README's first section is run, and what it prints is compared with the page."""
+"""The documents: every command of the tutorial, its further pages and the README's first section is run, and what it prints is compared with the page."""
 
 import os
 import re
@@ -39,6 +39,9 @@ class Documents(FolderTest):
 
     def test_load_migration(self):
         self.walk((ROOT / "docs" / "LOAD-MIGRATION.md").read_text(), 8)
+
+    def test_tiers(self):
+        self.walk((ROOT / "docs" / "TIERS.md").read_text(), 10)
 
     def test_readme(self):
         text = (ROOT / "README.md").read_text()

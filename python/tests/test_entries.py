@@ -173,6 +173,26 @@ class Refusals(unittest.TestCase):
         self.refused(24, crr.find_hub_mcc, grid, [1], [], [])
         self.refused(25, crr.find_hub_mcc, grid, [1], [1, 1], [50_000, 50_000])
 
+    def test_running(self):
+        for number, nodes, constraints, process, period, limit in ((2, 0, 65, 3, 2, 5), (3, 2, 65, 3, 2, 5), (16, 2, 1, 3, 2, 5), (17, 2, 1, 2, 2, 5)):
+            self.refused(number, crr.open_running, crr.Grid(nodes, constraints, [limit], [10**6, 0]), process, period)
+        self.refused(6, crr.open_running, crr.Grid(2, 1, [10**9], [10**6, 0]), 2, 1)
+        self.refused(7, crr.open_running, crr.Grid(2, 1, [5], [10**6, 0]), 2, 1)
+        self.refused(9, crr.open_running, crr.Grid(2, 1, [10**9], [1]), 2, 1)
+        running, row = crr.open_running(crr.Grid(2, 1, [5], [50_000, 0]), 2, 1), [0, 1, 7, 0, 1, 10]
+        crr.add_award(running, row)
+        for at, value, number in ((0, 2, 17), (1, 2, 17), (2, 1024, 18), (3, 2, 11), (4, 2, 11), (5, 0, 13), (5, 10**6 + 1, 13), (5, 1, 21)):
+            self.refused(number, crr.add_award, running, [*row[:at], value, *row[at + 1 :]])
+        self.refused(9, crr.add_award, running, row[:5])
+        for tier in (0, 5, 2**64 - 1):
+            self.refused(20, crr.mark_tier, running, tier)
+            self.refused(20, crr.return_to_tier, running, tier)
+        self.refused(20, crr.return_to_tier, running, 4)
+        for _ in range(999):
+            crr.add_award(running, [1, 0, 0, 1, 0, 10**6])
+        self.refused(10, crr.add_award, running, [2, 2, 1024, 2, 2, 0])
+        self.assertEqual((len(running.held), running.counted, running.flows), (1000, 1, [500_000]))
+
     def test_same_ends(self):
         self.assertEqual(len(crr.write_book(2, [(0, 1, 7, 1, 1, 10)])), 8)
 

@@ -263,7 +263,7 @@ class DamagedHubs(FolderTest):
         many = "\n".join(f"North,Bus {n},{'3' if n < 33 else '4'}" for n in range(1, 34))
         self.assertEqual(self.said(case, many, CONTRACT)[0], "hubs.csv:34:NODE_ID: more than 32 nodes in this hub (refusal 24)")
         (case / "book.csv").write_text(self.BOOK + "".join(f"{i},Ash,OBL,ON,Bus 1,Bus 2,1\n" for i in range(999)))
-        growth = "contracts.csv:2:CRR_ID: more than 1,000 contracts, or a book that would grow past 1,000 (refusal 10)"
+        growth = "contracts.csv:2:CRR_ID: more than 1,000 contracts, a book that would grow past 1,000, or a 1,001st award (refusal 10)"
         self.assertEqual(self.said(case, NORTH, CONTRACT)[0], growth)
         (case / "book.csv").write_text(self.BOOK + "H Bus 2,Ash,OBL,ON,Bus 1,Bus 2,1\n")
         self.assertEqual(self.said(case, NORTH, CONTRACT)[0], "contracts.csv:2:CRR_ID: H Bus 2 occurs twice")
@@ -327,6 +327,48 @@ class DamagedMigrations(FolderTest):
         self.assertEqual(self.said(heading, "LSE,LOAD_MW\n")[0], "loads.csv:1:LSE: no LSE (refusal 22)")
         self.assertEqual(self.said(heading, "LSE,LOADS\n1,1\n")[0], "loads.csv:1:LOAD_MW: the column is missing")
         self.assertEqual(self.said(heading.replace("OLD_LSE", "OLD_NODE"), "LSE,LOAD_MW\n1,1\n")[0], "rows.csv:1:OLD_LSE: the column is missing")
+
+
+# What is wrong with the operations of a running test, and what is said, line by line.
+TIERS = [
+    ("keep,1,,,,,,,", ["awards.csv:2:OPERATION: 'keep' is neither add nor mark nor return"]),
+    (",1,,,,,,,", ["awards.csv:2:OPERATION: '' is neither add nor mark nor return"]),
+    ("mark,5,,,,,,,", ["awards.csv:2:TIER: '5' is none of the tiers 1, 2, 3 and LT (refusal 20)"]),
+    ("return,0,,,,,,,", ["awards.csv:2:TIER: '0' is none of the tiers 1, 2, 3 and LT (refusal 20)"]),
+    ("mark,,,,,,,,", ["awards.csv:2:TIER: empty"]),
+    ("mark,1,A,,,,,,5", ["awards.csv:2:CRR_ID: mark has a tier and no award", "awards.csv:2:MW: mark has a tier and no award"]),
+    ("add,1,A,Ash,OBL,ON,Bus 1,Bus 2,5", ["awards.csv:2:TIER: an award has no tier: a row of its own marks the tier"]),
+    ("add,,,Ash,OBL,ON,Bus 1,Bus 2,5", ["awards.csv:2:CRR_ID: empty"]),
+    ("add,,A,,OBL,ON,Bus 1,Bus 2,5", ["awards.csv:2:OWNER: empty"]),
+    ("add,,A,0,OBL,ON,Bus 1,Bus 2,5", ["awards.csv:2:OWNER: 0 stands for holder 0, and that one is Alder Power here"]),
+    ("add,,A,Ash,OBL,ON,Bus 15,Bus 2,5", ["awards.csv:2:SOURCE: no node 'Bus 15' in the grid (refusal 11)"]),
+    ("add,,A,Ash,FWD,24H,Bus 1,Hub,0", ["awards.csv:2:SINK: no node 'Hub' in the grid (refusal 11)",
+                                        "awards.csv:2:HEDGE_TYPE: 'FWD' is neither OBL nor OPT (refusal 17)",
+                                        "awards.csv:2:TIME_OF_USE: '24H' is neither ON nor OFF; split such a contract into an ON and an OFF row (refusal 17)",
+                                        "awards.csv:2:MW: 0 is outside 0.001 to 1000.000 (refusal 13)"]),
+    ("add,,A,Ash,OBL,OFF,Bus 1,Bus 2,5\nadd,,A,Ash,OBL,OFF,Bus 1,Bus 2,6", ["awards.csv:3:CRR_ID: A is held already"]),
+    ("mark,9,,,,,,,\nadd,,A,Ash,OBL,ON,Bus 1,Bus 2,x", ["awards.csv:2:TIER: '9' is none of the tiers 1, 2, 3 and LT (refusal 20)",
+                                                       "awards.csv:3:MW: 'x' is not a decimal number"]),
+]
+
+
+class DamagedTiers(FolderTest):
+    def said(self, text):
+        (self.folder / "awards.csv").write_text(text)
+        arguments = (self.folder / "awards.csv", "--period", "on", "--process", "monthly", "-o", self.folder / "out")
+        status, out, err = command("tiers", IEEE14, *arguments)
+        self.assertEqual((status, out, (self.folder / "out").exists()), (2, "", False))
+        return err.splitlines()
+
+    def test_each_is_told_where_it_is(self):
+        for rows, faults in TIERS:
+            with self.subTest(faults=faults):
+                end = f"crr: {len(faults)} fault{'s' * (len(faults) > 1)} in {IEEE14}; nothing was written"
+                self.assertEqual(self.said(f"OPERATION,TIER,CRR_ID,OWNER,HEDGE_TYPE,TIME_OF_USE,SOURCE,SINK,MW\n{rows}\n"), [*faults, end])
+
+    def test_whole_files(self):
+        self.assertEqual(self.said("")[0], "awards.csv:1:OPERATION: the file is empty: its first line is the heading")
+        self.assertEqual(self.said("OPERATION,CRR_ID,OWNER,HEDGE_TYPE,TIME_OF_USE,SOURCE,SINK,MW\n")[0], "awards.csv:1:TIER: the column is missing")
 
 
 class Drawn(FolderTest):

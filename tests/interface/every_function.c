@@ -3,7 +3,8 @@
  * again, the grid and the book in both forms, a node retired, the market's view and a
  * holder's, the book settled, a contract from a hub added, the test, the flows, the
  * cuts, the released shares, the MCC, that of a hub, the hour, the two texts; the
- * calendar; a balance shared; and load migrated. Also a C++ program.
+ * calendar; a balance shared; load migrated; and a running test with a tier to come
+ * back to. Also a C++ program.
  */
 #include <stdint.h>
 #include <stdio.h>
@@ -51,6 +52,10 @@ static const uint64_t moved_customers[] = {10}, moved_rates[] = {1000}, old_lses
 static const uint64_t loads[CRR_MAX_LSES] = {0, 0, 0, 0, 0, 0, 40000};
 static const uint8_t migrated[] = {0x01, 0x80, 0x40, 0x70, 0x00, 0x10, 0x27, 0x10, 0xc0, 0x80, 0x00, 0x20, 0x01, 0xf4, 0x40, 0x70, 0x00, 0x20, 0x00, 0x01,
                                    0x00, 0x90, 0x00, 0x10, 0x00, 0x05, 0x40, 0x80, 0x00, 0x10, 0x09, 0xc4, 0x40, 0x70, 0x10, 0x00, 0x09, 0xc4, 7};
+/* A running test with a first limit that one award fills, and what is added to it: that award, a thousandth more, one of the other period, an option. */
+static struct crr_running state, before;
+static const uint64_t full[] = {6000, 50000};
+static const uint64_t filling[] = {0, 1, 7, 0, 1, 10000}, beyond[] = {0, 1, 7, 0, 1, 1}, off_peak[] = {0, 0, 9, 0, 1, 1000000}, option[] = {1, 1, 8, 1, 0, 500};
 static int passed, failed;
 
 static void expect(const char *what, int holds) {
@@ -201,6 +206,31 @@ int main(void) {
     expect("crr_migrate_load, no load", crr_migrate_load(nodes, CRR_ON_PEAK, book_file, book_len, classes, 1, moved_customers, 1, moved_rates, 1, old_lses, 1, new_lses, 1,
                                                          no_loads, CRR_MAX_LSES, copy, sizeof copy, &bytes) == CRR_LOAD_EXCEEDED
                                             && bytes == book_len);
+    state.numbers[13] = 7;
+    expect("crr_open_running", crr_open_running(nodes, constraints, CRR_MONTHLY, CRR_ON_PEAK, full, 2, factors, nodes * constraints, CRR_RUNNING(&state)) == CRR_OK
+                                   && state.numbers[0] == 0 && state.numbers[13] == 0 && state.flows[319] == 0);
+    expect("crr_open_running, too few cells", crr_open_running(nodes, constraints, CRR_MONTHLY, CRR_ON_PEAK, full, 2, factors, nodes * constraints,
+                                                               state.awards, CRR_RUNNING_AWARDS - 1, CRR_RUNNING_MARKS(&state)) == CRR_SHORT_TABLE);
+    expect("crr_add_award", crr_add_award(nodes, constraints, CRR_MONTHLY, CRR_ON_PEAK, full, 2, factors, nodes * constraints, filling, 6, CRR_RUNNING(&state)) == CRR_OK
+                                && memcmp(state.awards, filling, sizeof filling) == 0 && state.numbers[0] == 1 && state.numbers[1] == 1
+                                && state.flows[0] == 600000000 && state.flows[1] == -200000000 && state.flows[2] == 0);
+    before = state;
+    expect("crr_add_award, a limit exceeded", crr_add_award(nodes, constraints, CRR_MONTHLY, CRR_ON_PEAK, full, 2, factors, nodes * constraints, beyond, 6, CRR_RUNNING(&state)) == CRR_AWARD_OVERLOAD
+                                                  && memcmp(&state, &before, sizeof state) == 0);
+    expect("crr_add_award, off-peak", crr_add_award(nodes, constraints, CRR_MONTHLY, CRR_ON_PEAK, full, 2, factors, nodes * constraints, off_peak, 6, CRR_RUNNING(&state)) == CRR_OK
+                                          && state.numbers[0] == 2 && state.numbers[1] == 1 && state.flows[0] == 600000000);
+    expect("crr_mark_tier", crr_mark_tier(CRR_MARK_LT, CRR_RUNNING_MARKS(&state)) == CRR_OK
+                                && state.numbers[11] == 1 && state.numbers[12] == 2 && state.numbers[13] == 1 && state.flows[256] == 600000000 && state.flows[257] == -200000000);
+    before = state;
+    expect("crr_mark_tier, no such tier", crr_mark_tier(5, CRR_RUNNING_MARKS(&state)) == CRR_TIER_MARK && memcmp(&state, &before, sizeof state) == 0);
+    expect("crr_add_award, an option", crr_add_award(nodes, constraints, CRR_MONTHLY, CRR_ON_PEAK, full, 2, factors, nodes * constraints, option, 6, CRR_RUNNING(&state)) == CRR_OK
+                                           && state.numbers[0] == 3 && state.numbers[1] == 2 && state.flows[0] == 600000000 && state.flows[1] == -190000000);
+    expect("crr_return_to_tier, not marked", crr_return_to_tier(1, CRR_RUNNING_MARKS(&state)) == CRR_TIER_MARK && state.numbers[0] == 3);
+    expect("crr_return_to_tier", crr_return_to_tier(CRR_MARK_LT, CRR_RUNNING_MARKS(&state)) == CRR_OK
+                                     && memcmp(state.numbers, before.numbers, sizeof state.numbers) == 0 && memcmp(state.flows, before.flows, sizeof state.flows) == 0);
+    expect("a running test's awards", crr_write_book(CRR_NARROW, nodes, (size_t)state.numbers[0], state.awards, CRR_RUNNING_AWARDS, copy, sizeof copy, &bytes) == CRR_OK && bytes == 14
+                                          && crr_test_book(nodes, constraints, CRR_MONTHLY, CRR_ON_PEAK, full, 2, factors, nodes * constraints, copy, bytes, &set, &count, &lowest, &excess) == CRR_OK
+                                          && set == 0);
     expect("crr_write_report", crr_write_report(grid_file, grid_len, book_file, book_len, text, sizeof text, &bytes) == CRR_OK
                                    && starts_with("period,process,verdict,overloaded,lowest,excess,constraints\n", bytes));
     expect("crr_write_statement", crr_write_statement(grid_file, grid_len, book_file, book_len, price_file, price_len, text, sizeof text, &bytes) == CRR_OK

@@ -49,7 +49,7 @@ impl Contract {
     }
 }
 
-fn check_ends(nodes: u64, source: u64, sink: u64, quantity: u64) -> Result<(), Refusal> {
+pub fn check_ends(nodes: u64, source: u64, sink: u64, quantity: u64) -> Result<(), Refusal> {
     demand(source < nodes && sink < nodes, NODE_NUMBER)?;
     demand((1..=1_000_000).contains(&quantity), QUANTITY_RANGE)
 }

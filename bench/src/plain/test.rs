@@ -13,7 +13,7 @@ pub struct Overload {
 /// The flow on each constraint.
 pub type Flows = [i64; MAX_CONSTRAINTS];
 
-fn add_flow(flows: &mut [i64], factors: &[i64], c: Contract) {
+pub fn add_flow(flows: &mut [i64], factors: &[i64], c: Contract) {
     let constraints = flows.len();
     let source = &factors[c.source * constraints..][..constraints];
     let sink = &factors[c.sink * constraints..][..constraints];

@@ -46,7 +46,7 @@ fn check_read(nodes: usize, file: &[u8], cells: usize) -> Checked
 }
 
 // Stores a contract into the six cells from `at` on.
-fn store_row(book: &mut [u64], at: usize, c: Contract)
+pub fn store_row(book: &mut [u64], at: usize, c: Contract)
     requires { ⌜ at + contractCells ≤ length (now book) ⌝ }
     ensures { λ r. ⌜ after book ≡ take at (before book) ++ cellsOf c ++ drop (at + contractCells) (before book) ⌝ }
 {
@@ -89,7 +89,7 @@ pub fn read_book(nodes: usize, file: &[u8], book: &mut [u64]) -> BookAnswer
 }
 
 // A row's checks, its ends held to be below a number: 17, 18, 11, 13.
-fn check_row(below: usize, cells: &[u64], i: usize) -> Checked
+pub fn check_row(below: usize, cells: &[u64], i: usize) -> Checked
     requires { ⌜ (i < maxContracts) × (contractCells * i + contractCells ≤ length (now cells)) ⌝ }
     ensures { λ r. ⌜ r ≡ first (rowChecks below (before cells) i) ⌝ }
 {

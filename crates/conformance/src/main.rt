@@ -10,4 +10,5 @@ fn main() {
     settled_vectors::go_through();
     hub_vectors::go_through();
     migration_vectors::go_through();
+    tier_vectors::go_through();
 }

@@ -94,7 +94,12 @@ impl Flows {
 }
 
 // Adds a contract's flow, as it counts, on every constraint.
-fn add_flow(flows: &mut [i64; MAX_CONSTRAINTS], c: Contract, constraints: usize, factors: &[i64])
+pub fn add_flow(
+    flows: &mut [i64; MAX_CONSTRAINTS],
+    c: Contract,
+    constraints: usize,
+    factors: &[i64],
+)
     requires { ⌜ Ends constraints (now factors) c × Room constraints (now flows) ⌝ }
     ensures { λ r. ⌜ Adds constraints (before factors) c (before flows) (after flows) ⌝ }
 {

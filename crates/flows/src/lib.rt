@@ -27,7 +27,7 @@ pub enum PercentAnswer {
 }
 
 // The flows carried, into the first cells of `out`.
-fn fill_flows(constraints: usize, carried: Flows, out: &mut [i64])
+pub fn fill_flows(constraints: usize, carried: Flows, out: &mut [i64])
     requires { ⌜ (constraints ≤ maxConstraints) × (constraints ≤ length (now out)) ⌝ }
     requires { ⌜ ((k : ℕ) → k < constraints → natAbs (getD (carried .flows) k (pos 0)) < 2 ^ 62) ⌝ }
     ensures { λ r. ⌜ after out ≡ overwrite (listTo constraints (λ (k : ℕ). getD (carried .flows) k (pos 0))) (before out) ⌝ }

@@ -9,7 +9,7 @@ use lib.IntN.{ℤ, pos, natAbs}
 use Rattle.tariff.specs.declared.refusals.Refusal.{Refusal}
 use Rattle.tariff.specs.declared.refusals.Refusal.the-variants.{ShortFile, NodeCount, ConstraintCount, SpareBits, FileLength, LimitRange, FactorRange, Padding, ShortTable}
 use Rattle.tariff.specs.declared.refusals.Refusal.the-variants.{ContractCount, NodeNumber, QuantityRange, PriceCount, PriceRange, ProcessNumber, PeriodOrKind, HolderRange, NoSuchDate}
-use Rattle.tariff.specs.declared.refusals.Refusal.the-variants.{MigrationRange, LoadExceeded, HubShape, HubNodeTwice, ShareRange, NoDemand}
+use Rattle.tariff.specs.declared.refusals.Refusal.the-variants.{TierMark, AwardOverload, MigrationRange, LoadExceeded, HubShape, HubNodeTwice, ShareRange, NoDemand}
 use Rattle.tariff.specs.declared.refusals.Checked.{Checked}
 use Rattle.tariff.specs.declared.refusals.Checked.the-variants.{Passed, Refused}
 use Rattle.lists.specs.Lent.{overwrite}
@@ -44,6 +44,8 @@ number-is ProcessNumber = is-number _ (omega arith) (omega arith) (λ e. omega a
 number-is PeriodOrKind = is-number _ (omega arith) (omega arith) (λ e. omega arith)
 number-is HolderRange = is-number _ (omega arith) (omega arith) (λ e. omega arith)
 number-is NoSuchDate = is-number _ (omega arith) (omega arith) (λ e. omega arith)
+number-is TierMark = is-number _ (omega arith) (omega arith) (λ e. omega arith)
+number-is AwardOverload = is-number _ (omega arith) (omega arith) (λ e. omega arith)
 number-is MigrationRange = is-number _ (omega arith) (omega arith) (λ e. omega arith)
 number-is LoadExceeded = is-number _ (omega arith) (omega arith) (λ e. omega arith)
 number-is HubShape = is-number _ (omega arith) (omega arith) (λ e. omega arith)

@@ -8,7 +8,7 @@ use Rattle.tariff.specs.declared.refusals.Refusal.{Refusal}
 use Rattle.tariff.specs.declared.refusals.Refusal.the-variants.{ShortFile, NodeCount, ConstraintCount, SpareBits, FileLength, LimitRange, FactorRange}
 use Rattle.tariff.specs.declared.refusals.Refusal.the-variants.{Padding, ShortTable, ContractCount, NodeNumber, QuantityRange}
 use Rattle.tariff.specs.declared.refusals.Refusal.the-variants.{PriceCount, PriceRange, ProcessNumber, PeriodOrKind, HolderRange}
-use Rattle.tariff.specs.declared.refusals.Refusal.the-variants.{NoSuchDate, MigrationRange, LoadExceeded, HubShape, HubNodeTwice, ShareRange, NoDemand}
+use Rattle.tariff.specs.declared.refusals.Refusal.the-variants.{NoSuchDate, TierMark, AwardOverload, MigrationRange, LoadExceeded, HubShape, HubNodeTwice, ShareRange, NoDemand}
 use Rattle.tariff.specs.declared.refusals.Checked.{Checked}
 use Rattle.tariff.specs.declared.refusals.Checked.the-variants.{Passed, Refused}
 
@@ -32,6 +32,8 @@ numberOf ProcessNumber = 16
 numberOf PeriodOrKind = 17
 numberOf HolderRange = 18
 numberOf NoSuchDate = 19
+numberOf TierMark = 20
+numberOf AwardOverload = 21
 numberOf MigrationRange = 22
 numberOf LoadExceeded = 23
 numberOf HubShape = 24

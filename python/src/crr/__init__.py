@@ -26,6 +26,7 @@ from .hours import PriceFile, Settled, settle_hours
 from .interface import MEANINGS
 from .migration import migrate_load, net_transfers
 from .native import Refused
+from .running import RunningTest, add_award, mark_tier, open_running, return_to_tier
 from .settlement import Hour, HourTotal, HubMcc, Settler, find_hub_mcc, find_mcc, settle_hour
 from .shares import share_balance
 from .texts import write_report, write_statement
@@ -46,18 +47,22 @@ __all__ = [
     "PriceFile",
     "Prices",
     "Refused",
+    "RunningTest",
     "Settled",
     "Settler",
     "Verdict",
+    "add_award",
     "add_hub_contract",
     "find_cuts",
     "find_flows",
     "find_hub_mcc",
     "find_mcc",
+    "mark_tier",
     "migrate_load",
     "month_hours",
     "month_later",
     "net_transfers",
+    "open_running",
     "read_book",
     "read_book_cells",
     "read_book_form",
@@ -66,6 +71,7 @@ __all__ = [
     "read_prices",
     "released_percent",
     "remap_book",
+    "return_to_tier",
     "settle_hour",
     "settle_hours",
     "share_balance",

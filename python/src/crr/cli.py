@@ -1,7 +1,7 @@
 """The command `crr`.
 
-Exit status: 0; 1 where `crr test` or `crr cuts` finds that the book fails, or `crr same` that two books differ; 2 where the input has faults, or something
-can't be read or written.
+Exit status: 0; 1 where `crr test` or `crr cuts` finds that the book fails, `crr same` that two books differ, or `crr tiers` that an operation is refused;
+2 where the input has faults, or something can't be read or written.
 """
 
 from __future__ import annotations
@@ -53,6 +53,13 @@ def _migrate(options: argparse.Namespace) -> Answer:
     return migrate(options.folder, _PERIODS[options.period][0], options.rows, options.loads, options.out, options.round_prices)
 
 
+def _tiers(options: argparse.Namespace) -> Answer:
+    from .tiers import tiers  # asked for by this command alone
+
+    period, process = _PERIODS[options.period][0], _PROCESSES[options.process][0]
+    return tiers(options.folder, period, process, options.awards, options.out, options.round_prices)
+
+
 _COMMANDS: Dict[str, Callable[[argparse.Namespace], Answer]] = {
     "check": lambda o: commands.check(o.folder, o.round_prices),
     "pack": lambda o: commands.pack(o.folder, o.out or o.folder, o.round_prices),
@@ -68,6 +75,7 @@ _COMMANDS: Dict[str, Callable[[argparse.Namespace], Answer]] = {
     "same": lambda o: copies.same(o.folder, o.other),
     "hub-mcc": lambda o: commands.hub_mcc(o.folder, o.hubs, o.round_prices),
     "hub-add": lambda o: commands.hub_add(o.folder, o.hubs, o.contracts, o.out, o.round_prices),
+    "tiers": _tiers,
     "migrate": _migrate,
     "hours": lambda o: commands.hours(*o.months),
     "share": lambda o: commands.share(o.balance, o.demands),
@@ -87,6 +95,7 @@ _HELP = {
     "same": "whether two folders have the same book, rows shuffled or split or not, and the totals that differ",
     "hub-mcc": "the marginal cost of congestion of trading hubs, hour by hour",
     "hub-add": "add contracts from trading hubs to the book, as contracts from their nodes",
+    "tiers": "awards tried one after another on the grid, with tiers to mark and to come back to, for one period and process",
     "migrate": "the transfer of contracts between load-serving entities whose customers moved, for one period",
     "hours": "the on-peak days and hours of months, 2010 to 2037",
     "share": "a balance shared among coordinators by their demands, to the cent",
@@ -107,10 +116,9 @@ def _months(text: str) -> Tuple[Month, Month]:
     return first, last
 
 
-
 def _parser() -> argparse.ArgumentParser:
     parser = argparse.ArgumentParser(prog="crr", description="Congestion revenue rights: feasibility test and hourly settlement.")
-    fails = "1 the book fails (crr test, crr cuts), or two books differ (crr same)"
+    fails = "1 the book fails (crr test, crr cuts), two books differ (crr same), or an operation is refused (crr tiers)"
     parser.epilog = f"Exit status: 0; {fails}; 2 the input has faults, or something can't be read or written."
     adding = parser.add_subparsers(dest="command", required=True, metavar="COMMAND")
     of = {name: adding.add_parser(name, help=text, description=text) for name, text in _HELP.items()}
@@ -123,7 +131,7 @@ def _parser() -> argparse.ArgumentParser:
         else:
             command.add_argument("folder", type=Path, metavar="FOLDER", help="a folder of CSV files, or of bin files")
         command.add_argument("--json", action="store_true", help="the answer, or the faults, as one JSON object")
-        if name in ("check", "pack", "settle", "report", "remap", "hub-mcc", "hub-add", "migrate"):
+        if name in ("check", "pack", "settle", "report", "remap", "hub-mcc", "hub-add", "tiers", "migrate"):
             command.add_argument("--round-prices", action="store_true", help="round prices of more than two decimals to the nearest cent")
     of["remap"].add_argument("pairs", type=Path, metavar="PAIRS", help="a CSV file OLD_NODE,NEW_NODE")
     of["holder"].add_argument("holder", metavar="HOLDER", help="its name, as in OWNER, or its number, 0 to 1023")
@@ -131,12 +139,17 @@ def _parser() -> argparse.ArgumentParser:
     for name in ("hub-mcc", "hub-add"):
         of[name].add_argument("hubs", type=Path, metavar="HUBS", help="a CSV file HUB,NODE_ID,PERCENT")
     of["hub-add"].add_argument("contracts", type=Path, metavar="CONTRACTS", help="a CSV file like book.csv, with hubs for sources")
+    awards = "a CSV file OPERATION,TIER and the columns of book.csv: add, mark, return; without it the book's contracts are added in their order"
+    of["tiers"].add_argument("awards", type=Path, nargs="?", metavar="AWARDS", help=awards)
+    of["tiers"].add_argument("--period", choices=["off", "on"], required=True)
+    of["tiers"].add_argument("--process", choices=["annual", "lt", "monthly"], required=True)
     of["migrate"].add_argument("rows", type=Path, metavar="ROWS", help="a CSV file CUSTOMER_CLASS,CUSTOMERS,MW_PER_CUSTOMER,OLD_LSE,NEW_LSE")
     of["migrate"].add_argument("loads", type=Path, metavar="LOADS", help="a CSV file LSE,LOAD_MW")
     of["migrate"].add_argument("--period", choices=["off", "on"], required=True, help="whose rates and loads these are")
     places = {"pack": "a folder", "unpack": "a folder", "settle": "a folder for the result files", "report": "the HTML file", "remap": "a folder"}
     places.update({"market": "the market's file", "holder": "a file for the view as the library writes it"})
     places.update({"settled": "a file for the settled book, as the library reads it", "hub-add": "a folder", "migrate": "a folder"})
+    places["tiers"] = "a folder for the case with the awards held for its book"
     for name, what in places.items():
         of[name].add_argument("-o", "--out", type=Path, metavar="OUT", required=name in ("remap", "market", "hub-add"), help=what)
     of["unpack"].add_argument("--force", action="store_true", help="write over CSV files that differ")

@@ -353,18 +353,17 @@ def hub_mcc(folder: Path, hubs: Path, round_prices: bool) -> Answer:
     return Answer(PASSES, csv_text(HUB_MCC, rows), {"mcc": objects(HUB_MCC, rows), "rounded_prices": found.rounded}, told)
 
 
-def _owner_numbers(found: Opened, sheet: Sheet, rows: Sequence[HubContract]) -> Dict[str, int]:
-    """The number of each owner, of the book and of the rows. Those of the book stay as they are."""
+def owner_numbers(found: Opened, sheet: Sheet, rows: Sequence[Tuple[int, str]]) -> Dict[str, int]:
+    """The number of each owner, of the book and of rows by line and owner. Those of the book stay as they are."""
     names = found.names
-    for row in rows:
-        number = plain_number(row.owner)
-        if number in names.holders:
-            sheet.fault(row.line, "OWNER", f"{row.owner} stands for holder {row.owner}, and that one is {names.holder(int(row.owner))} here")
-    owners = [names.holder(contract.holder) for contract in found.book] + [row.owner for row in rows]
+    for line, owner in rows:
+        if plain_number(owner) in names.holders:
+            sheet.fault(line, "OWNER", f"{owner} stands for holder {owner}, and that one is {names.holder(int(owner))} here")
+    owners = [names.holder(contract.holder) for contract in found.book] + [owner for _, owner in rows]
     numbers = holder_numbers(owners, names.holders)
-    too_many = next((row for row in rows if numbers[row.owner] > HOLDER.high), None)
+    too_many = next((line for line, owner in rows if numbers[owner] > HOLDER.high), None)
     if too_many:
-        sheet.fault(too_many.line, "OWNER", f"more than {HOLDER.high + 1} owners", 18)
+        sheet.fault(too_many, "OWNER", f"more than {HOLDER.high + 1} owners", 18)
     return numbers
 
 
@@ -377,7 +376,7 @@ def _form_for(found: Opened, rows: Sequence[HubContract], hubs: Dict[str, Hub]) 
 
 def _grown(found: Opened, sheet: Sheet, rows: Sequence[HubContract], hubs: Dict[str, Hub]) -> Packed:
     """The files with every row's contracts behind those of the book. A contract is called by its row's name and its node's."""
-    owners, names, files = _owner_numbers(found, sheet, rows), found.names, files_of(found)
+    owners, names, files = owner_numbers(found, sheet, [(row.line, row.owner) for row in rows]), found.names, files_of(found)
     raise_any(sheet.faults)
     book, nodes = _form_for(found, rows, hubs), len(names.nodes)
     ids, taken = list(names.contracts), set(names.contracts)

@@ -158,6 +158,13 @@ def _node(loaded: Loaded, sheet: Sheet, line: int, ours: str, name: str) -> int:
     return number
 
 
+def read_terms(sheet: Sheet, line: int, row: List[str]) -> Tuple[int, int, int]:
+    """Kind, period and quantity of a row with the columns of book.csv. A fault is noted and gives 0."""
+    kind = _choice(sheet, line, "HEDGE_TYPE", row[sheet.at["HEDGE_TYPE"]], _KINDS, "OBL nor OPT")
+    period = _choice(sheet, line, "TIME_OF_USE", row[sheet.at["TIME_OF_USE"]], _PERIODS, "ON nor OFF")
+    return kind, period, sheet.figure(line, sheet.at["MW"], row[sheet.at["MW"]], QUANTITY)
+
+
 def _read_book(loaded: Loaded, known: Dict[int, str]) -> Tuple[List[Contract], List[str], Dict[int, str]]:
     sheet = Sheet(loaded.folder / "book.csv", BOOK, loaded.faults)
     contracts: List[Contract] = []
@@ -374,7 +381,7 @@ def read_hub_contracts(path: Path, hubs: Dict[str, Hub], nodes: Sequence[str], f
     rows: List[HubContract] = []
     if len(sheet.at) < len(BOOK):
         return sheet, rows
-    crr_id, owner, kind, period, source, sink, mw = (sheet.at[ours] for ours in BOOK)
+    crr_id, owner, source, sink = (sheet.at[ours] for ours in ("CRR_ID", "OWNER", "SOURCE", "SINK"))
     numbers = {name: number for number, name in enumerate(nodes)}
     ids: Dict[str, int] = {}
     for line, row in sheet.rows():
@@ -384,8 +391,6 @@ def read_hub_contracts(path: Path, hubs: Dict[str, Hub], nodes: Sequence[str], f
             sheet.fault(line, "SOURCE", f"no such hub: {row[source]!r}")
         if row[sink] not in numbers:
             sheet.fault(line, "SINK", f"no node {row[sink]!r} in the grid", 11)
-        of_kind = _choice(sheet, line, "HEDGE_TYPE", row[kind], _KINDS, "OBL nor OPT")
-        of_period = _choice(sheet, line, "TIME_OF_USE", row[period], _PERIODS, "ON nor OFF")
-        quantity = sheet.figure(line, mw, row[mw], QUANTITY)
-        rows.append(HubContract(line, row[crr_id], row[owner], of_kind, of_period, row[source], numbers.get(row[sink], 0), quantity))
+        kind, period, quantity = read_terms(sheet, line, row)
+        rows.append(HubContract(line, row[crr_id], row[owner], kind, period, row[source], numbers.get(row[sink], 0), quantity))
     return sheet, rows

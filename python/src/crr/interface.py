@@ -17,6 +17,9 @@ MAX_COORDINATORS = 256
 MAX_HUB_NODES = 32
 MAX_LSES = 16
 MAX_MIGRATION_ROWS = 1000
+RUNNING_AWARDS = 6000
+RUNNING_NUMBERS = 14
+RUNNING_FLOWS = 320
 MAX_CUSTOMERS = 1000000
 MAX_CUSTOMER_LOAD = 10000
 MAX_LOAD = 1000000000000
@@ -45,6 +48,9 @@ ON_PEAK = 1
 ANNUAL = 0
 TIER_LT = 1
 MONTHLY = 2
+
+# Tier LT's mark in a running test.
+MARK_LT = 4
 
 
 class Unit(NamedTuple):
@@ -82,15 +88,17 @@ MEANINGS: Dict[int, str] = {
     7: "a factor below -100,000 or above 100,000",
     8: "a padding bit at a file's end is set",
     9: "a lent table, or a place for an answer, of too few cells; remapping, unequal lists",
-    10: "more than 1,000 contracts, or a book that would grow past 1,000",
+    10: "more than 1,000 contracts, a book that would grow past 1,000, or a 1,001st award",
     11: "a source, sink or listed node not below the node count; written to a narrow book, above 255",
     13: "quantity 0 or above 1,000,000",
     14: "the price file's constraint count differs from the one stated",
     15: "a price above 500,000",
     16: "process not 0 to 2",
-    17: "a period not 0 or 1; writing a book or adding to one, a kind or period not 0 or 1",
+    17: "a period not 0 or 1; writing a book, adding to one or adding an award, a kind or period not 0 or 1",
     18: "holder above 1,023",
     19: "a date or month that does not exist or is outside 2010 to 2037, given or reached",
+    20: "running test: a tier not 1 to 4, or returning to one that is not marked",
+    21: "running test: with the award some flow would exceed its released limit",
     22: "load migration: a figure, count or LSE number outside its range, unequal lists, or a row whose old and new LSE are one",
     23: "load migration: an LSE that loses load has none, or less than its losses to all gainers",
     24: "a hub not of 1 to 32 nodes, unequal lists, or weights outside 1 to 100,000 or not together 100,000",
@@ -124,6 +132,14 @@ DECLARATIONS: Dict[str, str] = {
     "crr_find_cuts": "size_t nodes, size_t constraints, uint64_t process, uint64_t period, const uint64_t *limits, size_t limits_len, "
     "const int64_t *factors, size_t factors_len, const uint8_t *book, size_t book_len, uint64_t *numbers, size_t numbers_len, "
     "uint64_t *cuts, size_t cuts_len, size_t *listed",
+    "crr_open_running": "size_t nodes, size_t constraints, uint64_t process, uint64_t period, const uint64_t *limits, size_t limits_len, "
+    "const int64_t *factors, size_t factors_len, const uint64_t *awards, size_t awards_len, uint64_t *numbers, size_t numbers_len, "
+    "int64_t *flows, size_t flows_len",
+    "crr_add_award": "size_t nodes, size_t constraints, uint64_t process, uint64_t period, const uint64_t *limits, size_t limits_len, "
+    "const int64_t *factors, size_t factors_len, const uint64_t *award, size_t award_len, uint64_t *awards, size_t awards_len, "
+    "uint64_t *numbers, size_t numbers_len, int64_t *flows, size_t flows_len",
+    "crr_mark_tier": "uint64_t tier, uint64_t *numbers, size_t numbers_len, int64_t *flows, size_t flows_len",
+    "crr_return_to_tier": "uint64_t tier, uint64_t *numbers, size_t numbers_len, int64_t *flows, size_t flows_len",
     "crr_released_percent": "uint64_t process, uint64_t *percent",
     "crr_find_mcc": "size_t nodes, size_t constraints, const int64_t *factors, size_t factors_len, "
     "const uint64_t *prices, size_t prices_len, int64_t *mcc, size_t mcc_len",

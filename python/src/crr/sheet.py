@@ -42,6 +42,8 @@ ALIASES: Dict[str, Tuple[str, ...]] = {
     "NEW_LSE": ("NEW",),
     "LSE": ("LSE_ID", "LSE_NAME"),
     "LOAD_MW": ("MW", "LOAD", "CURRENT_LOAD", "CURRENT_LOAD_MW"),
+    "OPERATION": ("OP",),
+    "TIER": (),
     "TABLE": (),
     "NUMBER": (),
     "NAME": (),

@@ -5,9 +5,12 @@
 mod hubs;
 #[path = "library/migration.rs"]
 mod migration;
+#[path = "library/running.rs"]
+mod running;
 
 pub use hubs::{add_hub_contract, find_hub_mcc};
 pub use migration::{migrate_load, Migration};
+pub use running::{add_award, mark_tier, open_running, return_to_tier, Opening, State};
 
 mod c {
     extern "C" {

@@ -14,7 +14,7 @@ mod vectors;
 
 use draw::{Draw, EXTREMES};
 use rounds::{
-    calendar, cuts, demand, forms, headers, hub_book, hub_mcc, hubs, migration, priced, settled, shares, text, view_pairs, views,
+    calendar, cuts, demand, forms, headers, hub_book, hub_mcc, hubs, migration, priced, running, settled, shares, text, view_pairs, views,
 };
 use std::env;
 use std::process::ExitCode;
@@ -38,7 +38,7 @@ const fn plain(name: &'static str, refusals: &'static [u64], cases: &'static [&'
 }
 
 /// Each entry, with the refusals that the papers list for it, each to be drawn and no other, and the cases that the change requests name.
-const ENTRIES: [Entry; 27] = [
+const ENTRIES: [Entry; 32] = [
     plain("read_grid", &[1, 2, 3, 4, 5, 6, 7, 8, 9], &[&forms::GRIDS_READ], rounds::grid::read),
     Entry { rounds: headers::FIRST_BYTES, ..plain("grid_headers", &[1, 2, 3, 4, 5, 6, 7, 8, 9], &[], headers::grid) },
     plain("write_grid", &[2, 3, 6, 7, 9], &[&forms::GRIDS_WRITTEN], rounds::grid::write),
@@ -62,6 +62,11 @@ const ENTRIES: [Entry; 27] = [
         ..plain("find_cuts", &[1, 2, 3, 4, 5, 6, 7, 9, 10, 11, 13, 16, 17], &[&cuts::CASES, &forms::BOOKS], cuts::round)
     },
     plain("released_percent", &[16], &[], rounds::flows::percent),
+    plain("open_running", &[2, 3, 6, 7, 9, 16, 17], &[], running::faults::open),
+    plain("add_award", &[2, 3, 6, 7, 9, 10, 11, 13, 16, 17, 18, 21], &[&running::altered::CASES], running::faults::add),
+    plain("mark_tier", &[9, 20], &[], running::altered::mark),
+    plain("return_to_tier", &[9, 20], &[], running::altered::return_to),
+    plain("running_test", &[10, 11, 13, 17, 18, 20, 21], &[&running::CASES], running::round),
     plain("find_mcc", &[2, 3, 7, 9, 15], &[], rounds::settlement::mcc),
     Entry {
         rounds: hub_mcc::FIRST_ROUNDS,

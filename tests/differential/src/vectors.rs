@@ -5,6 +5,7 @@ mod cuts;
 mod forms;
 mod hubs;
 mod migration;
+mod running;
 mod settled;
 mod shares;
 mod views;
@@ -225,6 +226,7 @@ pub fn check() -> usize {
         settled::values(),
         hubs::values(),
         migration::values(),
+        running::values(),
     ]
     .concat();
     let all = [base, remaps, requests].concat();

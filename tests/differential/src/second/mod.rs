@@ -10,6 +10,7 @@ pub mod hubs;
 pub mod migration;
 pub mod prices;
 pub mod remap;
+pub mod running;
 pub mod settled;
 pub mod settlement;
 pub mod shares;

@@ -1,0 +1,4 @@
+pub mod Checking
+pub mod Flowing
+pub mod Overs
+pub mod Promises

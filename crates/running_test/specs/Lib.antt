@@ -1,0 +1,3 @@
+pub mod OpenRunning
+pub mod AddAward
+pub mod Inner

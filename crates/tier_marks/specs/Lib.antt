@@ -1,0 +1,3 @@
+pub mod MarkTier
+pub mod ReturnToTier
+pub mod Inner

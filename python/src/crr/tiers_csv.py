@@ -1,0 +1,78 @@
+"""The operations of a running test as a CSV file, by names.
+
+OPERATION,TIER,CRR_ID,OWNER,HEDGE_TYPE,TIME_OF_USE,SOURCE,SINK,MW
+
+`add` has an award, in the columns of book.csv; `mark` and `return` have a tier, 1, 2, 3 or LT. The columns of the one are empty in the rows of the other.
+"""
+
+from __future__ import annotations
+
+from pathlib import Path
+from typing import Dict, List, NamedTuple, Sequence, Tuple
+
+from .faults import Fault
+from .files import Contract
+from .from_csv import BOOK, read_terms
+from .interface import MARK_LT
+from .running import TIERS
+from .sheet import Sheet
+
+OPERATIONS = ("OPERATION", "TIER", *BOOK)
+ADD, MARK, RETURN = "add", "mark", "return"
+_TIERS: Dict[str, int] = {**{name: number for number, name in TIERS.items()}, str(MARK_LT): MARK_LT}
+_NOTHING = Contract(0, 0, 0, 0, 0, 0)
+
+
+class Operation(NamedTuple):
+    """An operation and the line that it stands in: an award by its name, its owner and its terms, without a holder; or a tier."""
+
+    line: int
+    what: str
+    tier: int = 0
+    crr_id: str = ""
+    owner: str = ""
+    award: Contract = _NOTHING
+
+
+def _award(sheet: Sheet, line: int, row: List[str], numbers: Dict[str, int]) -> Operation:
+    crr_id, owner = row[sheet.at["CRR_ID"]], row[sheet.at["OWNER"]]
+    sheet.name_in(line, "CRR_ID", crr_id)
+    sheet.name_in(line, "OWNER", owner)
+    if row[sheet.at["TIER"]]:
+        sheet.fault(line, "TIER", "an award has no tier: a row of its own marks the tier")
+    ends = []
+    for ours in ("SOURCE", "SINK"):
+        name = row[sheet.at[ours]]
+        if name not in numbers:
+            sheet.fault(line, ours, f"no node {name!r} in the grid", 11)
+        ends.append(numbers.get(name, 0))
+    kind, period, quantity = read_terms(sheet, line, row)
+    return Operation(line, ADD, 0, crr_id, owner, Contract(kind, period, 0, ends[0], ends[1], quantity))
+
+
+def _tier(sheet: Sheet, line: int, row: List[str], what: str) -> Operation:
+    text = row[sheet.at["TIER"]]
+    if text.upper() not in _TIERS:
+        sheet.fault(line, "TIER", f"{text!r} is none of the tiers 1, 2, 3 and LT" if text else "empty", 20 if text else 0)
+    for ours in BOOK:
+        if row[sheet.at[ours]]:
+            sheet.fault(line, ours, f"{what} has a tier and no award")
+    return Operation(line, what, _TIERS.get(text.upper(), 0))
+
+
+def read_operations(path: Path, nodes: Sequence[str], faults: List[Fault]) -> Tuple[Sheet, List[Operation]]:
+    """The operations of a file, and the sheet, for faults that are found later. Every fault is noted."""
+    sheet = Sheet(path, OPERATIONS, faults)
+    operations: List[Operation] = []
+    if len(sheet.at) < len(OPERATIONS):
+        return sheet, operations
+    numbers = {name: number for number, name in enumerate(nodes)}
+    for line, row in sheet.rows():
+        what = row[sheet.at["OPERATION"]].lower()
+        if what == ADD:
+            operations.append(_award(sheet, line, row, numbers))
+        elif what in (MARK, RETURN):
+            operations.append(_tier(sheet, line, row, what))
+        else:
+            sheet.fault(line, "OPERATION", f"{row[sheet.at['OPERATION']]!r} is neither add nor mark nor return")
+    return sheet, operations
