@@ -37,6 +37,12 @@ use Rattle.running_test.proofs.Flowing.{beyond, none-found}
 
 -- ---- what is added
 
+-- 21 comes where the set of flows above their released limits is not empty
+pub exceeds-is : (limits : List ℕ) (process : Process) (f : Factors) (c : Contract) (flows : List ℤ)
+    → exceedsWith limits process f c flows ≡ ltb 0 (setOf (f .constraints) (λ j. ltZ (pos (released limits process j)) (flowWith f c flows j)))
+unfolding exceedsWith
+exceeds-is limits process f c flows = refl
+
 module _ (own : Bool) (limits : List ℕ) (process : Process) (f : Factors) (c : Contract) (numbers : List ℕ) (flows : List ℤ) where
   pub adds-other : own ≡ false → AddsFlows own limits process f c numbers flows false numbers flows
   unfolding cellsOver
@@ -49,14 +55,14 @@ module _ (own : Bool) (limits : List ℕ) (process : Process) (f : Factors) (c :
 
     module _ (even : noState (f .constraints) numbers flows ≡ false) (n : ℕ) (is : n ≡ setOf (f .constraints) (λ j. ltZ (pos (released limits process j)) (flowWith f c flows j))) where
       pub adds-over : (n ≡ 0 → ⊥) → AddsFlows own limits process f c numbers flows true numbers flows
-      unfolding cellsOver exceedsWith
-      adds-over ne = record { over-is = rw (mine, even, ← is) (sym (lt-ltb 0 n (pos-of-ne-zero ne))); numbers-are = refl; flows-are = refl }
+      unfolding cellsOver
+      adds-over ne = record { over-is = rw (mine, even, exceeds-is limits process f c flows, ← is) (sym (lt-ltb 0 n (pos-of-ne-zero ne))); numbers-are = refl; flows-are = refl }
 
       pub adds-held : n ≡ 0 → (numbers' : List ℕ) (flows' : List ℤ) → numbers' ≡ set numbers 1 (countedIn numbers + 1) → flows' ≡ overwrite (listTo (f .constraints) (flowWith f c flows)) flows
           → AddsFlows own limits process f c numbers flows false numbers' flows'
-      unfolding cellsOver exceedsWith
+      unfolding cellsOver
       adds-held z numbers' flows' en ef =
-          record { over-is = rw (mine, even, ← is) (sym (le-ltb 0 n (omega arith))); numbers-are = rw mine en; flows-are = rw mine ef }
+          record { over-is = rw (mine, even, exceeds-is limits process f c flows, ← is) (sym (le-ltb 0 n (omega arith))); numbers-are = rw mine en; flows-are = rw mine ef }
 
 -- the same of equal values
 pub adds-as : (own own' : Bool) (limits : List ℕ) (p p' : Process) (f : Factors) (c c' : Contract) (numbers : List ℕ) (flows : List ℤ) (over : Bool) (numbers' : List ℕ) (flows' : List ℤ)

@@ -152,9 +152,8 @@ fn store_award(c: Contract, awards: &mut [u64], numbers: &mut [u64])
     ensures { λ r. ⌜ (after awards ≡ withAwardRow (heldIn (before numbers)) c (before awards))
         × (after numbers ≡ set (before numbers) 0 (heldIn (before numbers) + 1)) ⌝ }
 {
-    let held = numbers[0];
-    book_file::store_row(awards, CONTRACT_CELLS * (held as usize), c);
-    numbers[0] = held + 1;
+    book_file::store_row(awards, CONTRACT_CELLS * (numbers[0] as usize), c);
+    numbers[0] = numbers[0] + 1;
 }
 
 // Adds an award to a running test, unless some flow would exceed its released limit.

@@ -51,7 +51,19 @@ fn more(run: Run) -> Run {
     }
 }
 
-// The largest grid without constraints, annual, off-peak.
+// An award added to the largest grid without constraints, annual, off-peak.
+fn add_widest(
+    name: &[u8],
+    award: &[u64; 6],
+    awards: &mut [u64],
+    numbers: &mut [u64],
+    flows: &mut [i64],
+    number: u64,
+) {
+    let answer = running_test::add_award(4000, 0, 0, 0, &[], &[], award, awards, numbers, flows);
+    figure(name, answer.number(), number);
+}
+
 fn no_constraints() {
     let mut awards = [0u64; 6000];
     let mut numbers = [9u64; 14];
@@ -68,32 +80,24 @@ fn no_constraints() {
         &mut flows,
     );
     figure(b"4.7 open", opened.number(), 0);
-    let held = running_test::add_award(
-        4000,
-        0,
-        0,
-        0,
-        &[],
-        &[],
-        &[0, 0, 0, 3999, 0, 1000000],
+    let last = [0, 0, 0, 3999, 0, 1000000];
+    let outside = [1, 0, 0, 4000, 0, 1];
+    add_widest(
+        b"4.7 node 3,999",
+        &last,
         &mut awards,
         &mut numbers,
         &mut flows,
+        0,
     );
-    figure(b"4.7 node 3,999", held.number(), 0);
-    let outside = running_test::add_award(
-        4000,
-        0,
-        0,
-        0,
-        &[],
-        &[],
-        &[1, 0, 0, 4000, 0, 1],
+    add_widest(
+        b"4.7 node 4,000",
+        &outside,
         &mut awards,
         &mut numbers,
         &mut flows,
+        11,
     );
-    figure(b"4.7 node 4,000", outside.number(), 11);
     figure(b"4.7 held", numbers[0], 1);
     figure(b"4.7 counted", numbers[1], 1);
 }
@@ -151,12 +155,15 @@ fn short(
     figure(name, answer.number(), number);
 }
 
-fn opening() {
+fn opening_tables() {
     opens(b"4.8 process, period", 3, 2, 3, 2, 6000, 60000, 16);
     opens(b"4.8 limit, factor", 3, 2, 2, 1, 1000000000, 100001, 6);
     opens(b"4.8 factor", 3, 2, 2, 1, 6000, 100001, 7);
     opens(b"4.8 nodes, constraints", 0, 65, 2, 1, 6000, 60000, 2);
     opens(b"4.8 constraints, process", 3, 65, 3, 1, 6000, 60000, 3);
+}
+
+fn opening_buffers() {
     let awards = [0u64; 6000];
     let few = [0u64; 5999];
     let mut numbers = [9u64; 14];
@@ -210,57 +217,43 @@ fn altered(held: u64, counted: u64, flow: i64) -> Run {
     }
 }
 
+// An award of a period on altered cells, the number that it draws, and how many are held then.
+fn on_altered(
+    name: &[u8],
+    held: u64,
+    counted: u64,
+    flow: i64,
+    period: u64,
+    number: u64,
+    after: u64,
+) {
+    let run = altered(held, counted, flow);
+    let run = add(run, name, 6000, 2, &[0, period, 7, 0, 1, 1], number);
+    holds(run, after, counted, flow, -20000);
+}
+
 fn alterations() {
-    let run = add(
-        altered(1000, 1, 60000),
-        b"4.9 1,000 held",
-        6000,
-        2,
-        &[0, 1, 7, 0, 1, 1],
-        10,
-    );
-    holds(run, 1000, 1, 60000, -20000);
-    let run = add(
-        altered(1, 1, 9223372036854775807),
-        b"4.9 largest",
-        6000,
-        2,
-        &[0, 1, 7, 0, 1, 1],
-        21,
-    );
-    holds(run, 1, 1, 9223372036854775807, -20000);
-    let run = add(
-        altered(1, 1, -200000000001),
-        b"4.9 beyond",
-        6000,
-        2,
-        &[0, 1, 7, 0, 1, 1],
-        21,
-    );
-    holds(run, 1, 1, -200000000001, -20000);
-    let run = add(
-        altered(1, 2, 60000),
-        b"4.9 more counted",
-        6000,
-        2,
-        &[0, 1, 7, 0, 1, 1],
-        21,
-    );
-    holds(run, 1, 2, 60000, -20000);
-    let run = add(
-        altered(1, 2, 60000),
-        b"4.9 other period",
-        6000,
-        2,
-        &[0, 0, 7, 0, 1, 1],
+    on_altered(b"4.9 1,000 held", 1000, 1, 60000, 1, 10, 1000);
+    on_altered(b"4.9 largest", 1, 1, 9223372036854775807, 1, 21, 1);
+    on_altered(b"4.9 beyond", 1, 1, -200000000001, 1, 21, 1);
+    on_altered(b"4.9 more counted", 1, 2, 60000, 1, 21, 1);
+    on_altered(
+        b"4.9 largest, other period",
+        1,
+        1,
+        9223372036854775807,
         0,
+        0,
+        2,
     );
-    holds(run, 2, 2, 60000, -20000);
+    on_altered(b"4.9 beyond, other period", 1, 1, -200000000001, 0, 0, 2);
+    on_altered(b"4.9 more counted, other period", 1, 2, 60000, 0, 0, 2);
 }
 
 pub fn go_through() {
     thousand();
     no_constraints();
-    opening();
+    opening_tables();
+    opening_buffers();
     alterations();
 }

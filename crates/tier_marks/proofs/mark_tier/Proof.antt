@@ -26,14 +26,6 @@ ok c = at-tier (call (c .before .before .before .before .before .before)) (passe
 mark-numbers-requires : tie.Need-mark-numbers-requires
 mark-numbers-requires c κs = let o = ok (c .before) in (o .some-tier, o .last-tier, o .numbers-long)
 
-mul-copy-block : tie.Need-mul-copy-block
-mul-copy-block c = omega (arith, ok (c .before .before .before .before .before) .last-tier)
-
-copy-block-requires : tie.Need-copy-block-requires
-copy-block-requires c κs =
-    let o = ok (c .before .before .before .before .before) in
-    record { source-in = omega (arith, o .last-tier, o .flows-long); target-in = omega (arith, o .last-tier, o .flows-long); apart = inl (omega (arith, o .some-tier)) }
-
 returns : tie.Need-returns
 returns c =
     let k = c .before .before .before in
@@ -53,6 +45,14 @@ returns-2 c =
     (buffer-passed (k .check-tier .result) (markTierChecked q) (k .check-tier .ensures) told (markedNumbers (q .tier) (q .numbers)) (q .numbers) _
     (c .before .before .before .before .before .mark-numbers .ensures))
     (buffer-passed (k .check-tier .result) (markTierChecked q) (k .check-tier .ensures) told (markedFlows (q .tier) (q .flows)) (q .flows) _ (c .before .copy-block .ensures))
+
+mul-copy-block : tie.Need-mul-copy-block
+mul-copy-block c = omega (arith, ok (c .before .before .before .before .before) .last-tier)
+
+copy-block-requires : tie.Need-copy-block-requires
+copy-block-requires c κs =
+    let o = ok (c .before .before .before .before .before) in
+    record { source-in = omega (arith, o .last-tier, o .flows-long); target-in = omega (arith, o .last-tier, o .flows-long); apart = inl (omega (arith, o .some-tier)) }
 
 pub mark-tier-spec : {M : Type 1} → statement M
 mark-tier-spec =

@@ -31,14 +31,6 @@ ok c =
 return-numbers-requires : tie.Need-return-numbers-requires
 return-numbers-requires c κs = let o = ok (c .before) in (o .some-tier, o .last-tier, o .numbers-long)
 
-mul-copy-block : tie.Need-mul-copy-block
-mul-copy-block c = omega (arith, ok (c .before .before .before .before .before) .last-tier)
-
-copy-block-requires : tie.Need-copy-block-requires
-copy-block-requires c κs =
-    let o = ok (c .before .before .before .before .before) in
-    record { source-in = omega (arith, o .last-tier, o .flows-long); target-in = omega (arith, o .last-tier, o .flows-long); apart = inr (omega (arith, o .some-tier)) }
-
 returns : tie.Need-returns
 returns c =
     let k = c .before .before .before in
@@ -58,6 +50,14 @@ returns-2 c =
     (buffer-passed (k .check-return .result) (returnToTierChecked q) (k .check-return .ensures) told (returnedNumbers (q .tier) (q .numbers)) (q .numbers) _
     (c .before .before .before .before .before .return-numbers .ensures))
     (buffer-passed (k .check-return .result) (returnToTierChecked q) (k .check-return .ensures) told (returnedFlows (q .tier) (q .flows)) (q .flows) _ (c .before .copy-block .ensures))
+
+mul-copy-block : tie.Need-mul-copy-block
+mul-copy-block c = omega (arith, ok (c .before .before .before .before .before) .last-tier)
+
+copy-block-requires : tie.Need-copy-block-requires
+copy-block-requires c κs =
+    let o = ok (c .before .before .before .before .before) in
+    record { source-in = omega (arith, o .last-tier, o .flows-long); target-in = omega (arith, o .last-tier, o .flows-long); apart = inr (omega (arith, o .some-tier)) }
 
 pub return-to-tier-spec : {M : Type 1} → statement M
 return-to-tier-spec =
