@@ -11,4 +11,6 @@ fn main() {
     hub_vectors::go_through();
     migration_vectors::go_through();
     tier_vectors::go_through();
+    reorder_vectors::go_through();
+    tier_reorder_vectors::go_through();
 }

@@ -5,6 +5,7 @@ mod cuts;
 mod forms;
 mod hubs;
 mod migration;
+mod reordering;
 mod running;
 mod settled;
 mod shares;
@@ -226,6 +227,7 @@ pub fn check() -> usize {
         settled::values(),
         hubs::values(),
         migration::values(),
+        reordering::values(),
         running::values(),
     ]
     .concat();

@@ -15,6 +15,7 @@ pub mod migration;
 pub mod priced;
 pub mod prices;
 pub mod remap;
+pub mod reordering;
 pub mod running;
 pub mod settled;
 pub mod settlement;

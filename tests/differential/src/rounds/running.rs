@@ -4,6 +4,7 @@
 pub mod altered;
 mod cases;
 pub mod faults;
+pub mod orders;
 
 use super::*;
 use crate::draw::{self, Size};

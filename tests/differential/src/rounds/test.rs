@@ -55,7 +55,7 @@ fn both_forms(round: &mut Round, asked: &Tables, book: &[Contract]) {
 }
 
 /// Limits at, just below and just above the flows, so that equality and the smallest excess are met.
-fn tight(draw: &mut Draw, grid: &mut Grid, book: &[Contract], process: u64, period: u64) {
+pub fn tight(draw: &mut Draw, grid: &mut Grid, book: &[Contract], process: u64, period: u64) {
     let share = [65, 60, 100][process as usize] * 1000;
     for k in 0..grid.limits.len() {
         let limit = flow(grid, &of_period(book, period), k) / share + draw.within(-1, 1);

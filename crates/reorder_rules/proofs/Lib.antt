@@ -1,0 +1,4 @@
+pub mod Perms
+pub mod Figures
+pub mod Reliefs
+pub mod Theorems

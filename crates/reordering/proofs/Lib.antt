@@ -1,0 +1,5 @@
+pub mod Values
+pub mod Answers
+pub mod ForC
+pub mod Acceptance
+pub mod Theorems

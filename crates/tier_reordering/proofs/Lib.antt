@@ -1,0 +1,3 @@
+pub mod Awards
+pub mod OnTheWay
+pub mod Theorems

@@ -1,0 +1,2 @@
+pub mod Awards
+pub mod OnTheWay
