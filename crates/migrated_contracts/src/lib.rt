@@ -141,7 +141,8 @@ fn store_pair(
     gainer: u64,
     quantity: Quantity,
 ) -> usize
-    requires { ⌜ (at + length (pairOf c gainer (quantity .0)) ≤ maxContracts) × (bookBytes form (at + length (pairOf c gainer (quantity .0))) ≤ length (now file)) ⌝ }
+    requires { ⌜ (at + length (pairOf c gainer (quantity .0)) ≤ maxContracts)
+        × (bookBytes form (at + length (pairOf c gainer (quantity .0))) ≤ length (now file)) ⌝ }
     requires { ⌜ ContractFits (endWidth form) c × (gainer ≤ 16) × (quantity .0 ≤ c .quantity .0) ⌝ }
     ensures { λ r. ⌜ Appended form at (pairOf c gainer (quantity .0)) (before file) (after file) r ⌝ }
 {

@@ -1,5 +1,5 @@
 -- A book's contracts pass their checks one by one, which order does not change.
-use mathlib.Core.Path.{_≡_, refl, _∙_}
+use mathlib.Core.Path.{_≡_, refl}
 use mathlib.Core.Logic.{∥∥₁-elim}
 use mathlib.Core.Bool.{Bool, true, false, Bool-set}
 use mathlib.Core.List.{List, [], _∷_, Perm}

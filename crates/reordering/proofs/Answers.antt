@@ -13,7 +13,7 @@ use Rattle.tariff.specs.declared.contracts.Contract.{Contract}
 use Rattle.tariff.specs.declared.refusals.Checked.{Checked}
 use Rattle.tariff.specs.declared.refusals.Checked.the-variants.{Passed}
 use Rattle.tariff.specs.Units.{Factors, limit, factorsOf}
-use Rattle.tariff.specs.Contracts.{periodOf, ofPeriod}
+use Rattle.tariff.specs.Contracts.{periodOf}
 use Rattle.tariff.specs.Refusals.{given, answered, cellsAfter}
 use Rattle.tariff.specs.Feasibility.{totalFlow, Passes}
 use Rattle.tariff.specs.Settlement.{wholeCents, parts}
@@ -22,7 +22,7 @@ use Rattle.layouts.specs.BookFile.{contractCountIn, contractAt, bookIn}
 use Rattle.feasibility_test.specs.declared.Flows.{Flows}
 use Rattle.feasibility_test.specs.declared.TestAnswer.{TestAnswer}
 use Rattle.feasibility_test.specs.declared.TestAnswer.the-variants.{Pass}
-use Rattle.feasibility_test.specs.TestBook.{TestCall, testOutcome, testChecked, testedGrid, testedProcess, testedContracts, testValues}
+use Rattle.feasibility_test.specs.TestBook.{TestCall, testOutcome, testedGrid, testedProcess, testedContracts, testValues}
 use Rattle.feasibility_test.specs.Inner.{Carries}
 use Rattle.flows.specs.declared.FlowsAnswer.{FlowsAnswer}
 use Rattle.flows.specs.FindFlows.{FlowsCall, flowsOutcome, findFlowsChecked, countedContracts, flowCells}

@@ -11,7 +11,7 @@ use Rattle.tariff.specs.declared.processes.Process.{Process}
 use Rattle.tariff.specs.Units.{Factors, Grid}
 use Rattle.tariff.specs.Contracts.{ofPeriod}
 use Rattle.tariff.specs.Feasibility.{lowestOverload}
-use Rattle.tariff.specs.Settlement.{amount, exactTotal, cents}
+use Rattle.tariff.specs.Settlement.{amount, cents}
 use Rattle.reorder_rules.specs.Reordering.{Reordered, SameOverloads}
 use Rattle.reorder_rules.proofs.Perms.{period-sum-perm}
 use Rattle.reorder_rules.proofs.Theorems.{reordering}

@@ -1,10 +1,10 @@
 -- Flows of cells: what is beyond a state's, the flows with an award's, and what they say of a state.
 use mathlib.Core.Path.{_≡_, refl, sym, ap, _∙_}
 use mathlib.Core.Logic.{⊎-elim}
-use mathlib.Core.Bool.{Bool, true, false, cond, _||_, _&&_}
-use mathlib.Core.List.{List, [], _∷_, _++_}
+use mathlib.Core.Bool.{Bool, true, false}
+use mathlib.Core.List.{List}
 use Prim.Native.Nat.{ℕ, zero, suc, _+_, _*_, _^_, _≤_, _<_}
-use native.Mathlib.Nat.{eq-or-lt-of-le, mul-le-mul-right, pos-of-ne-zero}
+use native.Mathlib.Nat.{eq-or-lt-of-le}
 use native.Mathlib.Omega.{arith}
 use borrow.Author.Tests.{lt-ltb, le-ltb, ltb-true, ltb-false}
 use lib.Dec.{ltb}
@@ -13,22 +13,19 @@ use lib.Seq.{getD-take, getD-set-same, getD-set-other}
 use lib.IntN.{ℤ, pos, negsuc, natAbs, negℤ, _+ℤ_}
 use lib.Signed.{ltZ}
 use Rattle.integers.proofs.Sizes.{natAbs-add}
-use Rattle.lists.specs.Lists.{Each, some, listTo}
-use Rattle.lists.specs.Sets.{setOf}
+use Rattle.lists.specs.Lists.{some, listTo}
 use Rattle.lists.proofs.Lists.{listTo-cong}
-use Rattle.lists.proofs.Search.{neither, none-bad, some-bad, some-good, some-end, cell-in}
-use Rattle.lists.proofs.Sets.{set-cong}
+use Rattle.lists.proofs.Search.{neither, none-bad, some-bad, cell-in}
 use Rattle.tariff.specs.declared.contracts.Contract.{Contract}
-use Rattle.tariff.specs.declared.processes.Process.{Process}
 use Rattle.tariff.specs.Units.{Factors, factorsOf, maxConstraints, maxContracts}
-use Rattle.tariff.specs.Feasibility.{flow, released}
+use Rattle.tariff.specs.Feasibility.{flow}
 use Rattle.tariff.specs.Inner.{InRange, maxFlow}
 use Rattle.tariff.proofs.Sizes.{flow-sized}
 use Rattle.tables.specs.Inner.{GoodFactors}
 use Rattle.feasibility_test.specs.declared.Flows.{Flows}
-use Rattle.feasibility_test.specs.Inner.{Adds, Ends, Room}
+use Rattle.feasibility_test.specs.Inner.{Adds, Room}
 use Rattle.tier_rules.specs.Cells.{heldIn, countedIn, flowWith}
-use Rattle.running_test.specs.AddAward.{noState, exceedsWith, cellsOver}
+use Rattle.running_test.specs.AddAward.{noState}
 use Rattle.running_test.specs.Inner.{StateLike, SameFlows, FlowsWith}
 
 -- ---- a figure beyond M in size

@@ -1,6 +1,6 @@
 -- What adding an award's flows gives, and what the cells say of 21 on a state.
 use mathlib.Core.Path.{_≡_, refl, sym, ap, ap₂, _∙_, subst}
-use mathlib.Core.Bool.{Bool, true, false, cond, not, _||_, _&&_}
+use mathlib.Core.Bool.{Bool, true, false, cond, not}
 use mathlib.Core.List.{List, [], _∷_, _++_}
 use Prim.Native.Nat.{ℕ, suc, _+_, _*_, _≤_, _<_}
 use native.Mathlib.Nat.{pos-of-ne-zero}
@@ -14,12 +14,11 @@ use lib.Signed.{ltZ}
 use Rattle.lists.specs.Lists.{Each, listTo, some}
 use Rattle.lists.specs.Lent.{overwrite}
 use Rattle.lists.specs.Sets.{setOf}
-use Rattle.lists.proofs.Lists.{each-all}
 use Rattle.lists.proofs.Sets.{set-cong}
 use Rattle.tariff.specs.declared.contracts.Contract.{Contract}
 use Rattle.tariff.specs.declared.contracts.Period.{Period}
 use Rattle.tariff.specs.declared.processes.Process.{Process}
-use Rattle.tariff.specs.Units.{Factors, Grid, factorsOf, gridOf, maxContracts}
+use Rattle.tariff.specs.Units.{Factors, factorsOf, gridOf}
 use Rattle.tariff.specs.Contracts.{samePeriod, ofPeriod}
 use Rattle.tariff.specs.Feasibility.{flow, totalFlow, released, overloaded, overloadSet}
 use Rattle.tariff.specs.Inner.{InRange, FactorsInRange, maxFlow}
@@ -29,7 +28,7 @@ use Rattle.tariff.specs.Processes.{percent}
 use Rattle.feasibility_test.specs.declared.Flows.{Flows}
 use Rattle.books.proofs.Accepted.{contract-in-range}
 use Rattle.tier_rules.specs.Tiers.{Tiers, Award, Reached}
-use Rattle.tier_rules.specs.Cells.{heldIn, countedIn, flowWith, withAwardFlows, stateCells, Holds}
+use Rattle.tier_rules.specs.Cells.{heldIn, countedIn, flowWith, stateCells, Holds}
 use Rattle.tier_rules.proofs.States.{other-fits}
 use Rattle.running_test.specs.AddAward.{noState, exceedsWith, cellsOver}
 use Rattle.running_test.specs.Inner.{FlowsWith, AddsFlows}

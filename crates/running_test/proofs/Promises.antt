@@ -1,8 +1,8 @@
 -- From what the checks found to the promises of opening and adding.
-use mathlib.Core.Path.{_≡_, refl, sym, ap, _∙_, subst₂}
+use mathlib.Core.Path.{_≡_, refl, sym, ap, _∙_}
 use mathlib.Core.Bool.{Bool, true, false}
 use mathlib.Core.List.{List, [], _∷_, _++_}
-use Prim.Native.Nat.{ℕ, _≤_, _<_}
+use Prim.Native.Nat.{ℕ}
 use native.Mathlib.Omega.{arith}
 use lib.ListN.{length}
 use lib.IntN.{ℤ}
@@ -28,7 +28,7 @@ use Rattle.running_test.specs.OpenRunning.{OpenRunningCall, openRunningC
 use Rattle.running_test.specs.AddAward.{AddAwardCall, cellsOver, addGrid, addFactors, addProcess, addPeriod, awarded, ownPeriod, addListed, addAwardChecked, addAwardChecks}
 use Rattle.running_test.specs.AddAward.{awardsAdded, numbersAdded, flowsAdded, AddGoesOn, AddsAward}
 use Rattle.running_test.specs.Inner.{upTo13}
-use Rattle.running_test.proofs.Checking.{openable, tablesListed, Fields, fields, listed-parts}
+use Rattle.running_test.proofs.Checking.{openable, tablesListed, fields, listed-parts}
 use Rattle.running_test.proofs.Overs.{over-told}
 
 -- ---- opening

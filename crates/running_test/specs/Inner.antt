@@ -1,7 +1,7 @@
 -- What inner functions say: counts that draw 2, 3, 16 or 17, buffers that draw 9, flows with an award's, and what is left of an award's checks.
 use mathlib.Core.Path.{_≡_}
 use mathlib.Core.Bool.{Bool, false, _||_, cond}
-use mathlib.Core.List.{List, [], _∷_, _++_}
+use mathlib.Core.List.{List, _∷_, _++_}
 use Prim.Native.Nat.{ℕ, _+_, _≤_, _<_}
 use lib.Dec.{ltb}
 use lib.ListN.{length, getD, set}
@@ -9,7 +9,7 @@ use lib.IntN.{ℤ, pos}
 use Rattle.tariff.specs.declared.contracts.Contract.{Contract}
 use Rattle.tariff.specs.declared.processes.Process.{Process}
 use Rattle.tariff.specs.declared.refusals.Refusal.the-variants.{ShortTable}
-use Rattle.tariff.specs.Units.{Factors, factorsOf, maxConstraints, maxLimit, maxContracts}
+use Rattle.tariff.specs.Units.{Factors, maxConstraints, maxLimit, maxContracts}
 use Rattle.tariff.specs.Inner.{InRange}
 use Rattle.tariff.specs.Refusals.{Check}
 use Rattle.tariff.specs.Checks.{nodeCount, constraintCount, processNumber, periodNumber, shortTable, contractCount}

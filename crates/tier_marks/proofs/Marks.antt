@@ -1,7 +1,7 @@
 -- Laws of marks: what the checks find, a mark dropped or left, and a block copied cell by cell.
 use mathlib.Core.Path.{_≡_, refl, sym, ap, _∙_, subst₂}
 use mathlib.Core.Logic.{_⊎_, ⊎-elim}
-use mathlib.Core.Bool.{Bool, true, false}
+use mathlib.Core.Bool.{Bool, false}
 use mathlib.Core.List.{List, [], _∷_, _++_}
 use mathlib.Core.Option.{Option·getD}
 use Prim.Native.Nat.{ℕ, suc, _+_, _-_, _≤_, _<_}
@@ -23,7 +23,7 @@ use Rattle.tariff.proofs.Checks.{first-append, passed-cons, passed-append}
 use Rattle.tier_rules.specs.Checks.{maxTier, markChecks, returnChecks, unsetMark, isUnset}
 use Rattle.tier_rules.specs.Runs.{returnedTo}
 use Rattle.tier_rules.specs.declared.RunningAnswer.{RunningAnswer}
-use Rattle.tier_rules.specs.Cells.{stateNumbers, stateFlows, flagCell, heldCell, stateBuffers, stateCells, runningOutcome, bufferAfter}
+use Rattle.tier_rules.specs.Cells.{stateNumbers, stateFlows, flagCell, heldCell, stateCells, runningOutcome, bufferAfter}
 use Rattle.tier_rules.specs.Cells.{dropMark, markedNumbers, markedFlows, returnedNumbers, returnedFlows, Holds}
 use Rattle.tier_rules.specs.Tiers.{Tiers, marked}
 use Rattle.tier_rules.proofs.Cells.{behind}

@@ -1,5 +1,5 @@
 -- antt computes both sides.
-use mathlib.Core.Path.{_≡_, refl}
+use mathlib.Core.Path.{refl}
 use Rattle.integers.specs.Sums.{sumOver}
 use Rattle.lists.specs.Sets.{setOf}
 use Rattle.tariff.specs.Contracts.{ofPeriod}

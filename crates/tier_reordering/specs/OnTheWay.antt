@@ -3,9 +3,7 @@
 use mathlib.Core.Path.{_≡_}
 use mathlib.Core.List.{List, [], _∷_}
 use Prim.Native.Nat.{ℕ}
-use lib.ListN.{length}
 use lib.IntN.{ℤ, pos, negℤ}
-use Rattle.tariff.specs.declared.contracts.Contract.{Contract}
 use Rattle.tariff.specs.declared.contracts.Period.the-variants.{OnPeak}
 use Rattle.tariff.specs.declared.processes.Process.the-variants.{Monthly}
 use Rattle.tariff.specs.declared.refusals.Refusal.the-variants.{AwardOverload}

@@ -1,8 +1,7 @@
 -- The awards held, written as a book in either form: its checks accept it, and the test's figures on it are those of a pass.
 use mathlib.Core.Path.{_≡_, ap, _∙_}
 use mathlib.Core.List.{List, [], _∷_}
-use Prim.Native.Nat.{ℕ, _≤_, _<_}
-use lib.ListN.{length}
+use Prim.Native.Nat.{ℕ, _≤_}
 use lib.IntN.{ℤ}
 use Rattle.lists.specs.Lists.{Each}
 use Rattle.tariff.specs.declared.contracts.Contract.{Contract}
@@ -19,10 +18,10 @@ use Rattle.layouts.specs.BookFile.{bookFile}
 use Rattle.layouts.specs.Inner.{ContractFits}
 use Rattle.tables.specs.TableChecks.{gridTableChecks}
 use Rattle.tables.proofs.Passing.{grid-tables}
-use Rattle.books.specs.BookChecks.{contractChecks, bookChecks}
+use Rattle.books.specs.BookChecks.{bookChecks}
 use Rattle.books.proofs.Accepted.{contract-in-range}
 use Rattle.books.proofs.Making.{Made, in-range-fits, book-made}
-use Rattle.feasibility_test.specs.TestBook.{TestCall, testCall, testChecks, testChecked, testValues, testedGrid, testedProcess, testedContracts}
+use Rattle.feasibility_test.specs.TestBook.{TestCall, testCall, testChecks, testValues, testedGrid, testedProcess}
 use Rattle.tier_rules.specs.Tiers.{Tiers, Award, Reached}
 use Rattle.tier_rules.specs.Theorems.{EndsFit, HeldBook}
 use Rattle.tier_rules.proofs.States.{reached-values}

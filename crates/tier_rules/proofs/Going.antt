@@ -3,12 +3,11 @@ use mathlib.Core.Path.{_≡_, refl, sym, ap, _∙_}
 use mathlib.Core.Bool.{Bool, false}
 use mathlib.Core.List.{List, [], _∷_, _++_}
 use mathlib.Core.Option.{Option, none, some, Option·getD}
-use Prim.Native.Nat.{ℕ, _≤_, _<_}
+use Prim.Native.Nat.{ℕ, _≤_}
 use native.Mathlib.Nat.{pos-of-ne-zero}
-use native.Mathlib.Omega.{arith}
 use borrow.Author.Tests.{ltb-false, eqb-false, eq-eqb}
 use lib.Dec.{ltb, eqb}
-use lib.ListN.{length, getD}
+use lib.ListN.{getD}
 use Rattle.lists.proofs.Search.{neither}
 use Rattle.tariff.specs.declared.contracts.Period.{Period}
 use Rattle.tariff.specs.declared.processes.Process.{Process}
@@ -17,7 +16,7 @@ use Rattle.tariff.specs.declared.refusals.Checked.{Checked}
 use Rattle.tariff.specs.declared.refusals.Checked.the-variants.{Passed, Refused}
 use Rattle.tariff.specs.Units.{Grid}
 use Rattle.tariff.specs.Refusals.{Check, first, decided, Outcome, answered, numberAfter}
-use Rattle.tariff.proofs.Checks.{first-append, passed-cons, passed-append}
+use Rattle.tariff.proofs.Checks.{first-append}
 use Rattle.tier_rules.specs.declared.RunningAnswer.{RunningAnswer}
 use Rattle.tier_rules.specs.Tiers.{Tiers, Reached}
 use Rattle.tier_rules.specs.Checks.{maxTier, tierNumber, isUnset}

@@ -4,7 +4,7 @@ use mathlib.Core.Logic.{_≢_, ⊎-elim}
 use mathlib.Core.Bool.{Bool, true, false, cond}
 use mathlib.Core.List.{List, [], _∷_, _++_, flatMap}
 use mathlib.Core.Option.{Option, none, some}
-use Prim.Native.Nat.{ℕ, zero, suc, _+_, _-_, _*_, _≤_, _<_}
+use Prim.Native.Nat.{ℕ, zero, _+_, _-_, _*_, _≤_, _<_}
 use native.Mathlib.Nat.{eq-or-lt-of-le}
 use native.Mathlib.Omega.{arith}
 use borrow.Author.Tests.{leb-true, leb-false, eqb-true, eqb-false, le-ltb, lt-ltb}
@@ -13,7 +13,6 @@ use lib.ListN.{length, getD, set, take, drop, replicate, length-append, length-s
 use lib.Seq.{take-take, take-append-le, take-length, length-take-le, getD-set-same, getD-set-other, getD-drop, take-at}
 use lib.IntN.{ℤ, pos, _+ℤ_}
 use Rattle.lists.specs.Lists.{listTo}
-use Rattle.lists.specs.Lent.{overwrite}
 use Rattle.lists.proofs.Lists.{flatMap-append, flatMap-last, length-listTo, getD-listTo}
 use Rattle.lists.proofs.Fronts.{front-at}
 use Rattle.integers.specs.Sums.{sumOver}

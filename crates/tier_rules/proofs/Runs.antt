@@ -21,7 +21,7 @@ use Rattle.layouts.specs.BookTable.{rowFrom, rowAt}
 use Rattle.book_file.specs.WriteBook.{rowChecks}
 use Rattle.tier_rules.specs.Tiers.{Tiers, withAward, marked, returned, Award, Reached}
 use Rattle.tier_rules.specs.Checks.{tierNumber, awardOver, awardChecks, addChecks, markChecks, returnChecks, isUnset}
-use Rattle.tier_rules.specs.Runs.{Operation, adding, marking, returning, returnedTo, step, states}
+use Rattle.tier_rules.specs.Runs.{Operation, adding, marking, returning, step, states}
 use Rattle.tier_rules.proofs.States.{with-reached, marked-reached, returned-reached, marked-here, returned-all}
 
 -- a row that the book writer's checks accept

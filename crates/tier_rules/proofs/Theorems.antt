@@ -18,7 +18,6 @@ use Rattle.tariff.specs.Contracts.{samePeriod, periodOf, ofPeriod}
 use Rattle.tariff.specs.Processes.{processOf}
 use Rattle.tariff.specs.Refusals.{first}
 use Rattle.tariff.specs.Shortfall.{IsWorst}
-use Rattle.layouts.specs.declared.forms.Form.{Form}
 use Rattle.layouts.specs.declared.forms.Form.the-variants.{Narrow, Wide}
 use Rattle.layouts.specs.BookFile.{bookFile}
 use Rattle.layouts.specs.BookTable.{rowAt}

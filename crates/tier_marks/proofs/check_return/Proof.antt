@@ -1,5 +1,5 @@
 -- `check_return`: the checks of marking, then the flag.
-use mathlib.Core.Path.{_≡_, sym, _∙_}
+use mathlib.Core.Path.{sym, _∙_}
 use native.Mathlib.Omega.{arith}
 use borrow.Author.Needs.{needs}
 use Rattle.tier_marks.specs.MarkTier.{markTierCall}

@@ -1,5 +1,5 @@
 -- `drop_marks`: one tier after the other.
-use mathlib.Core.Path.{_≡_, ap, _∙_}
+use mathlib.Core.Path.{ap, _∙_}
 use borrow.Author.Needs.{needs}
 use Rattle.tier_rules.specs.Cells.{dropMark, dropMarks}
 use Rattle.tier_marks.proofs.drop_marks.Statement.{statement}

@@ -1,24 +1,20 @@
 -- `add_award`: the checks before 21, then the flows, then the award's row.
-use mathlib.Core.Path.{_≡_, refl, sym, ap, ap₂, _∙_}
-use mathlib.Core.Bool.{Bool, true, false, cond}
+use mathlib.Core.Path.{_≡_, sym, ap, ap₂, _∙_}
+use mathlib.Core.Bool.{Bool, cond}
 use mathlib.Core.List.{List}
 use Prim.Native.Nat.{ℕ, _+_}
 use native.Mathlib.Omega.{arith}
 use borrow.Author.Needs.{needs}
 use lib.ListN.{length, set}
-use lib.IntN.{ℤ}
 use Rattle.tariff.specs.declared.contracts.Contract.{Contract}
 use Rattle.tariff.specs.declared.contracts.Period.{Period}
-use Rattle.tariff.specs.declared.refusals.Checked.the-variants.{Passed}
 use Rattle.tariff.specs.Contracts.{samePeriod}
-use Rattle.tariff.specs.Inner.{InRange}
-use Rattle.tariff.specs.Refusals.{first}
 use Rattle.layouts.specs.BookTable.{rowAt}
 use Rattle.books.proofs.Accepted.{contract-in-range}
 use Rattle.tier_rules.specs.Cells.{heldIn, countedIn, withAwardRow, withAwardFlows}
 use Rattle.tier_rules.proofs.Runs.{row-award}
-use Rattle.running_test.specs.AddAward.{AddAwardCall, addAwardOn, addProcess, addFactors, awarded, ownPeriod, cellsOver}
-use Rattle.running_test.specs.Inner.{upTo13, AddsFlows}
+use Rattle.running_test.specs.AddAward.{AddAwardCall, addAwardOn, addProcess, addFactors, awarded, ownPeriod}
+use Rattle.running_test.specs.Inner.{AddsFlows}
 use Rattle.running_test.proofs.Checking.{Fields, fields}
 use Rattle.running_test.proofs.Overs.{adds-as, counts-kept}
 use Rattle.running_test.proofs.Promises.{field-refuses, over-refuses, held-passes, adds-refused, adds-21, adds-passed}

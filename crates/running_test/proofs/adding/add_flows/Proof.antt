@@ -7,7 +7,7 @@ use borrow.Author.Needs.{needs}
 use lib.IntN.{ℤ}
 use Rattle.lists.specs.Lent.{overwrite}
 use Rattle.tariff.specs.Units.{factorsOf}
-use Rattle.running_test.specs.Inner.{StateLike, FlowsWith}
+use Rattle.running_test.specs.Inner.{StateLike}
 use Rattle.running_test.proofs.Flowing.{counted-few, tried-sized, tried-cells}
 use Rattle.running_test.proofs.Overs.{adds-other, adds-odd, adds-over, adds-held, tried-set}
 use Rattle.running_test.proofs.adding.add_flows.Statement.{statement}

@@ -1,11 +1,9 @@
 -- `flow_beyond`: a size above the most.
-use mathlib.Core.Path.{_≡_}
 use Prim.Native.Nat.{_*_, _^_, _<_}
 use native.Mathlib.Omega.{arith}
 use mir.Syntax.{w64}
 use mir.ValLaws.{toZ-ofZ}
 use Rattle.integers.proofs.Machine.{cast-back}
-use Rattle.tariff.specs.Inner.{maxFlow}
 use Rattle.tariff.proofs.Rounding.{cast-minus-fits, cast-minus-is}
 use Rattle.running_test.proofs.Flowing.{beyond-low, beyond-high}
 use borrow.Author.Needs.{needs}

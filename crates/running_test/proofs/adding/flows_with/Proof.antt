@@ -1,8 +1,6 @@
 -- `flows_with`: the flows held, and the award's added.
-use native.Mathlib.Omega.{arith}
 use Rattle.feasibility_test.proofs.Checking.{ends-of}
 use Rattle.running_test.proofs.Flowing.{room-of, with-added}
-use borrow.Author.Needs.{needs}
 use Rattle.running_test.proofs.adding.flows_with.Statement.{statement}
 use Rattle.running_test.proofs.adding.flows_with.Tie as tie
 

@@ -1,10 +1,10 @@
 -- `check_award`: the tables and the buffers, the number held, then the row.
-use mathlib.Core.Path.{_≡_, sym, ap, _∙_}
+use mathlib.Core.Path.{_≡_, ap, _∙_}
 use mathlib.Core.Bool.{Bool, _||_}
 use mathlib.Core.List.{[], _∷_}
 use native.Mathlib.Omega.{arith}
 use lib.Dec.{ltb}
-use lib.ListN.{length, getD}
+use lib.ListN.{length}
 use Rattle.tariff.specs.Refusals.{first}
 use Rattle.layouts.specs.BookTable.{contractCells}
 use Rattle.tier_rules.specs.Checks.{runningChecks}

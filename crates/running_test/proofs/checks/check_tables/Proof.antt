@@ -1,5 +1,5 @@
 -- `check_tables`: where a count is refused the tables' checks say so; else a short buffer comes before what is in the tables.
-use mathlib.Core.Path.{_≡_, sym, ap, _∙_}
+use mathlib.Core.Path.{sym, ap, _∙_}
 use mathlib.Core.Bool.{Bool}
 use mathlib.Core.List.{[], _∷_}
 use Rattle.tariff.specs.declared.refusals.Checked.{Checked}

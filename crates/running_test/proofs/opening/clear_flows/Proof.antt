@@ -1,12 +1,11 @@
 -- `clear_flows`: the cells passed are 0, and those behind are as they were.
 use mathlib.Core.Path.{_≡_, refl, sym, _∙_}
-use Prim.Native.Nat.{ℕ, _-_, _≤_, _<_}
+use Prim.Native.Nat.{_-_, _≤_, _<_}
 use native.Mathlib.Omega.{arith}
 use lib.ListN.{length, take, drop, replicate, length-set, length-replicate, getD-replicate}
 use lib.IntN.{ℤ, pos}
 use Rattle.lists.proofs.Fill.{fill-turn, rest-turn, fill-front}
 use Rattle.tier_rules.specs.Cells.{stateFlows}
-use borrow.Author.Needs.{needs}
 use Rattle.running_test.proofs.opening.clear_flows.Statement.{statement}
 use Rattle.running_test.proofs.opening.clear_flows.Tie as tie
 

@@ -5,7 +5,6 @@ use native.Mathlib.Omega.{arith}
 use lib.ListN.{length, take, drop, replicate, length-set, length-replicate, getD-replicate}
 use Rattle.lists.proofs.Fill.{fill-turn, rest-turn, fill-front}
 use Rattle.tier_rules.specs.Cells.{stateNumbers}
-use borrow.Author.Needs.{needs}
 use Rattle.running_test.proofs.opening.clear_numbers.Statement.{statement}
 use Rattle.running_test.proofs.opening.clear_numbers.Tie as tie
 
