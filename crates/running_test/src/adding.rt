@@ -74,13 +74,6 @@ fn no_state(constraints: usize, numbers: &[u64], flows: &[i64]) -> bool
     false
 }
 
-// A flow as it stands in a cell.
-fn same_flow(flow: i64) -> i64
-    ensures { λ r. ⌜ r ≡ flow ⌝ }
-{
-    flow
-}
-
 // The flows held, to be tried with an award's.
 fn held_flows(constraints: usize, flows: &[i64]) -> Flows
     requires { ⌜ (constraints ≤ maxConstraints) × (constraints ≤ length (now flows)) ⌝ }
@@ -89,7 +82,7 @@ fn held_flows(constraints: usize, flows: &[i64]) -> Flows
     let mut cells = [0i64; MAX_CONSTRAINTS];
     let mut k = 0;
     while k < constraints {
-        cells[k] = same_flow(flows[k]);
+        cells[k] = tier_rules::same_flow(flows[k]);
         k += 1;
     }
     Flows {

@@ -16,13 +16,6 @@ use tier_rules::MAX_TIER;
 use tier_rules::NUMBERS;
 use tier_rules::RunningAnswer;
 
-// A flow as it stands in a cell.
-fn same_flow(flow: i64) -> i64
-    ensures { λ r. ⌜ r ≡ flow ⌝ }
-{
-    flow
-}
-
 // Copies the 64 flows from one place to another that does not overlap it.
 fn copy_block(flows: &mut [i64], from: usize, to: usize)
     requires { ⌜ Apart from to (now flows) ⌝ }
@@ -30,7 +23,7 @@ fn copy_block(flows: &mut [i64], from: usize, to: usize)
 {
     let mut k = 0;
     while k < BLOCK {
-        flows[to + k] = same_flow(flows[from + k]);
+        flows[to + k] = tier_rules::same_flow(flows[from + k]);
         k += 1;
     }
 }

@@ -21,6 +21,13 @@ impl RunningAnswer {
     }
 }
 
+// A flow as it stands in a cell: as an argument it brings its range.
+pub fn same_flow(flow: i64) -> i64
+    ensures { λ r. ⌜ r ≡ flow ⌝ }
+{
+    flow
+}
+
 // The lent buffers: six cells for each of 1,000 awards; two numbers and three more for each tier; a flow for each constraint and as many more for each tier.
 pub const AWARDS_CELLS: usize = 6000;
 
