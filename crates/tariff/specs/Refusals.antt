@@ -8,7 +8,8 @@ use Rattle.tariff.specs.declared.refusals.Refusal.{Refusal}
 use Rattle.tariff.specs.declared.refusals.Refusal.the-variants.{ShortFile, NodeCount, ConstraintCount, SpareBits, FileLength, LimitRange, FactorRange}
 use Rattle.tariff.specs.declared.refusals.Refusal.the-variants.{Padding, ShortTable, ContractCount, NodeNumber, QuantityRange}
 use Rattle.tariff.specs.declared.refusals.Refusal.the-variants.{PriceCount, PriceRange, ProcessNumber, PeriodOrKind, HolderRange}
-use Rattle.tariff.specs.declared.refusals.Refusal.the-variants.{NoSuchDate, TierMark, AwardOverload, MigrationRange, LoadExceeded, HubShape, HubNodeTwice, ShareRange, NoDemand}
+use Rattle.tariff.specs.declared.refusals.Refusal.the-variants.{NoSuchDate, TierMark, AwardOverload, MigrationRange, LoadExceeded}
+use Rattle.tariff.specs.declared.refusals.Refusal.the-variants.{HubShape, HubNodeTwice, ShareRange, NoDemand}
 use Rattle.tariff.specs.declared.refusals.Checked.{Checked}
 use Rattle.tariff.specs.declared.refusals.Checked.the-variants.{Passed, Refused}
 
