@@ -80,7 +80,7 @@ pub fn posted_set(constraints: usize, prices: &[u64]) -> u64
     let mut k = constraints;
     while 0 < k {
         k -= 1;
-        let bit = Price(prices[k]).posted() as u64;
+        let bit = Price(prices[k]).exceeds(Price(0)) as u64;
         set = set * 2 + bit;
     }
     set
