@@ -22,6 +22,7 @@ use Rattle.books.specs.BookChecks.{ownChecks}
 use Rattle.books.proofs.Accepted.{Accepted, own-accepted}
 use Rattle.migration_rules.specs.Transfers.{Row, row, loss, lossesTo, load, exceeded, rowBad, rangeChecks, loadExceeded, loadsExceeded}
 use Rattle.migration_rules.proofs.Nets.{losses-cong}
+use Rattle.tariff.specs.declared.units.Transfer.{Transfer}
 use Rattle.load_transfers.specs.Squares.{lostIn, Nets}
 use Rattle.load_transfers.specs.Inner.{RowsIn}
 use Rattle.load_transfers.proofs.Squares.{lost-at}
@@ -107,7 +108,7 @@ accepted-readable n book a = record { few = a .few; there = omega (arith, a .siz
 
 -- ---- the losses that the square says
 
-pub square-losses : (rows : List Row) (square : List (List ℤ)) → Nets rows square → (i j : ℕ) → 0 < i → i ≤ maxEntities → 0 < j → j ≤ maxEntities → lostIn square i j ≡ loss rows i j
+pub square-losses : (rows : List Row) (square : List (List Transfer)) → Nets rows square → (i j : ℕ) → 0 < i → i ≤ maxEntities → 0 < j → j ≤ maxEntities → lostIn square i j ≡ loss rows i j
 unfolding loss
 square-losses rows square nets zero j a b c d = absurd (omega arith)
 square-losses rows square nets (suc i) zero a b c d = absurd (omega arith)
