@@ -10,7 +10,7 @@ use Rattle.lists.specs.Lists.{listTo}
 use Rattle.lists.specs.Sets.{countOf}
 use Rattle.calendar.specs.declared.dates.Date.{Date}
 use Rattle.calendar.specs.Dates.{leap, monthLength, lengthBefore, monthDays, dayNumber, weekdayOf, lastYear, monthExists, dateExists}
-use Rattle.calendar.specs.OnPeak.{between, holiday, observed, onPeakDay, hoursADay, onPeakHours}
+use Rattle.calendar.specs.OnPeak.{weekdaysTo, nth, last, holiday, observed, onPeakDay, hoursADay, onPeakHours}
 use Rattle.calendar.specs.MonthLater.{cutTo, laterYear, laterMonth, laterDay}
 use Rattle.calendar.proofs.Months.{MonthIn, month-in, month-of, date-in}
 use Rattle.calendar.proofs.AllMonths.{all-months}
@@ -28,7 +28,7 @@ holidaysIn y m = daysWith (monthDays y m) (holiday y m)
 -- "5/26/2008 .. 7/4/2008 .. 9/1/2008 .. 11/27/2008 .. 12/25/2008 .. 1/1/2009", month by month from February
 pub exhibit-a-1 : listTo 12 (λ k. holidaysIn (2008 + (k + 1) / 12) ((k + 1) % 12 + 1))
     ≡ [] ∷ [] ∷ [] ∷ (26 ∷ []) ∷ [] ∷ (4 ∷ []) ∷ [] ∷ (1 ∷ []) ∷ [] ∷ (27 ∷ []) ∷ (25 ∷ []) ∷ (1 ∷ []) ∷ []
-unfolding listTo daysWith leap monthLength lengthBefore dayNumber weekdayOf between holiday
+unfolding listTo countOf daysWith leap monthLength lengthBefore dayNumber weekdayOf weekdaysTo nth last holiday
 exhibit-a-1 = refl
 
 -- ---- one day less in each month with a holiday
@@ -44,7 +44,7 @@ unfoldable pub shortHours : ℕ → ℕ → ℕ
 shortHours y m = hoursADay * (monthDays y m - sundays y m - cond (holidayMonth m) 1 0)
 
 pub one-day-less : (y m : ℕ) → monthExists y m ≡ true → onPeakHours y m ≡ shortHours y m
-unfolding countOf leap monthLength lengthBefore dayNumber weekdayOf between holiday observed onPeakDay onPeakHours sundays shortHours
+unfolding countOf leap monthLength lengthBefore dayNumber weekdayOf weekdaysTo nth last holiday observed onPeakDay onPeakHours sundays shortHours
 one-day-less y m e = eqb→eq (onPeakHours y m) (shortHours y m) (all-months (λ y m. eqb (onPeakHours y m) (shortHours y m)) tt y m (month-in y m e))
 
 -- ---- weekdays follow each other

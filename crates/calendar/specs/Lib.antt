@@ -1,4 +1,5 @@
 pub mod Dates
 pub mod OnPeak
+pub mod Inner
 pub mod Weekday
 pub mod MonthLater

@@ -9,13 +9,13 @@ use Rattle.lists.specs.Lists.{listTo}
 use Rattle.lists.specs.Sets.{countOf}
 use Rattle.lists.proofs.Lists.{getD-listTo}
 use Rattle.calendar.specs.Dates.{leap, monthLength, lengthBefore, dayNumber, weekdayOf, firstYear, monthExists}
-use Rattle.calendar.specs.OnPeak.{between, holiday, observed, onPeakDay, onPeakHours, tableEntries, tableEntry}
+use Rattle.calendar.specs.OnPeak.{weekdaysTo, nth, last, holiday, observed, onPeakDay, onPeakHours, tableEntries, tableEntry}
 use Rattle.calendar.proofs.Months.{MonthIn, month-in}
 use Rattle.hours_table.specs.Inner.{cells}
 
 -- the array as a list is the list of the rule's counts
 pub table-right : cells ≡ listTo tableEntries tableEntry
-unfolding listTo countOf leap monthLength lengthBefore dayNumber weekdayOf between holiday observed onPeakDay onPeakHours tableEntry
+unfolding listTo countOf leap monthLength lengthBefore dayNumber weekdayOf weekdaysTo nth last holiday observed onPeakDay onPeakHours tableEntry
 table-right = refl
 
 -- the cell of a year and a month
