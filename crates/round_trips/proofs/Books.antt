@@ -20,7 +20,7 @@ use Rattle.book_file.specs.ReadBook.{readBookCall, readBookChecked, bookValues,
 use Rattle.book_file.specs.WriteBook.{writeBookCall, writeBookChecked, bookWritten, WritesBook}
 use Rattle.book_file.proofs.RoundTrip.{ReadBack, read-then-written, written-then-read}
 use Rattle.book_file.proofs.Taken.{rows-left, rows-accepted}
-use Rattle.round_trips.proofs.Exits.{IsWritten, writes-passed, writes-told}
+use Rattle.write_answers.proofs.Exits.{IsWritten, writes-passed, writes-told}
 use Rattle.round_trips.proofs.Grids.{same-form}
 
 -- ---- read, then written

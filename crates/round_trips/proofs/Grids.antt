@@ -26,7 +26,7 @@ use Rattle.grid_file.specs.WriteGrid.{writeGridCall, writeGridChecks, writeGrid
 use Rattle.grid_file.proofs.Passing.{readable}
 use Rattle.grid_file.proofs.Taken.{grid-taken}
 use Rattle.grid_file.proofs.RoundTrip.{ReadBack, read-then-written, written-then-read}
-use Rattle.round_trips.proofs.Exits.{IsWritten, writes-passed, writes-told}
+use Rattle.write_answers.proofs.Exits.{IsWritten, writes-passed, writes-told}
 
 -- a form is told by its number
 pub same-form : (f g : Form) → formNumber f ≡ formNumber g → f ≡ g

@@ -22,7 +22,7 @@ use Rattle.price_file.specs.WritePrices.{writePricesCall, writePricesChecks, wr
 use Rattle.price_file.proofs.PriceLaws.{readable}
 use Rattle.price_file.proofs.Taken.{prices-taken}
 use Rattle.price_file.proofs.RoundTrip.{ReadBack, read-then-written, written-then-read}
-use Rattle.round_trips.proofs.Exits.{one-given, IsWritten, writes-passed, writes-told}
+use Rattle.write_answers.proofs.Exits.{one-given, IsWritten, writes-passed, writes-told}
 
 -- ---- read, then written
 

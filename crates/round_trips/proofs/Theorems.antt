@@ -21,7 +21,7 @@ use Rattle.price_file.specs.declared.PriceAnswer.{PriceAnswer}
 use Rattle.price_file.specs.declared.PriceAnswer.the-variants as prices
 use Rattle.price_file.specs.ReadPrices.{readPricesCall, ReadsPrices}
 use Rattle.price_file.specs.WritePrices.{writePricesCall, WritesPrices}
-use Rattle.round_trips.proofs.Exits.{IsWritten}
+use Rattle.write_answers.proofs.Exits.{IsWritten}
 use Rattle.round_trips.proofs.Grids.{GridIs, grid-rewritten, grid-reread}
 use Rattle.round_trips.proofs.Books.{BookIs, book-rewritten, book-reread}
 use Rattle.round_trips.proofs.Prices.{PricesAre, prices-rewritten, prices-reread}

@@ -1,5 +1,5 @@
 -- What a writer's promise says where no check refuses, and a slice of bytes as digits.
-use mathlib.Core.Path.{_≡_, refl, ap}
+use mathlib.Core.Path.{_≡_, sym, ap}
 use mathlib.Core.List.{List, [], _∷_}
 use Prim.Native.Nat.{ℕ}
 use lib.ListN.{length, take}
@@ -32,11 +32,14 @@ pub writes-passed : (checked : Checked) (file place : List ℕ) (a : WriteAnswer
 writes-passed checked file place a exit e w =
     record { length-is = length-told a (length file) (rw e at (w .length-given)); bytes-are = rw e at (w .bytes-written) }
 
--- a length was given: none refused, and the first bytes, as many, are the file
+-- a length was given: none refused, the length is the file's, and the first bytes, as many, are the file
+pub size-told : (checked : Checked) (file place : List ℕ) (n : ℕ) (exit : List ℕ) → Writes checked file place (Written n) exit → n ≡ length file
+size-told checked file place n exit w =
+    let q : pos n ∷ [] ≡ pos (length file) ∷ [] = given-told checked (pos (length file) ∷ []) (pos n ∷ []) (w .length-given) .1 in
+    cc
+
 pub writes-told : (checked : Checked) (file place : List ℕ) (n : ℕ) (exit : List ℕ) → Writes checked file place (Written n) exit → (checked ≡ Passed) × (take n exit ≡ file)
 writes-told checked file place n exit w =
     let told = given-told checked (pos (length file) ∷ []) (pos n ∷ []) (w .length-given) in
-    let q : pos n ∷ [] ≡ pos (length file) ∷ [] = told .1 in
-    let size : n ≡ length file = cc in
     let left : exit ≡ overwrite file place = rw (told .0) at (w .bytes-written) in
-    (told .0, rw (left, size) (front-is file place (length file) refl))
+    (told .0, rw left (front-is file place n (sym (size-told checked file place n exit w))))
