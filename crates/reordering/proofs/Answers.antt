@@ -120,13 +120,13 @@ module _ (q : HourCall) (a : SettleAnswer) (cents : Lent (List ℤ)) (sets : Len
 
 -- the cells of two accepted calls, by what each promises of them
 module _ (q : HourCall) (cents : Lent (List ℤ)) (sets : Lent (List ℕ)) (ok : settleChecked q cents sets ≡ Passed) where
-  cents-is : after cents ≡ cellsAfter (settleChecked q cents sets) (centsCells q) (before cents)
+  pub cents-is : after cents ≡ cellsAfter (settleChecked q cents sets) (centsCells q) (before cents)
       → (i : ℕ) → i < contractCountIn (q .book) → getD (after cents) i (pos 0) ≡ centsOf (hourFactors q) (hourPrices q) (hourPeriod q) (contractAt (q .book) i)
   cents-is is =
       cell-of (q .book) (centsOf (hourFactors q) (hourPrices q) (hourPeriod q)) (before cents) (after cents) (pos 0)
       (is ∙ ap (λ (c : Checked). cellsAfter c (centsCells q) (before cents)) ok)
 
-  set-is : after sets ≡ cellsAfter (settleChecked q cents sets) (pricedCells q) (before sets)
+  pub set-is : after sets ≡ cellsAfter (settleChecked q cents sets) (pricedCells q) (before sets)
       → (i : ℕ) → i < contractCountIn (q .book) → getD (after sets) i 0 ≡ pricedOf (hourFactors q) (hourPrices q) (hourPeriod q) (contractAt (q .book) i)
   set-is is =
       cell-of (q .book) (pricedOf (hourFactors q) (hourPrices q) (hourPeriod q)) (before sets) (after sets) 0

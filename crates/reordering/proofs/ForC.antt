@@ -104,7 +104,7 @@ module _ (q : HourCall) (n : ℕ) (c : HourFigures) (h : SettledForC q n c) wher
   parts-is : after (c .part) ≡ parts (exactGiven q)
   parts-is = figure-is (settleChecked q (c .cents) (c .sets)) (h .accepted) _ _ _ (h .promised .parts-given)
 
-  cells-given : CellsGiven q (c .cents) (c .sets)
+  pub cells-given : CellsGiven q (c .cents) (c .sets)
   cells-given = record { passed = h .accepted; cents-given = h .promised .cents-settled; sets-given = h .promised .sets-handed-on }
 
 module _ (q : HourCall) (s : List ℕ) (m n : ℕ) (c d : HourFigures) (h : SettledForC q m c) (l : SettledForC (hourOn q s) n d) where
