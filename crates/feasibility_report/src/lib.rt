@@ -11,7 +11,7 @@ ghost use Rattle.tables.specs.Inner.{GoodFactors, GoodCells};
 ghost use Rattle.texts.specs.WithFiles.{withBook};
 ghost use Rattle.feasibility_report.specs.Report.{lines};
 ghost use Rattle.feasibility_report.specs.WriteReport.{report, reportRoom, reportCall, WritesReport};
-use grid_file::GridAnswer;
+use grid_rules::GridAnswer;
 use layouts::PROGRAM_FACTORS;
 use layouts::PROGRAM_GRID_BYTES;
 use layouts::WriteAnswer;

@@ -1,6 +1,6 @@
 // Node numbers past one byte (02, paper 9): grids and books of both forms read, written and remapped.
 use book_file::BookAnswer;
-use grid_file::GridAnswer;
+use grid_rules::GridAnswer;
 use layouts::Form;
 use printing::bytes;
 use printing::figure;
@@ -265,7 +265,7 @@ fn case_l_book() {
 fn grid_written(name: &[u8], form: Form, nodes: usize, number: u64, expected: &[u8]) {
     let mut place = [238u8; 4];
     let mut length = 0;
-    let answer = grid_file::write_grid(form, nodes, 0, &[], &[], &mut place);
+    let answer = grid_writing::write_grid(form, nodes, 0, &[], &[], &mut place);
     figure(name, answer.into_cell(&mut length), number);
     bytes(name, &place, expected);
 }
@@ -279,7 +279,7 @@ fn grids_written() {
 // Case L's grid in the wide form, with room and with a byte too few.
 fn case_l_grid(place: &mut [u8], number: u64) {
     let mut length = 0;
-    let answer = grid_file::write_grid(
+    let answer = grid_writing::write_grid(
         Form::Wide,
         3,
         2,

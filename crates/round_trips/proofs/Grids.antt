@@ -19,13 +19,13 @@ use Rattle.layouts.specs.Forms.{formNumber, formOf}
 use Rattle.layouts.specs.GridFile.{gridBytes, gridFile, gridFormIn, headerIn, nodesIn, constraintsIn, limitsIn, factorsIn, gridIn}
 use Rattle.layouts.proofs.FormLaws.{form-of-number}
 use Rattle.layouts.proofs.GridFile.{length-limits, length-factors}
-use Rattle.grid_file.specs.declared.GridAnswer.{GridAnswer}
-use Rattle.grid_file.specs.declared.GridAnswer.the-variants.{Read, Refused}
-use Rattle.grid_file.specs.ReadGrid.{readGridCall, gridSizeChecks, gridFigureChecks, gridFileChecks, readGridChecks, readGridChecked, gridOutcome, gridValues, ReadsGrid}
-use Rattle.grid_file.specs.WriteGrid.{writeGridCall, writeGridChecks, writeGridChecked, gridWritten, WritesGrid}
-use Rattle.grid_file.proofs.Passing.{readable}
-use Rattle.grid_file.proofs.Taken.{grid-taken}
-use Rattle.grid_file.proofs.RoundTrip.{ReadBack, read-then-written, written-then-read}
+use Rattle.grid_rules.specs.declared.GridAnswer.{GridAnswer}
+use Rattle.grid_rules.specs.declared.GridAnswer.the-variants.{Read, Refused}
+use Rattle.grid_rules.specs.ReadGrid.{readGridCall, gridSizeChecks, gridFigureChecks, gridFileChecks, readGridChecks, readGridChecked, gridOutcome, gridValues, ReadsGrid}
+use Rattle.grid_rules.specs.WriteGrid.{writeGridCall, writeGridChecks, writeGridChecked, gridWritten, WritesGrid}
+use Rattle.grid_rules.proofs.Passing.{readable}
+use Rattle.grid_rules.proofs.Taken.{grid-taken}
+use Rattle.grid_rules.proofs.RoundTrip.{ReadBack, read-then-written, written-then-read}
 use Rattle.write_answers.proofs.Exits.{IsWritten, writes-passed, writes-told}
 
 -- a form is told by its number

@@ -9,10 +9,10 @@ use Rattle.layouts.specs.declared.WriteAnswer.{WriteAnswer}
 use Rattle.layouts.specs.declared.forms.Form.{Form}
 use Rattle.layouts.specs.declared.WriteAnswer.the-variants.{Written}
 use Rattle.layouts.specs.BookTable.{contractCells}
-use Rattle.grid_file.specs.declared.GridAnswer.{GridAnswer}
-use Rattle.grid_file.specs.declared.GridAnswer.the-variants as grid
-use Rattle.grid_file.specs.ReadGrid.{readGridCall, ReadsGrid}
-use Rattle.grid_file.specs.WriteGrid.{writeGridCall, WritesGrid}
+use Rattle.grid_rules.specs.declared.GridAnswer.{GridAnswer}
+use Rattle.grid_rules.specs.declared.GridAnswer.the-variants as grid
+use Rattle.grid_rules.specs.ReadGrid.{readGridCall, ReadsGrid}
+use Rattle.grid_rules.specs.WriteGrid.{writeGridCall, WritesGrid}
 use Rattle.book_file.specs.declared.BookAnswer.{BookAnswer}
 use Rattle.book_file.specs.declared.BookAnswer.the-variants as book
 use Rattle.book_file.specs.ReadBook.{readBookCall, ReadsBook}

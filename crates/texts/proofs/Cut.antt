@@ -30,7 +30,7 @@ use Rattle.layouts.proofs.FormLaws.{header-most}
 use Rattle.layouts.specs.BookFile.{bookBytes, contractCountIn, bookSpareIn, bookFormIn}
 use Rattle.layouts.proofs.BookFile.{book-bytes-most}
 use Rattle.layouts.specs.PriceFile.{priceBytes, priceCount}
-use Rattle.grid_file.specs.ReadGrid.{gridSizeChecks, gridFigureChecks, cappedChecks, programBytes}
+use Rattle.grid_rules.specs.ReadGrid.{gridSizeChecks, gridFigureChecks, cappedChecks, programBytes}
 use Rattle.books.specs.BookChecks.{bookChecks}
 use Rattle.price_file.specs.ReadPrices.{priceFileChecks}
 use Rattle.text.specs.Ascii.{ascii}

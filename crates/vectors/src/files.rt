@@ -1,6 +1,6 @@
 // The vectors of the three files by the proved readers and writers, each beside what is expected.
 use book_file::BookAnswer;
-use grid_file::GridAnswer;
+use grid_rules::GridAnswer;
 use layouts::Form;
 use layouts::WriteAnswer;
 use price_file::PriceAnswer;
@@ -92,7 +92,7 @@ fn case_l_grid() {
             figure(b"L, limit 0", limits[0], 100000);
             figure(b"L, limit 1", limits[1], 50000);
             let mut again = [0u8; 23];
-            let n = written(grid_file::write_grid(
+            let n = written(grid_writing::write_grid(
                 form,
                 nodes,
                 constraints,

@@ -6,7 +6,7 @@ use printing::print;
 
 fn reported(name: &[u8], first_limit: u64, quantity: u64) {
     let mut grid = [0u8; 23];
-    grid_file::write_grid(
+    grid_writing::write_grid(
         Form::Narrow,
         3,
         2,
