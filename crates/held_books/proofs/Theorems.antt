@@ -38,7 +38,7 @@ use Rattle.tier_rules.specs.Cells.{awardsCells, stateNumbers, stateFlows, heldI
 use Rattle.tier_rules.specs.Checks.{runningChecks}
 use Rattle.tier_rules.specs.Theorems.{EndsFit}
 use Rattle.tier_rules.proofs.Books.{wide-ends}
-use Rattle.running_test.specs.OpenRunning.{OpenRunningCall, openRunningChecks, openRunningChecked}
+use Rattle.running_rules.specs.OpenRunning.{OpenRunningCall, openRunningChecks, openRunningChecked}
 use Rattle.write_answers.proofs.Exits.{writes-passed, writes-told}
 use Rattle.write_answers.proofs.ForC.{figure-is, written-by}
 use Rattle.tier_runs.specs.CellRuns.{RunningIn}

@@ -23,7 +23,7 @@ use Rattle.flows.specs.FindFlows.{FlowsCall, flowsCall, flowsOutcome, FindsFlow
 use Rattle.tier_rules.specs.Tiers.{Tiers}
 use Rattle.tier_rules.specs.Cells.{heldIn, countedIn, StateCells}
 use Rattle.tier_rules.specs.Theorems.{EndsFit}
-use Rattle.running_test.specs.OpenRunning.{OpenRunningCall}
+use Rattle.running_rules.specs.OpenRunning.{OpenRunningCall}
 use Rattle.tier_runs.specs.CellRuns.{CellRun}
 
 -- the awards held, written "from the rows as they stand"

@@ -18,9 +18,9 @@ use Rattle.layouts.specs.GridFile.{gridFormIn, nodesIn, constraintsIn}
 use Rattle.layouts.specs.PriceFile.{periodIn}
 use Rattle.layouts.specs.Writing.{Writes, WritesForC}
 use Rattle.layouts.proofs.FormLaws.{form-of-number}
-use Rattle.grid_file.specs.declared.GridAnswer.{GridAnswer}
-use Rattle.grid_file.specs.declared.GridAnswer.the-variants as grid
-use Rattle.grid_file.specs.ReadGrid.{ReadGridCall, readGridChecked, gridValues, ReadsGrid, ReadsGridForC}
+use Rattle.grid_rules.specs.declared.GridAnswer.{GridAnswer}
+use Rattle.grid_rules.specs.declared.GridAnswer.the-variants as grid
+use Rattle.grid_rules.specs.ReadGrid.{ReadGridCall, readGridChecked, gridValues, ReadsGrid, ReadsGridForC}
 use Rattle.book_file.specs.declared.BookAnswer.{BookAnswer}
 use Rattle.book_file.specs.declared.BookAnswer.the-variants as book
 use Rattle.book_file.specs.ReadBook.{ReadBookCall, readBookChecked, bookValues, ReadsBook, ReadsBookForC}

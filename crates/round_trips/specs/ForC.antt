@@ -8,8 +8,8 @@ use lib.IntN.{ℤ}
 use Rattle.lists.specs.Lent.{Lent, after, overwrite}
 use Rattle.layouts.specs.Forms.{formNumber, formOf}
 use Rattle.layouts.specs.BookTable.{contractCells}
-use Rattle.grid_file.specs.ReadGrid.{readGridCall, ReadsGridForC}
-use Rattle.grid_file.specs.WriteGrid.{writeGridCall, WritesGridForC}
+use Rattle.grid_rules.specs.ReadGrid.{readGridCall, ReadsGridForC}
+use Rattle.grid_rules.specs.WriteGrid.{writeGridCall, WritesGridForC}
 use Rattle.book_file.specs.ReadBook.{readBookCall, ReadsBookForC}
 use Rattle.book_file.specs.WriteBook.{writeBookCall, WritesBookForC}
 use Rattle.price_file.specs.ReadPrices.{readPricesCall, ReadsPricesForC}

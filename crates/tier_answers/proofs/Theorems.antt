@@ -24,9 +24,9 @@ use Rattle.tier_rules.specs.declared.RunningAnswer.{RunningAnswer}
 use Rattle.tier_rules.specs.Tiers.{Tiers, withAward}
 use Rattle.tier_rules.specs.Checks.{runningChecks, awardChecks, awardOver, addChecks}
 use Rattle.tier_rules.specs.Cells.{awardsCells, stateNumbers, stateFlows, StateCells, stateCells, stateBuffers, runningOutcome, MarkIs}
-use Rattle.running_test.specs.AddAward.{AddAwardCall, addGrid, addProcess, addPeriod, awarded, addListed, addAwardChecked, addAwardChecks, AddGoesOn, AddsAward}
+use Rattle.running_rules.specs.AddAward.{AddAwardCall, addGrid, addProcess, addPeriod, awarded, addListed, addAwardChecked, addAwardChecks, AddGoesOn, AddsAward}
 use Rattle.write_answers.proofs.ForC.{number-of, none-refused}
-use Rattle.running_test.specs.OpenRunning.{OpenRunningCall}
+use Rattle.running_rules.specs.OpenRunning.{OpenRunningCall}
 use Rattle.tier_runs.specs.CellRuns.{CellRun, addOn}
 use Rattle.tier_runs.proofs.Theorems.{every-run}
 use Rattle.tier_reordering.proofs.Theorems.{awards-held}

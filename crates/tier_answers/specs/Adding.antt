@@ -13,8 +13,8 @@ use Rattle.reorder_rules.specs.Relief.{OptionMore}
 use Rattle.tier_rules.specs.declared.RunningAnswer.{RunningAnswer}
 use Rattle.tier_rules.specs.Tiers.{Tiers, withAward, Reached}
 use Rattle.tier_rules.specs.Cells.{awardsCells, stateNumbers, stateFlows, StateCells, stateCells, runningOutcome, Holds}
-use Rattle.running_test.specs.AddAward.{AddAwardCall, addAwardOn, addGrid, addProcess, addPeriod, awarded, addAwardChecked, AddsAward, AddsAwardForC}
-use Rattle.running_test.specs.OpenRunning.{OpenRunningCall, openRunningOn}
+use Rattle.running_rules.specs.AddAward.{AddAwardCall, addAwardOn, addGrid, addProcess, addPeriod, awarded, addAwardChecked, AddsAward, AddsAwardForC}
+use Rattle.running_rules.specs.OpenRunning.{OpenRunningCall, openRunningOn}
 use Rattle.tier_runs.specs.CellRuns.{CellRun, addOn}
 use Rattle.tier_reordering.specs.Awards.{SameCells}
 

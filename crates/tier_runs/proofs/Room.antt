@@ -22,7 +22,7 @@ use Rattle.tier_rules.specs.Checks.{maxTier, runningChecks, returnChecks}
 use Rattle.tier_rules.specs.Cells.{awardsCells, stateNumbers, stateFlows, stateCells, bufferAfter, flowWith, withAwardRow, withAwardNumbers, withAwardFlows}
 use Rattle.tier_rules.specs.Cells.{openedNumbers, openedFlows, markedNumbers, markedFlows, returnedNumbers, returnedFlows}
 use Rattle.tier_rules.proofs.Cells.{length-drop-marks}
-use Rattle.running_test.specs.OpenRunning.{OpenRunningCall, openRunningChecks, openRunningChecked}
+use Rattle.running_rules.specs.OpenRunning.{OpenRunningCall, openRunningChecks, openRunningChecked}
 use Rattle.tier_marks.specs.ReturnToTier.{ReturnToTierCall, returnListed, returnToTierChecked}
 use Rattle.tier_runs.specs.CellRuns.{LongEnough}
 

@@ -13,8 +13,8 @@ use Rattle.tariff.specs.Contracts.{periodOf}
 use Rattle.tariff.specs.Processes.{processOf}
 use Rattle.tier_rules.specs.Tiers.{Tiers}
 use Rattle.tier_rules.specs.Cells.{awardsCells, stateNumbers, stateFlows, heldIn, StateCells, stateCells}
-use Rattle.running_test.specs.OpenRunning.{OpenRunningCall, openRunningChecked, numbersOpened, flowsOpened}
-use Rattle.running_test.specs.AddAward.{AddAwardCall, addFactors, awarded, ownPeriod, addAwardChecked, awardsAdded, numbersAdded, flowsAdded}
+use Rattle.running_rules.specs.OpenRunning.{OpenRunningCall, openRunningChecked, numbersOpened, flowsOpened}
+use Rattle.running_rules.specs.AddAward.{AddAwardCall, addFactors, awarded, ownPeriod, addAwardChecked, awardsAdded, numbersAdded, flowsAdded}
 use Rattle.tier_marks.specs.MarkTier.{markTierChecked, numbersMarked, flowsMarked}
 use Rattle.tier_marks.specs.ReturnToTier.{returnToTierChecked, numbersReturned, flowsReturned}
 use Rattle.write_answers.proofs.ForC.{none-refused}

@@ -15,8 +15,8 @@ use Rattle.tier_rules.specs.declared.RunningAnswer.{RunningAnswer}
 use Rattle.tier_rules.specs.Tiers.{Tiers, opened, withAward, marked}
 use Rattle.tier_rules.specs.Runs.{returnedTo}
 use Rattle.tier_rules.specs.Cells.{awardsCells, stateNumbers, stateFlows, StateCells, stateCells, Running}
-use Rattle.running_test.specs.OpenRunning.{OpenRunningCall, openRunningChecked, OpensRunning, OpensRunningForC}
-use Rattle.running_test.specs.AddAward.{AddAwardCall, addAwardOn, addAwardChecked, AddsAward, AddsAwardForC}
+use Rattle.running_rules.specs.OpenRunning.{OpenRunningCall, openRunningChecked, OpensRunning, OpensRunningForC}
+use Rattle.running_rules.specs.AddAward.{AddAwardCall, addAwardOn, addAwardChecked, AddsAward, AddsAwardForC}
 use Rattle.tier_marks.specs.MarkTier.{MarkTierCall, markTierCall, markTierChecked, MarksTier, MarksTierForC}
 use Rattle.tier_marks.specs.ReturnToTier.{ReturnToTierCall, returnToTierCall, returnToTierChecked, ReturnsToTier, ReturnsToTierForC}
 
