@@ -11,7 +11,7 @@ use Rattle.texts.proofs.WithFiles.{grid-refused, grid-text}
 use Rattle.grid_rules.specs.ReadGrid.{cappedChecks, programBytes, programFactors}
 use Rattle.grid_rules.proofs.Taken.{GridTaken, within-taken}
 use borrow.Author.Needs.{needs}
-use Rattle.feasibility_report.specs.WriteReport.{report}
+use Rattle.report_rules.specs.WriteReport.{report}
 use Rattle.feasibility_report.proofs.put_report.Statement.{statement}
 use Rattle.feasibility_report.proofs.put_report.Tie as tie
 
