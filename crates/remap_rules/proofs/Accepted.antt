@@ -23,9 +23,9 @@ use Rattle.layouts.proofs.BookFile.{contract-in-fits, ends-fewer, end-below, en
 use Rattle.books.specs.BookChecks.{contractChecks, bookChecks}
 use Rattle.books.proofs.Accepted.{Accepted, contracts-pass, book-accepted}
 use Rattle.books.proofs.Making.{Made, book-made}
-use Rattle.book_remap.specs.RemapBook.{movedEnd, remapped, RemapBookCall, listedNodes, unequalLists, remapBookChecks, remapBookChecked, bookRemapped}
-use Rattle.book_remap.specs.Inner.{movedBy, Moves, Listed, Movable}
-use Rattle.book_remap.proofs.Moving.{moved-below}
+use Rattle.remap_rules.specs.RemapBook.{movedEnd, remapped, RemapBookCall, listedNodes, unequalLists, remapBookChecks, remapBookChecked, bookRemapped}
+use Rattle.remap_rules.specs.Inner.{movedBy, Moves, Listed, Movable}
+use Rattle.remap_rules.proofs.Moving.{moved-below}
 
 pub record Remappable (q : RemapBookCall) : Type 0 where
   pub accepted : first (bookChecks (q .nodes) (q .book)) ≡ Passed

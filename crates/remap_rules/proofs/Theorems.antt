@@ -12,9 +12,9 @@ use Rattle.layouts.specs.BookFile.{bookFile, bookFormIn, bookIn}
 use Rattle.layouts.proofs.BookFile.{book-read}
 use Rattle.books.specs.BookChecks.{bookChecks}
 use Rattle.books.proofs.Accepted.{book-accepted}
-use Rattle.book_remap.specs.RemapBook.{movedEnd, remapped, RemapBookCall, remapBookCall, remapBookChecked, bookRemapped}
-use Rattle.book_remap.proofs.Moving.{moved-append}
-use Rattle.book_remap.proofs.Accepted.{remappable, book-remade, length-remade}
+use Rattle.remap_rules.specs.RemapBook.{movedEnd, remapped, RemapBookCall, remapBookCall, remapBookChecked, bookRemapped}
+use Rattle.remap_rules.proofs.Moving.{moved-append}
+use Rattle.remap_rules.proofs.Accepted.{remappable, book-remade, length-remade}
 
 -- what stays of a contract: all but its ends
 pub record Kept (c d : Contract) : Type 0 where

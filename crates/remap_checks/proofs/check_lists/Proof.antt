@@ -4,11 +4,11 @@ use mathlib.Core.Bool.{true, false}
 use Rattle.tariff.proofs.Checks.{first-passes, first-refuses, last-passes, differs, same}
 use Rattle.layouts.specs.Forms.{endsBelow}
 use Rattle.layouts.proofs.BookFile.{ends-some}
-use Rattle.book_remap.specs.RemapBook.{listedNodes}
-use Rattle.book_remap.specs.Inner.{listChecks}
+use Rattle.remap_rules.specs.RemapBook.{listedNodes}
+use Rattle.remap_rules.specs.Inner.{listChecks}
 use borrow.Author.Needs.{needs}
-use Rattle.book_remap.proofs.check_lists.Statement.{statement}
-use Rattle.book_remap.proofs.check_lists.Tie as tie
+use Rattle.remap_checks.proofs.check_lists.Statement.{statement}
+use Rattle.remap_checks.proofs.check_lists.Tie as tie
 
 returns : tie.Need-returns
 unfolding listChecks

@@ -7,12 +7,12 @@ use Rattle.layouts.specs.declared.forms.Form.{Form}
 use Rattle.layouts.specs.BookFile.{bookFormIn, contractCountIn}
 use Rattle.layouts.proofs.BookFile.{book-bytes-least}
 use Rattle.books.proofs.Accepted.{book-accepted}
-use Rattle.book_remap.specs.RemapBook.{remapBookChecks}
-use Rattle.book_remap.specs.Inner.{listChecks}
-use Rattle.book_remap.proofs.Checking.{book-refuses, lists-refuse, no-room, room}
+use Rattle.remap_rules.specs.RemapBook.{remapBookChecks}
+use Rattle.remap_rules.specs.Inner.{listChecks}
+use Rattle.remap_rules.proofs.Checking.{book-refuses, lists-refuse, no-room, room}
 use borrow.Author.Needs.{needs}
-use Rattle.book_remap.proofs.check_remap.Statement.{statement}
-use Rattle.book_remap.proofs.check_remap.Tie as tie
+use Rattle.remap_checks.proofs.check_remap.Statement.{statement}
+use Rattle.remap_checks.proofs.check_remap.Tie as tie
 
 returns : tie.Need-returns
 unfolding remapBookChecks

@@ -4,11 +4,11 @@ use Prim.Native.Nat.{ℕ, _-_, _≤_, _<_}
 use native.Mathlib.Omega.{arith}
 use lib.ListN.{length, getD, length-set}
 use Rattle.tariff.specs.Units.{maxNodes}
-use Rattle.book_remap.specs.RemapBook.{movedEnd}
-use Rattle.book_remap.proofs.Moving.{node-stored}
+use Rattle.remap_rules.specs.RemapBook.{movedEnd}
+use Rattle.remap_rules.proofs.Moving.{node-stored}
 use borrow.Author.Needs.{needs}
-use Rattle.book_remap.proofs.every_node.Statement.{statement}
-use Rattle.book_remap.proofs.every_node.Tie as tie
+use Rattle.remap_ends.proofs.every_node.Statement.{statement}
+use Rattle.remap_ends.proofs.every_node.Tie as tie
 
 abbrev Inv-loop : tie.InvT-loop
 Inv-loop nodes ends₀ node₀ ends node =

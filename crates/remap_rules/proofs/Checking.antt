@@ -14,8 +14,8 @@ use Rattle.tariff.proofs.Checks.{first-passes, first-refuses, last-passes, appe
 use Rattle.layouts.specs.BookFile.{bookBytes, contractCountIn, bookFormIn}
 use Rattle.books.specs.BookChecks.{bookChecks}
 use Rattle.books.proofs.Accepted.{book-accepted}
-use Rattle.book_remap.specs.RemapBook.{RemapBookCall, remapBookChecks, remapBookChecked}
-use Rattle.book_remap.specs.Inner.{listChecks}
+use Rattle.remap_rules.specs.RemapBook.{RemapBookCall, remapBookChecks, remapBookChecked}
+use Rattle.remap_rules.specs.Inner.{listChecks}
 
 module _ (q : RemapBookCall) (right : nodeCount (q .nodes) .fails ≡ false) where
   pub book-refuses : (r : Refusal) → first (bookChecks (q .nodes) (q .book)) ≡ Refused r → remapBookChecked q ≡ Refused r

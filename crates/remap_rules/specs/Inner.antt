@@ -9,7 +9,7 @@ use Rattle.tariff.specs.Units.{maxNodes}
 use Rattle.layouts.specs.declared.forms.Form.{Form}
 use Rattle.layouts.specs.Forms.{endWidth, endsBelow}
 use Rattle.layouts.specs.Inner.{ContractFits}
-use Rattle.book_remap.specs.RemapBook.{movedEnd, listedNodes, unequalLists}
+use Rattle.remap_rules.specs.RemapBook.{movedEnd, listedNodes, unequalLists}
 
 -- the lists' checks: 11, 11, 9
 unfoldable pub listChecks : Form → ℕ → List ℕ → List ℕ → List Check

@@ -11,7 +11,7 @@ use lib.ListN.{length, getD, set, drop}
 use lib.Seq.{drop-cons, drop-length, getD-set-same, getD-set-other}
 use Rattle.lists.specs.Lists.{some}
 use Rattle.lists.proofs.Search.{neither}
-use Rattle.book_remap.specs.RemapBook.{movedEnd}
+use Rattle.remap_rules.specs.RemapBook.{movedEnd}
 
 -- ---- the table, filled from the last pair to the first
 

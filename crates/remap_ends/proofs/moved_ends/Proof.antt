@@ -4,11 +4,11 @@ use Prim.Native.Nat.{ℕ, suc, _-_, _≤_, _<_}
 use native.Mathlib.Omega.{arith}
 use lib.ListN.{length, getD, drop, length-set}
 use Rattle.tariff.specs.Units.{maxNodes}
-use Rattle.book_remap.specs.RemapBook.{movedEnd}
-use Rattle.book_remap.proofs.Moving.{no-pairs, pair-stored}
+use Rattle.remap_rules.specs.RemapBook.{movedEnd}
+use Rattle.remap_rules.proofs.Moving.{no-pairs, pair-stored}
 use borrow.Author.Needs.{needs}
-use Rattle.book_remap.proofs.moved_ends.Statement.{statement}
-use Rattle.book_remap.proofs.moved_ends.Tie as tie
+use Rattle.remap_ends.proofs.moved_ends.Statement.{statement}
+use Rattle.remap_ends.proofs.moved_ends.Tie as tie
 
 abbrev Inv-loop : tie.InvT-loop
 Inv-loop nodes old new ends₀ i₀ ends i =
