@@ -1,9 +1,9 @@
 -- `drop_mark`: the flag is cleared where more awards were held, else nothing is stored.
 use native.Mathlib.Omega.{arith}
 use borrow.Author.Needs.{needs}
-use Rattle.tier_marks.proofs.Marks.{drop-taken, drop-left}
-use Rattle.tier_marks.proofs.drop_mark.Statement.{statement}
-use Rattle.tier_marks.proofs.drop_mark.Tie as tie
+use Rattle.mark_rules.proofs.Marks.{drop-taken, drop-left}
+use Rattle.mark_cells.proofs.drop_mark.Statement.{statement}
+use Rattle.mark_cells.proofs.drop_mark.Tie as tie
 
 returns : tie.Need-returns
 returns c = drop-taken (c .before .before .args .most) (c .before .before .args .j) (c .before .before .args .numbers .now) (omega arith)

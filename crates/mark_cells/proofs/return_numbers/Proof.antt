@@ -7,8 +7,8 @@ use lib.ListN.{length, getD, set, length-set}
 use borrow.Author.Needs.{needs}
 use Rattle.tier_rules.specs.Checks.{maxTier}
 use Rattle.tier_rules.proofs.Cells.{length-drop-marks}
-use Rattle.tier_marks.proofs.return_numbers.Statement.{statement}
-use Rattle.tier_marks.proofs.return_numbers.Tie as tie
+use Rattle.mark_cells.proofs.return_numbers.Statement.{statement}
+use Rattle.mark_cells.proofs.return_numbers.Tie as tie
 
 slice-write-numbers-2 : tie.Need-slice-write-numbers-2
 slice-write-numbers-2 c =

@@ -30,9 +30,9 @@ use Rattle.tier_rules.proofs.Cells.{behind}
 use Rattle.tier_rules.proofs.States.{marked-reached, returned-reached}
 use Rattle.tier_rules.proofs.Holding.{marked-holds, returned-holds}
 use Rattle.tier_rules.proofs.Going.{goes-on, a-tier as tier-of, flag-told, set-mark, last-same}
-use Rattle.tier_marks.specs.MarkTier.{MarkTierCall, markTierCall, markTierChecks, markTierChecked, numbersMarked, flowsMarked, MarkGoesOn, MarksTier}
-use Rattle.tier_marks.specs.ReturnToTier.{ReturnToTierCall, returnListed, returnToTierChecked, returnToTierChecks, numbersReturned, flowsReturned, ReturnGoesOn, ReturnsToTier}
-use Rattle.tier_marks.specs.Inner.{Apart}
+use Rattle.mark_rules.specs.MarkTier.{MarkTierCall, markTierCall, markTierChecks, markTierChecked, numbersMarked, flowsMarked, MarkGoesOn, MarksTier}
+use Rattle.mark_rules.specs.ReturnToTier.{ReturnToTierCall, returnListed, returnToTierChecked, returnToTierChecks, numbersReturned, flowsReturned, ReturnGoesOn, ReturnsToTier}
+use Rattle.mark_rules.specs.Inner.{Apart}
 
 -- ---- what the checks of marking find
 

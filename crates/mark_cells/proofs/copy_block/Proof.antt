@@ -10,9 +10,9 @@ use mir.Val.{toZ, ofZ}
 use mir.ValLaws.{toZ-ofZ}
 use borrow.Author.Needs.{needs}
 use Rattle.tariff.specs.Units.{maxConstraints}
-use Rattle.tier_marks.proofs.Marks.{copy-turn}
-use Rattle.tier_marks.proofs.copy_block.Statement.{statement}
-use Rattle.tier_marks.proofs.copy_block.Tie as tie
+use Rattle.mark_rules.proofs.Marks.{copy-turn}
+use Rattle.mark_cells.proofs.copy_block.Statement.{statement}
+use Rattle.mark_cells.proofs.copy_block.Tie as tie
 
 abbrev Inv-loop : tie.InvT-loop
 Inv-loop flows₀ from to k₀ flows k = (k ≤ maxConstraints) × (length flows ≡ length flows₀) × (flows ≡ paste flows₀ to (drop from flows₀) k)

@@ -2,8 +2,8 @@
 use mathlib.Core.Path.{ap, _∙_}
 use borrow.Author.Needs.{needs}
 use Rattle.tier_rules.specs.Cells.{dropMark, dropMarks}
-use Rattle.tier_marks.proofs.drop_marks.Statement.{statement}
-use Rattle.tier_marks.proofs.drop_marks.Tie as tie
+use Rattle.mark_cells.proofs.drop_marks.Statement.{statement}
+use Rattle.mark_cells.proofs.drop_marks.Tie as tie
 
 returns : tie.Need-returns
 unfolding dropMarks

@@ -2,8 +2,8 @@
 use native.Mathlib.Omega.{arith}
 use lib.ListN.{length-set}
 use borrow.Author.Needs.{needs}
-use Rattle.tier_marks.proofs.mark_numbers.Statement.{statement}
-use Rattle.tier_marks.proofs.mark_numbers.Tie as tie
+use Rattle.mark_cells.proofs.mark_numbers.Statement.{statement}
+use Rattle.mark_cells.proofs.mark_numbers.Tie as tie
 
 slice-write-numbers-2 : tie.Need-slice-write-numbers-2
 slice-write-numbers-2 c = simp length-set (omega arith)
