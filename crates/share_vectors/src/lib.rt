@@ -1,7 +1,7 @@
 // Balancing Account shares (02, paper 13): balances shared by the proved entry, each share printed beside what is expected.
-use balancing_account::ShareAnswer;
 use printing::figure;
 use printing::signed_figure;
+use share_rules::ShareAnswer;
 
 // The refusal, 0 for none.
 fn answered(name: &[u8], answer: ShareAnswer, number: u64) {

@@ -9,10 +9,10 @@ use lib.IntN.{ℤ}
 use mir.Syntax.{w64}
 use mir.ValLaws.{toZ-ofZ}
 use Rattle.tariff.specs.Checks.{coordinatorCount, balanceRange, demandRange}
-use Rattle.balancing_account.specs.ShareBalance.{shareCall, totalOf}
-use Rattle.balancing_account.proofs.Passing.{all-cells, demands-in, count-refuses, balance-refuses, demand-refuses, none-refuses, room-refuses, all-pass}
-use Rattle.balancing_account.proofs.check_share.Statement.{statement}
-use Rattle.balancing_account.proofs.check_share.Tie as tie
+use Rattle.share_rules.specs.ShareBalance.{shareCall, totalOf}
+use Rattle.share_rules.proofs.Passing.{all-cells, demands-in, count-refuses, balance-refuses, demand-refuses, none-refuses, room-refuses, all-pass}
+use Rattle.share_checks.proofs.check_share.Statement.{statement}
+use Rattle.share_checks.proofs.check_share.Tie as tie
 
 -- a test that did not refuse
 one : (c : tie.Else1) → coordinatorCount (length (c .before .before .before .args .demands .now)) .fails ≡ false

@@ -7,7 +7,7 @@ use lib.IntN.{ℤ, natAbs}
 use Rattle.tariff.specs.Units.{maxCoordinators, maxBalance, maxDemand}
 use Rattle.largest_remainders.specs.Shares.{whole, rest, leftover}
 use Rattle.largest_remainders.specs.Inner.{keyOf, keyAt, keysFrom}
-use Rattle.balancing_account.specs.ShareBalance.{demandOf, totalOf}
+use Rattle.share_rules.specs.ShareBalance.{demandOf, totalOf}
 
 abbrev pub maxTotal : ℕ
 maxTotal = 256000000000

@@ -9,7 +9,7 @@ use lib.IntN.{ℤ, pos, negsuc, negℤ, natAbs}
 use lib.Signed.{ltZ}
 use Rattle.integers.proofs.Sizes.{natAbs-neg}
 use Rattle.tariff.specs.Units.{maxBalance}
-use Rattle.balancing_account.specs.ShareBalance.{signedLike}
+use Rattle.share_rules.specs.ShareBalance.{signedLike}
 
 pub below-range : (z : ℤ) → ltZ z (negsuc 999999999) ≡ true → true ≡ ltb maxBalance (natAbs z)
 below-range (pos n) e = cc

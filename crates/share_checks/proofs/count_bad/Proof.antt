@@ -1,7 +1,7 @@
 -- `count_bad`: the range of a count.
 use borrow.Author.Tests.{eq-eqb, ne-eqb}
-use Rattle.balancing_account.proofs.count_bad.Statement.{statement}
-use Rattle.balancing_account.proofs.count_bad.Tie as tie
+use Rattle.share_checks.proofs.count_bad.Statement.{statement}
+use Rattle.share_checks.proofs.count_bad.Tie as tie
 
 returns : tie.Need-returns
 returns c = rw (eq-eqb (c .before .args .count) 0 (c .if1 .taken))

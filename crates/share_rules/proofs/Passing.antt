@@ -19,8 +19,8 @@ use Rattle.tariff.specs.declared.refusals.Checked.the-variants.{Passed, Refused
 use Rattle.tariff.specs.Units.{maxCoordinators, maxBalance, maxDemand}
 use Rattle.tariff.specs.Checks.{coordinatorCount, balanceRange, demandRange}
 use Rattle.tariff.proofs.Checks.{first-passes, first-refuses, last-passes, passed-cons}
-use Rattle.balancing_account.specs.ShareBalance.{ShareCall, shareChecks, shareChecked, demandOf, totalOf}
-use Rattle.balancing_account.specs.Inner.{DemandsIn}
+use Rattle.share_rules.specs.ShareBalance.{ShareCall, shareChecks, shareChecked, demandOf, totalOf}
+use Rattle.share_rules.specs.Inner.{DemandsIn}
 
 pub refused-not : (r : Refusal) → Refused r ≡ Passed → ⊥
 refused-not r e = let z : _≡_ {A = ℕ} 0 1 = cc in omega arith

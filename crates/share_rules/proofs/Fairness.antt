@@ -17,8 +17,8 @@ use Rattle.integers.proofs.Sums.{sumTo-cong}
 use Rattle.largest_remainders.specs.Ranks.{addTo}
 use Rattle.largest_remainders.specs.Shares.{beforeBy, whole, given, share}
 use Rattle.largest_remainders.proofs.Theorems.{adds-up, near, no-weight, no-size, largest-first}
-use Rattle.balancing_account.specs.ShareBalance.{demandOf, totalOf, signedLike, shareOf, sharesOf, wholeOf, restOf, cellOf}
-use Rattle.balancing_account.proofs.Signs.{signed-sized}
+use Rattle.share_rules.specs.ShareBalance.{demandOf, totalOf, signedLike, shareOf, sharesOf, wholeOf, restOf, cellOf}
+use Rattle.share_rules.proofs.Signs.{signed-sized}
 
 -- ---- sums of one sign
 

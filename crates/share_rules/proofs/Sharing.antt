@@ -18,8 +18,8 @@ use Rattle.largest_remainders.proofs.Counting.{addTo-bounded, addTo-more, addTo
 use Rattle.largest_remainders.proofs.Order.{rank-by-key, keys-apart, key-small}
 use Rattle.largest_remainders.proofs.Sharing.{rest-lt, wholes-le, leftover-small}
 use Rattle.largest_remainders.proofs.Theorems.{threshold-law}
-use Rattle.balancing_account.specs.ShareBalance.{demandOf, totalOf, signedLike, shareOf}
-use Rattle.balancing_account.specs.Inner.{maxTotal, DemandsIn, Weighed, leftoverOf, Rounded, Cut}
+use Rattle.share_rules.specs.ShareBalance.{demandOf, totalOf, signedLike, shareOf}
+use Rattle.share_rules.specs.Inner.{maxTotal, DemandsIn, Weighed, leftoverOf, Rounded, Cut}
 
 pub total-small : (ds : List ℕ) → DemandsIn ds → totalOf ds ≤ maxTotal
 unfolding total

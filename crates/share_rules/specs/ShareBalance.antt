@@ -13,8 +13,8 @@ use Rattle.tariff.specs.declared.refusals.Checked.the-variants.{Passed}
 use Rattle.tariff.specs.Refusals.{Check, first, Outcome, given, refusedBy, answered, cellsAfter, numberAfter}
 use Rattle.tariff.specs.Checks.{coordinatorCount, balanceRange, demandRange, noDemand, shortTable}
 use Rattle.largest_remainders.specs.Shares.{beforeBy, total, whole, rest, share}
-use Rattle.balancing_account.specs.declared.ShareAnswer.{ShareAnswer}
-use Rattle.balancing_account.specs.declared.ShareAnswer.the-variants.{Shared, Refused}
+use Rattle.share_rules.specs.declared.ShareAnswer.{ShareAnswer}
+use Rattle.share_rules.specs.declared.ShareAnswer.the-variants.{Shared, Refused}
 
 -- the balance, a demand for each coordinator, numbered by its place, and the place for the shares as it is at entry
 pub record ShareCall : Type 0 where

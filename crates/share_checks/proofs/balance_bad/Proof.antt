@@ -1,9 +1,9 @@
 -- `balance_bad`: the range of a balance.
 use mir.Syntax.{w64}
 use mir.ValLaws.{toZ-ofZ}
-use Rattle.balancing_account.proofs.Signs.{below-range, not-below}
-use Rattle.balancing_account.proofs.balance_bad.Statement.{statement}
-use Rattle.balancing_account.proofs.balance_bad.Tie as tie
+use Rattle.share_rules.proofs.Signs.{below-range, not-below}
+use Rattle.share_checks.proofs.balance_bad.Statement.{statement}
+use Rattle.share_checks.proofs.balance_bad.Tie as tie
 
 returns : tie.Need-returns
 returns c =

@@ -11,10 +11,10 @@ use Rattle.tariff.specs.declared.refusals.Checked.the-variants.{Passed}
 use Rattle.tariff.specs.Refusals.{cellsAfter}
 use Rattle.largest_remainders.specs.Shares.{leftover, positives}
 use Rattle.largest_remainders.proofs.Theorems.{few}
-use Rattle.balancing_account.specs.declared.ShareAnswer.{ShareAnswer}
-use Rattle.balancing_account.specs.ShareBalance.{shareCall, shareChecked, demandOf, totalOf, sharesOf, cellOf, Fair, SharesBalance}
-use Rattle.balancing_account.proofs.Passing.{share-ready}
-use Rattle.balancing_account.proofs.Fairness.{cell-is, all-together, each-near, none-without, first-largest, opposite}
+use Rattle.share_rules.specs.declared.ShareAnswer.{ShareAnswer}
+use Rattle.share_rules.specs.ShareBalance.{shareCall, shareChecked, demandOf, totalOf, sharesOf, cellOf, Fair, SharesBalance}
+use Rattle.share_rules.proofs.Passing.{share-ready}
+use Rattle.share_rules.proofs.Fairness.{cell-is, all-together, each-near, none-without, first-largest, opposite}
 
 -- over the definitions and nothing of the code: wherever some demand is positive, the shares are fair
 pub shares-are-fair : (balance : ℤ) (demands : List ℕ) → 0 < totalOf demands → (entry : List ℤ) → Fair balance demands (overwrite (sharesOf balance demands) entry)

@@ -7,9 +7,9 @@ use borrow.Author.Needs.{needs}
 use Rattle.largest_remainders.specs.Ranks.{addTo}
 use Rattle.largest_remainders.specs.Shares.{total}
 use Rattle.largest_remainders.proofs.Counting.{addTo-more, addTo-none}
-use Rattle.balancing_account.specs.ShareBalance.{demandOf}
-use Rattle.balancing_account.proofs.total_of.Statement.{statement}
-use Rattle.balancing_account.proofs.total_of.Tie as tie
+use Rattle.share_rules.specs.ShareBalance.{demandOf}
+use Rattle.share_checks.proofs.total_of.Statement.{statement}
+use Rattle.share_checks.proofs.total_of.Tie as tie
 
 abbrev Inv-loop : tie.InvT-loop
 Inv-loop demands sum₀ i₀ sum i =
