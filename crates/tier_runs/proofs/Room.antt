@@ -23,7 +23,7 @@ use Rattle.tier_rules.specs.Cells.{awardsCells, stateNumbers, stateFlows, state
 use Rattle.tier_rules.specs.Cells.{openedNumbers, openedFlows, markedNumbers, markedFlows, returnedNumbers, returnedFlows}
 use Rattle.tier_rules.proofs.Cells.{length-drop-marks}
 use Rattle.running_rules.specs.OpenRunning.{OpenRunningCall, openRunningChecks, openRunningChecked}
-use Rattle.tier_marks.specs.ReturnToTier.{ReturnToTierCall, returnListed, returnToTierChecked}
+use Rattle.mark_rules.specs.ReturnToTier.{ReturnToTierCall, returnListed, returnToTierChecked}
 use Rattle.tier_runs.specs.CellRuns.{LongEnough}
 
 -- a buffer at exit, refused or not

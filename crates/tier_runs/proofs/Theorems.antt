@@ -15,8 +15,8 @@ use Rattle.tier_rules.specs.Tiers.{Tiers}
 use Rattle.tier_rules.specs.Cells.{awardsCells, stateNumbers, stateFlows, heldIn, StateCells, stateCells}
 use Rattle.running_rules.specs.OpenRunning.{OpenRunningCall, openRunningChecked, numbersOpened, flowsOpened}
 use Rattle.running_rules.specs.AddAward.{AddAwardCall, addFactors, awarded, ownPeriod, addAwardChecked, awardsAdded, numbersAdded, flowsAdded}
-use Rattle.tier_marks.specs.MarkTier.{markTierChecked, numbersMarked, flowsMarked}
-use Rattle.tier_marks.specs.ReturnToTier.{returnToTierChecked, numbersReturned, flowsReturned}
+use Rattle.mark_rules.specs.MarkTier.{markTierChecked, numbersMarked, flowsMarked}
+use Rattle.mark_rules.specs.ReturnToTier.{returnToTierChecked, numbersReturned, flowsReturned}
 use Rattle.write_answers.proofs.ForC.{none-refused}
 use Rattle.tier_runs.specs.CellRuns.{CellRun, opens, adds, marks, returns, crr-opens, crr-adds, crr-marks, crr-returns, addOn, markOn, returnOn, RunningIn, LongEnough, EveryRun}
 use Rattle.tier_runs.proofs.Room.{kept, opened-numbers, opened-flows, added-row, added-numbers, added-flows, marked-numbers, marked-flows, returned-numbers, returned-flows}

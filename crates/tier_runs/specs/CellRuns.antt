@@ -17,8 +17,8 @@ use Rattle.tier_rules.specs.Runs.{returnedTo}
 use Rattle.tier_rules.specs.Cells.{awardsCells, stateNumbers, stateFlows, StateCells, stateCells, Running}
 use Rattle.running_rules.specs.OpenRunning.{OpenRunningCall, openRunningChecked, OpensRunning, OpensRunningForC}
 use Rattle.running_rules.specs.AddAward.{AddAwardCall, addAwardOn, addAwardChecked, AddsAward, AddsAwardForC}
-use Rattle.tier_marks.specs.MarkTier.{MarkTierCall, markTierCall, markTierChecked, MarksTier, MarksTierForC}
-use Rattle.tier_marks.specs.ReturnToTier.{ReturnToTierCall, returnToTierCall, returnToTierChecked, ReturnsToTier, ReturnsToTierForC}
+use Rattle.mark_rules.specs.MarkTier.{MarkTierCall, markTierCall, markTierChecked, MarksTier, MarksTierForC}
+use Rattle.mark_rules.specs.ReturnToTier.{ReturnToTierCall, returnToTierCall, returnToTierChecked, ReturnsToTier, ReturnsToTierForC}
 
 -- ---- the calls that follow an opening q, on cells
 
