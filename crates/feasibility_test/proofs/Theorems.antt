@@ -15,7 +15,7 @@ use Rattle.tariff.proofs.Checks.{first-append}
 use Rattle.layouts.specs.declared.forms.Form.{Form}
 use Rattle.layouts.specs.declared.forms.Form.the-variants.{Narrow, Wide}
 use Rattle.layouts.specs.BookFile.{bookFile, bookIn}
-use Rattle.layouts.specs.Inner.{ContractFits}
+use Rattle.layouts.specs.BookTable.{ContractFits}
 use Rattle.tables.specs.TableChecks.{gridTableChecks}
 use Rattle.books.specs.BookChecks.{bookChecks}
 use Rattle.books.proofs.Theorems.{both-forms-alike, both-forms-checked-alike}

@@ -1,2 +1,3 @@
 pub mod TestBook
 pub mod Inner
+pub mod Carried

@@ -20,7 +20,7 @@ use Rattle.tariff.proofs.Checks.{append-refuses, append-passes, passed-append, 
 use Rattle.tables.specs.TableChecks.{gridTableChecks}
 use Rattle.feasibility_test.specs.declared.Flows.{Flows}
 use Rattle.feasibility_test.specs.TestBook.{TestCall, testCall, testChecks, testChecked}
-use Rattle.feasibility_test.specs.Inner.{Carries}
+use Rattle.feasibility_test.specs.Carried.{Carries}
 use Rattle.feasibility_test.proofs.Checking.{Tested, tested}
 use Rattle.flows.specs.FindFlows.{FlowsCall, findFlowsChecks, findFlowsChecked}
 

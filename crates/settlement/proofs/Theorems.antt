@@ -16,18 +16,13 @@ use Rattle.tariff.proofs.Checks.{first-under, first-append}
 use Rattle.layouts.specs.declared.forms.Form.{Form}
 use Rattle.layouts.specs.declared.forms.Form.the-variants.{Narrow, Wide}
 use Rattle.layouts.specs.BookFile.{bookFile, contractCountIn, bookIn}
-use Rattle.layouts.specs.Inner.{ContractFits}
+use Rattle.layouts.specs.BookTable.{ContractFits}
 use Rattle.layouts.proofs.BookFile.{length-bookIn}
 use Rattle.books.specs.BookChecks.{bookChecks}
 use Rattle.books.proofs.Theorems.{both-forms-alike, both-forms-checked-alike}
 use Rattle.settlement.specs.declared.SettleAnswer.{SettleAnswer}
 use Rattle.settlement.specs.SettleHour.{HourCall, hourCall, settleOutcome, settleChecks, settleChecked, hourFactors, hourPrices, hourPeriod, centsOf, pricedOf, centsSum, hourTotal, SettlesHour}
-
--- two hours settled alike: the answer, the cents and the sets
-pub record SettledAlike (a b : SettleAnswer) (cents cents₂ : Lent (List ℤ)) (sets sets₂ : Lent (List ℕ)) : Type 0 where
-  pub outcome : settleOutcome a ≡ settleOutcome b
-  pub cents-alike : after cents ≡ after cents₂
-  pub sets-alike : after sets ≡ after sets₂
+use Rattle.settlement.specs.Theorems.{SettledAlike}
 
 module _ (n k period : ℕ) (factors : List ℤ) (prices : List ℕ) (cs : List Contract) (few : length cs ≤ maxContracts) (fits : Each (ContractFits 8) cs) where
   -- a call with the contracts' file in a form

@@ -1,0 +1,14 @@
+-- What the theorem on settling at both widths (document 02, paper 9) speaks of.
+use mathlib.Core.Path.{_≡_}
+use mathlib.Core.List.{List}
+use Prim.Native.Nat.{ℕ}
+use lib.IntN.{ℤ}
+use Rattle.lists.specs.Lent.{Lent, after}
+use Rattle.settlement.specs.declared.SettleAnswer.{SettleAnswer}
+use Rattle.settlement.specs.SettleHour.{settleOutcome}
+
+-- two hours settled alike: the answer, the cents and the sets
+pub record SettledAlike (a b : SettleAnswer) (cents cents₂ : Lent (List ℤ)) (sets sets₂ : Lent (List ℕ)) : Type 0 where
+  pub outcome : settleOutcome a ≡ settleOutcome b
+  pub cents-alike : after cents ≡ after cents₂
+  pub sets-alike : after sets ≡ after sets₂
