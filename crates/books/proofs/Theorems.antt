@@ -20,7 +20,7 @@ use Rattle.tariff.proofs.Checks.{first-passes}
 use Rattle.tariff.proofs.Former.{first-number, not-missed, unnumbered}
 use Rattle.layouts.specs.declared.forms.Form.the-variants.{Narrow, Wide}
 use Rattle.layouts.specs.BookFile.{bookFile, contractCountIn, bookSpareIn, bookIn}
-use Rattle.layouts.specs.Inner.{ContractFits}
+use Rattle.layouts.specs.BookTable.{ContractFits}
 use Rattle.layouts.proofs.BookFile.{form-narrow, book-written, fits-wider}
 use Rattle.books.specs.BookChecks.{bookChecks}
 use Rattle.books.specs.Former.{formerBookChecks, formerReadingChecks, formerBookIn}

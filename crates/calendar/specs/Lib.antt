@@ -3,3 +3,4 @@ pub mod OnPeak
 pub mod Inner
 pub mod Weekday
 pub mod MonthLater
+pub mod Theorems

@@ -33,7 +33,8 @@ use Rattle.tariff.specs.Shortfall.{PriceList, shortfall, oneCent}
 use Rattle.feasibility_test.specs.declared.Flows.{Flows}
 use Rattle.feasibility_test.specs.declared.TestAnswer.the-variants.{Pass, Fail}
 use Rattle.feasibility_test.specs.TestBook.{testValues}
-use Rattle.feasibility_test.specs.Inner.{Carries, Judges}
+use Rattle.feasibility_test.specs.Inner.{Judges}
+use Rattle.feasibility_test.specs.Carried.{Carries}
 
 -- whether the flow in cell k exceeds the released limit k
 abbrev pub over : List ℕ → Process → List ℤ → ℕ → Bool

@@ -20,13 +20,10 @@ use Rattle.tariff.proofs.Checks.{append-refuses, append-passes, passed-append, 
 use Rattle.tables.specs.TableChecks.{gridTableChecks}
 use Rattle.feasibility_test.specs.declared.Flows.{Flows}
 use Rattle.feasibility_test.specs.TestBook.{TestCall, testCall, testChecks, testChecked}
-use Rattle.feasibility_test.specs.Inner.{Carries}
+use Rattle.feasibility_test.specs.Carried.{Carries}
 use Rattle.feasibility_test.proofs.Checking.{Tested, tested}
 use Rattle.flows.specs.FindFlows.{FlowsCall, findFlowsChecks, findFlowsChecked}
-
--- the test of the same tables and book in a process
-abbrev pub testAs : ℕ → FlowsCall → TestCall
-testAs process q = testCall (q .nodes) (q .constraints) process (q .period) (q .limits) (q .factors) (q .book)
+use Rattle.flows.specs.Theorems.{testAs}
 
 module _ (q : FlowsCall) where
   abbrev room : List Check

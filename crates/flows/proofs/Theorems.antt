@@ -19,7 +19,8 @@ use Rattle.tables.specs.TableChecks.{gridTableChecks}
 use Rattle.feasibility_test.specs.TestBook.{TestCall, testChecks, testChecked, testedGrid, testedProcess, testedContracts}
 use Rattle.flows.specs.declared.FlowsAnswer.{FlowsAnswer}
 use Rattle.flows.specs.FindFlows.{FlowsCall, findFlowsChecked, flowCells, FindsFlows}
-use Rattle.flows.proofs.Passing.{testAs, all-fits}
+use Rattle.flows.proofs.Passing.{all-fits}
+use Rattle.flows.specs.Theorems.{testAs, releasedAt}
 
 module _ (q : FlowsCall) (answer : FlowsAnswer) (exit : List ℤ) (finds : FindsFlows q answer exit) (enough : q .constraints ≤ length (q .place))
     (process : ℕ) (accepted : testChecked (testAs process q) ≡ Passed) where
@@ -48,20 +49,18 @@ module _ (q : FlowsCall) (answer : FlowsAnswer) (exit : List ℤ) (finds : Finds
       ∙ front-at (flowCells q) (q .place) (q .constraints) (length-listTo (q .constraints) f) k (pos 0) h
       ∙ getD-listTo (q .constraints) f k (pos 0) h
 
-  -- the released limit of constraint k in the process, and the test by the cells alone
-  abbrev pub releasedAt : ℕ → ℤ
-  releasedAt k = pos (released (testedGrid test .limits) (testedProcess test) k)
+  -- the test by the cells alone
 
-  pub overloaded-by-cell : (k : ℕ) → k < q .constraints → overloaded (testedGrid test) (testedProcess test) (testedContracts test) k ≡ ltZ (releasedAt k) (getD exit k (pos 0))
+  pub overloaded-by-cell : (k : ℕ) → k < q .constraints → overloaded (testedGrid test) (testedProcess test) (testedContracts test) k ≡ ltZ (releasedAt test k) (getD exit k (pos 0))
   unfolding overloaded
-  overloaded-by-cell k h = ap (ltZ (releasedAt k)) (sym (cell-is-the-flow k h))
+  overloaded-by-cell k h = ap (ltZ (releasedAt test k)) (sym (cell-is-the-flow k h))
 
-  pub excess-by-cell : (k : ℕ) → k < q .constraints → excess (testedGrid test) (testedProcess test) (testedContracts test) k ≡ getD exit k (pos 0) -ℤ releasedAt k
+  pub excess-by-cell : (k : ℕ) → k < q .constraints → excess (testedGrid test) (testedProcess test) (testedContracts test) k ≡ getD exit k (pos 0) -ℤ releasedAt test k
   unfolding excess
-  excess-by-cell k h = ap (λ (x : ℤ). x -ℤ releasedAt k) (sym (cell-is-the-flow k h))
+  excess-by-cell k h = ap (λ (x : ℤ). x -ℤ releasedAt test k) (sym (cell-is-the-flow k h))
 
   -- the set that the test gives: the constraints whose cell exceeds the released limit
-  pub set-by-cells : overloadSet (testedGrid test) (testedProcess test) (testedContracts test) ≡ setOf (q .constraints) (λ (k : ℕ). ltZ (releasedAt k) (getD exit k (pos 0)))
+  pub set-by-cells : overloadSet (testedGrid test) (testedProcess test) (testedContracts test) ≡ setOf (q .constraints) (λ (k : ℕ). ltZ (releasedAt test k) (getD exit k (pos 0)))
   unfolding overloadSet
   set-by-cells =
-      set-cong (q .constraints) (overloaded (testedGrid test) (testedProcess test) (testedContracts test)) (λ (k : ℕ). ltZ (releasedAt k) (getD exit k (pos 0))) overloaded-by-cell
+      set-cong (q .constraints) (overloaded (testedGrid test) (testedProcess test) (testedContracts test)) (λ (k : ℕ). ltZ (releasedAt test k) (getD exit k (pos 0))) overloaded-by-cell

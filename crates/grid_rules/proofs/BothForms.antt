@@ -24,7 +24,7 @@ use Rattle.layouts.proofs.GridHeader.{wide-header, nodeWidth}
 use Rattle.layouts.proofs.GridFile.{GridFits, grid-written}
 use Rattle.grid_rules.specs.ReadGrid.{ReadGridCall, gridSizeChecks, gridFigureChecks, gridFileChecks, readGridChecks, readGridChecked, programBytes, programFactors}
 use Rattle.grid_rules.specs.WriteGrid.{writeGridCall, writeGridChecked}
-use Rattle.grid_rules.specs.Former.{formerNodes, formerGridChecks}
+use Rattle.grid_rules.specs.Former.{formerNodes, formerGridChecks, ReadAsBefore}
 use Rattle.grid_rules.proofs.Passing.{sized, writable, written-fits}
 
 -- ---- the former reader
@@ -50,12 +50,6 @@ former-number q narrow = by (ltb (length (q .file)) 2) refl
     by : (b : Bool) → ltb (length (q .file)) 2 ≡ b → numberAfter (readGridChecked q) ≡ formerFirst (formerGridChecks q)
     by true e = short-number q (ltb-true (length (q .file)) 2 e)
     by false e = first-number (readGridChecks q) ∙ ap formerFirst (narrow-list q (narrow (ltb-false (length (q .file)) 2 e)))
-
--- what is read from a narrow file
-pub record ReadAsBefore (s : List ℕ) : Type 0 where
-  pub nodes-as-before : nodesIn s ≡ formerNodes s
-  pub limits-as-before : limitsIn s ≡ limitsFrom s 16 (constraintsIn s)
-  pub factors-as-before : factorsIn s ≡ factorsFrom s 16 (formerNodes s) (constraintsIn s)
 
 pub read-as-before : (s : List ℕ) → gridFormIn s ≡ Narrow → ReadAsBefore s
 read-as-before s e = record { nodes-as-before = rw e; limits-as-before = rw e; factors-as-before = rw e }

@@ -12,8 +12,8 @@ use Rattle.layouts.specs.declared.forms.Form.the-variants.{Narrow, Wide}
 use Rattle.layouts.specs.GridFile.{gridFile, gridFormIn, nodesIn, constraintsIn, gridIn}
 use Rattle.grid_rules.specs.ReadGrid.{ReadGridCall, gridSizeChecks, readGridChecked, programBytes, programFactors}
 use Rattle.grid_rules.specs.WriteGrid.{writeGridCall, writeGridChecked}
-use Rattle.grid_rules.specs.Former.{formerGridChecks}
-use Rattle.grid_rules.proofs.BothForms.{former-refuses, former-number, ReadAsBefore, read-as-before, grid-in-file, factors-fit}
+use Rattle.grid_rules.specs.Former.{formerGridChecks, ReadAsBefore}
+use Rattle.grid_rules.proofs.BothForms.{former-refuses, former-number, read-as-before, grid-in-file, factors-fit}
 
 -- "Old readers must refuse every wide file": by 2, whatever else it holds
 pub old-grid-reader-refuses-wide : (q : ReadGridCall) → 2 ≤ length (q .file) → gridFormIn (q .file) ≡ Wide → formerFirst (formerGridChecks q) ≡ 2

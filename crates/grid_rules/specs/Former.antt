@@ -1,4 +1,5 @@
 -- The grid's reader of document 01, as it was before request 9: its list of checks over the narrow layout, by numbers.
+use mathlib.Core.Path.{_≡_}
 use mathlib.Core.Bool.{not, _||_}
 use mathlib.Core.List.{List, [], _∷_}
 use Prim.Native.Nat.{ℕ, _*_}
@@ -9,7 +10,7 @@ use Rattle.bits.specs.Bits.{field}
 use Rattle.tariff.specs.Checks.{limitBad, factorBad}
 use Rattle.tariff.specs.Former.{FormerCheck, formerly}
 use Rattle.layouts.specs.Files.{bytesFor, padFor}
-use Rattle.layouts.specs.GridFile.{bitsBehind, limitsFrom, factorsFrom}
+use Rattle.layouts.specs.GridFile.{bitsBehind, nodesIn, constraintsIn, limitsFrom, factorsFrom, limitsIn, factorsIn}
 use Rattle.grid_rules.specs.ReadGrid.{ReadGridCall}
 
 -- "nodes 8 bits, constraints 7, spare 1", then the limits, the factors and the padding
@@ -38,3 +39,9 @@ formerGridChecks q =
     ∷ formerly (ltb (length (q .limits)) (formerConstraints (q .file))) 9
     ∷ formerly (ltb (length (q .factors)) (formerNodes (q .file) * formerConstraints (q .file))) 9
     ∷ []
+
+-- what is read from a narrow file
+pub record ReadAsBefore (s : List ℕ) : Type 0 where
+  pub nodes-as-before : nodesIn s ≡ formerNodes s
+  pub limits-as-before : limitsIn s ≡ limitsFrom s 16 (constraintsIn s)
+  pub factors-as-before : factorsIn s ≡ factorsFrom s 16 (formerNodes s) (constraintsIn s)

@@ -19,7 +19,7 @@ use Rattle.tariff.proofs.Checks.{first-passes, last-passes, passed-cons}
 use Rattle.layouts.specs.declared.forms.Form.{Form}
 use Rattle.layouts.specs.Forms.{endWidth}
 use Rattle.layouts.specs.BookFile.{bookBytes, bookFile, contractIn}
-use Rattle.layouts.specs.Inner.{ContractFits}
+use Rattle.layouts.specs.BookTable.{ContractFits}
 use Rattle.layouts.proofs.BookFile.{book-written, contract-in-fits}
 use Rattle.books.specs.BookChecks.{contractChecks}
 use Rattle.books.specs.Inner.{headerBytes}

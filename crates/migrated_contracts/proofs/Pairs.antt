@@ -18,7 +18,7 @@ use Rattle.layouts.specs.declared.forms.Form.{Form}
 use Rattle.layouts.specs.declared.forms.Form.the-variants.{Narrow, Wide}
 use Rattle.layouts.specs.Forms.{recordBytes}
 use Rattle.layouts.specs.BookFile.{bookBytes}
-use Rattle.layouts.specs.Inner.{ContractFits}
+use Rattle.layouts.specs.BookTable.{ContractFits}
 use Rattle.books.specs.Inner.{contractBytes}
 use Rattle.books.proofs.Making.{front-more}
 use Rattle.migration_rules.specs.Contracts.{gained, countered, migrates, share, pairFor, pairsTo, newFrom}

@@ -14,7 +14,7 @@ use Rattle.tariff.specs.Units.{maxEntities, maxLoad, maxQuantity, maxContracts}
 use Rattle.layouts.specs.declared.forms.Form.{Form}
 use Rattle.layouts.specs.Forms.{endWidth}
 use Rattle.layouts.specs.BookFile.{bookBytes}
-use Rattle.layouts.specs.Inner.{ContractFits}
+use Rattle.layouts.specs.BookTable.{ContractFits}
 use Rattle.books.specs.Inner.{bookFront}
 use Rattle.migration_rules.specs.Transfers.{load}
 use Rattle.migration_rules.specs.Contracts.{gained, countered}

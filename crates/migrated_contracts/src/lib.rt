@@ -8,7 +8,7 @@ ghost use Rattle.lists.specs.Lent.{before, after};
 ghost use Rattle.tariff.specs.Units.{maxContracts, maxQuantity};
 ghost use Rattle.layouts.specs.Forms.{endWidth};
 ghost use Rattle.layouts.specs.BookFile.{bookBytes};
-ghost use Rattle.layouts.specs.Inner.{ContractFits};
+ghost use Rattle.layouts.specs.BookTable.{ContractFits};
 ghost use Rattle.migration_rules.specs.Contracts.{gained, countered, obliges, migrates as migratesBy, share, pairsTo, newFrom};
 ghost use Rattle.load_transfers.specs.Squares.{ofNet, rowLosses};
 ghost use Rattle.migrated_contracts.specs.Inner.{RowReady, NetReady, Held, Basis, entityNumber, pairOf, Appended};

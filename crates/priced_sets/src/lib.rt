@@ -6,7 +6,7 @@ ghost use lib.ListN.{length, take};
 ghost use Rattle.lists.specs.Sets.{setOf};
 ghost use Rattle.lists.specs.Lent.{before};
 ghost use Rattle.tariff.specs.Units.{factorsOf, maxConstraints};
-ghost use Rattle.tariff.specs.Inner.{InRange};
+ghost use Rattle.tariff.specs.Contracts.{InRange};
 ghost use Rattle.tariff.specs.Settlement.{pricedSet};
 ghost use Rattle.tables.specs.Inner.{Hour};
 ghost use Rattle.priced_sets.specs.Inner.{Row, differAt, postedIn};

@@ -18,7 +18,7 @@ use Rattle.tariff.proofs.Checks.{first-passes, passed-cons, passed-append, node
 use Rattle.layouts.specs.declared.forms.Form.{Form}
 use Rattle.layouts.specs.Forms.{endWidth, endsBelow}
 use Rattle.layouts.specs.BookFile.{bookBytes, contractCountIn, bookFormIn, contractAt, bookIn}
-use Rattle.layouts.specs.Inner.{ContractFits}
+use Rattle.layouts.specs.BookTable.{ContractFits}
 use Rattle.layouts.proofs.BookFile.{contract-in-fits, ends-fewer, end-below, end-fits}
 use Rattle.books.specs.BookChecks.{contractChecks, bookChecks}
 use Rattle.books.proofs.Accepted.{Accepted, contracts-pass, book-accepted}

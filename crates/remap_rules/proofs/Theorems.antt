@@ -3,7 +3,8 @@ use mathlib.Core.Path.{_≡_, refl, sym, ap, _∙_}
 use mathlib.Core.List.{List, [], _++_, map, map-id, map-map}
 use Prim.Native.Nat.{ℕ}
 use lib.ListN.{length}
-use Rattle.bits.proofs.Bytes.{Bytes, bytes-below}
+use Rattle.bits.proofs.Bytes.{bytes-below}
+use Rattle.bits.specs.Bits.{Bytes}
 use Rattle.tariff.specs.declared.contracts.Contract.{Contract}
 use Rattle.tariff.specs.declared.refusals.Checked.the-variants.{Passed}
 use Rattle.tariff.specs.Refusals.{first}
@@ -15,13 +16,7 @@ use Rattle.books.proofs.Accepted.{book-accepted}
 use Rattle.remap_rules.specs.RemapBook.{movedEnd, remapped, RemapBookCall, remapBookCall, remapBookChecked, bookRemapped}
 use Rattle.remap_rules.proofs.Moving.{moved-append}
 use Rattle.remap_rules.proofs.Accepted.{remappable, book-remade, length-remade}
-
--- what stays of a contract: all but its ends
-pub record Kept (c d : Contract) : Type 0 where
-  pub kind : d .kind ≡ c .kind
-  pub period : d .period ≡ c .period
-  pub holder : d .holder ≡ c .holder
-  pub quantity : d .quantity ≡ c .quantity
+use Rattle.remap_rules.specs.Theorems.{Kept}
 
 pub remap-keeps : (olds news : List ℕ) (c : Contract) → Kept c (remapped olds news c)
 unfolding remapped

@@ -8,7 +8,7 @@ use Rattle.tariff.specs.Refusals.{Check}
 use Rattle.tariff.specs.Units.{maxNodes}
 use Rattle.layouts.specs.declared.forms.Form.{Form}
 use Rattle.layouts.specs.Forms.{endWidth, endsBelow}
-use Rattle.layouts.specs.Inner.{ContractFits}
+use Rattle.layouts.specs.BookTable.{ContractFits}
 use Rattle.remap_rules.specs.RemapBook.{movedEnd, listedNodes, unequalLists}
 
 -- the lists' checks: 11, 11, 9

@@ -1,2 +1,3 @@
 pub mod RemapBook
 pub mod Inner
+pub mod Theorems

@@ -23,7 +23,7 @@ use Rattle.feasibility_test.specs.declared.Flows.{Flows}
 use Rattle.feasibility_test.specs.declared.TestAnswer.{TestAnswer}
 use Rattle.feasibility_test.specs.declared.TestAnswer.the-variants.{Pass}
 use Rattle.feasibility_test.specs.TestBook.{TestCall, testOutcome, testedGrid, testedProcess, testedContracts, testValues}
-use Rattle.feasibility_test.specs.Inner.{Carries}
+use Rattle.feasibility_test.specs.Carried.{Carries}
 use Rattle.flows.specs.declared.FlowsAnswer.{FlowsAnswer}
 use Rattle.flows.specs.FindFlows.{FlowsCall, flowsOutcome, findFlowsChecked, countedContracts, flowCells}
 use Rattle.settlement.specs.declared.SettleAnswer.{SettleAnswer}

@@ -8,7 +8,7 @@ ghost use Rattle.text.specs.Inner.{Put};
 ghost use Rattle.tariff.specs.Units.{factorsOf, gridOf};
 ghost use Rattle.tariff.specs.Contracts.{ofPeriod};
 ghost use Rattle.layouts.specs.BookFile.{bookIn};
-ghost use Rattle.feasibility_test.specs.Inner.{Carries};
+ghost use Rattle.feasibility_test.specs.Carried.{Carries};
 ghost use Rattle.report_rules.specs.Report.{periodWord, processWord, line, periodLines, lines};
 ghost use Rattle.report_rules.specs.WriteReport.{reportRoom};
 ghost use Rattle.report_rules.specs.Inner.{Reportable, periodRoom, processRoom, lineRoom, periodLinesRoom};

@@ -17,8 +17,8 @@ use Rattle.tariff.specs.declared.contracts.Period.{Period}
 use Rattle.tariff.specs.declared.processes.Process.{Process}
 use Rattle.tariff.specs.Refusals.{Outcome, given}
 use Rattle.tariff.specs.Units.{Grid, gridOf, maxLimit, maxContracts}
-use Rattle.tariff.specs.Contracts.{ofPeriod}
-use Rattle.tariff.specs.Inner.{FactorsInRange, LimitsInRange, InRange}
+use Rattle.tariff.specs.Contracts.{ofPeriod, InRange}
+use Rattle.tariff.specs.Inner.{FactorsInRange, LimitsInRange}
 use Rattle.tariff.specs.Feasibility.{excess, overloaded, overloadSet, overloadCount, lowestOverload}
 use Rattle.tariff.proofs.Answers.{never-given}
 use Rattle.tariff.proofs.Overloads.{fails-lowest}

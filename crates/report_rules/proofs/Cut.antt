@@ -4,7 +4,7 @@ use mathlib.Core.List.{List}
 use Prim.Native.Nat.{ℕ}
 use native.Mathlib.Omega.{arith}
 use lib.ListN.{take}
-use Rattle.bits.proofs.Bytes.{Bytes}
+use Rattle.bits.specs.Bits.{Bytes}
 use Rattle.texts.specs.WithFiles.{withGrid}
 use Rattle.texts.proofs.Cut.{gridCut, bookCut, cut-grid, cut-book}
 use Rattle.report_rules.specs.Report.{lines}

@@ -7,7 +7,8 @@ use borrow.Author.Tests.{le-ltb}
 use lib.ListN.{length, take}
 use lib.IntN.{pos}
 use Rattle.bits.proofs.Fields.{field-lt}
-use Rattle.bits.proofs.Bytes.{Bytes, bytes-below}
+use Rattle.bits.proofs.Bytes.{bytes-below}
+use Rattle.bits.specs.Bits.{Bytes}
 use Rattle.lists.specs.Lent.{overwrite}
 use Rattle.tariff.specs.declared.refusals.Checked.the-variants.{Passed}
 use Rattle.tariff.proofs.Checks.{first-passes, last-passes, passed-cons}

@@ -17,9 +17,9 @@ use Rattle.lists.specs.Lists.{some, listTo}
 use Rattle.lists.proofs.Lists.{listTo-cong}
 use Rattle.lists.proofs.Search.{neither, none-bad, some-bad, cell-in}
 use Rattle.tariff.specs.declared.contracts.Contract.{Contract}
-use Rattle.tariff.specs.Units.{Factors, factorsOf, maxConstraints, maxContracts}
+use Rattle.tariff.specs.Units.{Factors, factorsOf, maxConstraints, maxContracts, maxFlow}
 use Rattle.tariff.specs.Feasibility.{flow}
-use Rattle.tariff.specs.Inner.{InRange, maxFlow}
+use Rattle.tariff.specs.Contracts.{InRange}
 use Rattle.tariff.proofs.Sizes.{flow-sized}
 use Rattle.tables.specs.Inner.{GoodFactors}
 use Rattle.feasibility_test.specs.declared.Flows.{Flows}

@@ -18,10 +18,10 @@ use Rattle.lists.proofs.Sets.{set-cong}
 use Rattle.tariff.specs.declared.contracts.Contract.{Contract}
 use Rattle.tariff.specs.declared.contracts.Period.{Period}
 use Rattle.tariff.specs.declared.processes.Process.{Process}
-use Rattle.tariff.specs.Units.{Factors, factorsOf, gridOf}
-use Rattle.tariff.specs.Contracts.{samePeriod, ofPeriod}
+use Rattle.tariff.specs.Units.{Factors, factorsOf, gridOf, maxFlow}
+use Rattle.tariff.specs.Contracts.{samePeriod, ofPeriod, InRange}
 use Rattle.tariff.specs.Feasibility.{flow, totalFlow, released, overloaded, overloadSet}
-use Rattle.tariff.specs.Inner.{InRange, FactorsInRange, maxFlow}
+use Rattle.tariff.specs.Inner.{FactorsInRange}
 use Rattle.tariff.proofs.Sizes.{totalFlow-sized, ofPeriod-in-range}
 use Rattle.tariff.proofs.Periods.{ofPeriod-same, sumOver-more}
 use Rattle.tariff.specs.Processes.{percent}

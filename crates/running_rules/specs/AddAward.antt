@@ -15,11 +15,10 @@ use Rattle.tariff.specs.declared.contracts.Contract.{Contract}
 use Rattle.tariff.specs.declared.contracts.Period.{Period}
 use Rattle.tariff.specs.declared.processes.Process.{Process}
 use Rattle.tariff.specs.declared.refusals.Checked.{Checked}
-use Rattle.tariff.specs.Units.{Factors, Grid, factorsOf, gridOf}
+use Rattle.tariff.specs.Units.{Factors, Grid, factorsOf, gridOf, maxFlow}
 use Rattle.tariff.specs.Contracts.{samePeriod, periodOf}
 use Rattle.tariff.specs.Processes.{processOf}
 use Rattle.tariff.specs.Feasibility.{released}
-use Rattle.tariff.specs.Inner.{maxFlow}
 use Rattle.tariff.specs.Refusals.{Check, first, answered, numberAfter}
 use Rattle.tariff.specs.Checks.{shortTable}
 use Rattle.layouts.specs.BookTable.{contractCells, rowAt}

@@ -10,7 +10,7 @@ use Rattle.tariff.specs.declared.contracts.Contract.{Contract}
 use Rattle.tariff.specs.declared.processes.Process.{Process}
 use Rattle.tariff.specs.declared.refusals.Refusal.the-variants.{ShortTable}
 use Rattle.tariff.specs.Units.{Factors, maxConstraints, maxLimit, maxContracts}
-use Rattle.tariff.specs.Inner.{InRange}
+use Rattle.tariff.specs.Contracts.{InRange}
 use Rattle.tariff.specs.Refusals.{Check}
 use Rattle.tariff.specs.Checks.{nodeCount, constraintCount, processNumber, periodNumber, shortTable, contractCount}
 use Rattle.tables.specs.Inner.{GoodFactors, GoodCells}

@@ -11,9 +11,9 @@ use lib.ListN.{length, getD, set}
 use lib.IntN.{ℤ, natAbs}
 use lib.Seq.{getD-set-same, getD-set-other}
 use Rattle.tariff.specs.Units.{maxCoordinators, maxBalance, maxDemand}
-use Rattle.largest_remainders.specs.Ranks.{addTo}
+use Rattle.largest_remainders.specs.Ranks.{addTo, keysFrom}
 use Rattle.largest_remainders.specs.Shares.{total, whole, rest, leftover, rank, given, share}
-use Rattle.largest_remainders.specs.Inner.{keyOf, keyAt, keysFrom, Searchable}
+use Rattle.largest_remainders.specs.Inner.{keyOf, keyAt, Searchable}
 use Rattle.largest_remainders.proofs.Counting.{addTo-bounded, addTo-more, addTo-prefix}
 use Rattle.largest_remainders.proofs.Order.{rank-by-key, keys-apart, key-small}
 use Rattle.largest_remainders.proofs.Sharing.{rest-lt, wholes-le, leftover-small}

@@ -6,7 +6,8 @@ use lib.ListN.{length, getD}
 use lib.IntN.{ℤ, natAbs}
 use Rattle.tariff.specs.Units.{maxCoordinators, maxBalance, maxDemand}
 use Rattle.largest_remainders.specs.Shares.{whole, rest, leftover}
-use Rattle.largest_remainders.specs.Inner.{keyOf, keyAt, keysFrom}
+use Rattle.largest_remainders.specs.Inner.{keyOf, keyAt}
+use Rattle.largest_remainders.specs.Ranks.{keysFrom}
 use Rattle.share_rules.specs.ShareBalance.{demandOf, totalOf}
 
 abbrev pub maxTotal : ℕ

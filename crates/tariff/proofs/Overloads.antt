@@ -11,7 +11,8 @@ use Rattle.integers.proofs.Linear.{⊖of, ⊖s}
 use Rattle.tariff.specs.declared.contracts.Contract.{Contract}
 use Rattle.tariff.specs.declared.processes.Process.{Process}
 use Rattle.tariff.specs.Units.{Grid}
-use Rattle.lists.proofs.Sets.{Lowest, set-lowest, set-empty}
+use Rattle.lists.proofs.Sets.{set-lowest, set-empty}
+use Rattle.lists.specs.Sets.{Lowest}
 use Rattle.tariff.specs.Feasibility.{totalFlow, released, Passes, excess, overloaded, overloadSet, lowestOverload}
 
 -- ---- the test

@@ -11,7 +11,8 @@ use lib.IntN.{ℤ, pos, negℤ, _+ℤ_, _*ℤ_}
 use lib.Signed.{_≤ℤ_, _<ℤ_}
 use Rattle.integers.specs.Sums.{sumTo}
 use Rattle.lists.specs.Lists.{Each}
-use Rattle.lists.proofs.Sets.{Lowest, set-ones, set-trailing}
+use Rattle.lists.proofs.Sets.{set-ones, set-trailing}
+use Rattle.lists.specs.Sets.{Lowest}
 use Rattle.tariff.specs.declared.contracts.Contract.{Contract}
 use Rattle.tariff.specs.declared.contracts.Kind.the-variants.{Option}
 use Rattle.tariff.specs.declared.contracts.Period.{Period}

@@ -8,8 +8,8 @@ use borrow.Author.Tests.{ltb-true, ltb-false, lt-ltb, le-ltb}
 use lib.Dec.{ltb}
 use lib.ListN.{length, take}
 use lib.Seq.{take-all, length-take-le}
-use Rattle.bits.specs.Bits.{field}
-use Rattle.bits.proofs.Bytes.{Bytes, bytes-below}
+use Rattle.bits.specs.Bits.{field, Bytes}
+use Rattle.bits.proofs.Bytes.{bytes-below}
 use Rattle.bits.proofs.Fields.{field-window}
 use Rattle.tariff.specs.declared.contracts.Contract.{Contract}
 use Rattle.tariff.specs.declared.contracts.Period.{Period}

@@ -7,7 +7,7 @@ use borrow.Author.Needs.{needs}
 use borrow.Author.Tests.{eqb-true, eqb-false}
 use lib.ListN.{length}
 use Rattle.layouts.specs.Forms.{endWidth}
-use Rattle.layouts.specs.Inner.{ContractFits}
+use Rattle.layouts.specs.BookTable.{ContractFits}
 use Rattle.layouts.proofs.BookFile.{record-room}
 use Rattle.migrated_contracts.specs.Inner.{pairOf}
 use Rattle.migrated_contracts.proofs.Pairs.{fits-gained, fits-countered, none-appended, one-appended, more-appended, pair-none, pair-some}

@@ -1,6 +1,7 @@
 -- The array's figures as a list, a year a line, as `cell` gives them; `table-right` says that they are the rule's.
 use mathlib.Core.List.{List, [], _∷_}
-use Prim.Native.Nat.{ℕ}
+use Prim.Native.Nat.{ℕ, _+_, _-_, _*_}
+use Rattle.calendar.specs.Dates.{firstYear}
 
 abbrev pub cells : List ℕ
 cells =
@@ -33,3 +34,7 @@ cells =
     ∷ 416 ∷ 400 ∷ 416 ∷ 416 ∷ 416 ∷ 400 ∷ 416 ∷ 416 ∷ 400 ∷ 432 ∷ 384 ∷ 416
     ∷ 416 ∷ 384 ∷ 416 ∷ 416 ∷ 400 ∷ 416 ∷ 416 ∷ 416 ∷ 400 ∷ 432 ∷ 384 ∷ 416
     ∷ []
+
+-- the cell of a year and a month
+abbrev pub place : ℕ → ℕ → ℕ
+place y m = (y - firstYear) * 12 + (m - 1)
