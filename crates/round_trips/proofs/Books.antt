@@ -4,7 +4,7 @@ use mathlib.Core.List.{List, [], _∷_, flatMap}
 use Prim.Native.Nat.{ℕ, _*_, _≤_}
 use lib.ListN.{length, take}
 use lib.IntN.{pos}
-use Rattle.bits.proofs.Bytes.{Bytes, bytes-below}
+use Rattle.bits.proofs.Bytes.{bytes-below}
 use Rattle.lists.specs.Lent.{overwrite}
 use Rattle.tariff.specs.declared.refusals.Checked.the-variants.{Passed}
 use Rattle.tariff.proofs.Answers.{never-given, given-told}
@@ -22,12 +22,12 @@ use Rattle.book_file.specs.ReadBook.{readBookCall, readBookChecked, bookValues,
 use Rattle.book_file.specs.WriteBook.{writeBookCall, writeBookChecked, bookWritten, WritesBook}
 use Rattle.book_file.proofs.RoundTrip.{ReadBack, read-then-written, written-then-read}
 use Rattle.book_file.proofs.Taken.{rows-left, rows-accepted}
-use Rattle.round_trips.specs.Trips.{BookIs}
+use Rattle.round_trips.specs.Trips.{EachAByte, BookIs}
 use Rattle.round_trips.proofs.Grids.{same-form}
 
 -- ---- read, then written
 
-module _ (n : ℕ) (s entry : List ℕ) (bytes : Bytes s) (m : ℕ) (f : Form) (table : List ℕ) (h : ReadsBook (readBookCall n s entry) (Read m f) table) (place : List ℕ)
+module _ (n : ℕ) (s entry : List ℕ) (bytes : EachAByte s) (m : ℕ) (f : Form) (table : List ℕ) (h : ReadsBook (readBookCall n s entry) (Read m f) table) (place : List ℕ)
     (room : length s ≤ length place) where
   told : (readBookChecked (readBookCall n s entry) ≡ Passed) × (pos m ∷ pos (formNumber f) ∷ [] ≡ bookValues (readBookCall n s entry))
   told = given-told (readBookChecked (readBookCall n s entry)) (bookValues (readBookCall n s entry)) (pos m ∷ pos (formNumber f) ∷ []) (h .values-given)

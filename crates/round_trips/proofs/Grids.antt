@@ -6,7 +6,7 @@ use native.Mathlib.Omega.{arith}
 use borrow.Author.Tests.{le-ltb}
 use lib.ListN.{length, take}
 use lib.IntN.{ℤ, pos}
-use Rattle.bits.proofs.Bytes.{Bytes, bytes-below}
+use Rattle.bits.proofs.Bytes.{bytes-below}
 use Rattle.lists.specs.Lent.{overwrite}
 use Rattle.lists.proofs.Fronts.{front-is, front-room}
 use Rattle.tariff.specs.declared.refusals.Checked.the-variants.{Passed}
@@ -28,7 +28,7 @@ use Rattle.grid_rules.specs.WriteGrid.{writeGridCall, writeGridChecks, writeGri
 use Rattle.grid_rules.proofs.Passing.{readable}
 use Rattle.grid_rules.proofs.Taken.{grid-taken}
 use Rattle.grid_rules.proofs.RoundTrip.{ReadBack, read-then-written, written-then-read}
-use Rattle.round_trips.specs.Trips.{GridIs}
+use Rattle.round_trips.specs.Trips.{EachAByte, GridIs}
 
 -- a form is told by its number
 pub same-form : (f g : Form) → formNumber f ≡ formNumber g → f ≡ g
@@ -36,7 +36,7 @@ same-form f g e = sym (form-of-number f) ∙ ap formOf e ∙ form-of-number g
 
 -- ---- read, then written
 
-module _ (s : List ℕ) (ls₀ : List ℕ) (fs₀ : List ℤ) (bytes : Bytes s) (passed : readGridChecked (readGridCall s ls₀ fs₀) ≡ Passed) (place : List ℕ) (room : length s ≤ length place) where
+module _ (s : List ℕ) (ls₀ : List ℕ) (fs₀ : List ℤ) (bytes : EachAByte s) (passed : readGridChecked (readGridCall s ls₀ fs₀) ≡ Passed) (place : List ℕ) (room : length s ≤ length place) where
   abbrev F : Form
   F = gridFormIn s
 
@@ -63,7 +63,7 @@ module _ (s : List ℕ) (ls₀ : List ℕ) (fs₀ : List ℤ) (bytes : Bytes s) 
       ∙ first-passes _ _ (rw (front-is (factorsIn s) fs₀ (N * K) (length-factors s (headerIn s) N K)) (seven .0))
       ∙ last-passes _ (le-ltb (length place) (gridBytes F N K) (omega (arith, size)))
 
-module _ (s : List ℕ) (ls₀ : List ℕ) (fs₀ : List ℤ) (bytes : Bytes s) (n k : ℕ) (f : Form) (ls : List ℕ) (fs : List ℤ)
+module _ (s : List ℕ) (ls₀ : List ℕ) (fs₀ : List ℤ) (bytes : EachAByte s) (n k : ℕ) (f : Form) (ls : List ℕ) (fs : List ℤ)
     (h : ReadsGrid (readGridCall s ls₀ fs₀) (Read n k f) ls fs)
     (place : List ℕ) (room : length s ≤ length place) where
   told : (readGridChecked (readGridCall s ls₀ fs₀) ≡ Passed) × (pos n ∷ pos k ∷ pos (formNumber f) ∷ [] ≡ gridValues (readGridCall s ls₀ fs₀))

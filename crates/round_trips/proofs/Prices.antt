@@ -7,7 +7,7 @@ use borrow.Author.Tests.{le-ltb}
 use lib.ListN.{length, take}
 use lib.IntN.{pos}
 use Rattle.bits.proofs.Fields.{field-lt}
-use Rattle.bits.proofs.Bytes.{Bytes, bytes-below}
+use Rattle.bits.proofs.Bytes.{bytes-below}
 use Rattle.lists.specs.Lent.{overwrite}
 use Rattle.tariff.specs.declared.refusals.Checked.the-variants.{Passed}
 use Rattle.tariff.proofs.Checks.{first-passes, last-passes, passed-cons}
@@ -24,11 +24,11 @@ use Rattle.price_file.specs.WritePrices.{writePricesCall, writePricesChecks, wr
 use Rattle.price_file.proofs.PriceLaws.{readable}
 use Rattle.price_file.proofs.Taken.{prices-taken}
 use Rattle.price_file.proofs.RoundTrip.{ReadBack, read-then-written, written-then-read}
-use Rattle.round_trips.specs.Trips.{PricesAre}
+use Rattle.round_trips.specs.Trips.{EachAByte, PricesAre}
 
 -- ---- read, then written
 
-module _ (k : ℕ) (s entry : List ℕ) (bytes : Bytes s) (t : ℕ) (table : List ℕ) (h : ReadsPrices (readPricesCall k s entry) (Read t) table) (place : List ℕ)
+module _ (k : ℕ) (s entry : List ℕ) (bytes : EachAByte s) (t : ℕ) (table : List ℕ) (h : ReadsPrices (readPricesCall k s entry) (Read t) table) (place : List ℕ)
     (room : length s ≤ length place) where
   passed : readPricesChecked (readPricesCall k s entry) ≡ Passed
   passed = given-told (readPricesChecked (readPricesCall k s entry)) (pos (periodIn s) ∷ []) (pos t ∷ []) (h .period-given) .0

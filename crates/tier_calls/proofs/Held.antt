@@ -27,7 +27,7 @@ use Rattle.layouts.specs.BookFile.{bookBytes, bookIn}
 use Rattle.layouts.proofs.Writing.{writes-passed, writes-told, written-by}
 use Rattle.tables.specs.TableChecks.{gridTableChecks}
 use Rattle.books.specs.BookChecks.{bookChecks}
-use Rattle.book_file.specs.WriteBook.{WriteBookCall, writeBookChecked, bookWritten, WritesBook, WritesBookForC}
+use Rattle.book_file.specs.WriteBook.{WriteBookCall, writeBookCall, writeBookChecked, bookWritten, WritesBook, WritesBookForC}
 use Rattle.book_file.proofs.Accepted.{writable, rows-made, length-written}
 use Rattle.feasibility_test.specs.declared.TestAnswer.{TestAnswer}
 use Rattle.feasibility_test.specs.declared.TestAnswer.the-variants.{Pass}
@@ -80,9 +80,9 @@ module _ (q : OpenRunningCall) (s : Tiers) (cells : StateCells) (h : RunningIn q
     taken : writeBookChecked wq ≡ Passed
     taken =
         let r = h .running in
-        rw (r .holds .held-is)
-        (rows-taken (s .awards) (cells .awards) (r .holds .rows) f (q .nodes) (r .reached .each) ends (nodes-pass q (h .opened)) (r .reached .few) place
-        (rw (r .holds .held-is) at room))
+        ap (λ (m : ℕ). writeBookChecked (writeBookCall f (q .nodes) m (cells .awards) place)) (r .holds .held-is)
+        ∙ rows-taken (s .awards) (cells .awards) (r .holds .rows) f (q .nodes) (r .reached .each) ends (nodes-pass q (h .opened)) (r .reached .few) place
+        (rw (r .holds .held-is) at room)
 
     size : length (bookWritten wq) ≡ bookBytes f (heldIn (cells .numbers))
     size = length-written wq (writable wq taken)
