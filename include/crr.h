@@ -94,8 +94,9 @@
  *
  * After every call, refused or not, flows and count are those worked out afresh over
  * the awards held. These, written as a book by crr_write_book from the rows as they
- * stand, pass crr_test_book in the process and period, so that no list of shadow
- * prices makes their net payment exceed the congestion rent.
+ * stand, in a form that can hold their ends (the wide one always can), pass
+ * crr_test_book in the process and period, so that no list of shadow prices makes
+ * their net payment exceed the congestion rent.
  *
  * What callers owe for this: the state was opened by crr_open_running, no cell of it
  * was altered but by these functions, and counts, process, period and tables are the

@@ -3,7 +3,6 @@ use mathlib.Core.Path.{_≡_, refl, sym, ap, _∙_}
 use mathlib.Core.Bool.{Bool, true, false, cond}
 use mathlib.Core.List.{List, [], _∷_, _++_, append-assoc}
 use Prim.Native.Nat.{ℕ, _^_, _≤_, _<_}
-use native.Mathlib.Nat.{pos-of-ne-zero}
 use native.Mathlib.Omega.{arith}
 use borrow.Author.Tests.{eqb-false}
 use lib.Dec.{eqb}
@@ -21,7 +20,7 @@ use Rattle.tariff.specs.Contracts.{ofPeriod, InRange}
 use Rattle.tariff.specs.Inner.{FactorsInRange, LimitsInRange}
 use Rattle.tariff.specs.Feasibility.{excess, overloaded, overloadSet, overloadCount, lowestOverload}
 use Rattle.tariff.proofs.Answers.{never-given}
-use Rattle.tariff.proofs.Overloads.{fails-lowest}
+use Rattle.tariff.proofs.Overloads.{passes-empty, fails-lowest}
 use Rattle.tariff.proofs.Sizes.{excess-sized, ofPeriod-in-range}
 use Rattle.layouts.specs.BookFile.{bookIn}
 use Rattle.layouts.proofs.BookFile.{length-bookIn}
@@ -85,7 +84,7 @@ module _ (g : Grid) (process : Process) (cs : List Contract) where
   over-small fs ls each few Pass e = omega arith
   over-small fs ls each few (Fail set count lowest over) e =
       let f = fail-told set count lowest (over .0) e in
-      let inside = fails-lowest g process cs (pos-of-ne-zero {n = overloadSet g process cs} (eqb-false (overloadSet g process cs) 0 (f .some-set))) .inside in
+      let inside = fails-lowest g process cs (λ p. eqb-false (overloadSet g process cs) 0 (f .some-set) (passes-empty g process cs .0 p)) .inside in
       rw (f .over-is) (omega (arith, excess-sized g fs ls process cs (lowestOverload g process cs) each inside))
   over-small fs ls each few (NotTested r) e = absurd (never-given r _ e)
 

@@ -10,14 +10,16 @@ use Rattle.tariff.specs.declared.refusals.Refusal.{Refusal}
 use Rattle.tariff.specs.declared.refusals.Checked.{Checked}
 use Rattle.tariff.specs.declared.refusals.Checked.the-variants.{Passed, Refused}
 use Rattle.tariff.specs.Refusals.{given, answered, numberAfter}
+use Rattle.tariff.proofs.Answers.{none-refused, figure-is}
 use Rattle.layouts.specs.declared.WriteAnswer.{WriteAnswer}
 use Rattle.layouts.specs.declared.WriteAnswer.the-variants as is
 use Rattle.layouts.specs.Forms.{formNumber, formOf}
 use Rattle.layouts.specs.BookFile.{contractCountIn, bookFormIn}
 use Rattle.layouts.specs.GridFile.{gridFormIn, nodesIn, constraintsIn}
 use Rattle.layouts.specs.PriceFile.{periodIn}
-use Rattle.layouts.specs.Writing.{Writes, WritesForC}
+use Rattle.layouts.specs.Writing.{Writes, WritesForC, IsWritten}
 use Rattle.layouts.proofs.FormLaws.{form-of-number}
+use Rattle.layouts.proofs.Writing.{written-by}
 use Rattle.grid_rules.specs.declared.GridAnswer.{GridAnswer}
 use Rattle.grid_rules.specs.declared.GridAnswer.the-variants as grid
 use Rattle.grid_rules.specs.ReadGrid.{ReadGridCall, readGridChecked, gridValues, ReadsGrid, ReadsGridForC}
@@ -27,13 +29,11 @@ use Rattle.book_file.specs.ReadBook.{ReadBookCall, readBookChecked, bookValues,
 use Rattle.price_file.specs.declared.PriceAnswer.{PriceAnswer}
 use Rattle.price_file.specs.declared.PriceAnswer.the-variants as prices
 use Rattle.price_file.specs.ReadPrices.{ReadPricesCall, readPricesChecked, ReadsPrices, ReadsPricesForC}
-use Rattle.write_answers.proofs.ForC.{none-refused, figure-is, written-by}
+use Rattle.round_trips.specs.Trips.{GridIs, BookIs, PricesAre}
 use Rattle.round_trips.specs.ForC.{WrittenForC, GridForC, BookForC, PricesForC, RoundTripsForC}
-use Rattle.write_answers.proofs.Exits.{IsWritten}
-use Rattle.round_trips.proofs.Grids.{GridIs}
-use Rattle.round_trips.proofs.Books.{BookIs}
-use Rattle.round_trips.proofs.Prices.{PricesAre}
-use Rattle.round_trips.proofs.Theorems as T
+use Rattle.round_trips.proofs.Grids.{grid-rewritten, grid-reread}
+use Rattle.round_trips.proofs.Books.{book-rewritten, book-reread}
+use Rattle.round_trips.proofs.Prices.{prices-rewritten, prices-reread}
 
 -- whatever the entry answers, the file is written: so for C
 written-for-c : (c : Checked) (file place s : List ℕ) (number : ℕ) (exit : List ℕ) (bytes : Lent ℕ) → WritesForC c file place (before bytes) number exit (after bytes)
@@ -146,19 +146,19 @@ pub round-trips-for-c : RoundTripsForC
 round-trips-for-c =
     record {
       crr-grid-read-then-written = λ s ls₀ fs₀ bytes ls fs nodes constraints form h place room number exit length-cell w.
-          written-for-c _ _ place s number exit length-cell w (λ a. T.grid-read-then-written s ls₀ fs₀ bytes _ _ _ ls fs (grid-by _ ls fs nodes constraints form h) place room a exit);
+          written-for-c _ _ place s number exit length-cell w (λ a. grid-rewritten s ls₀ fs₀ bytes _ _ _ ls fs (grid-by _ ls fs nodes constraints form h) place room a exit);
       crr-book-read-then-written = λ n s entry bytes table contracts form h place room number exit length-cell w.
-          written-for-c _ _ place s number exit length-cell w (λ a. T.book-read-then-written n s entry bytes _ _ table (book-by _ table contracts form h) place room a exit);
+          written-for-c _ _ place s number exit length-cell w (λ a. book-rewritten n s entry bytes _ _ table (book-by _ table contracts form h) place room a exit);
       crr-prices-read-then-written = λ k s entry bytes table period h place room number exit length-cell w.
-          written-for-c _ _ place s number exit length-cell w (λ a. T.prices-read-then-written k s entry bytes _ table (prices-by _ table period h) place room a exit);
+          written-for-c _ _ place s number exit length-cell w (λ a. prices-rewritten k s entry bytes _ table (prices-by _ table period h) place room a exit);
       crr-grid-written-then-read = λ form n k limits factors place exit bytes w ls₀ fs₀ cells places number ls fs nodes constraints told r.
           grid-for-c _ number ls fs nodes constraints told r form n k limits factors ls₀ fs₀
-          (λ a. T.grid-written-then-read (formOf form) n k limits factors place (after bytes) exit (written-by _ _ place (before bytes) exit (after bytes) w) ls₀ fs₀ cells places a ls fs)
+          (λ a. grid-reread (formOf form) n k limits factors place (after bytes) exit (written-by _ _ place (before bytes) exit (after bytes) w) ls₀ fs₀ cells places a ls fs)
           _ refl;
       crr-book-written-then-read = λ form n m rows place exit bytes w entry room number table contracts told r.
           book-for-c _ number table contracts told r form m rows entry
-          (λ a. T.book-written-then-read (formOf form) n m rows place (after bytes) exit (written-by _ _ place (before bytes) exit (after bytes) w) entry room a table) _ refl;
+          (λ a. book-reread (formOf form) n m rows place (after bytes) exit (written-by _ _ place (before bytes) exit (after bytes) w) entry room a table) _ refl;
       crr-prices-written-then-read = λ t k list place exit bytes w entry room number table period r.
           prices-for-c _ number table period r t k list entry
-          (λ a. T.prices-written-then-read t k list place (after bytes) exit (written-by _ _ place (before bytes) exit (after bytes) w) entry room a table) _ refl;
+          (λ a. prices-reread t k list place (after bytes) exit (written-by _ _ place (before bytes) exit (after bytes) w) entry room a table) _ refl;
     }

@@ -2,8 +2,8 @@
 -- forms; `entry` cells are those lent to the reader, `place` those lent to the writer.
 use mathlib.Core.Path.{_≡_}
 use mathlib.Core.List.{List}
-use Prim.Native.Nat.{ℕ, _*_, _≤_, _<_}
-use lib.ListN.{length, getD, take}
+use Prim.Native.Nat.{ℕ, _*_, _≤_}
+use lib.ListN.{length, take}
 use lib.IntN.{ℤ}
 use Rattle.lists.specs.Lent.{Lent, after, overwrite}
 use Rattle.layouts.specs.Forms.{formNumber, formOf}
@@ -14,10 +14,7 @@ use Rattle.book_file.specs.ReadBook.{readBookCall, ReadsBookForC}
 use Rattle.book_file.specs.WriteBook.{writeBookCall, WritesBookForC}
 use Rattle.price_file.specs.ReadPrices.{readPricesCall, ReadsPricesForC}
 use Rattle.price_file.specs.WritePrices.{writePricesCall, WritesPricesForC}
-
--- what a slice of u8 holds
-abbrev pub EachAByte : List ℕ → Type 0
-EachAByte s = (i : ℕ) → i < length s → getD s i 0 < 256
+use Rattle.bits.specs.Bits.{Bytes}
 
 -- 0 is answered, and the file s is written into the place: its length is given, its bytes stand at the front, and the others are as they were
 pub record WrittenForC (s place : List ℕ) (number : ℕ) (exit : List ℕ) (bytes : Lent ℕ) : Type 0 where
@@ -49,13 +46,14 @@ pub record PricesForC (t k : ℕ) (prices entry : List ℕ) (number : ℕ) (tabl
 -- THE STATEMENTS
 pub record RoundTripsForC : Type 0 where
   -- "an accepted file, read and then written, is the same bytes": figures and tables as the reader left them, written into any place that is long enough
-  pub crr-grid-read-then-written : (s ls₀ : List ℕ) (fs₀ : List ℤ) → EachAByte s → (ls : List ℕ) (fs : List ℤ) (nodes constraints form : Lent ℕ)
-      → ReadsGridForC (readGridCall s ls₀ fs₀) 0 ls fs nodes constraints form → (place : List ℕ) → length s ≤ length place → (number : ℕ) (exit : List ℕ) (bytes : Lent ℕ)
+  pub crr-grid-read-then-written : (s ls₀ : List ℕ) (fs₀ : List ℤ) → Bytes s → (ls : List ℕ) (fs : List ℤ) (nodes constraints form : Lent ℕ)
+      → ReadsGridForC (readGridCall s ls₀ fs₀) 0 ls fs nodes constraints form → (place : List ℕ) → length s ≤ length place
+      → (number : ℕ) (exit : List ℕ) (bytes : Lent ℕ)
       → WritesGridForC (writeGridCall (formOf (after form)) (after nodes) (after constraints) ls fs place) number exit bytes → WrittenForC s place number exit bytes
-  pub crr-book-read-then-written : (n : ℕ) (s entry : List ℕ) → EachAByte s → (table : List ℕ) (contracts form : Lent ℕ)
+  pub crr-book-read-then-written : (n : ℕ) (s entry : List ℕ) → Bytes s → (table : List ℕ) (contracts form : Lent ℕ)
       → ReadsBookForC (readBookCall n s entry) 0 table contracts form → (place : List ℕ) → length s ≤ length place → (number : ℕ) (exit : List ℕ) (bytes : Lent ℕ)
       → WritesBookForC (writeBookCall (formOf (after form)) n (after contracts) table place) number exit bytes → WrittenForC s place number exit bytes
-  pub crr-prices-read-then-written : (k : ℕ) (s entry : List ℕ) → EachAByte s → (table : List ℕ) (period : Lent ℕ)
+  pub crr-prices-read-then-written : (k : ℕ) (s entry : List ℕ) → Bytes s → (table : List ℕ) (period : Lent ℕ)
       → ReadsPricesForC (readPricesCall k s entry) 0 table period → (place : List ℕ) → length s ≤ length place → (number : ℕ) (exit : List ℕ) (bytes : Lent ℕ)
       → WritesPricesForC (writePricesCall (after period) k table place) number exit bytes → WrittenForC s place number exit bytes
   -- "a grid, book or price list written and then read is the same": the first bytes of the writer's place, as many as it gives, read into any tables that are

@@ -11,7 +11,7 @@ use Rattle.tariff.specs.Refusals.{Outcome}
 use Rattle.tariff.proofs.Answers.{numbered, never-given, given-told}
 use Rattle.layouts.specs.declared.WriteAnswer.{WriteAnswer}
 use Rattle.layouts.specs.Writing.{Writes, WritesForC}
-use Rattle.write_answers.proofs.ForC.{answerBy, writes-by}
+use Rattle.layouts.proofs.Writing.{answerBy, writes-by}
 use Rattle.view_rules.specs.Theorems.{Alike}
 use Rattle.view_rules.specs.ForC.{AlikeForC, ViewsForC}
 use Rattle.view_rules.proofs.Theorems.{market-blind, holder-blind}

@@ -1,0 +1,4 @@
+pub mod Alike
+pub mod Settled
+pub mod Migration
+pub mod Market

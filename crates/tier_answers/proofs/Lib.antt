@@ -1,2 +1,0 @@
-pub mod Relieved
-pub mod Theorems
