@@ -1,16 +1,12 @@
-// Goes through document 01's checked values, the vectors of its sources and those of document 02's requests with the proved entries, and prints each
-// beside what is expected.
+// The edges that document 01 lists behind P11, and those that paper 9 of document 02 sets for both forms, asked of the proved entries. A line each: what
+// was asked, then 0 or the number of the refusal. All other vectors are lines of tests/vectors.
+mod book_edges;
+mod grid_edges;
+mod lines;
+mod price_edges;
+
 fn main() {
-    vectors::go_through();
-    request_vectors::go_through();
-    calendar_vectors::go_through();
-    share_vectors::go_through();
-    cut_vectors::go_through();
-    view_vectors::go_through();
-    settled_vectors::go_through();
-    hub_vectors::go_through();
-    migration_vectors::go_through();
-    tier_vectors::go_through();
-    reorder_vectors::go_through();
-    tier_reorder_vectors::go_through();
+    grid_edges::go_through();
+    price_edges::go_through();
+    book_edges::go_through();
 }

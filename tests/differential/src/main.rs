@@ -1,7 +1,8 @@
 //! Compares each public entry of the proved library with a second implementation of the scope document and the change requests: every answer and every
 //! lent cell.
 //!
-//! `differential [SEED [ENTRY ROUND]]`: another seed than the usual one; one round of one entry, to see a failure again.
+//! `differential [SEED [ENTRY ROUND]]`: another seed than the usual one; one round of one entry, to see a failure again. `differential vectors`: the
+//! conformance vectors alone.
 
 mod draw;
 mod lent;
@@ -134,7 +135,7 @@ fn all(seed: u64) -> ExitCode {
         calls += tally.calls;
         failed += tally.failed;
     }
-    let wrong = demand_3(seed) + vectors::check() as u64;
+    let wrong = demand_3(seed) + (second::own::check() + vectors::check()) as u64;
     println!("{} passed, {failed} failed", calls - failed);
     if failed == 0 && !lacking && wrong == 0 {
         ExitCode::SUCCESS
@@ -157,11 +158,14 @@ fn one(seed: u64, name: &str, number: u64) -> ExitCode {
 fn main() -> ExitCode {
     let words: Vec<String> = env::args().skip(1).collect();
     let number = |i: usize, usual: u64| words.get(i).map_or(usual, |word| word.parse().expect("a number"));
+    if words == ["vectors"] {
+        return ExitCode::from(u8::from(vectors::check() > 0));
+    }
     match words.len() {
         0 | 1 => all(number(0, SEED)),
         3 => one(number(0, SEED), &words[1], number(2, 0)),
         _ => {
-            eprintln!("usage: differential [SEED [ENTRY ROUND]]");
+            eprintln!("usage: differential [SEED [ENTRY ROUND] | vectors]");
             ExitCode::from(2)
         }
     }

@@ -8,6 +8,7 @@ pub mod flows;
 pub mod grid;
 pub mod hubs;
 pub mod migration;
+pub mod own;
 pub mod prices;
 pub mod remap;
 pub mod running;
