@@ -1,7 +1,7 @@
 // Grids read and written.
 use crate::lines::form_line;
 use crate::lines::line;
-use grid_file::GridAnswer;
+use grid_rules::GridAnswer;
 use layouts::Form;
 
 // The answer of reading a grid into tables that are long enough for every narrow one.
@@ -54,7 +54,7 @@ fn spare_set(nodes: u8) {
 fn written(form: Form, nodes: usize) {
     let mut file = [0u8; 4];
     let mut bytes = 0;
-    let answer = grid_file::write_grid(form, nodes, 0, &[], &[], &mut file);
+    let answer = grid_writing::write_grid(form, nodes, 0, &[], &[], &mut file);
     let number = answer.into_cell(&mut bytes);
     form_line(form, b"grid written, nodes ", nodes as u64, number);
 }
