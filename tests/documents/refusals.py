@@ -1,9 +1,10 @@
 """Fails where the prover refuses a must-fail edit, first of all, for a proof text that no longer fits the
 edited program, and not for a fact that fails. rt ci leaves what it said in target/must-fail/CRATE/LABEL/.log.
 
-A text that does not fit names what is not there (a field, a definition), can't be read, or hands the
-function's needs over in another number or order than the program now has them. All else that the prover
-says first is of a fact: two values or types that differ, or one that no search finds.
+A text that does not fit names what is not there (a field, a definition), can't be read, takes a term for
+another kind of thing, or hands the function's needs over in another number or order than the program now has
+them. Of a fact the prover says that two values or types differ, or that it does not follow, or that no proof
+of it was found. Whatever else it says first is for a person to read: it is told here too.
 """
 
 import re
@@ -19,10 +20,19 @@ UNFIT = (
     (re.compile(r"\bhas no field `"), "names a place that the program no longer has"),
     (re.compile(r"\bthat can be named from here"), "names something that is not there"),
     (re.compile(r"` is not in scope\b"), "names something that is not there"),
+    (re.compile(r"\bis expected here"), "takes what it names for something else"),
     (re.compile(r"\bwas not admitted\b"), "stands on something that was refused"),
 )
 # `NAME-spec` hands over the needs one by one.
 NEEDS = re.compile(r"(?:expected type|but this has type) `tie\.Need-")
+FACT = re.compile(
+    r"(?:as printed|computed as far as they go), the two (?:types|values|sides) "
+    r"|expected type `.*but this has type `"
+    r"|`omega`: .* does not follow from what it read"
+    r"|`search`: no proof of `"
+    r"|`rw`: no occurrence of the path's "
+    r"|give a proof of that as the last argument, `rw L t`"
+)
 
 
 def first_error(log: str) -> Optional[str]:
@@ -58,7 +68,7 @@ def fault_of(log: str) -> Optional[str]:
             return f"{place}: {name} {why}: {head[:200]}"
     if name.endswith("-spec") and NEEDS.search(head):
         return f"{place}: {name} hands over needs that the program no longer has so: {head[:200]}"
-    return None
+    return None if FACT.match(said) else f"{place}: {name}: no fact is refused in these words: {head[:200]}"
 
 
 def main() -> int:
