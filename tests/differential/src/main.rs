@@ -4,6 +4,7 @@
 //! `differential [SEED [ENTRY ROUND]]`: another seed than the usual one; one round of one entry, to see a failure again.
 
 mod draw;
+mod guarded;
 mod lent;
 mod library;
 mod rounds;
