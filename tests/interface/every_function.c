@@ -3,8 +3,8 @@
  * again, the grid and the book in both forms, a node retired, the market's view and a
  * holder's, the book settled, a contract from a hub added, the test, the flows, the
  * cuts, the released shares, the MCC, that of a hub, the hour, the two texts; the
- * calendar; a balance shared; load migrated; and a running test with a tier to come
- * back to. Also a C++ program.
+ * calendar; a balance shared; load migrated; a running test with a tier to come back
+ * to; the interface's number and a refusal's sentence. Also a C++ program.
  */
 #include <stdint.h>
 #include <stdio.h>
@@ -246,6 +246,11 @@ int main(void) {
     expect("crr_month_later, over the year's end", crr_month_later(2023, 12, 31, &year, &month, &day) == CRR_OK && year == 2024 && month == 1 && day == 31);
     expect("crr_month_later, beyond the last year", crr_month_later(CRR_LAST_YEAR, 12, 1, &year, &month, &day) == CRR_NO_SUCH_DATE
                                                         && year == 2024 && month == 1 && day == 31);
+    expect("crr_interface", crr_interface() == CRR_INTERFACE);
+    text[22] = 7;
+    expect("crr_refusal_text", crr_refusal_text(CRR_PRICE_RANGE, text, sizeof text, &bytes) == CRR_OK && bytes == 21 && starts_with("a price above 500,000", bytes) && text[22] == 7);
+    expect("crr_refusal_text, too few bytes", crr_refusal_text(CRR_NO_DEMAND, text, 37, &bytes) == CRR_SHORT_TABLE && bytes == 21 && starts_with("a price above 500,000", bytes));
+    expect("crr_refusal_text, no such refusal", crr_refusal_text(12, text, 0, &bytes) == CRR_OK && bytes == 0);
     /* A refusal is its number alone. */
     set = 7;
     expect("a refusal", crr_test_book(0, constraints, CRR_MONTHLY, period, limits, constraints, factors, nodes * constraints, book_file, book_len, &set, &count, &lowest, &excess) == CRR_NODE_COUNT

@@ -1,7 +1,7 @@
 //! The C interface as include/crr.h has it, with slices for pointers and lengths. Buffers and figures are lent: on a refusal none has changed. Each function gives the
 //! refusal's number, 0 for none, and is what the header says of the C function of its name.
 //!
-//! [`check_interface`](crate::check_interface) is not called here: who uses these functions alone calls it once.
+//! [`check_interface`](crate::check_interface) is not called here: a program that uses these functions alone calls it once.
 
 mod hubs;
 mod migration;
@@ -13,6 +13,8 @@ pub use running::{add_award, mark_tier, open_running, return_to_tier, Opening, S
 
 mod c {
     extern "C" {
+        pub fn crr_interface() -> u64;
+        pub fn crr_refusal_text(number: u64, text: *mut u8, text_len: usize, bytes: *mut usize) -> u64;
         pub fn crr_read_grid(
             file: *const u8,
             file_len: usize,
@@ -210,6 +212,15 @@ mod c {
         pub fn crr_weekday(year: u64, month: u64, day: u64, weekday: *mut u64) -> u64;
         pub fn crr_month_later(year: u64, month: u64, day: u64, later_year: *mut u64, later_month: *mut u64, later_day: *mut u64) -> u64;
     }
+}
+
+/// The number of the interface that the library has: no refusal.
+pub fn interface() -> u64 {
+    unsafe { c::crr_interface() }
+}
+
+pub fn refusal_text(number: u64, text: &mut [u8], bytes: &mut usize) -> u64 {
+    unsafe { c::crr_refusal_text(number, text.as_mut_ptr(), text.len(), bytes) }
 }
 
 pub fn read_grid(file: &[u8], limits: &mut [u64], factors: &mut [i64], nodes: &mut usize, constraints: &mut usize, form: &mut u64) -> u64 {

@@ -1,5 +1,8 @@
 //! Refusals.
 
+use crate::interface::check_interface;
+use crate::lent;
+use crate::sizes::REFUSAL_TEXT_BYTES;
 use std::error::Error;
 use std::fmt;
 
@@ -55,11 +58,17 @@ impl Refused {
     pub fn number(self) -> u64 {
         self.number
     }
+
+    /// What it means, in the library's words.
+    pub fn text(self) -> String {
+        let text = written(REFUSAL_TEXT_BYTES, |text, bytes| lent::refusal_text(self.number, text, bytes));
+        String::from_utf8(text.unwrap_or_default()).expect("the library's texts are ASCII")
+    }
 }
 
 impl fmt::Display for Refused {
     fn fmt(&self, out: &mut fmt::Formatter) -> fmt::Result {
-        write!(out, "refused {}", self.number)
+        write!(out, "refused {}: {}", self.number, self.text())
     }
 }
 
@@ -67,6 +76,7 @@ impl Error for Refused {}
 
 /// What a call of the library answered.
 pub(crate) fn answered(call: impl FnOnce() -> u64) -> Result<(), Refused> {
+    check_interface();
     match call() {
         0 => Ok(()),
         number => Err(Refused { number }),

@@ -12,6 +12,8 @@ macro_rules! sizes {
 }
 
 sizes! {
+    TEXT_STACK_BYTES = 200_000;
+    STACK_BYTES = 50_000;
     MAX_NODES = 4_000;
     MAX_NARROW_NODES = 200;
     MAX_CONSTRAINTS = 64;
@@ -34,6 +36,7 @@ sizes! {
     MAX_TEXT_GRID_BYTES = 32_768;
     STATEMENT_BYTES = 29_085;
     REPORT_BYTES = 2_048;
+    REFUSAL_TEXT_BYTES = 128;
     FIRST_YEAR = 2_010;
     LAST_YEAR = 2_037;
 }

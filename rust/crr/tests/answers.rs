@@ -18,6 +18,13 @@ fn case() -> (Grid, Vec<u8>, Vec<u64>) {
 const ON_PEAK: Contract = Contract { kind: Kind::Obligation, period: Period::OnPeak, holder: 7, source: 0, sink: 1, quantity: 10_000 };
 
 #[test]
+fn refusals() {
+    check_interface();
+    assert_eq!(Refused::NO_DEMAND.to_string(), "refused 27: sharing a balance: the demands total 0");
+    assert!(Refused::ALL.iter().all(|(_, refused)| !refused.text().is_empty()));
+}
+
+#[test]
 fn files() {
     let (grid, file, prices) = case();
     assert_eq!(

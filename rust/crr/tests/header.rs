@@ -41,6 +41,7 @@ fn sizes_and_refusals() {
         ("MARK_LT", 4),
         ("OK", 0),
     ];
+    ours.insert("INTERFACE".to_string(), crr::INTERFACE);
     ours.extend(terms.map(|(name, number)| (name.to_string(), number)));
     assert_eq!(ours, defined());
 }

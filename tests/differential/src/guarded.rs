@@ -9,6 +9,8 @@ use std::sync::atomic::{AtomicPtr, AtomicUsize, Ordering::Relaxed};
 use std::sync::Once;
 
 const PAGE: usize = 4096;
+/// So many untouchable bytes below a stack: a frame that is not probed page by page does not reach over them.
+const BELOW_STACK: usize = 64 * PAGE;
 /// So many bytes at the end that can be touched are looked at after the call.
 const MARGIN: usize = 64;
 const MARK: u8 = 0xa5;
@@ -37,33 +39,34 @@ struct Action {
     restorer: usize,
 }
 
-/// Pages that can be touched, between two that can't.
+/// Pages that can be touched, between others that can't.
 struct Region {
     mapped: *mut u8,
+    below: usize,
     bytes: usize,
 }
 
 impl Region {
-    fn new(bytes: usize) -> Region {
+    fn new(below: usize, bytes: usize) -> Region {
         let bytes = (bytes + PAGE - 1) / PAGE * PAGE;
-        // SAFETY: a fresh mapping of the length that is asked for; its first and last page are within it.
+        // SAFETY: a fresh mapping of the length that is asked for; what is protected is within it.
         unsafe {
-            let mapped = mmap(ptr::null_mut(), bytes + 2 * PAGE, READ_WRITE, PRIVATE_ANONYMOUS, -1, 0);
+            let mapped = mmap(ptr::null_mut(), below + bytes + PAGE, READ_WRITE, PRIVATE_ANONYMOUS, -1, 0);
             assert!(mapped as isize != -1, "no memory");
-            assert!(mprotect(mapped, PAGE, NONE) == 0 && mprotect(mapped.add(PAGE + bytes), PAGE, NONE) == 0, "pages are protected");
-            Region { mapped, bytes }
+            assert!(mprotect(mapped, below, NONE) == 0 && mprotect(mapped.add(below + bytes), PAGE, NONE) == 0, "pages are protected");
+            Region { mapped, below, bytes }
         }
     }
 
     fn low(&self) -> *mut u8 {
-        self.mapped.wrapping_add(PAGE)
+        self.mapped.wrapping_add(self.below)
     }
 }
 
 impl Drop for Region {
     fn drop(&mut self) {
         // SAFETY: the mapping is this region's own.
-        unsafe { munmap(self.mapped, self.bytes + 2 * PAGE) };
+        unsafe { munmap(self.mapped, self.below + self.bytes + PAGE) };
     }
 }
 
@@ -73,7 +76,7 @@ thread_local! {
     static CALLS: Cell<u64> = const { Cell::new(0) };
 }
 
-/// The entry that is called, for the line of a fault, and the address of its stack's untouchable page.
+/// The entry that is called, for the line of a fault, and the address of the untouchable pages below its stack.
 static NAME: AtomicPtr<u8> = AtomicPtr::new(ptr::null_mut());
 static LENGTH: AtomicUsize = AtomicUsize::new(0);
 static BELOW: AtomicUsize = AtomicUsize::new(0);
@@ -83,8 +86,11 @@ extern "C" fn fault(_: i32, info: *const u8, _: *const u8) {
     unsafe {
         let address = *(info as *const usize).add(2);
         let below = BELOW.load(Relaxed);
-        let why: &[u8] =
-            if (below..below + PAGE).contains(&address) { b" needs more stack than crr.h says\n" } else { b" touches what was not lent\n" };
+        let why: &[u8] = if (below..below + BELOW_STACK).contains(&address) {
+            b" needs more stack than crr.h says\n"
+        } else {
+            b" touches what was not lent\n"
+        };
         let (name, length) = (NAME.load(Relaxed), LENGTH.load(Relaxed));
         for (bytes, length) in [(b"FAILED ".as_ptr(), 7), (name as *const u8, length), (why.as_ptr(), why.len())] {
             write(1, bytes, length);
@@ -131,10 +137,10 @@ impl Places {
         REGIONS.with(|regions| {
             let mut regions = regions.borrow_mut();
             if number == regions.len() {
-                regions.push(Region::new(16 * PAGE));
+                regions.push(Region::new(PAGE, 16 * PAGE));
             }
             if regions[number].bytes < bytes + MARGIN {
-                regions[number] = Region::new(bytes + MARGIN);
+                regions[number] = Region::new(PAGE, bytes + MARGIN);
             }
             let low = regions[number].low();
             let end = low.wrapping_add(regions[number].bytes);
@@ -154,11 +160,11 @@ impl Places {
         let low = STACKS.with(|stacks| {
             let mut stacks = stacks.borrow_mut();
             if stacks.iter().all(|(size, _)| *size != bytes) {
-                stacks.push((bytes, Region::new(bytes)));
+                stacks.push((bytes, Region::new(BELOW_STACK, bytes)));
             }
             stacks.iter().find(|(size, _)| *size == bytes).map(|(_, region)| region.low()).expect("it was made")
         });
-        BELOW.store(low as usize - PAGE, Relaxed);
+        BELOW.store(low as usize - BELOW_STACK, Relaxed);
         let mut task = Task { call: Some(call), answer: 0 };
         let entry: extern "C" fn(&mut Task<F>) = run::<F>;
         // SAFETY: the stack is a mapping of this thread's own that nothing else uses; r12 is kept by the function that is called; nothing unwinds through it.

@@ -3,10 +3,7 @@
 
 use crate::guarded::{called, Place, Places};
 pub use crr::lent::{Opening, State};
-
-/// What crr.h promises to be enough.
-const STACK: usize = 50_000;
-const TEXT_STACK: usize = 200_000;
+use crr::sizes::{STACK_BYTES as STACK, TEXT_STACK_BYTES as TEXT_STACK};
 
 macro_rules! guarded {
     ($($stack:ident: fn $name:ident($($given:ident: $type:ty),*);)*) => {$(
@@ -21,6 +18,7 @@ macro_rules! guarded {
 }
 
 guarded! {
+    STACK: fn refusal_text(number: u64, text: &mut [u8], bytes: &mut usize);
     STACK: fn read_grid(file: &[u8], limits: &mut [u64], factors: &mut [i64], nodes: &mut usize, constraints: &mut usize, form: &mut u64);
     STACK: fn write_grid(form: u64, nodes: usize, constraints: usize, limits: &[u64], factors: &[i64], file: &mut [u8], bytes: &mut usize);
     STACK: fn read_book(nodes: usize, file: &[u8], book: &mut [u64], contracts: &mut usize, form: &mut u64);

@@ -9,6 +9,7 @@ pub mod grid;
 pub mod hubs;
 pub mod migration;
 pub mod prices;
+pub mod refusals;
 pub mod remap;
 pub mod running;
 pub mod settled;
