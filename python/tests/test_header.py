@@ -41,7 +41,7 @@ class Header(unittest.TestCase):
         told = {number: crr.refusal_text(number) for number in [*range(300), (1 << 64) - 1]}
         self.assertEqual(told.pop(0), "no refusal")
         self.assertEqual({number: meaning for number, meaning in told.items() if meaning}, interface.MEANINGS)
-        self.assertTrue(all(len(meaning) <= interface.REFUSAL_TEXT_BYTES for meaning in interface.MEANINGS.values()))
+        self.assertLessEqual(max(map(len, interface.MEANINGS.values())), interface.REFUSAL_TEXT_BYTES)
 
     def test_refusals_are_listed_by_number_and_name(self):
         names = {number: name for name, number in re.findall(r"#define CRR_(\w+) +(\d+) +/\*", REFUSALS)}
@@ -51,7 +51,8 @@ class Header(unittest.TestCase):
             if name == "crr_interface":
                 continue
             words = re.sub(r"\s*\n \* ?", " ", "\n" + comment)
-            listed = re.search(r"Refusals(?:, in this order)?: (.*?)\.(?: |$)", re.sub(r"\([^()]*\)", "", words))
+            plain = re.sub(r"\([^()]*\)", "", words)
+            listed = re.search(r"Refusals(?:, in this order)?: (.*?)\.(?: |$)", plain)
             self.assertIsNotNone(listed, name)
             for number, told in re.findall(r"(?<![\w,])(\d+)(?: ([A-Z_]+))?", listed.group(1)):
                 self.assertEqual(told, names[number], f"{name}: {number}")

@@ -10,6 +10,7 @@ from support import ROOT, FolderTest
 from crr import interface
 
 COMPILER = shutil.which("cc") or shutil.which("gcc")
+NEVER_CALLED = "unsigned long crr_month_hours(void) { __builtin_trap(); }"
 
 
 @unittest.skipUnless(COMPILER, "no C compiler to make another library with")
@@ -21,7 +22,8 @@ class OtherLibrary(FolderTest):
         subprocess.run(made, input=source, text=True, check=True)
         words = [sys.executable, "-m", "crr", "hours", "2024-01"]
         path = {**os.environ, "PYTHONPATH": str(ROOT / "python" / "src"), "CRR_LIBRARY": str(library)}
-        done = subprocess.run(words, env=path, stdout=subprocess.PIPE, stderr=subprocess.PIPE, universal_newlines=True)
+        pipe = subprocess.PIPE
+        done = subprocess.run(words, env=path, stdout=pipe, stderr=pipe, universal_newlines=True)
         self.assertEqual((done.returncode, done.stdout), (2, ""))
         self.assertIn(str(library), done.stderr)
         self.assertNotIn("Traceback", done.stderr)
@@ -29,11 +31,11 @@ class OtherLibrary(FolderTest):
 
     def test_another_number(self):
         other = interface.INTERFACE + 1
-        told = self.refused(f"unsigned long crr_interface(void) {{ return {other}; }} unsigned long crr_month_hours(void) {{ __builtin_trap(); }}")
+        told = self.refused(f"unsigned long crr_interface(void) {{ return {other}; }} {NEVER_CALLED}")
         self.assertIn(f"has interface {other}, and this package is for {interface.INTERFACE}", told)
 
     def test_no_number(self):
-        self.assertIn("does not tell its interface", self.refused("unsigned long crr_month_hours(void) { __builtin_trap(); }"))
+        self.assertIn("does not tell its interface", self.refused(NEVER_CALLED))
 
 
 if __name__ == "__main__":

@@ -72,11 +72,13 @@ def _library() -> ctypes.CDLL:
     try:
         interface = library.crr_interface
     except AttributeError:
-        raise OSError(f"{path} does not tell its interface: it is older than this package; ./library builds it anew") from None
+        why = "it is older than this package; ./library builds it anew"
+        raise OSError(f"{path} does not tell its interface: {why}") from None
     interface.restype, interface.argtypes = ctypes.c_uint64, []
     number = interface()
     if number != INTERFACE:
-        raise OSError(f"{path} has interface {number}, and this package is for {INTERFACE}: one of them is older than the other")
+        why = "one of them is older than the other"
+        raise OSError(f"{path} has interface {number}, and this package is for {INTERFACE}: {why}")
     return library
 
 

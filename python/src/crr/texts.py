@@ -1,4 +1,5 @@
-"""The texts that the library writes itself: the hour statement and the feasibility report, as the programs print them, and what a refusal means."""
+"""The texts that the library writes itself: the hour statement and the feasibility report, as the
+programs print them, and what a refusal means."""
 
 from __future__ import annotations
 

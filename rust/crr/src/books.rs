@@ -114,7 +114,8 @@ pub struct Cut {
     pub cut: u64,
 }
 
-/// Finds each contract of the period tested whose cut alone clears the book, by rising cuts. A book that passes has none, and neither has one that no single cut clears.
+/// Finds each contract of the period tested whose cut alone clears the book, by rising cuts. A book that passes has none, and neither
+/// has one that no single cut clears.
 pub fn find_cuts(grid: &Grid, process: Process, period: Period, book: &[u8]) -> Result<Vec<Cut>, Refused> {
     let Grid { nodes, constraints, limits, factors, .. } = grid;
     let (mut numbers, mut cuts, mut listed) = ([0; MAX_CONTRACTS], [0; MAX_CONTRACTS], 0);

@@ -1,5 +1,5 @@
-//! The C interface as include/crr.h has it, with slices for pointers and lengths. Buffers and figures are lent: on a refusal none has changed. Each function gives the
-//! refusal's number, 0 for none, and is what the header says of the C function of its name.
+//! The C interface as include/crr.h has it, with slices for pointers and lengths. Buffers and figures are lent: on a refusal none has
+//! changed. Each function gives the refusal's number, 0 for none, and is what the header says of the C function of its name.
 //!
 //! [`check_interface`](crate::check_interface) is not called here: a program that uses these functions alone calls it once.
 

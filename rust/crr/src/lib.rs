@@ -11,8 +11,9 @@
 //! assert_eq!(month_hours(2024, 13), Err(Refused::NO_SUCH_DATE));
 //! ```
 //!
-//! `cargo run --example hour` tests a folder's book and settles its hour. The library is linked from the folder that CRR_LIB_DIR names, else from dist/x86-64-linux of
-//! the clone that this crate stands in, else from its target/staticlib, where `./library` leaves it.
+//! `cargo run --example hour` tests a folder's book and settles its hour. The library is linked from the folder that CRR_LIB_DIR
+//! names, else from dist/x86-64-linux of the clone that this crate stands in, else from its target/staticlib, where `./library`
+//! leaves it.
 
 #![warn(missing_docs)]
 

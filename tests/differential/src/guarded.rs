@@ -1,5 +1,6 @@
-//! Calls that see reads and writes outside what was lent. The compiler's back end is not proved, so each call has its own copy of every buffer and figure, which ends at
-//! a page that can't be touched in one call and starts behind one in the next, and a stack that has such a page below it. A touch ends the run with the entry's name.
+//! Calls that see reads and writes outside what was lent. The compiler's back end is not proved, so each call has its own copy of
+//! every buffer and figure, which ends at a page that can't be touched in one call and starts behind one in the next, and a stack
+//! of its own with such pages below it. A touch ends the run with the entry's name.
 
 use std::arch::asm;
 use std::cell::{Cell, RefCell};

@@ -1,5 +1,5 @@
-//! The proved library's functions of crr::lent, each called as include/crr.h allows it and no further: what is passed stands at a page that can't be touched, and the
-//! stack is of the promised size (guarded.rs). Each gives the refusal's number, 0 for none.
+//! The proved library's functions, each called as include/crr.h allows it and no further: what is passed stands at a page that
+//! can't be touched, and the stack is of the promised size (guarded.rs). Each gives the refusal's number, 0 for none.
 
 use crate::guarded::{called, Place, Places};
 pub use crr::lent::{Opening, State};
