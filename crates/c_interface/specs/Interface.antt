@@ -1,5 +1,5 @@
--- The interface's number. Beyond the papers: a program that loads the library compares it with that of the header it was made from, so that no call is made by another's
--- declarations.
+-- The interface's number. Beyond the papers: a program that loads the library compares it with the
+-- number of the header that it was made with, so that no call is made by another's declarations.
 use mathlib.Core.Path.{_≡_}
 use Prim.Native.Nat.{ℕ}
 

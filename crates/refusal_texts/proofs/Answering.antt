@@ -15,19 +15,20 @@ use Rattle.layouts.specs.declared.WriteAnswer.the-variants.{Written, Refused}
 use Rattle.refusal_texts.specs.Sentences.{meaning}
 use Rattle.refusal_texts.specs.RefusalText.{textCall, textChecks, textChecked, WritesText}
 use Rattle.refusal_texts.specs.Inner.{numbers}
-use Rattle.refusal_texts.proofs.Theorems.{none-beyond}
+use Rattle.refusal_texts.proofs.Theorems.{beyond}
 
 module _ (n : ℕ) (place : List ℕ) where
   fits : length (meaning n) ≤ length place → textChecked (textCall n place) ≡ Passed
   unfolding textChecks
   fits h = last-passes (shortTable (length place) (length (meaning n))) (le-ltb (length place) (length (meaning n)) h)
 
-  pub put-whole : (exit : List ℕ) (bytes : ℕ) → length (meaning n) ≤ length place → Put place 0 (meaning n) exit bytes → WritesText (textCall n place) (Written bytes) exit
+  pub put-whole : (exit : List ℕ) (bytes : ℕ) → length (meaning n) ≤ length place → Put place 0 (meaning n) exit bytes
+      → WritesText (textCall n place) (Written bytes) exit
   put-whole exit bytes h p = let f = put-front p in record { length-given = rw (fits h, f .1); bytes-written = rw (fits h) (f .0) }
 
   pub none-put : numbers ≤ n → WritesText (textCall n place) (Written 0) place
   none-put h =
-      let none = none-beyond n h in
+      let none = beyond n h in
       let told = fits (omega (arith, ap length none)) in
       record { length-given = rw (told, none); bytes-written = rw (told, none) }
 

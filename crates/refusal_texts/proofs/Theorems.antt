@@ -1,4 +1,4 @@
--- Which numbers have a sentence, and how long it is.
+-- `sentences-told`: which numbers have a sentence, and how long it is.
 use mathlib.Core.Path.{_≡_, refl}
 use mathlib.Core.Bool.{Bool, true, false}
 use mathlib.Core.List.{List, []}
@@ -17,13 +17,14 @@ use Rattle.tariff.specs.declared.refusals.Refusal.the-variants.{HubShape, HubNo
 use Rattle.tariff.specs.Refusals.{numberOf}
 use Rattle.refusal_texts.specs.Sentences.{sentences, meaning}
 use Rattle.refusal_texts.specs.RefusalText.{textRoom}
+use Rattle.refusal_texts.specs.Theorems.{SentencesTold}
 use Rattle.refusal_texts.specs.Inner.{numbers}
 use Rattle.refusal_texts.proofs.Parts.{agree}
 
 -- a number above the last refusal's has none
-pub none-beyond : (n : ℕ) → numbers ≤ n → meaning n ≡ []
+pub beyond : (n : ℕ) → numbers ≤ n → meaning n ≡ []
 unfolding meaning sentences
-none-beyond n h = List·getD-eq-default sentences [] {n = n} h
+beyond n h = List·getD-eq-default sentences [] {n = n} h
 
 -- ---- how long they are
 
@@ -34,13 +35,13 @@ fit = refl
 enough-by : (n : ℕ) (b : Bool) → ltb n numbers ≡ b → length (meaning n) ≤ textRoom
 enough-by n true e =
     leb-true (length (meaning n)) textRoom (agree (λ (k : ℕ). leb (length (meaning k)) textRoom) (λ (k : ℕ). true) fit true n (ltb-true n numbers e))
-enough-by n false e = rw (none-beyond n (ltb-false n numbers e)) (omega arith)
+enough-by n false e = rw (beyond n (ltb-false n numbers e)) (omega arith)
 
-pub room-enough : (n : ℕ) → length (meaning n) ≤ textRoom
-room-enough n = enough-by n (ltb n numbers) refl
+enough : (n : ℕ) → length (meaning n) ≤ textRoom
+enough n = enough-by n (ltb n numbers) refl
 
 -- every refusal has one
-pub each-has-one : (r : Refusal) → 1 ≤ length (meaning (numberOf r))
+each-has-one : (r : Refusal) → 1 ≤ length (meaning (numberOf r))
 unfolding meaning sentences
 each-has-one ShortFile = omega arith
 each-has-one NodeCount = omega arith
@@ -68,3 +69,10 @@ each-has-one HubShape = omega arith
 each-has-one HubNodeTwice = omega arith
 each-has-one ShareRange = omega arith
 each-has-one NoDemand = omega arith
+
+twelve : meaning 12 ≡ []
+unfolding meaning sentences
+twelve = refl
+
+pub sentences-told : SentencesTold
+sentences-told = record { each-refusal = each-has-one; none-beyond = λ n h. beyond n h; none-for-12 = twelve; room-enough = enough }

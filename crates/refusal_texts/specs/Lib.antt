@@ -1,3 +1,4 @@
 pub mod Sentences
 pub mod RefusalText
+pub mod Theorems
 pub mod Inner

@@ -1,5 +1,5 @@
--- Writing the sentence of a refusal's number into lent bytes. Beyond the papers, which have no such operation: 9 is theirs, "a place for an answer, of too few cells"
--- (document 01, "When input is turned down").
+-- Writing the sentence of a refusal's number into lent bytes. Beyond the papers, which have no such
+-- operation; 9, for a place that is too short, is theirs (document 01, "When input is turned down").
 use mathlib.Core.List.{List, [], _∷_}
 use Prim.Native.Nat.{ℕ}
 use lib.ListN.{length}

@@ -1,5 +1,6 @@
--- What each refusal means, in a sentence ("When input is turned down", document 01, and the requests of document 02 that add numbers). The papers ask for no such text:
--- it is here so that C and Python say one thing for a number.
+-- What each refusal means, in a sentence (document 01, "When input is turned down", and the requests of
+-- document 02 that add numbers). The papers ask for no such text: it is here so that C, Rust and Python
+-- say one thing for a number.
 use mathlib.Core.List.{List, [], _∷_}
 use Prim.Native.Nat.{ℕ}
 use lib.ListN.{getD}
