@@ -7,7 +7,16 @@
  * nothing, keeps no state and does no input or output, so any number of threads may
  * call it at once. There is no floating point in it.
  * crr_write_report and crr_write_statement hold a grid's tables on the stack: 200,000
- * bytes are enough for either. 50,000 are enough for any other function.
+ * bytes (CRR_TEXT_STACK_BYTES) are enough for either. 50,000 (CRR_STACK_BYTES) are
+ * enough for any other function.
+ *
+ *
+ * INTERFACE. This header's declarations have the number CRR_INTERFACE, and
+ * crr_interface gives that of the library. A program that loads the library compares
+ * the two once, before any other call: where they differ, it was made for another
+ * library. The number changes where a function, a size, a unit or a meaning that was
+ * there becomes another one, and with it the name that the shared library goes by
+ * (libcrr.so.1); a function more leaves it as it is.
  *
  *
  * UNITS. All figures are whole numbers.
@@ -122,9 +131,10 @@
  * crates/layouts/specs.
  *
  *
- * ANSWERS. Every function returns 0, or the number of the refusal (below). Its
- * checks run in the order that its comment lists, and the first that fails gives
- * the number. On a refusal nothing that was lent has changed: no cell of any
+ * ANSWERS. Every function but crr_interface returns 0, or the number of the refusal
+ * (below). Its checks run in the order that its comment lists, by number and by name
+ * without CRR_, and the first that fails gives the number. crr_refusal_text has a
+ * sentence for each. On a refusal nothing that was lent has changed: no cell of any
  * buffer, and no figure. On success only what the comment names is written: the
  * first cells of a buffer, and the figures; a buffer's other cells stay as they
  * are. Every function answers on every input of the right form; none needs its
@@ -134,8 +144,9 @@
  * WHAT CALLERS OWE. A buffer is passed as a pointer and a length in cells, not in
  * bytes.
  *
- *   - Every pointer is non-null, also where the length is 0, and aligned for its
- *     type.
+ *   - Every pointer is aligned for its type, and non-null but where the length beside
+ *     it is 0: an empty std::vector's null is taken, and so is that of a file of no
+ *     bytes. A figure's pointer is never null.
  *   - The length cells from the pointer on are one object's, readable, and
  *     writable where the parameter is not const. What is lent to be written need
  *     not be set before the call: any bytes there will do.
@@ -157,6 +168,13 @@
 #ifdef __cplusplus
 extern "C" {
 #endif
+
+/* The number of this interface. */
+#define CRR_INTERFACE 1
+
+/* Stack that is enough: for crr_write_report and crr_write_statement, and for any other. */
+#define CRR_TEXT_STACK_BYTES 200000
+#define CRR_STACK_BYTES 50000
 
 /* Sizes: the most that is accepted. */
 #define CRR_MAX_NODES 4000
@@ -197,6 +215,9 @@ extern "C" {
 #define CRR_STATEMENT_BYTES 29085
 #define CRR_REPORT_BYTES 2048
 
+/* The longest sentence of crr_refusal_text fits into so many. */
+#define CRR_REFUSAL_TEXT_BYTES 128
+
 /* The years of the calendar. */
 #define CRR_FIRST_YEAR 2010
 #define CRR_LAST_YEAR 2037
@@ -234,7 +255,7 @@ extern "C" {
 #define CRR_PROCESS_NUMBER 16  /* process not 0 to 2 */
 #define CRR_PERIOD_OR_KIND 17  /* a period not 0 or 1; writing a book, adding to one or adding an award, a kind or period not 0 or 1 */
 #define CRR_HOLDER_RANGE 18    /* holder above 1,023 */
-#define CRR_NO_SUCH_DATE 19    /* a date or month that does not exist or is outside 2010 to 2037, given or reached */
+#define CRR_NO_SUCH_DATE 19    /* a date or month that does not exist or is outside 2010 to 2037 */
 #define CRR_TIER_MARK 20       /* running test: a tier not 1 to 4, or returning to one that is not marked */
 #define CRR_AWARD_OVERLOAD 21  /* running test: with the award some flow would exceed its released limit */
 #define CRR_MIGRATION_RANGE 22 /* load migration: a figure, count or LSE number outside its range, unequal lists, or a row whose old and new LSE are one */
@@ -245,17 +266,37 @@ extern "C" {
 #define CRR_NO_DEMAND 27       /* sharing a balance: the demands total 0 */
 
 /*
+ * Gives the number of the interface that the library has: CRR_INTERFACE of the header
+ * that it was built with. It refuses nothing.
+ */
+uint64_t crr_interface(void);
+
+/*
+ * Writes what a refusal's number means: the sentence that stands beside it above, 0
+ * for none among them. ASCII, no line feed, no 0 byte at the end. A number that no
+ * refusal has is without a sentence, which is no refusal: it gives 0 bytes.
+ *
+ * On success writes the sentence to the first bytes of text, and its length to
+ * *bytes. CRR_REFUSAL_TEXT_BYTES are enough for any.
+ *
+ * Refusals: 9 SHORT_TABLE if the sentence doesn't fit.
+ */
+uint64_t crr_refusal_text(uint64_t number, uint8_t *text, size_t text_len, size_t *bytes);
+
+/*
  * Reads a grid's file, of either form.
  *
  * On success writes the file's limits and factors to the first cells of both
  * tables, the counts to *nodes and *constraints, and 0 (narrow) or 1 (wide) to
  * *form.
  *
- * The file is wide where its node field, the first byte, is 0 and its spare bit,
- * the last of the second byte, is set; else it is narrow. Refusals, in this order:
- * 1 (narrow, fewer than two bytes; wide, fewer than four), 2 (narrow, not 1 to 200
- * nodes; wide, not 1 to 4,000), 3, 4 (narrow alone: the spare bit is set), 5 (by
- * the form's own length), 6, 7, 8, and 9 if the limits or the factors don't fit.
+ * The file is wide where its node field, the first byte, is 0 and its spare bit, the
+ * last of the second byte, is set; else it is narrow. Refusals, in this order:
+ * 1 SHORT_FILE (narrow, fewer than two bytes; wide, fewer than four), 2 NODE_COUNT
+ * (narrow, not 1 to 200 nodes; wide, not 1 to 4,000), 3 CONSTRAINT_COUNT,
+ * 4 SPARE_BITS (narrow alone: the spare bit is set), 5 FILE_LENGTH (by the form's own
+ * length), 6 LIMIT_RANGE, 7 FACTOR_RANGE, 8 PADDING, and 9 SHORT_TABLE if the limits
+ * or the factors don't fit.
  */
 uint64_t crr_read_grid(const uint8_t *file, size_t file_len,
                        uint64_t *limits, size_t limits_len,
@@ -269,8 +310,9 @@ uint64_t crr_read_grid(const uint8_t *file, size_t file_len,
  * On success writes the file to the first bytes of file, and its length to
  * *bytes. The longest has CRR_MAX_GRID_BYTES, the longest narrow one 29,018.
  *
- * Refusals, in this order: 2 (narrow, not 1 to 200 nodes; wide, not 1 to 4,000), 3,
- * 9 (limits, factors), 6, 7, and 9 if the bytes don't fit.
+ * Refusals, in this order: 2 NODE_COUNT (narrow, not 1 to 200 nodes; wide, not 1 to
+ * 4,000), 3 CONSTRAINT_COUNT, 9 SHORT_TABLE (limits, factors), 6 LIMIT_RANGE,
+ * 7 FACTOR_RANGE, and 9 SHORT_TABLE if the bytes don't fit.
  */
 uint64_t crr_write_grid(uint64_t form, size_t nodes, size_t constraints,
                         const uint64_t *limits, size_t limits_len,
@@ -286,10 +328,11 @@ uint64_t crr_write_grid(uint64_t form, size_t nodes, size_t constraints,
  * (wide) to *form.
  *
  * The file is wide where all six spare bits, the last of the second byte, are set,
- * and narrow where they are clear. Refusals, in this order: 2 (not 1 to 4,000 nodes,
- * for both forms), 1 (fewer than two bytes), 10, 4 (some of the spare bits are set
- * and some clear), 5 (by the form's own length), then contract by contract 11, 13,
- * and 9 if the contracts don't fit.
+ * and narrow where they are clear. Refusals, in this order: 2 NODE_COUNT (not 1 to
+ * 4,000 nodes, for both forms), 1 SHORT_FILE (fewer than two bytes),
+ * 10 CONTRACT_COUNT, 4 SPARE_BITS (some of the spare bits are set and some clear),
+ * 5 FILE_LENGTH (by the form's own length), then contract by contract 11 NODE_NUMBER,
+ * 13 QUANTITY_RANGE, and 9 SHORT_TABLE if the contracts don't fit.
  */
 uint64_t crr_read_book(size_t nodes,
                        const uint8_t *file, size_t file_len,
@@ -303,9 +346,10 @@ uint64_t crr_read_book(size_t nodes,
  * On success writes the file to the first bytes of file, and its length to
  * *bytes. The longest has CRR_MAX_BOOK_BYTES, the longest narrow one 6,002.
  *
- * Refusals, in this order: 2 (not 1 to 4,000 nodes, for both forms), 10, 9 (book),
- * then contract by contract 17, 18, 11 (narrow, also a source or sink above 255),
- * 13, and 9 if the bytes don't fit.
+ * Refusals, in this order: 2 NODE_COUNT (not 1 to 4,000 nodes, for both forms),
+ * 10 CONTRACT_COUNT, 9 SHORT_TABLE (book), then contract by contract
+ * 17 PERIOD_OR_KIND, 18 HOLDER_RANGE, 11 NODE_NUMBER (narrow, also a source or sink
+ * above 255), 13 QUANTITY_RANGE, and 9 SHORT_TABLE if the bytes don't fit.
  */
 uint64_t crr_write_book(uint64_t form, size_t nodes, size_t contracts,
                         const uint64_t *book, size_t book_len,
@@ -326,9 +370,11 @@ uint64_t crr_write_book(uint64_t form, size_t nodes, size_t contracts,
  * periods, holders, quantities and the order of the contracts stay. Ends may become
  * equal.
  *
- * Refusals, in this order: 2, 1, 10, 4, 5, then contract by contract 11, 13; 11 (a
- * number of old_nodes, of new_nodes; where the book is narrow, also one of new_nodes
- * above 255), 9 if the lists differ in length, and 9 if the bytes don't fit.
+ * Refusals, in this order: 2 NODE_COUNT, 1 SHORT_FILE, 10 CONTRACT_COUNT,
+ * 4 SPARE_BITS, 5 FILE_LENGTH, then contract by contract 11 NODE_NUMBER,
+ * 13 QUANTITY_RANGE; 11 NODE_NUMBER (a number of old_nodes, of new_nodes; where the
+ * book is narrow, also one of new_nodes above 255), 9 SHORT_TABLE if the lists differ
+ * in length, and 9 SHORT_TABLE if the bytes don't fit.
  */
 uint64_t crr_remap_book(size_t nodes,
                         const uint8_t *book, size_t book_len,
@@ -350,8 +396,9 @@ uint64_t crr_remap_book(size_t nodes,
  * and the same bytes, also where they are refused. That is said of what is answered
  * and written, not of the time that it takes.
  *
- * Refusals, in this order: 2, 1, 10, 4, 5, then contract by contract 11, 13; and 9 if
- * the bytes don't fit.
+ * Refusals, in this order: 2 NODE_COUNT, 1 SHORT_FILE, 10 CONTRACT_COUNT,
+ * 4 SPARE_BITS, 5 FILE_LENGTH, then contract by contract 11 NODE_NUMBER,
+ * 13 QUANTITY_RANGE; and 9 SHORT_TABLE if the bytes don't fit.
  */
 uint64_t crr_write_market_view(size_t nodes,
                                const uint8_t *book, size_t book_len,
@@ -377,8 +424,9 @@ uint64_t crr_write_market_view(size_t nodes,
  * is said of what is answered and written, not of time: a call takes the longer, the
  * more contracts match the holder.
  *
- * Refusals, in this order: 2, 1, 10, 4, 5, then contract by contract 11, 13; 18, and 9
- * if the view doesn't fit.
+ * Refusals, in this order: 2 NODE_COUNT, 1 SHORT_FILE, 10 CONTRACT_COUNT,
+ * 4 SPARE_BITS, 5 FILE_LENGTH, then contract by contract 11 NODE_NUMBER,
+ * 13 QUANTITY_RANGE; 18 HOLDER_RANGE, and 9 SHORT_TABLE if the view doesn't fit.
  */
 uint64_t crr_write_holder_view(size_t nodes,
                                const uint8_t *book, size_t book_len,
@@ -403,8 +451,9 @@ uint64_t crr_write_holder_view(size_t nodes,
  * crr_find_flows give the same but for *counted, and crr_settle_hour the same *whole
  * and *parts. Cents are rounded row by row, so they and their *sum may differ.
  *
- * Refusals, in this order: 2, 1, 10, 4, 5, then contract by contract 11, 13, and 9 if
- * the bytes of the settled form don't fit.
+ * Refusals, in this order: 2 NODE_COUNT, 1 SHORT_FILE, 10 CONTRACT_COUNT,
+ * 4 SPARE_BITS, 5 FILE_LENGTH, then contract by contract 11 NODE_NUMBER,
+ * 13 QUANTITY_RANGE, and 9 SHORT_TABLE if the bytes of the settled form don't fit.
  */
 uint64_t crr_write_settled_book(size_t nodes,
                                 const uint8_t *book, size_t book_len,
@@ -433,10 +482,13 @@ uint64_t crr_write_settled_book(size_t nodes,
  * in the settlement: it is no option on the hub's price. Allocated contracts are not
  * combined into one of the hub again, as the text of 003, 36.8.4.1, would have it.
  *
- * Refusals, in this order: 2, 1, 10, 4, 5, then contract by contract 11, 13; 17 (kind,
- * period), 18, 11 (a number of hub_nodes, the sink; where the book is narrow, also one
- * above 255), 13, 24, 25, 10 (the book's contracts and those made are more than 1,000),
- * and 9 if the bytes don't fit. Unequal lists are 24.
+ * Refusals, in this order: 2 NODE_COUNT, 1 SHORT_FILE, 10 CONTRACT_COUNT,
+ * 4 SPARE_BITS, 5 FILE_LENGTH, then contract by contract 11 NODE_NUMBER,
+ * 13 QUANTITY_RANGE; 17 PERIOD_OR_KIND (kind, period), 18 HOLDER_RANGE,
+ * 11 NODE_NUMBER (a number of hub_nodes, the sink; where the book is narrow, also one
+ * above 255), 13 QUANTITY_RANGE, 24 HUB_SHAPE, 25 HUB_NODE_TWICE, 10 CONTRACT_COUNT
+ * (the book's contracts and those made are more than 1,000), and 9 SHORT_TABLE if the
+ * bytes don't fit. Unequal lists are 24.
  */
 uint64_t crr_add_hub_contract(size_t nodes,
                               const uint8_t *book, size_t book_len,
@@ -453,7 +505,9 @@ uint64_t crr_add_hub_contract(size_t nodes,
  * On success writes one price for each constraint to the first cells of prices,
  * and the hour's period to *period.
  *
- * Refusals, in this order: 3, 1, 14, 5, 15, 8, and 9 if the prices don't fit.
+ * Refusals, in this order: 3 CONSTRAINT_COUNT, 1 SHORT_FILE, 14 PRICE_COUNT,
+ * 5 FILE_LENGTH, 15 PRICE_RANGE, 8 PADDING, and 9 SHORT_TABLE if the prices don't
+ * fit.
  */
 uint64_t crr_read_prices(size_t constraints,
                          const uint8_t *file, size_t file_len,
@@ -466,7 +520,8 @@ uint64_t crr_read_prices(size_t constraints,
  * On success writes the file to the first bytes of file, and its length to
  * *bytes. The longest has CRR_MAX_PRICE_BYTES.
  *
- * Refusals, in this order: 17, 3, 9 (prices), 15, and 9 if the bytes don't fit.
+ * Refusals, in this order: 17 PERIOD_OR_KIND, 3 CONSTRAINT_COUNT, 9 SHORT_TABLE
+ * (prices), 15 PRICE_RANGE, and 9 SHORT_TABLE if the bytes don't fit.
  */
 uint64_t crr_write_prices(uint64_t period, size_t constraints,
                           const uint64_t *prices, size_t prices_len,
@@ -487,8 +542,10 @@ uint64_t crr_write_prices(uint64_t period, size_t constraints,
  * period's contracts exceed the congestion rent. On fail, prices of 1 cent at
  * *lowest and 0 elsewhere do, by *excess in 10^-8 cents for an hour.
  *
- * Refusals, in this order: 2, 3, 16, 17, 9 (limits, factors), 6, 7, then the
- * book's own: 1, 10, 4, 5, and contract by contract 11, 13.
+ * Refusals, in this order: 2 NODE_COUNT, 3 CONSTRAINT_COUNT, 16 PROCESS_NUMBER,
+ * 17 PERIOD_OR_KIND, 9 SHORT_TABLE (limits, factors), 6 LIMIT_RANGE, 7 FACTOR_RANGE,
+ * then the book's own: 1 SHORT_FILE, 10 CONTRACT_COUNT, 4 SPARE_BITS, 5 FILE_LENGTH,
+ * and contract by contract 11 NODE_NUMBER, 13 QUANTITY_RANGE.
  */
 uint64_t crr_test_book(size_t nodes, size_t constraints,
                        uint64_t process, uint64_t period,
@@ -507,8 +564,11 @@ uint64_t crr_test_book(size_t nodes, size_t constraints,
  * overloaded in a process exactly when flows[k] is above limits[k] * percent *
  * 1,000, with the percent that crr_released_percent gives.
  *
- * Refusals, in this order: 2, 3, 17, 9 (limits, factors), 6, 7, then the book's
- * own: 1, 10, 4, 5, and contract by contract 11, 13; and 9 if the flows don't fit.
+ * Refusals, in this order: 2 NODE_COUNT, 3 CONSTRAINT_COUNT, 17 PERIOD_OR_KIND,
+ * 9 SHORT_TABLE (limits, factors), 6 LIMIT_RANGE, 7 FACTOR_RANGE, then the book's
+ * own: 1 SHORT_FILE, 10 CONTRACT_COUNT, 4 SPARE_BITS, 5 FILE_LENGTH, and contract by
+ * contract 11 NODE_NUMBER, 13 QUANTITY_RANGE; and 9 SHORT_TABLE if the flows don't
+ * fit.
  */
 uint64_t crr_find_flows(size_t nodes, size_t constraints, uint64_t period,
                         const uint64_t *limits, size_t limits_len,
@@ -536,10 +596,12 @@ uint64_t crr_find_flows(size_t nodes, size_t constraints, uint64_t period,
  * *listed is 0 for a book that passes, and also for one that fails and that no
  * single contract's cut clears: crr_test_book tells them apart.
  *
- * Refusals, in this order: 2, 3, 16, 17, 9 (limits, factors), 6, 7, then the book's
- * own: 1, 10, 4, 5, and contract by contract 11, 13; last 9 if numbers or cuts has
- * fewer cells than there are rows. CRR_MAX_CONTRACTS cells of each are enough, and a
- * book that passes asks for none.
+ * Refusals, in this order: 2 NODE_COUNT, 3 CONSTRAINT_COUNT, 16 PROCESS_NUMBER,
+ * 17 PERIOD_OR_KIND, 9 SHORT_TABLE (limits, factors), 6 LIMIT_RANGE, 7 FACTOR_RANGE,
+ * then the book's own: 1 SHORT_FILE, 10 CONTRACT_COUNT, 4 SPARE_BITS, 5 FILE_LENGTH,
+ * and contract by contract 11 NODE_NUMBER, 13 QUANTITY_RANGE; last 9 SHORT_TABLE if
+ * numbers or cuts has fewer cells than there are rows. CRR_MAX_CONTRACTS cells of
+ * each are enough, and a book that passes asks for none.
  */
 uint64_t crr_find_cuts(size_t nodes, size_t constraints,
                        uint64_t process, uint64_t period,
@@ -572,8 +634,10 @@ struct crr_running {
  * On success writes 0 to the first 14 cells of numbers and the first 320 of flows, and
  * nothing to awards.
  *
- * Refusals, in this order: 2, 3, 16, 17, 9 (limits, factors; awards of fewer than 6,000
- * cells, numbers of fewer than 14, flows of fewer than 320), 6, 7.
+ * Refusals, in this order: 2 NODE_COUNT, 3 CONSTRAINT_COUNT, 16 PROCESS_NUMBER,
+ * 17 PERIOD_OR_KIND, 9 SHORT_TABLE (limits, factors; awards of fewer than 6,000
+ * cells, numbers of fewer than 14, flows of fewer than 320), 6 LIMIT_RANGE,
+ * 7 FACTOR_RANGE.
  */
 uint64_t crr_open_running(size_t nodes, size_t constraints,
                           uint64_t process, uint64_t period,
@@ -594,9 +658,12 @@ uint64_t crr_open_running(size_t nodes, size_t constraints,
  * cell 0 of numbers one more, and, for an award of the period, to cell 1 one more and
  * to the first cells of flows, one for each constraint, the flows with the award's.
  *
- * Refusals, in this order: 2, 3, 16, 17, 9 (as crr_open_running, and an award of fewer
- * than six cells), 6, 7, 10 (1,000 awards are held), then of the award 17, 18, 11, 13,
- * and 21 (some flow would exceed its released limit; it is not said which).
+ * Refusals, in this order: 2 NODE_COUNT, 3 CONSTRAINT_COUNT, 16 PROCESS_NUMBER,
+ * 17 PERIOD_OR_KIND, 9 SHORT_TABLE (as crr_open_running, and an award of fewer than
+ * six cells), 6 LIMIT_RANGE, 7 FACTOR_RANGE, 10 CONTRACT_COUNT (1,000 awards are
+ * held), then of the award 17 PERIOD_OR_KIND, 18 HOLDER_RANGE, 11 NODE_NUMBER,
+ * 13 QUANTITY_RANGE, and 21 AWARD_OVERLOAD (some flow would exceed its released
+ * limit; it is not said which).
  */
 uint64_t crr_add_award(size_t nodes, size_t constraints,
                        uint64_t process, uint64_t period,
@@ -614,7 +681,8 @@ uint64_t crr_add_award(size_t nodes, size_t constraints,
  * On success writes, of tier i, 1 and cells 0 and 1 to cells 3 * i - 1, 3 * i and
  * 3 * i + 1 of numbers, and cells 0 to 63 of flows to cells 64 * i to 64 * i + 63.
  *
- * Refusals, in this order: 9 (numbers, flows), 20 (a tier not 1 to 4).
+ * Refusals, in this order: 9 SHORT_TABLE (numbers, flows), 20 TIER_MARK (a tier not 1
+ * to 4).
  */
 uint64_t crr_mark_tier(uint64_t tier,
                        uint64_t *numbers, size_t numbers_len,
@@ -629,8 +697,8 @@ uint64_t crr_mark_tier(uint64_t tier,
  * cells 64 * i to 64 * i + 63 of flows to cells 0 to 63, and 0 to cell 3 * j - 1 of
  * numbers for each tier j whose cell 3 * j is above cell 3 * i.
  *
- * Refusals, in this order: 9 (numbers, flows), 20 (a tier not 1 to 4), 20 (one that is
- * not marked).
+ * Refusals, in this order: 9 SHORT_TABLE (numbers, flows), 20 TIER_MARK (a tier not 1
+ * to 4), 20 TIER_MARK (one that is not marked).
  */
 uint64_t crr_return_to_tier(uint64_t tier,
                             uint64_t *numbers, size_t numbers_len,
@@ -641,7 +709,7 @@ uint64_t crr_return_to_tier(uint64_t tier,
  *
  * On success writes it to *percent: 65, 60 or 100.
  *
- * Refusals: 16.
+ * Refusals: 16 PROCESS_NUMBER.
  */
 uint64_t crr_released_percent(uint64_t process, uint64_t *percent);
 
@@ -650,7 +718,8 @@ uint64_t crr_released_percent(uint64_t process, uint64_t *percent);
  *
  * On success writes one MCC for each node to the first cells of mcc.
  *
- * Refusals, in this order: 2, 3, 9 (factors, prices, mcc), 7, 15.
+ * Refusals, in this order: 2 NODE_COUNT, 3 CONSTRAINT_COUNT, 9 SHORT_TABLE (factors,
+ * prices, mcc), 7 FACTOR_RANGE, 15 PRICE_RANGE.
  */
 uint64_t crr_find_mcc(size_t nodes, size_t constraints,
                       const int64_t *factors, size_t factors_len,
@@ -665,9 +734,10 @@ uint64_t crr_find_mcc(size_t nodes, size_t constraints,
  * to *remainder what is left, 0 to 99,999: *quotient * 100,000 + *remainder is the sum.
  * A sum of -1 is -1 and 99,999.
  *
- * Refusals, in this order: 2, 3, 9 (factors, prices), 7, 15, 11 (a number of hub_nodes),
- * 24, 25. Those before 11 are of all factors and prices, as for crr_find_mcc. Unequal
- * lists are 24.
+ * Refusals, in this order: 2 NODE_COUNT, 3 CONSTRAINT_COUNT, 9 SHORT_TABLE (factors,
+ * prices), 7 FACTOR_RANGE, 15 PRICE_RANGE, 11 NODE_NUMBER (a number of hub_nodes),
+ * 24 HUB_SHAPE, 25 HUB_NODE_TWICE. Those before 11 are of all factors and prices, as
+ * for crr_find_mcc. Unequal lists are 24.
  */
 uint64_t crr_find_hub_mcc(size_t nodes, size_t constraints,
                           const int64_t *factors, size_t factors_len,
@@ -690,8 +760,10 @@ uint64_t crr_find_hub_mcc(size_t nodes, size_t constraints,
  * rounding, as *whole cents, rounded down, and *parts. A total of -83,000,000 is
  * -1 whole cents and 17,000,000 parts.
  *
- * Refusals, in this order: 2, 3, 17, 9 (factors, prices), 7, 15, then the book's
- * own: 1, 10, 4, 5, and contract by contract 11, 13; last 9 if the cents or the
+ * Refusals, in this order: 2 NODE_COUNT, 3 CONSTRAINT_COUNT, 17 PERIOD_OR_KIND,
+ * 9 SHORT_TABLE (factors, prices), 7 FACTOR_RANGE, 15 PRICE_RANGE, then the book's
+ * own: 1 SHORT_FILE, 10 CONTRACT_COUNT, 4 SPARE_BITS, 5 FILE_LENGTH, and contract by
+ * contract 11 NODE_NUMBER, 13 QUANTITY_RANGE; last 9 SHORT_TABLE if the cents or the
  * sets don't fit.
  */
 uint64_t crr_settle_hour(size_t nodes, size_t constraints, uint64_t period,
@@ -718,9 +790,9 @@ uint64_t crr_settle_hour(size_t nodes, size_t constraints, uint64_t period,
  * On success writes one share for each coordinator, in cents, to the first cells of
  * shares.
  *
- * Refusals, in this order: 26 (not 1 to 256 demands; a balance below -1,000,000,000
- * or above 1,000,000,000; a demand above 1,000,000,000), 27, and 9 if the shares
- * don't fit.
+ * Refusals, in this order: 26 SHARE_RANGE (not 1 to 256 demands; a balance below
+ * -1,000,000,000 or above 1,000,000,000; a demand above 1,000,000,000), 27 NO_DEMAND,
+ * and 9 SHORT_TABLE if the shares don't fit.
  */
 uint64_t crr_share_balance(int64_t balance,
                            const uint64_t *demands, size_t demands_len,
@@ -755,13 +827,15 @@ uint64_t crr_share_balance(int64_t balance,
  * Cents are rounded contract by contract, so their *sum may differ. The other period
  * is another call, on the new book, with that period's rates and loads.
  *
- * Refusals, in this order: 17, 2, 1, 10, 4, 5, then contract by contract 11, 13; 22 (not
- * 1 to 16 loads, more than 1,000 rows, lists of unequal length, customers above
- * 1,000,000, a rate above 10,000, a load above 1,000,000,000,000, an LSE number that is
- * 0 or above loads_len, a row whose old and new LSE are one), 23 (an LSE with a net
- * above 0 to some other, whose load is 0 or less than its nets above 0 together; what
- * it gains is not set off), 10 (the book's contracts and the new ones are more than
- * 1,000), and 9 if the bytes don't fit.
+ * Refusals, in this order: 17 PERIOD_OR_KIND, 2 NODE_COUNT, 1 SHORT_FILE,
+ * 10 CONTRACT_COUNT, 4 SPARE_BITS, 5 FILE_LENGTH, then contract by contract
+ * 11 NODE_NUMBER, 13 QUANTITY_RANGE; 22 MIGRATION_RANGE (not 1 to 16 loads, more than
+ * 1,000 rows, lists of unequal length, customers above 1,000,000, a rate above
+ * 10,000, a load above 1,000,000,000,000, an LSE number that is 0 or above loads_len,
+ * a row whose old and new LSE are one), 23 LOAD_EXCEEDED (an LSE with a net above 0
+ * to some other, whose load is 0 or less than its nets above 0 together; what it
+ * gains is not set off), 10 CONTRACT_COUNT (the book's contracts and the new ones are
+ * more than 1,000), and 9 SHORT_TABLE if the bytes don't fit.
  */
 uint64_t crr_migrate_load(size_t nodes, uint64_t period,
                           const uint8_t *book, size_t book_len,
@@ -785,8 +859,8 @@ uint64_t crr_migrate_load(size_t nodes, uint64_t period,
  * On success writes the report to the first bytes of text, and its length to
  * *bytes.
  *
- * Refusals: 9 if text has fewer than CRR_REPORT_BYTES bytes. What is wrong with a
- * file is told by the report's line, and the answer is 0.
+ * Refusals: 9 SHORT_TABLE if text has fewer than CRR_REPORT_BYTES bytes. What is
+ * wrong with a file is told by the report's line, and the answer is 0.
  */
 uint64_t crr_write_report(const uint8_t *grid_file, size_t grid_file_len,
                           const uint8_t *book_file, size_t book_file_len,
@@ -804,8 +878,8 @@ uint64_t crr_write_report(const uint8_t *grid_file, size_t grid_file_len,
  * On success writes the statement to the first bytes of text, and its length to
  * *bytes.
  *
- * Refusals: 9 if text has fewer than CRR_STATEMENT_BYTES bytes. What is wrong with
- * a file is told by the statement's line, and the answer is 0.
+ * Refusals: 9 SHORT_TABLE if text has fewer than CRR_STATEMENT_BYTES bytes. What is
+ * wrong with a file is told by the statement's line, and the answer is 0.
  */
 uint64_t crr_write_statement(const uint8_t *grid_file, size_t grid_file_len,
                              const uint8_t *book_file, size_t book_file_len,
@@ -823,7 +897,7 @@ uint64_t crr_write_statement(const uint8_t *grid_file, size_t grid_file_len,
  * On success writes their number to *hours: 384, 400, 416 or 432. January 2024 has
  * 416.
  *
- * Refusals: 19 (a year not 2010 to 2037, a month not 1 to 12).
+ * Refusals: 19 NO_SUCH_DATE (a year not 2010 to 2037, a month not 1 to 12).
  */
 uint64_t crr_month_hours(uint64_t year, uint64_t month, uint64_t *hours);
 
@@ -832,8 +906,8 @@ uint64_t crr_month_hours(uint64_t year, uint64_t month, uint64_t *hours);
  *
  * On success writes it to *weekday: 1 is Monday, 7 is Sunday.
  *
- * Refusals: 19 (a year not 2010 to 2037, a month not 1 to 12, a day that the month
- * does not have).
+ * Refusals: 19 NO_SUCH_DATE (a year not 2010 to 2037, a month not 1 to 12, a day that
+ * the month does not have).
  */
 uint64_t crr_weekday(uint64_t year, uint64_t month, uint64_t day,
                      uint64_t *weekday);
@@ -845,8 +919,8 @@ uint64_t crr_weekday(uint64_t year, uint64_t month, uint64_t day,
  *
  * On success writes the date to *later_year, *later_month and *later_day.
  *
- * Refusals, in this order: 19 (the date given, as for crr_weekday), 19 (the date
- * reached: all of December 2037).
+ * Refusals, in this order: 19 NO_SUCH_DATE (the date given, as for crr_weekday),
+ * 19 NO_SUCH_DATE (the date reached: all of December 2037).
  */
 uint64_t crr_month_later(uint64_t year, uint64_t month, uint64_t day,
                          uint64_t *later_year, uint64_t *later_month,

@@ -3,10 +3,6 @@
 mod calendar;
 mod entries;
 mod inputs;
-// `released_percent`, a choice among three figures, is not timed.
-#[allow(dead_code)]
-#[path = "../../tests/differential/src/library.rs"]
-mod library;
 mod migration;
 mod plain;
 mod running;
@@ -16,6 +12,8 @@ mod splitmix;
 mod timing;
 mod views;
 
+// `released_percent`, a choice among three figures, is not timed.
+use crr::lent as library;
 use entries::{Entry, ENTRIES};
 use inputs::{Inputs, Size, LARGEST, WIDEST, WIDEST_TEXT};
 use migration::Load;

@@ -3,8 +3,10 @@
  * section 7.4.8, among LSEs 1 to 4. Prints the nets, to be laid beside 001's matrix,
  * and the contracts that are added, and writes the new book to a file.
  *
- * Started with the name of that file: migrate NEW_BOOK. 001 gives no loads; these are
- * ours. Everything is in thousandths of a MW.
+ * Started in that folder, which has grid.bin and book.bin, with the name of that file:
+ * migrate NEW_BOOK. 001 gives no loads; these are ours. Everything is in thousandths of
+ * a MW.
+ * Made by gcc -I include -o target/migrate examples/c/migrate.c target/staticlib/libcrr.a
  */
 #include <inttypes.h>
 #include <stdio.h>
@@ -32,8 +34,13 @@ static size_t load(const char *name, uint8_t *bytes, size_t room) {
 }
 
 static int refused(const char *what, uint64_t number) {
-    if (number) printf("%s refused: %" PRIu64 "\n", what, number);
-    return number != 0;
+    uint8_t text[CRR_REFUSAL_TEXT_BYTES];
+    size_t bytes = 0;
+
+    if (number == CRR_OK) return 0;
+    crr_refusal_text(number, text, sizeof text, &bytes);
+    fprintf(stderr, "%s refused: %" PRIu64 ", %.*s\n", what, number, (int)bytes, (const char *)text);
+    return 1;
 }
 
 /* A line for each LSE: what it loses to each other one; what it gains is negative. */
@@ -60,7 +67,10 @@ int main(int count, char **words) {
     uint64_t form;
     FILE *out;
 
-    if (count != 2) return 2;
+    if (count != 2) {
+        fprintf(stderr, "usage: %s NEW_BOOK, in a folder with grid.bin and book.bin\n", words[0]);
+        return 2;
+    }
     if (refused("grid", crr_read_grid(grid, grid_len, limits, CRR_MAX_CONSTRAINTS, factors,
                                       CRR_MAX_NODES * CRR_MAX_CONSTRAINTS, &nodes, &constraints, &form))) return 1;
     if (refused("book", crr_read_book(nodes, book, book_len, rows, 6 * CRR_MAX_CONTRACTS, &before, &form))) return 1;
@@ -74,7 +84,7 @@ int main(int count, char **words) {
     }
     out = fopen(words[1], "wb");
     if (!out || fwrite(file, 1, bytes, out) != bytes || fclose(out) != 0) {
-        printf("%s can't be written\n", words[1]);
+        fprintf(stderr, "%s can't be written\n", words[1]);
         return 1;
     }
     printf("%zu contracts, %zu new: %zu bytes\n", after, after - before, bytes);

@@ -29,7 +29,7 @@ from .native import Refused
 from .running import RunningTest, add_award, mark_tier, open_running, return_to_tier
 from .settlement import Hour, HourTotal, HubMcc, Settler, find_hub_mcc, find_mcc, settle_hour
 from .shares import share_balance
-from .texts import write_report, write_statement
+from .texts import refusal_text, write_report, write_statement
 from .views import Held, read_holder_view, write_holder_view, write_market_view
 
 __all__ = [
@@ -69,6 +69,7 @@ __all__ = [
     "read_grid",
     "read_holder_view",
     "read_prices",
+    "refusal_text",
     "released_percent",
     "remap_book",
     "return_to_tier",

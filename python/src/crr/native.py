@@ -14,7 +14,7 @@ from functools import cached_property, lru_cache
 from pathlib import Path
 from typing import TYPE_CHECKING, Any, Callable, Dict, List, Optional, Sequence, Tuple, Type, Union
 
-from .interface import DECLARATIONS, MEANINGS, Parameter, parameters
+from .interface import DECLARATIONS, INTERFACE, MEANINGS, Parameter, parameters
 
 if TYPE_CHECKING:
     from typing import Protocol
@@ -67,7 +67,19 @@ def library_path() -> Path:
 
 @lru_cache(maxsize=1)
 def _library() -> ctypes.CDLL:
-    return ctypes.CDLL(str(library_path()))  # CDLL lets other threads run during a call
+    path = library_path()
+    library = ctypes.CDLL(str(path))  # CDLL lets other threads run during a call
+    try:
+        interface = library.crr_interface
+    except AttributeError:
+        why = "it is older than this package; ./library builds it anew"
+        raise OSError(f"{path} does not tell its interface: {why}") from None
+    interface.restype, interface.argtypes = ctypes.c_uint64, []
+    number = interface()
+    if number != INTERFACE:
+        why = "one of them is older than the other"
+        raise OSError(f"{path} has interface {number}, and this package is for {INTERFACE}: {why}")
+    return library
 
 
 class _PyBuffer(ctypes.Structure):

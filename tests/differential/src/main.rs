@@ -5,6 +5,7 @@
 //! conformance vectors alone.
 
 mod draw;
+mod guarded;
 mod lent;
 mod library;
 mod rounds;
@@ -15,8 +16,8 @@ mod vectors;
 
 use draw::{Draw, EXTREMES};
 use rounds::{
-    calendar, cuts, demand, forms, headers, hub_book, hub_mcc, hubs, migration, priced, reordering, running, settled, shares, text,
-    view_pairs, views,
+    calendar, cuts, demand, forms, headers, hub_book, hub_mcc, hubs, migration, priced, refusals, reordering, running, settled, shares,
+    text, view_pairs, views,
 };
 use std::env;
 use std::process::ExitCode;
@@ -40,7 +41,7 @@ const fn plain(name: &'static str, refusals: &'static [u64], cases: &'static [&'
 }
 
 /// Each entry, with the refusals that the papers list for it, each to be drawn and no other, and the cases that the change requests name.
-const ENTRIES: [Entry; 34] = [
+const ENTRIES: [Entry; 35] = [
     plain("read_grid", &[1, 2, 3, 4, 5, 6, 7, 8, 9], &[&forms::GRIDS_READ], rounds::grid::read),
     Entry { rounds: headers::FIRST_BYTES, ..plain("grid_headers", &[1, 2, 3, 4, 5, 6, 7, 8, 9], &[], headers::grid) },
     plain("write_grid", &[2, 3, 6, 7, 9], &[&forms::GRIDS_WRITTEN], rounds::grid::write),
@@ -85,6 +86,8 @@ const ENTRIES: [Entry; 34] = [
         files: &[("grid", GRID), ("book", BOOK), ("prices", PRICES)],
         ..plain("write_statement", &[9], &[&priced::CASES, &text::CASES], text::statement)
     },
+    // beyond the papers: what a refusal's number means
+    Entry { rounds: refusals::FIRST_ROUNDS, ..plain("refusal_text", &[9], &[&refusals::CASES], refusals::round) },
     Entry { rounds: calendar::YEARS, ..plain("month_hours", &[19], &[&calendar::HOURS], calendar::hours) },
     Entry { rounds: calendar::MONTHS, ..plain("weekday", &[19], &[&calendar::WEEKDAYS], calendar::weekdays) },
     Entry { rounds: calendar::MONTHS, ..plain("month_later", &[19], &[&calendar::LATER], calendar::later) },
@@ -156,6 +159,7 @@ fn one(seed: u64, name: &str, number: u64) -> ExitCode {
 }
 
 fn main() -> ExitCode {
+    crr::check_interface();
     let words: Vec<String> = env::args().skip(1).collect();
     let number = |i: usize, usual: u64| words.get(i).map_or(usual, |word| word.parse().expect("a number"));
     if words == ["vectors"] {

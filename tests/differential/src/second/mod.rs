@@ -10,6 +10,7 @@ pub mod hubs;
 pub mod migration;
 pub mod own;
 pub mod prices;
+pub mod refusals;
 pub mod remap;
 pub mod running;
 pub mod settled;

@@ -27,18 +27,18 @@ mod c {
 }
 
 /// The lists of rows and the loads that load migration takes.
-#[derive(Clone, Default)]
-pub struct Migration {
-    pub classes: Vec<u8>,
-    pub customers: Vec<u64>,
-    pub rates: Vec<u64>,
-    pub olds: Vec<u64>,
-    pub news: Vec<u64>,
-    pub loads: Vec<u64>,
+#[derive(Clone, Copy)]
+pub struct Migration<'a> {
+    pub classes: &'a [u8],
+    pub customers: &'a [u64],
+    pub rates: &'a [u64],
+    pub olds: &'a [u64],
+    pub news: &'a [u64],
+    pub loads: &'a [u64],
 }
 
 pub fn migrate_load(nodes: usize, period: u64, book: &[u8], lists: &Migration, file: &mut [u8], bytes: &mut usize) -> u64 {
-    let Migration { classes, customers, rates, olds, news, loads } = lists;
+    let Migration { classes, customers, rates, olds, news, loads } = *lists;
     unsafe {
         c::crr_migrate_load(
             nodes,
