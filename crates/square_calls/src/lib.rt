@@ -1,0 +1,1 @@
+// Theorems over what `net_transfers` and `migrate_load` promise of the same rows: see specs/Calls.antt.
