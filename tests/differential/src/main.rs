@@ -39,7 +39,7 @@ const fn plain(name: &'static str, refusals: &'static [u64], cases: &'static [&'
 }
 
 /// Each entry, with the refusals that the papers list for it, each to be drawn and no other, and the cases that the change requests name.
-const ENTRIES: [Entry; 34] = [
+const ENTRIES: [Entry; 35] = [
     plain("read_grid", &[1, 2, 3, 4, 5, 6, 7, 8, 9], &[&forms::GRIDS_READ], rounds::grid::read),
     Entry { rounds: headers::FIRST_BYTES, ..plain("grid_headers", &[1, 2, 3, 4, 5, 6, 7, 8, 9], &[], headers::grid) },
     plain("write_grid", &[2, 3, 6, 7, 9], &[&forms::GRIDS_WRITTEN], rounds::grid::write),
@@ -78,6 +78,7 @@ const ENTRIES: [Entry; 34] = [
     // paper 14's laws, over test_book, find_flows and settle_hour
     plain("reordering", &[6, 10, 11, 13], &[&reordering::CASES], reordering::round),
     plain("running_orders", &[21], &[&running::orders::CASES], running::orders::round),
+    plain("net_transfers", &[9, 22], &[&migration::nets::CASES], migration::nets::round),
     plain("migrate_load", &[1, 2, 4, 5, 9, 10, 11, 13, 17, 22, 23], &[&migration::CASES], migration::round),
     Entry { files: &[("grid", GRID), ("book", BOOK)], ..plain("write_report", &[9], &[&text::CASES], text::report) },
     Entry {
