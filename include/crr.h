@@ -49,7 +49,8 @@
  *
  * TABLES. Each may be longer than is needed: only the first cells are read or
  * written. Lists are exact and read whole, their lengths say how many there are:
- * demands, a hub's two lists, and those of crr_remap_book and crr_migrate_load.
+ * demands, a hub's two lists, and those of crr_remap_book, crr_net_transfers and
+ * crr_migrate_load.
  *
  *   limits    one cell for each constraint
  *   factors   one cell for each node and constraint; the factor of node n on
@@ -797,6 +798,32 @@ uint64_t crr_settle_hour(size_t nodes, size_t constraints, uint64_t period,
 uint64_t crr_share_balance(int64_t balance,
                            const uint64_t *demands, size_t demands_len,
                            int64_t *shares, size_t shares_len);
+
+/*
+ * Nets the load that moved between LSEs: the square of net transfers that
+ * crr_migrate_load follows, for those who want to see it; no paper asks for it by
+ * itself. There are so many LSEs, 1 to CRR_MAX_LSES, and the rows of five lists are
+ * those of crr_migrate_load, where the net transfer from one LSE to another is
+ * defined. The lists may be empty.
+ *
+ * On success writes lses * lses cells, a row for each LSE: that from LSE i to LSE j is
+ * in cell (i - 1) * lses + j - 1 of nets, in thousandths of a MW. What LSE i loses to
+ * LSE j is above 0, what it gains below 0; each is the opposite of its mirror, the
+ * cell from j to i. CRR_MAX_LSES * CRR_MAX_LSES cells are always enough. Where
+ * crr_migrate_load takes the same rows and as many loads, the contracts that it adds
+ * follow these cells.
+ *
+ * Refusals, in this order: 22 (not 1 to 16 LSEs, more than 1,000 rows, lists of unequal
+ * length, customers above 1,000,000, a rate above 10,000, an LSE number that is 0 or
+ * above lses, a row whose old and new LSE are one), and 9 if the cells don't fit.
+ */
+uint64_t crr_net_transfers(size_t lses,
+                           const uint8_t *classes, size_t classes_len,
+                           const uint64_t *customers, size_t customers_len,
+                           const uint64_t *rates, size_t rates_len,
+                           const uint64_t *olds, size_t olds_len,
+                           const uint64_t *news, size_t news_len,
+                           int64_t *nets, size_t nets_len);
 
 /*
  * Migrates load: the monthly transfer of CRRs between LSEs whose customers moved, for

@@ -24,7 +24,7 @@ static const uint64_t loads[LSES] = {90000, 86000, 40000, 45000};
 
 static uint8_t grid[CRR_MAX_GRID_BYTES + 1], book[CRR_MAX_BOOK_BYTES + 1], file[CRR_MAX_BOOK_BYTES];
 static uint64_t limits[CRR_MAX_CONSTRAINTS], rows[6 * CRR_MAX_CONTRACTS];
-static int64_t factors[CRR_MAX_NODES * CRR_MAX_CONSTRAINTS];
+static int64_t factors[CRR_MAX_NODES * CRR_MAX_CONSTRAINTS], nets[LSES * LSES];
 
 static size_t load(const char *name, uint8_t *bytes, size_t room) {
     FILE *in = fopen(name, "rb");
@@ -45,17 +45,9 @@ static int refused(const char *what, uint64_t number) {
 
 /* A line for each LSE: what it loses to each other one; what it gains is negative. */
 static void print_nets(void) {
-    for (uint64_t from = 1; from <= LSES; from++) {
-        printf("LSE %" PRIu64 ":", from);
-        for (uint64_t to = 1; to <= LSES; to++) {
-            int64_t net = 0;
-            for (size_t i = 0; i < ROWS; i++) {
-                int64_t moved = (int64_t)(customers[i] * rates[i]);
-                if (olds[i] == from && news[i] == to) net += moved;
-                if (olds[i] == to && news[i] == from) net -= moved;
-            }
-            printf(" %6" PRId64, net);
-        }
+    for (size_t from = 1; from <= LSES; from++) {
+        printf("LSE %zu:", from);
+        for (size_t to = 1; to <= LSES; to++) printf(" %6" PRId64, nets[(from - 1) * LSES + to - 1]);
         printf("\n");
     }
 }
@@ -76,6 +68,7 @@ int main(int count, char **words) {
     if (refused("book", crr_read_book(nodes, book, book_len, rows, 6 * CRR_MAX_CONTRACTS, &before, &form))) return 1;
     if (refused("migration", crr_migrate_load(nodes, CRR_ON_PEAK, book, book_len, classes, ROWS, customers, ROWS, rates, ROWS,
                                               olds, ROWS, news, ROWS, loads, LSES, file, sizeof file, &bytes))) return 1;
+    if (refused("nets", crr_net_transfers(LSES, classes, ROWS, customers, ROWS, rates, ROWS, olds, ROWS, news, ROWS, nets, LSES * LSES))) return 1;
     if (refused("new book", crr_read_book(nodes, file, bytes, rows, 6 * CRR_MAX_CONTRACTS, &after, &form))) return 1;
     print_nets();
     for (size_t i = before; i < after; i++) {

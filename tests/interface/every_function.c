@@ -50,6 +50,7 @@ static const uint64_t demands[] = {5, 3, 1}, no_demands[] = {0, 0};
 static int64_t shares[4];
 /* Ten customers of 1 MW each move from LSE 7, whose load is 40 MW, to LSE 8; case L's book after that, and the cell after it. */
 static const uint8_t classes[] = {1};
+static int64_t nets[CRR_MAX_LSES * CRR_MAX_LSES];
 static const uint64_t moved_customers[] = {10}, moved_rates[] = {1000}, old_lses[] = {7}, new_lses[] = {8}, no_loads[CRR_MAX_LSES] = {0};
 static const uint64_t loads[CRR_MAX_LSES] = {0, 0, 0, 0, 0, 0, 40000};
 static const uint8_t migrated[] = {0x01, 0x80, 0x40, 0x70, 0x00, 0x10, 0x27, 0x10, 0xc0, 0x80, 0x00, 0x20, 0x01, 0xf4, 0x40, 0x70, 0x00, 0x20, 0x00, 0x01,
@@ -202,6 +203,15 @@ static void *others(void *nothing) {
     expect("crr_share_balance, no demand", crr_share_balance(10, no_demands, 2, shares, 1) == CRR_NO_DEMAND);
     expect("crr_share_balance, too few cells", crr_share_balance(10, demands, 3, shares, 2) == CRR_SHORT_TABLE
                                                    && shares[0] == -6 && shares[1] == -3 && shares[2] == -1 && shares[3] == 7);
+    nets[64] = 7;
+    expect("crr_net_transfers", crr_net_transfers(8, classes, 1, moved_customers, 1, moved_rates, 1, old_lses, 1, new_lses, 1, nets, CRR_MAX_LSES * CRR_MAX_LSES) == CRR_OK
+                                    && nets[0] == 0 && nets[55] == 10000 && nets[62] == -10000 && nets[63] == 0 && nets[64] == 7);
+    nets[55] = 7;
+    expect("crr_net_transfers, too few cells", crr_net_transfers(8, classes, 1, moved_customers, 1, moved_rates, 1, old_lses, 1, new_lses, 1, nets, 63) == CRR_SHORT_TABLE
+                                                   && nets[55] == 7);
+    expect("crr_net_transfers, seven LSEs", crr_net_transfers(7, classes, 1, moved_customers, 1, moved_rates, 1, old_lses, 1, new_lses, 1, nets, 0) == CRR_MIGRATION_RANGE
+                                                && nets[55] == 7);
+    expect("crr_net_transfers, no rows", crr_net_transfers(1, classes, 0, moved_customers, 0, moved_rates, 0, old_lses, 0, new_lses, 0, nets, 1) == CRR_OK && nets[0] == 0);
     copy[38] = 7;
     expect("crr_migrate_load", crr_migrate_load(nodes, CRR_ON_PEAK, book_file, book_len, classes, 1, moved_customers, 1, moved_rates, 1, old_lses, 1, new_lses, 1,
                                                 loads, CRR_MAX_LSES, copy, sizeof copy, &bytes) == CRR_OK

@@ -2,3 +2,4 @@ pub mod Alike
 pub mod Settled
 pub mod Migration
 pub mod Market
+pub mod Square

@@ -14,15 +14,14 @@ use Rattle.layouts.specs.declared.forms.Form.{Form}
 use Rattle.layouts.specs.BookFile.{bookBytes, bookFile, bookFormIn, contractIn}
 use Rattle.layouts.specs.Writing.{Writes}
 use Rattle.books.specs.BookChecks.{ownChecks}
-use Rattle.migration_rules.specs.Transfers.{rangeChecks}
+use Rattle.migration_rules.specs.Transfers.{RowLists, rangeChecks}
 use Rattle.migration_rules.specs.Contracts.{newFrom, newBook}
 use Rattle.load_transfers.specs.Squares.{lostIn}
-use Rattle.load_migration.specs.MigrateLoad.{RowLists}
 
 -- 17, the book's own, 22
 unfoldable pub inputChecks : ℕ → ℕ → List ℕ → RowLists → List ℕ → List Check
 inputChecks n t book lists loads =
-    periodNumber t ∷ ownChecks n book ++ rangeChecks (lists .classes) (lists .customers) (lists .rates) (lists .olds) (lists .news) loads
+    periodNumber t ∷ ownChecks n book ++ rangeChecks lists loads
 
 -- 10, 9
 abbrev pub roomChecks : Form → ℕ → ℕ → List Check

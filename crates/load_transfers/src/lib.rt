@@ -7,7 +7,7 @@ ghost use Rattle.lists.specs.Lists.{some};
 ghost use Rattle.lists.specs.Lent.{before};
 ghost use Rattle.tariff.specs.Refusals.{first};
 ghost use Rattle.tariff.specs.Units.{maxEntities};
-ghost use Rattle.migration_rules.specs.Transfers.{row, rowsOf, entityCount, entityBad, rowBad, unequalLists, rangeChecks, lossesTo, loadsExceeded};
+ghost use Rattle.migration_rules.specs.Transfers.{row, rowsOf, rowLists, entityCount, entityBad, rowBad, unequalLists, rowChecks, rangeChecks, lossesTo, loadsExceeded};
 ghost use Rattle.load_transfers.specs.Squares.{rowLosses, lostIn};
 ghost use Rattle.load_transfers.specs.Inner.{RowsIn, rowsTo, SizedRow, Sized, NetSquare};
 use tariff::Checked;
@@ -100,17 +100,17 @@ fn lists_unequal(rows: usize, classes: usize, rates: usize, olds: usize, news: u
 }
 
 // 22: a count, a figure or an LSE number outside its range, unequal lists, or a row whose old and new LSE are one. Classes have no effect.
-pub fn check_figures(
+pub fn check_rows(
+    entities: usize,
     classes: &[u8],
     customers: &[u64],
     rates: &[u64],
     olds: &[u64],
     news: &[u64],
-    loads: &[u64],
 ) -> Checked
-    ensures { λ r. ⌜ r ≡ first (rangeChecks (before classes) (before customers) (before rates) (before olds) (before news) (before loads)) ⌝ }
+    ensures { λ r. ⌜ r ≡ first (rowChecks entities (rowLists classes customers rates olds news)) ⌝ }
 {
-    if entity_count_bad(loads.len()) {
+    if entity_count_bad(entities) {
         return Checked::Refused(Refusal::MigrationRange);
     }
     if MAX_ROWS < customers.len() {
@@ -125,10 +125,28 @@ pub fn check_figures(
     ) {
         return Checked::Refused(Refusal::MigrationRange);
     }
-    if tables::cell_above(loads, loads.len(), MAX_LOAD) {
+    if rows_bad(entities, customers, rates, olds, news) {
         return Checked::Refused(Refusal::MigrationRange);
     }
-    if rows_bad(loads.len(), customers, rates, olds, news) {
+    Checked::Passed
+}
+
+// The same with a load for each LSE, none of them out of range.
+pub fn check_figures(
+    classes: &[u8],
+    customers: &[u64],
+    rates: &[u64],
+    olds: &[u64],
+    news: &[u64],
+    loads: &[u64],
+) -> Checked
+    ensures { λ r. ⌜ r ≡ first (rangeChecks (rowLists classes customers rates olds news) (before loads)) ⌝ }
+{
+    let checked = check_rows(loads.len(), classes, customers, rates, olds, news);
+    if let Checked::Refused(refusal) = checked {
+        return Checked::Refused(refusal);
+    }
+    if tables::cell_above(loads, loads.len(), MAX_LOAD) {
         return Checked::Refused(Refusal::MigrationRange);
     }
     Checked::Passed

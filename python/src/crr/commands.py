@@ -7,7 +7,7 @@ from pathlib import Path
 from typing import Dict, Iterable, List, NamedTuple, Optional, Sequence, Tuple
 
 from .case import NARROW_ENDS, TIMES_OF_USE, Case, Names, holder_numbers, plain_number
-from .dates import HOURS_A_DAY, month_hours
+from .dates import hours_a_day, month_hours
 from .decimals import decimal, whole
 from .faults import Fault, Faults, raise_any
 from .feasibility import PROCESSES, Cut, Verdict, find_cuts, test_book
@@ -433,7 +433,7 @@ def _on_peak(year: int, month: int) -> Tuple[str, int, int]:
         found = month_hours(year, month)
     except Refused as refused:
         raise Refused(refused.number, refused.entry, name) from None
-    return name, found // HOURS_A_DAY, found
+    return name, found // hours_a_day(), found
 
 
 def _balance(text: str, faults: List[Fault]) -> int:

@@ -160,6 +160,8 @@ DECLARATIONS: Dict[str, str] = {
     "const uint64_t *prices, size_t prices_len, const uint8_t *book, size_t book_len, int64_t *cents, size_t cents_len, "
     "uint64_t *priced, size_t priced_len, int64_t *sum, int64_t *whole, uint64_t *parts",
     "crr_share_balance": "int64_t balance, const uint64_t *demands, size_t demands_len, int64_t *shares, size_t shares_len",
+    "crr_net_transfers": "size_t lses, const uint8_t *classes, size_t classes_len, const uint64_t *customers, size_t customers_len, "
+    "const uint64_t *rates, size_t rates_len, const uint64_t *olds, size_t olds_len, const uint64_t *news, size_t news_len, int64_t *nets, size_t nets_len",
     "crr_migrate_load": "size_t nodes, uint64_t period, const uint8_t *book, size_t book_len, const uint8_t *classes, size_t classes_len, "
     "const uint64_t *customers, size_t customers_len, const uint64_t *rates, size_t rates_len, const uint64_t *olds, size_t olds_len, "
     "const uint64_t *news, size_t news_len, const uint64_t *loads, size_t loads_len, uint8_t *file, size_t file_len, size_t *bytes",

@@ -10,9 +10,9 @@ from .case import Names
 from .commands import PASSES, Answer, Opened, files_of, objects, opened, write_like
 from .decimals import decimal
 from .faults import Fault, raise_any
-from .files import Contract, read_book
+from .files import Contract, read_book, write_book
 from .from_csv import BOOK
-from .interface import LOAD
+from .interface import LOAD, WIDE
 from .migration import migrate_load
 from .migration_csv import Migration, read_migration
 from .names_csv import read_names
@@ -29,14 +29,13 @@ def _holders(folder: Path, found: Opened) -> Dict[int, str]:
     return holders
 
 
-def _pairs(book: List[Contract], migration: Migration, period: int) -> List[Tuple[int, int]]:
-    """The base contract's number and the gainer of each pair of new contracts, in their order."""
-    nets = migration.nets
+def _pairs(nodes: int, period: int, book: List[Contract], migration: Migration) -> List[Tuple[int, int]]:
+    """The base contract's number and the gainer of each pair of new contracts, in their order. What follows
+    from a contract is what migration adds to a book of it alone: pairs, the gainer's first."""
     pairs: List[Tuple[int, int]] = []
     for number, contract in enumerate(book):
-        if contract.kind == 0 and contract.period == period and 1 <= contract.holder <= len(migration.loads):
-            load = migration.loads[contract.holder - 1]
-            pairs += [(number, gainer) for gainer, net in enumerate(nets[contract.holder - 1], 1) if net > 0 and contract.quantity * net >= load]
+        alone = migrate_load(nodes, period, write_book(nodes, [contract], WIDE), *migration[:-1])
+        pairs += [(number, gained.holder) for gained in read_book(nodes, alone)[1::2]]
     return pairs
 
 
@@ -74,8 +73,7 @@ def migrate(folder: Path, period: int, rows: Path, loads: Path, out: Optional[Pa
     book = migrate_load(nodes, period, files.book, *migration[:-1])
     contracts = read_book(nodes, book)
     names = replace(found.names, holders=holders)
-    names.contracts = _ids(names, _pairs(found.book, migration, period))
-    assert len(names.contracts) == len(contracts)
+    names.contracts = _ids(names, _pairs(nodes, period, found.book, migration))
     if out:
         write_like(found, Packed(names, files.grid, book, files.hours), out)
     added = [book_row(names, names.contracts[number], contracts[number]) for number in range(len(found.book), len(contracts))]

@@ -8,7 +8,7 @@ mod migration;
 mod running;
 
 pub use hubs::{add_hub_contract, find_hub_mcc};
-pub use migration::{migrate_load, Migration};
+pub use migration::{migrate_load, net_transfers, Migration};
 pub use running::{add_award, mark_tier, open_running, return_to_tier, Opening, State};
 
 mod c {

@@ -40,7 +40,7 @@ pub use calendar::{month_hours, month_later, weekday};
 pub use grids::Grid;
 pub use hubs::{add_hub_contract, find_hub_mcc, Hub, HubMcc};
 pub use interface::{check_interface, INTERFACE};
-pub use migration::{migrate_load, Moved};
+pub use migration::{migrate_load, net_transfers, Moved};
 pub use money::{find_mcc, read_prices, settle_hour, share_balance, write_prices, Hour};
 pub use refused::Refused;
 pub use running::Running;

@@ -59,6 +59,8 @@ fn books_from_books() {
     let grown = add_hub_contract(3, &file, &hub, Contract { sink: 2, quantity: 1_000, ..ON_PEAK }).unwrap();
     assert_eq!(Book::read(3, &grown).unwrap().contracts[4..].iter().map(|c| c.quantity).collect::<Vec<_>>(), [333, 334, 333]);
     let moved = Moved { class: 1, customers: 10, rate: 1_000, old: 7, new: 8 };
+    assert_eq!(net_transfers(8, &[moved]).unwrap()[55..57], [10_000, 0]);
+    assert_eq!(net_transfers(7, &[moved]), Err(Refused::MIGRATION_RANGE));
     let mut loads = [0; 16];
     assert_eq!(migrate_load(3, Period::OnPeak, &file, &[moved], &loads), Err(Refused::LOAD_EXCEEDED));
     loads[6] = 40_000;

@@ -91,6 +91,24 @@ pub fn migrate_load(nodes: usize, period: u64, book: &[u8], lists: &Migration, f
     })
 }
 
+/// The lists' loads are not looked at.
+pub fn net_transfers(lses: usize, lists: &Migration, nets: &mut [i64]) -> u64 {
+    called("net_transfers", |places| {
+        let (mut classes, mut nets) = (lists.classes[..].place(places), nets.place(places));
+        let (mut customers, mut rates) = (lists.customers[..].place(places), lists.rates[..].place(places));
+        let (mut olds, mut news) = (lists.olds[..].place(places), lists.news[..].place(places));
+        let lists = crr::lent::Migration {
+            classes: classes.lent(),
+            customers: customers.lent(),
+            rates: rates.lent(),
+            olds: olds.lent(),
+            news: news.lent(),
+            loads: &[],
+        };
+        places.on_stack(STACK, || crr::lent::net_transfers(lses, &lists, nets.lent()))
+    })
+}
+
 /// A function of the running test, with its tables, its award and its state placed.
 fn running(name: &'static str, opening: &Opening, award: &[u64], state: &mut State, call: fn(&Opening, &[u64], &mut State) -> u64) -> u64 {
     called(name, |places| {

@@ -80,6 +80,7 @@ const ENTRIES: [Entry; 35] = [
     // paper 14's laws, over test_book, find_flows and settle_hour
     plain("reordering", &[6, 10, 11, 13], &[&reordering::CASES], reordering::round),
     plain("running_orders", &[21], &[&running::orders::CASES], running::orders::round),
+    plain("net_transfers", &[9, 22], &[&migration::nets::CASES], migration::nets::round),
     plain("migrate_load", &[1, 2, 4, 5, 9, 10, 11, 13, 17, 22, 23], &[&migration::CASES], migration::round),
     Entry { files: &[("grid", GRID), ("book", BOOK)], ..plain("write_report", &[9], &[&text::CASES], text::report) },
     Entry {

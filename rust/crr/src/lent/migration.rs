@@ -23,6 +23,21 @@ mod c {
             file_len: usize,
             bytes: *mut usize,
         ) -> u64;
+        pub fn crr_net_transfers(
+            lses: usize,
+            classes: *const u8,
+            classes_len: usize,
+            customers: *const u64,
+            customers_len: usize,
+            rates: *const u64,
+            rates_len: usize,
+            olds: *const u64,
+            olds_len: usize,
+            news: *const u64,
+            news_len: usize,
+            nets: *mut i64,
+            nets_len: usize,
+        ) -> u64;
     }
 }
 
@@ -60,6 +75,28 @@ pub fn migrate_load(nodes: usize, period: u64, book: &[u8], lists: &Migration, f
             file.as_mut_ptr(),
             file.len(),
             bytes,
+        )
+    }
+}
+
+/// The lists' loads are not looked at.
+pub fn net_transfers(lses: usize, lists: &Migration, nets: &mut [i64]) -> u64 {
+    let Migration { classes, customers, rates, olds, news, loads: _ } = lists;
+    unsafe {
+        c::crr_net_transfers(
+            lses,
+            classes.as_ptr(),
+            classes.len(),
+            customers.as_ptr(),
+            customers.len(),
+            rates.as_ptr(),
+            rates.len(),
+            olds.as_ptr(),
+            olds.len(),
+            news.as_ptr(),
+            news.len(),
+            nets.as_mut_ptr(),
+            nets.len(),
         )
     }
 }
