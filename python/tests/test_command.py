@@ -13,7 +13,7 @@ from unittest import mock
 
 from support import CASE_L, IEEE14, ROOT, FolderTest, command, contents
 import crr
-from crr.cli import Bar
+from crr.bar import Bar
 from crr.decimals import decimal, whole
 
 CRR = ROOT / "crr"

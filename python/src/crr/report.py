@@ -8,10 +8,13 @@ from fractions import Fraction
 from pathlib import Path
 from typing import Dict, List, Optional, cast
 
-from .commands import PASSES, Answer, Opened, counts_told, cut_rows, files_of, is_csv, opened, settled, verdicts
+from .bar import Bar
+from .command import FOLDER, PASSES, ROUND_PRICES, Answer, command, writes
+from .commands import cut_rows, verdicts
 from .feasibility import PERIODS, PROCESSES, find_flows, released_percent
 from .files import read_grid
-from .hours import Progress, Settled
+from .hours import Settled
+from .opening import Opened, counts_told, files_of, is_csv, opened, settled
 from .packed import Packed, price_files
 from .page import Figures, Input, Month, page
 from .results import dollars, exact_dollars, holder_sums
@@ -66,10 +69,11 @@ def figures(folder: Path, found: Opened, files: Packed, result: Settled) -> Figu
     )
 
 
-def report(folder: Path, out: Optional[Path], round_prices: bool, progress: Progress) -> Answer:
+@command("report", "one HTML page: verdicts, loading of constraints, payments", FOLDER, ROUND_PRICES, writes("the HTML file"))
+def report(folder: Path, out: Optional[Path], round_prices: bool) -> Answer:
     """Writes the page; a book that fails is what it tells and no fault of it."""
     found = opened(folder, round_prices)
-    text = page(figures(folder, found, files_of(found), settled(found, 1, progress)))
+    text = page(figures(folder, found, files_of(found), settled(found, 1, Bar("settle"))))
     target = out or folder / "report.html"
     write_files(target.parent, {target.name: text.encode()})
     return Answer(PASSES, f"{target} written\n", {"out": str(target)})

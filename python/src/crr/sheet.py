@@ -162,6 +162,16 @@ class Sheet:
             return True
         return False
 
+    def new_name(self, line: int, ours: str, name: str, known: Dict[str, int]) -> bool:
+        """Whether a name can be taken as a new one, which then has the next number; a fault is noted otherwise."""
+        if not self.name_in(line, ours, name):
+            return False
+        if name in known:
+            self.fault(line, ours, f"{name} occurs twice")
+            return False
+        known[name] = len(known)
+        return True
+
     def _readable(self, line: int, fields: Sequence[str]) -> bool:
         bad = [at for at, field in enumerate(fields) if any("\udc80" <= c <= "\udcff" for c in field)]
         for at in bad:

@@ -8,11 +8,12 @@ import os
 from pathlib import Path
 from typing import Dict, Iterable, List, Sequence, Tuple
 
+from .book_csv import BOOK
 from .case import HEDGE_TYPES, TIMES_OF_USE, Case, Names, PricedHour
 from .decimals import decimal
 from .faults import Fault, raise_any
 from .files import Contract
-from .from_csv import BOOK, PRICES
+from .from_csv import PRICES
 from .interface import LIMIT, QUANTITY, SHADOW_PRICE, SHIFT_FACTOR
 from .names_csv import HEADING, name_rows
 
