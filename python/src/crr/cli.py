@@ -16,6 +16,7 @@ from . import book_commands, commands, copies, hubs, migrate, plain_commands, re
 from .command import COMMANDS, FAULTY, Answer, Command
 from .faults import Faults
 from .native import Refused
+from .version import Version
 
 # Help lists the commands module by module.
 _MODULES = [module.__name__ for module in (commands, report, book_commands, copies, hubs, tiers, migrate, plain_commands)]
@@ -29,6 +30,7 @@ def _parser() -> argparse.ArgumentParser:
     parser = argparse.ArgumentParser(prog="crr", description="Congestion revenue rights: feasibility test and hourly settlement.")
     fails = "1 the book fails (crr test, crr cuts), two books differ (crr same), or an operation is refused (crr tiers)"
     parser.epilog = f"Exit status: 0; {fails}; 2 the input has faults, or something can't be read or written."
+    parser.add_argument("--version", action=Version, help="the version, and the library taken, its origin and hash")
     adding = parser.add_subparsers(dest="command", required=True, metavar="COMMAND")
     for command in _listed():
         of_command = adding.add_parser(command.name, help=command.help, description=command.help)
