@@ -69,7 +69,7 @@ object_stamp() { # CRATE
         rt version
         echo "${below[*]}"
         (cd "crates/$1" && { find src specs proofs -type f -exec sha256sum {} + 2> /dev/null || true; } | LC_ALL=C sort)
-        (cd target/stamp && cat "${below[@]}" < /dev/null 2> /dev/null || true) # the kit's libraries have none
+        (cd target/stamp && { cat "${below[@]}" < /dev/null 2> /dev/null || true; }) # the kit's libraries have none
     } | sha256sum
 }
 
