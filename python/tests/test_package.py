@@ -7,6 +7,7 @@ import subprocess
 import sys
 import unittest
 import zipfile
+from hashlib import sha256
 
 from support import IEEE14, ROOT, FolderTest, command
 from crr.library import library_path
@@ -78,6 +79,16 @@ class Wheel(FolderTest):
         built = self.make_wheel()
         self.assertNotEqual(built.returncode, 0)
         self.assertIn("include/crr.h is not the file of MADE-FROM", built.stdout.decode())
+
+
+class Version(unittest.TestCase):
+    def test_it_names_the_library(self):
+        status, told, said = command("--version")
+        hashed = sha256(library_path().read_bytes()).hexdigest()
+        lines = told.splitlines()
+        self.assertEqual((status, said), (0, ""))
+        self.assertEqual(lines[:2] + lines[3:], [f"crr {crr.__version__}", f"library {library_path()}", f"sha256  {hashed}"])
+        self.assertRegex(lines[2], "^from    (dist/, made from this clone|./library, built from this clone|CRR_LIBRARY$)")
 
 
 class Types(FolderTest):
