@@ -69,6 +69,19 @@ unlike() { # FILE
     done | LC_ALL=C sort
 }
 
+# Names in what the tree differs from MADE_FROM, of these crates, what they stand on, and these files.
+differing() { # MADE_FROM CRATE.. FILE..
+    local made_from=$1 crate file
+    local -A needed=()
+    shift
+    sources "$@" | unlike "$made_from"
+    while read -r crate; do needed[$crate]=1; done < <(crates_of "$@")
+    while read -r _ file; do # listed, and no longer there
+        crate=${file#crates/} crate=${crate%%/*}
+        [ -z "$crate" ] || [ -z "${needed[$crate]:-}" ] || [ -f "$file" ] || echo "$file"
+    done < <(cat "$made_from" 2> /dev/null)
+}
+
 # Why dist/'s FILEs are not taken for this tree, in one line; none where they are: they are whole and
 # the sources of what is named behind them are those of MADE-FROM.
 dist_unlike() { # FILE.. -- CRATE.. FILE..
@@ -82,9 +95,9 @@ dist_unlike() { # FILE.. -- CRATE.. FILE..
     for file in MADE-FROM SHA256SUMS "${files[@]}"; do
         [ -f "dist/$file" ] || { echo "there is no dist/$file"; return; }
     done
-    mapfile -t names < <(sources "$@" | unlike dist/MADE-FROM)
+    mapfile -t names < <(differing dist/MADE-FROM "$@")
     if [ ${#names[@]} -gt 0 ]; then
-        echo "${names[0]} is not what dist/ was made from$([ ${#names[@]} -eq 1 ] || echo ", nor are $((${#names[@]} - 1)) more")"
+        echo "${names[0]} is not what dist/ was made from$([ ${#names[@]} -eq 1 ] || echo "; in all ${#names[@]} differ")"
         return
     fi
     mapfile -t names < <(cd dist && sha256sum "${files[@]}" | unlike SHA256SUMS)
