@@ -43,14 +43,13 @@ tell() { # WHO CRATE..
             echo "$who: ${line#rt: }; $count of $total$words" >&2
             ;;
         *"NOT PROVED"* | *"its run FAILED"*)
-            [ ${#said[@]} -eq 0 ] || printf '%s\n' "${said[@]: -20}" >&2
-            echo "$who: ${line#rt: }" >&2
+            printf '%s\n' "${said[@]}" "$who: ${line#rt: }" | tail -n 21 >&2
             said=()
             ;;
         *) said+=("$line") ;;
         esac
     done
-    case ${said[*]: -1} in "" | "rt: ok"*) ;; *) printf '%s\n' "${said[@]: -20}" >&2 ;; esac
+    case ${said[*]: -1} in "" | "rt: ok"*) ;; *) printf '%s\n' "${said[@]}" | tail -n 20 >&2 ;; esac
 }
 
 # ---- the library

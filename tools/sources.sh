@@ -71,14 +71,14 @@ unlike() { # FILE
 
 # Names in what the tree differs from MADE_FROM, of these crates, what they stand on, and these files.
 differing() { # MADE_FROM CRATE.. FILE..
-    local made_from=$1 crate file
+    local made_from=$1 item crate file
     local -A needed=()
     shift
-    sources "$@" | unlike "$made_from"
-    while read -r crate; do needed[$crate]=1; done < <(crates_of "$@")
+    sources "$@" 2> /dev/null | unlike "$made_from"
+    for item in "$@" $(crates_of "$@"); do needed[$item]=1; done
     while read -r _ file; do # listed, and no longer there
         crate=${file#crates/} crate=${crate%%/*}
-        [ -z "$crate" ] || [ -z "${needed[$crate]:-}" ] || [ -f "$file" ] || echo "$file"
+        [ -f "$file" ] || [ -z "$crate" ] || [ -z "${needed[$crate]:-}${needed[$file]:-}" ] || echo "$file"
     done < <(cat "$made_from" 2> /dev/null)
 }
 
