@@ -6,10 +6,10 @@ from pathlib import Path
 from typing import Dict, List, Optional, Sequence, Tuple
 
 from .bar import Bar
-from .case import TIMES_OF_USE, Names
+from .case import Names
 from .command import ANY_PERIODS, ANY_PROCESSES, FAILS, FOLDER, PASSES, ROUND_PRICES, Answer, argument, command, counted, objects, writes
 from .decimals import decimal
-from .feasibility import PROCESSES, Cut, Verdict, find_cuts, test_book
+from .feasibility import Cut, Verdict, find_cuts, test_book
 from .files import read_grid
 from .from_csv import load
 from .interface import FLOW_PLACES, QUANTITY
@@ -17,6 +17,7 @@ from .opening import Opened, counts, counts_told, files_of, opened, rounded_told
 from .packed import Packed, hour_name, read_packed, unpacked, write_packed
 from .results import HOLDERS, HOURS, dollars, exact_dollars, holder_months, hour_rows, result_files
 from .to_csv import csv_text, write_csv, write_files
+from .words import PROCESSES, TIMES_OF_USE, Period, Process
 
 
 @command("check", "read everything and list every fault", FOLDER, ROUND_PRICES)
@@ -55,7 +56,7 @@ def unpack(folder: Path, out: Optional[Path], force: bool) -> Answer:
 VERDICTS = ("TIME_OF_USE", "PROCESS", "VERDICT", "OVERLOADED", "LOWEST", "EXCESS_MW", "CONSTRAINTS")
 
 
-def verdicts(files: Packed, periods: Sequence[int] = (0, 1), processes: Sequence[int] = (0, 1, 2)) -> Dict[Tuple[int, int], Verdict]:
+def verdicts(files: Packed, periods: Sequence[int] = tuple(Period), processes: Sequence[int] = tuple(Process)) -> Dict[Tuple[int, int], Verdict]:
     """The test's answers by period and process."""
     grid = read_grid(files.grid)
     return {(period, process): test_book(grid, files.book, process, period) for period in periods for process in processes}

@@ -19,6 +19,7 @@ from .names_csv import read_names
 from .opening import Opened, files_of, opened, write_like
 from .packed import Packed
 from .to_csv import book_row, csv_text
+from .words import Period
 
 
 def _holders(folder: Path, found: Opened) -> Dict[int, str]:
@@ -73,7 +74,7 @@ def _net_rows(names: Names, migration: Migration) -> List[Tuple[str, ...]]:
     PERIOD.with_help("whose rates and loads these are"),
     writes("a folder"),
 )
-def migrate(folder: Path, period: int, rows: Path, loads: Path, out: Optional[Path], round_prices: bool) -> Answer:
+def migrate(folder: Path, period: Period, rows: Path, loads: Path, out: Optional[Path], round_prices: bool) -> Answer:
     """Migrates load in a book for one period: the nets, and the contracts that are added; with `out` the whole case is written there in the form that it
     had."""
     found = opened(folder, round_prices)
