@@ -24,19 +24,20 @@ class Answer(NamedTuple):
 
 
 class Argument(NamedTuple):
-    """An argument as `add_argument` takes it."""
+    """An argument as `add_argument` takes it, and the words that it can be, where they are few."""
 
     names: Tuple[str, ...]
     settings: Dict[str, Any]
+    words: Tuple[str, ...] = ()
 
     def with_help(self, text: str) -> Argument:
         """The same argument with another help."""
-        return Argument(self.names, {**self.settings, "help": text})
+        return self._replace(settings={**self.settings, "help": text})
 
 
-def argument(*names: str, **settings: Any) -> Argument:
+def argument(*names: str, words: Sequence[str] = (), **settings: Any) -> Argument:
     """An argument by what `add_argument` is called with."""
-    return Argument(names, settings)
+    return Argument(names, settings, tuple(words))
 
 
 class Command(NamedTuple):
@@ -88,7 +89,7 @@ def _choice(name: str, choices: Type[Word], every: str, **settings: Any) -> Argu
             raise argparse.ArgumentTypeError(f"{text!r} is none of {', '.join(options)}")
         return [word] if every else word
 
-    return argument(name, type=value, metavar=f"{{{','.join(options)}}}", **settings)
+    return argument(name, type=value, metavar=f"{{{','.join(options)}}}", words=options, **settings)
 
 
 PERIOD = _choice("--period", Period, "", required=True)
@@ -103,5 +104,5 @@ def counted(number: int, what: str) -> str:
 
 
 def objects(heading: Sequence[str], rows: Iterable[Sequence[object]]) -> List[Dict[str, object]]:
-    """Rows of a table as objects."""
-    return [{name.lower(): value for name, value in zip(heading, row)} for row in rows]
+    """Rows of a table as objects: an empty field is null."""
+    return [{name.lower(): None if value == "" else value for name, value in zip(heading, row)} for row in rows]

@@ -2,6 +2,7 @@
 
 from __future__ import annotations
 
+import argparse
 from pathlib import Path
 from typing import Dict, List, Optional, Sequence, Tuple
 
@@ -140,13 +141,20 @@ def _cuts_told(names: Names, answers: Dict[Tuple[int, int], Verdict], listed: Di
     return "".join(said) + (f"{passing}: the book passes\n" if passing else "")
 
 
+def _jobs(text: str) -> int:
+    """How many processes: at least one."""
+    if not (text.isascii() and text.isdigit() and len(text) < 5 and int(text)):
+        raise argparse.ArgumentTypeError(f"{text!r} is no number of processes, from 1 to 9999")
+    return int(text)
+
+
 @command(
     "settle",
     "settle every hour: holder by month, hour by hour, contract by contract",
     FOLDER,
     ROUND_PRICES,
     writes("a folder for the result files"),
-    argument("-j", "--jobs", type=int, default=1, metavar="N", help="how many processes"),
+    argument("-j", "--jobs", type=_jobs, default=1, metavar="N", help="how many processes, at least 1"),
 )
 def settle(folder: Path, out: Optional[Path], jobs: int, round_prices: bool) -> Answer:
     """Settles every hour; with `out` writes hours.csv, holders.csv and contracts.csv there."""

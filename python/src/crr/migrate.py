@@ -95,4 +95,4 @@ def migrate(folder: Path, period: Period, rows: Path, loads: Path, out: Optional
     text = csv_text(("LSE", *lses), nets) + "\n" + csv_text(BOOK, added)
     told = f"{f'{out}: ' if out else ''}{len(added):,} of {len(contracts):,} contracts are new\n"
     data: Dict[str, object] = {"nets": {row[0]: dict(zip(lses, row[1:])) for row in nets}, "added": objects(BOOK, added), "contracts": len(contracts)}
-    return Answer(PASSES, text, {**data, "out": str(out) if out else ""}, told)
+    return Answer(PASSES, text, {**data, "out": str(out) if out else None}, told)

@@ -19,6 +19,7 @@ from .packed import Packed, price_files
 from .page import Figures, Input, Month, page
 from .results import dollars, exact_dollars, holder_sums
 from .settlement import HourTotal
+from .streams import readable
 from .to_csv import write_files
 from .words import Period, Process
 
@@ -56,7 +57,7 @@ def figures(folder: Path, found: Opened, files: Packed, result: Settled) -> Figu
     grid, answers = read_grid(files.grid), verdicts(files)
     holders = [(found.names.holder(holder), cents) for holder, cents in holder_sums(result, found.book).items()]
     return Figures(
-        folder.resolve().name,
+        readable(folder.resolve().name),
         f"{counts_told(found)}.",
         found.names.constraints,
         cast("array[int]", grid.limits),

@@ -132,4 +132,4 @@ def tiers(folder: Path, period: Period, process: Process, awards: Optional[Path]
     data["marks"] = {TIERS[tier]: count for tier, count in running.marks.items()}
     data["flows_mw"] = {name: decimal(flow, FLOW_PLACES) for name, flow in zip(names.constraints, running.flows)}
     status = FAILS if played.refused else PASSES
-    return Answer(status, csv_text(PLAYED, played.rows), {**data, "out": str(out) if out else ""}, told)
+    return Answer(status, csv_text(PLAYED, played.rows), {**data, "out": str(out) if out else None}, told)
