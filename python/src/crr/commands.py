@@ -2,14 +2,15 @@
 
 from __future__ import annotations
 
+import argparse
 from pathlib import Path
 from typing import Dict, List, Optional, Sequence, Tuple
 
 from .bar import Bar
-from .case import TIMES_OF_USE, Names
+from .case import Names
 from .command import ANY_PERIODS, ANY_PROCESSES, FAILS, FOLDER, PASSES, ROUND_PRICES, Answer, argument, command, counted, objects, writes
 from .decimals import decimal
-from .feasibility import PROCESSES, Cut, Verdict, find_cuts, test_book
+from .feasibility import Cut, Verdict, find_cuts, test_book
 from .files import read_grid
 from .from_csv import load
 from .interface import FLOW_PLACES, QUANTITY
@@ -17,6 +18,7 @@ from .opening import Opened, counts, counts_told, files_of, opened, rounded_told
 from .packed import Packed, hour_name, read_packed, unpacked, write_packed
 from .results import HOLDERS, HOURS, dollars, exact_dollars, holder_months, hour_rows, result_files
 from .to_csv import csv_text, write_csv, write_files
+from .words import PROCESSES, TIMES_OF_USE, Period, Process
 
 
 @command("check", "read everything and list every fault", FOLDER, ROUND_PRICES)
@@ -55,7 +57,7 @@ def unpack(folder: Path, out: Optional[Path], force: bool) -> Answer:
 VERDICTS = ("TIME_OF_USE", "PROCESS", "VERDICT", "OVERLOADED", "LOWEST", "EXCESS_MW", "CONSTRAINTS")
 
 
-def verdicts(files: Packed, periods: Sequence[int] = (0, 1), processes: Sequence[int] = (0, 1, 2)) -> Dict[Tuple[int, int], Verdict]:
+def verdicts(files: Packed, periods: Sequence[int] = tuple(Period), processes: Sequence[int] = tuple(Process)) -> Dict[Tuple[int, int], Verdict]:
     """The test's answers by period and process."""
     grid = read_grid(files.grid)
     return {(period, process): test_book(grid, files.book, process, period) for period in periods for process in processes}
@@ -139,13 +141,20 @@ def _cuts_told(names: Names, answers: Dict[Tuple[int, int], Verdict], listed: Di
     return "".join(said) + (f"{passing}: the book passes\n" if passing else "")
 
 
+def _jobs(text: str) -> int:
+    """How many processes: at least one."""
+    if not (text.isascii() and text.isdigit() and len(text) < 5 and int(text)):
+        raise argparse.ArgumentTypeError(f"{text!r} is no number of processes, from 1 to 9999")
+    return int(text)
+
+
 @command(
     "settle",
     "settle every hour: holder by month, hour by hour, contract by contract",
     FOLDER,
     ROUND_PRICES,
     writes("a folder for the result files"),
-    argument("-j", "--jobs", type=int, default=1, metavar="N", help="how many processes"),
+    argument("-j", "--jobs", type=_jobs, default=1, metavar="N", help="how many processes, at least 1"),
 )
 def settle(folder: Path, out: Optional[Path], jobs: int, round_prices: bool) -> Answer:
     """Settles every hour; with `out` writes hours.csv, holders.csv and contracts.csv there."""

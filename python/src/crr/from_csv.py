@@ -15,12 +15,13 @@ from datetime import date
 from pathlib import Path
 from typing import Dict, List, Optional, Set, Tuple
 
-from .book_csv import PERIOD_WORDS, read_book
+from .book_csv import read_book, word_in
 from .case import FORMS, Case, Names, PricedHour, book_form, grid_form
 from .faults import Fault, raise_any
 from .interface import LIMIT, MAX_CONSTRAINTS, MAX_NODES, SHADOW_PRICE, SHIFT_FACTOR
 from .names_csv import read_names
 from .sheet import Sheet
+from .words import Period
 
 _DAY = re.compile(r"[0-9]{4}-[0-9]{2}-[0-9]{2}")
 _HOUR = re.compile(r"0?[1-9]|1[0-9]|2[0-5]")  # hour ending; the day on which clocks go back has 25
@@ -147,9 +148,7 @@ class _Times:
         return self._seen[key]
 
     def _new(self, line: int, day: str, hour: str, time_of_use: str) -> Optional[PricedHour]:
-        period = PERIOD_WORDS.get(time_of_use.upper())
-        if period is None:
-            self._sheet.fault(line, "TIME_OF_USE", f"{time_of_use!r} is neither ON nor OFF", 17)
+        period = word_in(self._sheet, line, "TIME_OF_USE", time_of_use, Period)
         if not self._is_time(line, day, hour) or period is None:
             return None
         number = int(hour or 0)

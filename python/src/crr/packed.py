@@ -9,7 +9,7 @@ from dataclasses import dataclass
 from pathlib import Path
 from typing import Dict, List, Tuple, cast
 
-from .case import Case, Names, PricedHour
+from .case import Case, Names, PricedHour, check_lengths
 from .faults import Fault, Faults, raise_any
 from .files import read_book, read_book_form, read_grid, read_prices, write_book, write_grid, write_prices
 from .hours import PriceFile, read_price_file
@@ -35,6 +35,7 @@ class Packed:
 
 def packed(case: Case) -> Packed:
     """A case's files, written by the library, which checks every figure once more."""
+    check_lengths(case)
     grid, book = write_grid(case.grid), write_book(len(case.names.nodes), case.book, case.book_form)
     hours = [PriceFile(hour.day, hour.hour, write_prices(hour.period, hour.prices)) for hour in case.hours]
     return Packed(case.names, grid, book, hours)

@@ -11,7 +11,7 @@ from typing import Dict, List, Optional, cast
 from .bar import Bar
 from .command import FOLDER, PASSES, ROUND_PRICES, Answer, command, writes
 from .commands import cut_rows, verdicts
-from .feasibility import PERIODS, PROCESSES, find_flows, released_percent
+from .feasibility import find_flows, released_percent
 from .files import read_grid
 from .hours import Settled
 from .opening import Opened, counts_told, files_of, is_csv, opened, settled
@@ -19,7 +19,9 @@ from .packed import Packed, price_files
 from .page import Figures, Input, Month, page
 from .results import dollars, exact_dollars, holder_sums
 from .settlement import HourTotal
+from .streams import readable
 from .to_csv import write_files
+from .words import Period, Process
 
 
 def _inputs(folder: Path) -> List[Input]:
@@ -55,14 +57,14 @@ def figures(folder: Path, found: Opened, files: Packed, result: Settled) -> Figu
     grid, answers = read_grid(files.grid), verdicts(files)
     holders = [(found.names.holder(holder), cents) for holder, cents in holder_sums(result, found.book).items()]
     return Figures(
-        folder.resolve().name,
+        readable(folder.resolve().name),
         f"{counts_told(found)}.",
         found.names.constraints,
         cast("array[int]", grid.limits),
-        [released_percent(process) for process in range(len(PROCESSES))],
+        [released_percent(process) for process in Process],
         answers,
         cut_rows(found, answers),
-        [find_flows(grid, files.book, period) for period in range(len(PERIODS))],
+        [find_flows(grid, files.book, period) for period in Period],
         holders,
         _months(found, result),
         _inputs(folder),

@@ -19,14 +19,14 @@ def about() -> str:
 
 
 class Version(Action):
-    """The option --version. Its text is made when it is asked for."""
+    """The option --version: its text is made when it is asked for, and shown by the command's parser."""
 
     def __init__(self, option_strings: Sequence[str], dest: str, help: str) -> None:
         super().__init__(option_strings, dest=SUPPRESS, default=SUPPRESS, nargs=0, help=help)
 
     def __call__(self, parser: ArgumentParser, *_: Any) -> None:
         try:
-            print(about(), end="")
+            text = about()
         except OSError as problem:
             parser.exit(2, f"crr {__version__}: {problem}\n")
-        parser.exit()
+        parser.exit(0, text)

@@ -10,7 +10,7 @@ from typing import List, NamedTuple
 
 from .files import Contract, read_book, written
 from .interface import MAX_BOOK_BYTES, MAX_HOLDER_VIEW_BYTES, NARROW
-from .native import Bytes, Entry, lend_bytes
+from .native import Bytes, Entry
 
 _write_market_view = Entry("crr_write_market_view")
 _write_holder_view = Entry("crr_write_holder_view")
@@ -29,12 +29,12 @@ class Held(NamedTuple):
 
 def write_market_view(nodes: int, book: Bytes) -> bytes:
     """The book's file, for a grid of so many nodes, with holder 0 in every contract."""
-    return written(_write_market_view, MAX_BOOK_BYTES, (nodes, lend_bytes(book)))
+    return written(_write_market_view, MAX_BOOK_BYTES, (nodes, book))
 
 
 def write_holder_view(nodes: int, book: Bytes, holder: int) -> bytes:
     """The holder's contracts, of both periods and in the order of the book: the number of each in two bytes, then its own bytes."""
-    return written(_write_holder_view, MAX_HOLDER_VIEW_BYTES, (nodes, lend_bytes(book), holder))
+    return written(_write_holder_view, MAX_HOLDER_VIEW_BYTES, (nodes, book, holder))
 
 
 def read_holder_view(nodes: int, view: bytes, form: int = NARROW) -> List[Held]:
