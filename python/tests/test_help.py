@@ -50,7 +50,7 @@ class Completion(FolderTest):
         self.assertEqual(completed(["crr", "test", "mi"]), [])  # a folder: bash completes files
 
     def test_every_command_and_option(self):
-        self.assertEqual(sorted(completed(["crr", ""])), sorted([one.name for one in listed()] + ["--json", "--help"]))
+        self.assertEqual(sorted(completed(["crr", ""])), sorted([one.name for one in listed()] + ["--json", "--help", "--version"]))
         for one in listed():
             options = [name for own in one.arguments for name in own.names if name.startswith("--")]
             self.assertEqual(sorted(completed(["crr", one.name, "-"])), sorted(["--json", "--help", *options]))

@@ -93,7 +93,7 @@ complete -o default -F _crr crr
 def _bash(commands: List[Command]) -> str:
     names = " ".join(command.name for command in commands)
     values = []
-    words = [f'        "") words="{names} --json --help" ;;']
+    words = [f'        "") words="{names} --json --help --version" ;;']
     for command in commands:
         for each in _options(command):
             if each.words:
@@ -127,7 +127,8 @@ def _zsh_argument(each: Argument) -> str:
 def _zsh(commands: List[Command]) -> str:
     lines = ["#compdef crr", "# Completion of crr for zsh: source <(crr completion zsh)", "_crr() {", "    local line state", "    local -a commands"]
     lines += ["    commands=("] + [f"        '{command.name}:{_zsh_text(command.help)}'" for command in commands] + ["    )"]
-    lines += ["    _arguments -C '--json[the answer as JSON]' '--help[all commands]' '1:COMMAND:->command' '*::argument:->argument'"]
+    options = "'--json[the answer as JSON]' '--help[all commands]' '--version[the version and the library]'"
+    lines += [f"    _arguments -C {options} '1:COMMAND:->command' '*::argument:->argument'"]
     lines += ["    case $state in", "        command) _describe -t commands 'crr command' commands ;;", "        argument)", "            case $line[1] in"]
     for command in commands:
         taken = " ".join(_zsh_argument(each) for each in command.arguments)
@@ -165,7 +166,7 @@ def _synopsis(each: Argument) -> str:
 
 def _page(commands: List[Command], parser: argparse.ArgumentParser) -> str:
     lines = ['.TH CRR 1 "" "crr" "User commands"', ".SH NAME", f"crr \\- {_roff((parser.description or '').rstrip('.'))}"]
-    lines += [".SH SYNOPSIS", ".B crr", _roff("[--json] COMMAND .."), ".SH COMMANDS"]
+    lines += [".SH SYNOPSIS", ".B crr", _roff("[--json] COMMAND .."), ".br", ".B crr", _roff("--version"), ".SH COMMANDS"]
     for command in commands:
         lines += _of_command(command)
     lines += [".SH EXIT STATUS", _roff((parser.epilog or "").replace("Exit status: ", ""))]
