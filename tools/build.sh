@@ -25,27 +25,48 @@ left_in_words() { # SECONDS
     if [ "$1" -ge 90 ]; then echo "about $((($1 + 30) / 60)) minutes left"; else echo "about $1 s left"; fi
 }
 
-# Reads what rt says, tells crate by crate what was proved and how far it is, and all that is said of a
-# crate that is not proved.
+# What is still to be proved, as far as is known: what has no stamp, and what stands on a crate that was
+# proved anew.
+declare -A due=()
+find_due() { # CRATE..
+    local crate stamp
+    for crate in "$@"; do
+        case $crate in c_*) stamp=target/staticlib/$crate.stamp ;; *) stamp=target/stamp/$crate ;; esac
+        [ -f "$stamp" ] || due[$crate]=1
+    done
+}
+
+# Reads what rt says, tells crate by crate what was proved and how far it is, and the last that is said
+# of a crate that is not proved.
 tell() { # WHO CRATE..
-    local who=$1 line name total=$(($# - 1)) count=0 spent=0 left=0 began=$SECONDS said=() words
+    local who=$1 line name other total=$(($# - 1)) count=0 spent=0 left began=$SECONDS took said=() words
+    local -A unseen=()
     shift
     weigh "$@"
-    for name in "$@"; do left=$((left + ${weight[$name]})); done
+    find_due "$@"
+    for name in "$@"; do unseen[$name]=1; done
     while IFS= read -r line; do
         name=${line#rt: } name=${name%% *}
         case $line in
         "rt: $name proved ("*)
-            count=$((count + 1)) left=$((left - ${weight[$name]:-0})) said=()
+            unset "due[$name]" "unseen[$name]"
+            count=$((count + 1)) said=()
             case $line in *"(unchanged"*) continue ;; esac
-            spent=$((spent + ${weight[$name]:-0})) words=
-            [ "$left" -le 0 ] || words=", $(left_in_words $(((SECONDS - began) * left / spent)))"
+            spent=$((spent + ${weight[$name]:-0})) left=0 words=
+            for other in "${!unseen[@]}"; do
+                case " ${stands_on[$other]} " in *" $name "*) due[$other]=1 ;; esac
+            done
+            for other in "${!due[@]}"; do left=$((left + ${weight[$other]})); done
+            # By this machine's pace, once it has shown one.
+            took=$((SECONDS - began))
+            [ "$left" -eq 0 ] || words=", $(left_in_words $((took < 5 ? left / 800 : took * left / spent)))"
             echo "$who: ${line#rt: }; $count of $total$words" >&2
             ;;
         *"NOT PROVED"* | *"its run FAILED"*)
             printf '%s\n' "${said[@]}" "$who: ${line#rt: }" | tail -n 21 >&2
             said=()
             ;;
+        "library "*": modules loaded="* | "fn "*": proved") ;;
         *) said+=("$line") ;;
         esac
     done
@@ -91,7 +112,7 @@ object() { # CRATE
         echo "$stamp" > "$built/$crate.stamp"
         echo "rt: $crate proved ($((SECONDS - began)) s)"
     else
-        tail -n 20 "$built/$crate.log"
+        sed "s|$PWD/$room/||g" "$built/$crate.log"
         echo "rt: $crate NOT PROVED"
         return 1
     fi
