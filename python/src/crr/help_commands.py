@@ -1,4 +1,5 @@
-"""The commands on the command itself: help, completion, man. All are made of what stands over each command's function."""
+"""The commands on the command itself: help, completion, man. All are made of what stands over each command's
+function."""
 
 from __future__ import annotations
 
@@ -17,7 +18,13 @@ def _name(text: str) -> str:
     return text
 
 
-@as_command("help", "what a command does and takes", argument("about", nargs="?", type=_name, metavar="COMMAND", help="such as test; without it, all commands"))
+@as_command(
+    "help",
+    "what a command does and takes",
+    argument(
+        "about", nargs="?", type=_name, metavar="COMMAND", help="such as test; without it, all commands"
+    ),
+)
 def help_command(about: Optional[str]) -> Answer:
     """The same as --help behind the command."""
     from .cli import Shown, parser  # which lists the commands of this module too
@@ -98,9 +105,16 @@ def _bash(commands: List[Command]) -> str:
         for each in _options(command):
             if each.words:
                 case = " | ".join(f'"{command.name} {name}"' for name in each.names)
-                values.append(f'        {case}) mapfile -t COMPREPLY < <(compgen -W "{" ".join(each.words)}" -- "$word"); return ;;')
+                values.append(
+                    f'        {case}) mapfile -t COMPREPLY < <(compgen -W "{" ".join(each.words)}" -- "$word")'
+                    + "; return ;;"
+                )
         options = " ".join(name for each in _options(command) for name in each.names if name.startswith("--"))
-        taken = names if command.name == "help" else " ".join(word for each in _positionals(command) for word in each.words)
+        taken = (
+            names
+            if command.name == "help"
+            else " ".join(word for each in _positionals(command) for word in each.words)
+        )
         also = f' taken="{taken}"' if taken else ""
         words.append(f'        {command.name}) words="{f"--json --help {options}".strip()}"{also} ;;')
     return _BASH.replace("@VALUES@", "\n".join(values)).replace("@WORDS@", "\n".join(words))
@@ -116,24 +130,53 @@ def _zsh_text(text: str) -> str:
 def _zsh_argument(each: Argument) -> str:
     """An argument as _arguments takes it."""
     settings = each.settings
-    kind = f"({' '.join(each.words)})" if each.words else "_files -/" if settings.get("metavar") == "FOLDER" else "_files"
+    kind = (
+        f"({' '.join(each.words)})"
+        if each.words
+        else "_files -/"
+        if settings.get("metavar") == "FOLDER"
+        else "_files"
+    )
     text = _zsh_text(settings.get("help", ""))
     if not each.names[0].startswith("-"):
         return f"'{':' if settings.get('nargs') == '?' else ''}:{_zsh_text(settings['metavar'])}:{kind}'"
-    value = "" if settings.get("action") == "store_true" else f":{_zsh_text(settings['metavar']).strip('{}')}:{kind}"
+    value = (
+        ""
+        if settings.get("action") == "store_true"
+        else f":{_zsh_text(settings['metavar']).strip('{}')}:{kind}"
+    )
     return " ".join(f"'{name}[{text}]{value}'" for name in each.names)
 
 
 def _zsh(commands: List[Command]) -> str:
-    lines = ["#compdef crr", "# Completion of crr for zsh: source <(crr completion zsh)", "_crr() {", "    local line state", "    local -a commands"]
-    lines += ["    commands=("] + [f"        '{command.name}:{_zsh_text(command.help)}'" for command in commands] + ["    )"]
-    lines += ["    _arguments -C '--json[the answer as JSON]' '--help[all commands]' '1:COMMAND:->command' '*::argument:->argument'"]
-    lines += ["    case $state in", "        command) _describe -t commands 'crr command' commands ;;", "        argument)", "            case $line[1] in"]
+    lines = [
+        "#compdef crr",
+        "# Completion of crr for zsh: source <(crr completion zsh)",
+        "_crr() {",
+        "    local line state",
+        "    local -a commands",
+    ]
+    lines += (
+        ["    commands=("]
+        + [f"        '{command.name}:{_zsh_text(command.help)}'" for command in commands]
+        + ["    )"]
+    )
+    lines += [
+        "    _arguments -C '--json[the answer as JSON]' '--help[all commands]' '1:COMMAND:->command' '*::argument:->argument'"
+    ]
+    lines += [
+        "    case $state in",
+        "        command) _describe -t commands 'crr command' commands ;;",
+        "        argument)",
+        "            case $line[1] in",
+    ]
     for command in commands:
         taken = " ".join(_zsh_argument(each) for each in command.arguments)
         if command.name == "help":
             taken = "':COMMAND:(" + " ".join(each.name for each in commands) + ")'"
-        lines.append(f"                {command.name}) _arguments '--json[the answer as JSON]' '--help[what it does and takes]' {taken} ;;")
+        lines.append(
+            f"                {command.name}) _arguments '--json[the answer as JSON]' '--help[what it does and takes]' {taken} ;;"
+        )
     return "\n".join([*lines, "            esac", "            ;;", "    esac", "}", "compdef _crr crr", ""])
 
 
@@ -146,10 +189,24 @@ def _roff(text: str) -> str:
 def _of_command(command: Command) -> List[str]:
     """A command's part of the manual page."""
     taken = " ".join(_synopsis(each) for each in command.arguments)
-    lines = [f".SS {_roff(command.name)}", f".B crr {_roff(command.name)}", _roff(f"{taken} [--json]".strip()), ".PP", _roff(f"{command.help}.")]
+    lines = [
+        f".SS {_roff(command.name)}",
+        f".B crr {_roff(command.name)}",
+        _roff(f"{taken} [--json]".strip()),
+        ".PP",
+        _roff(f"{command.help}."),
+    ]
     for each in command.arguments:
-        names = ", ".join(name for name in each.names) if each.names[0].startswith("-") else each.settings["metavar"]
-        value = "" if each.settings.get("action") == "store_true" or not each.names[0].startswith("-") else f" {each.settings['metavar']}"
+        names = (
+            ", ".join(name for name in each.names)
+            if each.names[0].startswith("-")
+            else each.settings["metavar"]
+        )
+        value = (
+            ""
+            if each.settings.get("action") == "store_true" or not each.names[0].startswith("-")
+            else f" {each.settings['metavar']}"
+        )
         lines += [".TP", f".B {_roff(names + value)}", _roff(each.settings.get("help", "one of these")) + "."]
     return lines
 
@@ -164,7 +221,11 @@ def _synopsis(each: Argument) -> str:
 
 
 def _page(commands: List[Command], parser: argparse.ArgumentParser) -> str:
-    lines = ['.TH CRR 1 "" "crr" "User commands"', ".SH NAME", f"crr \\- {_roff((parser.description or '').rstrip('.'))}"]
+    lines = [
+        '.TH CRR 1 "" "crr" "User commands"',
+        ".SH NAME",
+        f"crr \\- {_roff((parser.description or '').rstrip('.'))}",
+    ]
     lines += [".SH SYNOPSIS", ".B crr", _roff("[--json] COMMAND .."), ".SH COMMANDS"]
     for command in commands:
         lines += _of_command(command)
