@@ -96,7 +96,7 @@ class Completion(FolderTest):
             )
             out[line] = done.stdout.decode().splitlines()
         self.assertEqual([line.partition(":")[0] for line in out[""]], [one.name for one in listed()])
-        self.assertIn("--process[]:annual,lt,monthly:(annual lt monthly)", out["tiers"])
+        self.assertIn("--period[off-peak or on-peak hours]:off,on:(off on)", out["tiers"])
         self.assertIn(":FOLDER:_files -/", out["tiers"])
         self.assertIn("::AWARDS:_files", out["tiers"])
         self.assertEqual(out["help"][-1], f":COMMAND:({' '.join(one.name for one in listed())})")
@@ -114,7 +114,7 @@ class Manual(FolderTest):
             self.assertIn(f".SS {one.name}\n", plain)
             self.assertIn(f"\n{one.help}.\n", plain)
             for own in one.arguments:
-                self.assertIn(own.settings.get("help", ""), plain)
+                self.assertIn(own.settings["help"], plain)
         self.assertIn(parser().epilog.replace("Exit status: ", ""), plain)
 
     @unittest.skipUnless(shutil.which("groff"), "groff is not installed")

@@ -206,6 +206,10 @@ class SixFigures(unittest.TestCase):
             ("demands[1]: ", crr.share_balance, [100, [1, 1.5]]),
             ("loads: ", crr.migrate_load, [2, 1, book, b"", [], [], [], [], 5]),
             ("grid: the bytes of a file are needed, not Grid", crr.write_report, [grid, book]),
+            ("grid: the bytes of a file are needed, not Grid", crr.settle_hours, [grid, book, []]),
+            ("book: the bytes of a file are needed, not list", crr.settle_hours, [b"", [ROW], []]),
+            ("view: the bytes of a file are needed, not str", crr.read_holder_view, [2, "view.bin"]),
+            ("year of crr_month_hours: a whole number is needed, not str", crr.month_hours, ["2024", 1]),
             ("prices: the bytes of a file are needed, not list", crr.write_statement, [b"", b"", [1]]),
         ):
             self.refused(TypeError, words, function, *arguments)

@@ -207,7 +207,7 @@ def _of_command(command: Command) -> List[str]:
             if each.settings.get("action") == "store_true" or not each.names[0].startswith("-")
             else f" {each.settings['metavar']}"
         )
-        lines += [".TP", f".B {_roff(names + value)}", _roff(each.settings.get("help", "one of these")) + "."]
+        lines += [".TP", f".B {_roff(names + value)}", _roff(each.settings["help"]) + "."]
     return lines
 
 
@@ -223,6 +223,8 @@ def _synopsis(each: Argument) -> str:
 def _page(commands: List[Command], parser: argparse.ArgumentParser) -> str:
     lines = [
         '.TH CRR 1 "" "crr" "User commands"',
+        ".ad l",
+        ".nh",
         ".SH NAME",
         f"crr \\- {_roff((parser.description or '').rstrip('.'))}",
     ]
