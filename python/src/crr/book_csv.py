@@ -77,7 +77,7 @@ def read_book(
     path: Path, nodes: Dict[str, int], known: Dict[int, str], any_size: bool, faults: List[Fault]
 ) -> Tuple[List[Contract], List[str], Dict[int, str]]:
     """The contracts of book.csv, their names, and the names of holders by number. Holders keep the numbers that are known."""
-    sheet = Sheet(path, BOOK, faults)
+    sheet = Sheet(path, BOOK, faults, name=path.name)
     awards = read_awards(sheet, nodes, "factors.csv")
     if len(awards) > MAX_CONTRACTS and not any_size:
         sheet.fault(awards[MAX_CONTRACTS].line, "CRR_ID", f"more than {MAX_CONTRACTS} contracts", 10)

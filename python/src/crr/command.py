@@ -92,10 +92,11 @@ def _choice(name: str, choices: Type[Word], every: str, **settings: Any) -> Argu
     return argument(name, type=value, metavar=f"{{{','.join(options)}}}", words=options, **settings)
 
 
-PERIOD = _choice("--period", Period, "", required=True)
-PROCESS = _choice("--process", Process, "", required=True)
-ANY_PERIODS = _choice("--period", Period, "both", default="both", dest="periods")
-ANY_PROCESSES = _choice("--process", Process, "all", default="all", dest="processes")
+_HOURS, _SHARE = "off-peak or on-peak hours", "the allocation or auction, which releases its share of every limit"
+PERIOD = _choice("--period", Period, "", required=True, help=_HOURS)
+PROCESS = _choice("--process", Process, "", required=True, help=_SHARE)
+ANY_PERIODS = _choice("--period", Period, "both", default="both", dest="periods", help=_HOURS)
+ANY_PROCESSES = _choice("--process", Process, "all", default="all", dest="processes", help=_SHARE)
 
 
 def counted(number: int, what: str) -> str:

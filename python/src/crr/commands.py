@@ -3,6 +3,7 @@
 from __future__ import annotations
 
 import argparse
+import os
 from pathlib import Path
 from typing import Dict, List, Optional, Sequence, Tuple
 
@@ -10,11 +11,13 @@ from .bar import Bar
 from .case import Names
 from .command import ANY_PERIODS, ANY_PROCESSES, FAILS, FOLDER, PASSES, ROUND_PRICES, Answer, argument, command, counted, objects, writes
 from .decimals import decimal
+from .faults import Fault, raise_any
 from .feasibility import Cut, Verdict, find_cuts, test_book
 from .files import read_grid
 from .from_csv import load
 from .interface import FLOW_PLACES, QUANTITY
-from .opening import Opened, counts, counts_told, files_of, opened, rounded_told, settled
+from .notes import notes
+from .opening import Opened, counts, counts_told, files_of, is_csv, opened, rounded_told, settled
 from .packed import Packed, hour_name, read_packed, unpacked, write_packed
 from .results import HOLDERS, HOURS, dollars, exact_dollars, holder_months, hour_rows, result_files
 from .to_csv import csv_text, write_csv, write_files
@@ -29,7 +32,9 @@ def check(folder: Path, round_prices: bool) -> Answer:
         unpacked(files_of(found))  # its price files too
     form = "CSV" if found.case else "bin"
     text = f"{folder}: {counts_told(found)}; {form} files without a fault{rounded_told(found.rounded)}\n"
-    return Answer(PASSES, text, {"folder": str(folder), "form": form, **counts(found), "rounded_prices": found.rounded})
+    beside = notes(folder, form == "CSV")
+    data: Dict[str, object] = {"folder": str(folder), "form": form, **counts(found), "rounded_prices": found.rounded, "notes": beside}
+    return Answer(PASSES, text + "".join(f"{note}\n" for note in beside), data)
 
 
 FORCE = argument("--force", action="store_true", help="write over CSV files that differ")
@@ -39,6 +44,8 @@ FORCE = argument("--force", action="store_true", help="write over CSV files that
 def pack(folder: Path, out: Optional[Path], round_prices: bool) -> Answer:
     """CSV files to bin files, read back and compared; beside them where no other folder is named."""
     target = out or folder
+    if not is_csv(folder):
+        raise_any([Fault(str(folder), 0, "", "packed already: grid.bin, and no CSV files; crr unpack makes CSV files of it")])
     case, rounded = load(folder, round_prices=round_prices)
     written = write_packed(case, target)
     text = f"{target}: grid.bin, book.bin, names.csv and {counted(len(case.hours), 'hour')} of prices written and read back{rounded_told(rounded)}\n"
@@ -49,6 +56,8 @@ def pack(folder: Path, out: Optional[Path], round_prices: bool) -> Answer:
 def unpack(folder: Path, out: Optional[Path], force: bool) -> Answer:
     """Bin files to CSV files, beside them where no other folder is named."""
     target = out or folder
+    if is_csv(folder) and not os.path.lexists(folder / "grid.bin"):
+        raise_any([Fault(str(folder), 0, "", "CSV files already, and no grid.bin; crr pack makes bin files of them")])
     files = read_packed(folder)
     written = write_csv(unpacked(files), target, hour_name(files.hours), force)
     return Answer(PASSES, f"{target}: {', '.join(sorted(written))} written\n", {"out": str(target), "written": written})

@@ -20,12 +20,13 @@ from .case import FORMS, Case, Names, PricedHour, book_form, grid_form
 from .faults import Fault, raise_any
 from .interface import LIMIT, MAX_CONSTRAINTS, MAX_NODES, SHADOW_PRICE, SHIFT_FACTOR
 from .names_csv import read_names
-from .sheet import Sheet
+from .sheet import Sheet, is_there
 from .words import Period
 
 _DAY = re.compile(r"[0-9]{4}-[0-9]{2}-[0-9]{2}")
 _HOUR = re.compile(r"0?[1-9]|1[0-9]|2[0-5]")  # hour ending; the day on which clocks go back has 25
 
+CONSTRAINTS = ("CONSTRAINT_ID", "LIMIT_MW")
 PRICES = ("OPR_DT", "OPR_HR", "TIME_OF_USE", "CONSTRAINT_ID", "SHADOW_PRICE")
 
 
@@ -58,7 +59,7 @@ def load(folder: Path, any_size: bool = False, round_prices: bool = False, price
     _read_factors(loaded)
     told = read_names(loaded.folder, loaded.faults)
     book, ids, holders = read_book(loaded.folder / "book.csv", loaded.nodes, told["holder"], any_size, loaded.faults)
-    hours = _read_prices(loaded) if prices and (loaded.folder / "prices.csv").exists() else []
+    hours = _read_prices(loaded) if prices and is_there(loaded.folder / "prices.csv") else []
     raise_any(loaded.faults)
     names = Names(list(loaded.nodes), list(loaded.constraints), ids, holders)
     forms = {number: FORMS.index(name) for number, name in told["form"].items()}
@@ -67,7 +68,7 @@ def load(folder: Path, any_size: bool = False, round_prices: bool = False, price
 
 
 def _read_constraints(loaded: Loaded) -> None:
-    sheet = Sheet(loaded.folder / "constraints.csv", ("CONSTRAINT_ID", "LIMIT_MW"), loaded.faults)
+    sheet = Sheet(loaded.folder / "constraints.csv", CONSTRAINTS, loaded.faults, name="constraints.csv")
     if len(sheet.at) < 2:
         return
     loaded.constraints_read = True
@@ -80,20 +81,21 @@ def _read_constraints(loaded: Loaded) -> None:
 
 def _factor_columns(loaded: Loaded, sheet: Sheet) -> List[int]:
     """Where each constraint's factors stand: every column but the first is a constraint's."""
-    others = sheet.heading[1:]
-    for at, name in enumerate(others, start=1):
+    places: Dict[str, int] = {}
+    for at, name in enumerate(sheet.heading[1:], start=1):
         if name not in loaded.constraints:
             loaded.faults.append(Fault(sheet.name, 1, sheet.column(at), "no such constraint in constraints.csv"))
-        elif name in others[: at - 1]:
+        elif name in places:
             loaded.faults.append(Fault(sheet.name, 1, name, "the constraint's column occurs twice"))
+        places.setdefault(name, at)
     for name in loaded.constraints:
-        if name not in others:
+        if name not in places:
             loaded.faults.append(Fault(sheet.name, 1, name, "the constraint's column is missing"))
-    return [1 + others.index(name) for name in loaded.constraints if name in others]
+    return [places[name] for name in loaded.constraints if name in places]
 
 
 def _read_factors(loaded: Loaded) -> None:
-    sheet = Sheet(loaded.folder / "factors.csv", ("NODE_ID",), loaded.faults, first=True)
+    sheet = Sheet(loaded.folder / "factors.csv", ("NODE_ID",), loaded.faults, first=True, name="factors.csv")
     if not sheet.at:
         return
     columns = _factor_columns(loaded, sheet) if loaded.constraints_read else []
@@ -107,7 +109,7 @@ def _read_factors(loaded: Loaded) -> None:
 
 
 def _read_prices(loaded: Loaded) -> List[PricedHour]:
-    sheet = Sheet(loaded.folder / "prices.csv", PRICES, loaded.faults)
+    sheet = Sheet(loaded.folder / "prices.csv", PRICES, loaded.faults, name="prices.csv")
     if len(sheet.at) < len(PRICES):
         return []
     day_at, hour_at, period_at, constraint_at, price_at = (sheet.at[ours] for ours in PRICES)
@@ -167,7 +169,7 @@ class _Times:
         if not day and not hour:
             return True
         right = True
-        if not _DAY.fullmatch(day) or not _is_date(day):
+        if not is_date(day):
             self._sheet.fault(line, "OPR_DT", f"{day!r} is not a day, YYYY-MM-DD")
             right = False
         if not _HOUR.fullmatch(hour):
@@ -180,7 +182,10 @@ class _Times:
         return [self._hours[key] for key in sorted(self._hours)]
 
 
-def _is_date(day: str) -> bool:
+def is_date(day: str) -> bool:
+    """Whether a text is a day, YYYY-MM-DD."""
+    if not _DAY.fullmatch(day):
+        return False
     try:
         date.fromisoformat(day)
         return True

@@ -1,9 +1,10 @@
-"""The commands on the command itself: help, completion, man. All are made of what stands over each command's function."""
+"""The commands on the command itself: help, completion, man. All are made of what stands over each command's
+function."""
 
 from __future__ import annotations
 
 import argparse
-from typing import List, Optional
+from typing import Dict, List, Optional
 
 from .command import COMMANDS, PASSES, Answer, Argument, Command, argument
 from .command import command as as_command
@@ -17,7 +18,13 @@ def _name(text: str) -> str:
     return text
 
 
-@as_command("help", "what a command does and takes", argument("about", nargs="?", type=_name, metavar="COMMAND", help="such as test; without it, all commands"))
+@as_command(
+    "help",
+    "what a command does and takes",
+    argument(
+        "about", nargs="?", type=_name, metavar="COMMAND", help="such as test; without it, all commands"
+    ),
+)
 def help_command(about: Optional[str]) -> Answer:
     """The same as --help behind the command."""
     from .cli import Shown, parser  # which lists the commands of this module too
@@ -42,9 +49,9 @@ def _shell(text: str) -> str:
 )
 def completion(shell: str) -> Answer:
     """A shell's completion script."""
-    from .cli import listed
+    from .cli import listed, parser
 
-    text = _bash(listed()) if shell == "bash" else _zsh(listed())
+    text = (_bash if shell == "bash" else _zsh)(listed(), _before(parser()))
     return Answer(PASSES, text, {"script": text})
 
 
@@ -55,6 +62,16 @@ def man() -> Answer:
 
     page = _page(listed(), parser())
     return Answer(PASSES, page, {"page": page})
+
+
+def _before(parser: argparse.ArgumentParser) -> Dict[str, str]:
+    """The options that stand before a command, and their help."""
+    return {
+        name: action.help or ""
+        for action in parser._actions
+        for name in action.option_strings
+        if name[:2] == "--"
+    }
 
 
 def _options(command: Command) -> List[Argument]:
@@ -90,17 +107,24 @@ complete -o default -F _crr crr
 """
 
 
-def _bash(commands: List[Command]) -> str:
+def _bash(commands: List[Command], before: Dict[str, str]) -> str:
     names = " ".join(command.name for command in commands)
     values = []
-    words = [f'        "") words="{names} --json --help --version" ;;']
+    words = [f'        "") words="{names} {" ".join(before)}" ;;']
     for command in commands:
         for each in _options(command):
             if each.words:
                 case = " | ".join(f'"{command.name} {name}"' for name in each.names)
-                values.append(f'        {case}) mapfile -t COMPREPLY < <(compgen -W "{" ".join(each.words)}" -- "$word"); return ;;')
+                values.append(
+                    f'        {case}) mapfile -t COMPREPLY < <(compgen -W "{" ".join(each.words)}" -- "$word")'
+                    + "; return ;;"
+                )
         options = " ".join(name for each in _options(command) for name in each.names if name.startswith("--"))
-        taken = names if command.name == "help" else " ".join(word for each in _positionals(command) for word in each.words)
+        taken = (
+            names
+            if command.name == "help"
+            else " ".join(word for each in _positionals(command) for word in each.words)
+        )
         also = f' taken="{taken}"' if taken else ""
         words.append(f'        {command.name}) words="{f"--json --help {options}".strip()}"{also} ;;')
     return _BASH.replace("@VALUES@", "\n".join(values)).replace("@WORDS@", "\n".join(words))
@@ -116,25 +140,52 @@ def _zsh_text(text: str) -> str:
 def _zsh_argument(each: Argument) -> str:
     """An argument as _arguments takes it."""
     settings = each.settings
-    kind = f"({' '.join(each.words)})" if each.words else "_files -/" if settings.get("metavar") == "FOLDER" else "_files"
+    kind = (
+        f"({' '.join(each.words)})"
+        if each.words
+        else "_files -/"
+        if settings.get("metavar") == "FOLDER"
+        else "_files"
+    )
     text = _zsh_text(settings.get("help", ""))
     if not each.names[0].startswith("-"):
         return f"'{':' if settings.get('nargs') == '?' else ''}:{_zsh_text(settings['metavar'])}:{kind}'"
-    value = "" if settings.get("action") == "store_true" else f":{_zsh_text(settings['metavar']).strip('{}')}:{kind}"
+    value = (
+        ""
+        if settings.get("action") == "store_true"
+        else f":{_zsh_text(settings['metavar']).strip('{}')}:{kind}"
+    )
     return " ".join(f"'{name}[{text}]{value}'" for name in each.names)
 
 
-def _zsh(commands: List[Command]) -> str:
-    lines = ["#compdef crr", "# Completion of crr for zsh: source <(crr completion zsh)", "_crr() {", "    local line state", "    local -a commands"]
-    lines += ["    commands=("] + [f"        '{command.name}:{_zsh_text(command.help)}'" for command in commands] + ["    )"]
-    options = "'--json[the answer as JSON]' '--help[all commands]' '--version[the version and the library]'"
-    lines += [f"    _arguments -C {options} '1:COMMAND:->command' '*::argument:->argument'"]
-    lines += ["    case $state in", "        command) _describe -t commands 'crr command' commands ;;", "        argument)", "            case $line[1] in"]
+def _zsh(commands: List[Command], before: Dict[str, str]) -> str:
+    first = " ".join(f"'{name}[{_zsh_text(text)}]'" for name, text in before.items())
+    lines = [
+        "#compdef crr",
+        "# Completion of crr for zsh: source <(crr completion zsh)",
+        "_crr() {",
+        "    local line state",
+        "    local -a commands",
+    ]
+    lines += (
+        ["    commands=("]
+        + [f"        '{command.name}:{_zsh_text(command.help)}'" for command in commands]
+        + ["    )"]
+    )
+    lines += [f"    _arguments -C {first} '1:COMMAND:->command' '*::argument:->argument'"]
+    lines += [
+        "    case $state in",
+        "        command) _describe -t commands 'crr command' commands ;;",
+        "        argument)",
+        "            case $line[1] in",
+    ]
     for command in commands:
         taken = " ".join(_zsh_argument(each) for each in command.arguments)
         if command.name == "help":
             taken = "':COMMAND:(" + " ".join(each.name for each in commands) + ")'"
-        lines.append(f"                {command.name}) _arguments '--json[the answer as JSON]' '--help[what it does and takes]' {taken} ;;")
+        lines.append(
+            f"                {command.name}) _arguments '--json[the answer as JSON]' '--help[what it does and takes]' {taken} ;;"
+        )
     return "\n".join([*lines, "            esac", "            ;;", "    esac", "}", "compdef _crr crr", ""])
 
 
@@ -147,11 +198,25 @@ def _roff(text: str) -> str:
 def _of_command(command: Command) -> List[str]:
     """A command's part of the manual page."""
     taken = " ".join(_synopsis(each) for each in command.arguments)
-    lines = [f".SS {_roff(command.name)}", f".B crr {_roff(command.name)}", _roff(f"{taken} [--json]".strip()), ".PP", _roff(f"{command.help}.")]
+    lines = [
+        f".SS {_roff(command.name)}",
+        f".B crr {_roff(command.name)}",
+        _roff(f"{taken} [--json]".strip()),
+        ".PP",
+        _roff(f"{command.help}."),
+    ]
     for each in command.arguments:
-        names = ", ".join(name for name in each.names) if each.names[0].startswith("-") else each.settings["metavar"]
-        value = "" if each.settings.get("action") == "store_true" or not each.names[0].startswith("-") else f" {each.settings['metavar']}"
-        lines += [".TP", f".B {_roff(names + value)}", _roff(each.settings.get("help", "one of these")) + "."]
+        names = (
+            ", ".join(name for name in each.names)
+            if each.names[0].startswith("-")
+            else each.settings["metavar"]
+        )
+        value = (
+            ""
+            if each.settings.get("action") == "store_true" or not each.names[0].startswith("-")
+            else f" {each.settings['metavar']}"
+        )
+        lines += [".TP", f".B {_roff(names + value)}", _roff(each.settings["help"]) + "."]
     return lines
 
 
@@ -165,8 +230,12 @@ def _synopsis(each: Argument) -> str:
 
 
 def _page(commands: List[Command], parser: argparse.ArgumentParser) -> str:
-    lines = ['.TH CRR 1 "" "crr" "User commands"', ".SH NAME", f"crr \\- {_roff((parser.description or '').rstrip('.'))}"]
-    lines += [".SH SYNOPSIS", ".B crr", _roff("[--json] COMMAND .."), ".br", ".B crr", _roff("--version"), ".SH COMMANDS"]
+    lines = ['.TH CRR 1 "" "crr" "User commands"', ".ad l", ".nh", ".SH NAME"]
+    lines += [f"crr \\- {_roff((parser.description or '').rstrip('.'))}"]
+    lines += [".SH SYNOPSIS", ".B crr", _roff("[OPTION] COMMAND .."), ".SH OPTIONS"]
+    for name, text in _before(parser).items():
+        lines += [".TP", f".B {_roff(name)}", _roff(f"{text}.")]
+    lines += [".SH COMMANDS"]
     for command in commands:
         lines += _of_command(command)
     lines += [".SH EXIT STATUS", _roff((parser.epilog or "").replace("Exit status: ", ""))]

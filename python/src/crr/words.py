@@ -1,4 +1,5 @@
-"""Kinds, periods and processes by name, and the one table of how each is spelled: in tables, in sentences, on the command line and in others' files."""
+"""Kinds, periods and processes by name, and the one table of how each is spelled: in tables, in sentences, on the
+command line and in others' files."""
 
 from __future__ import annotations
 
@@ -52,7 +53,13 @@ SPELLINGS: Dict[Type[IntEnum], Tuple[Spelling, ...]] = {
         Spelling("monthly", "monthly", "monthly"),
     ),
 }
-BOTH_PERIODS = ("24H", "24HR", "24 HOUR", "24-HOUR", "FLAT")  # what markets call contracts of both: a row for each is needed
+BOTH_PERIODS = (
+    "24H",
+    "24HR",
+    "24 HOUR",
+    "24-HOUR",
+    "FLAT",
+)  # what markets call contracts of both: a row for each is needed
 
 Word = TypeVar("Word", bound=IntEnum)
 _NUMBERS: Dict[Tuple[Type[IntEnum], str], int] = {
