@@ -6,7 +6,10 @@ import unittest
 from support import CASE_L, IEEE14, FolderTest, command, contents, draw_book, draw_grid, draw_prices
 import crr
 from crr.case import holder_numbers
-from crr.from_csv import BOOK, DEMANDS, HUBS, PRICES, load
+from crr.book_csv import BOOK
+from crr.demands_csv import DEMANDS
+from crr.from_csv import PRICES, load
+from crr.hubs_csv import HUBS
 from crr.migration_csv import LOADS, ROWS
 from crr.names_csv import HEADING
 from crr.sheet import ALIASES

@@ -6,18 +6,20 @@ from dataclasses import replace
 from pathlib import Path
 from typing import Dict, List, Optional, Tuple
 
+from .book_csv import BOOK
 from .case import Names
-from .commands import PASSES, Answer, Opened, files_of, objects, opened, write_like
+from .command import FOLDER, PASSES, PERIOD, ROUND_PRICES, Answer, command, objects, reads, writes
 from .decimals import decimal
 from .faults import Fault, raise_any
 from .files import Contract, read_book, write_book
-from .from_csv import BOOK
 from .interface import LOAD, WIDE
 from .migration import migrate_load
 from .migration_csv import Migration, read_migration
 from .names_csv import read_names
+from .opening import Opened, files_of, opened, write_like
 from .packed import Packed
 from .to_csv import book_row, csv_text
+from .words import Period
 
 
 def _holders(folder: Path, found: Opened) -> Dict[int, str]:
@@ -61,7 +63,17 @@ def _net_rows(names: Names, migration: Migration) -> List[Tuple[str, ...]]:
     return [(names.holder(loser), *(decimal(nets[loser - 1][gainer - 1], LOAD.places) for gainer in migration.lses)) for loser in migration.lses]
 
 
-def migrate(folder: Path, period: int, rows: Path, loads: Path, out: Optional[Path], round_prices: bool) -> Answer:
+@command(
+    "migrate",
+    "the transfer of contracts between load-serving entities whose customers moved, for one period",
+    FOLDER,
+    ROUND_PRICES,
+    reads("rows", "a CSV file CUSTOMER_CLASS,CUSTOMERS,MW_PER_CUSTOMER,OLD_LSE,NEW_LSE"),
+    reads("loads", "a CSV file LSE,LOAD_MW"),
+    PERIOD.with_help("whose rates and loads these are"),
+    writes("a folder"),
+)
+def migrate(folder: Path, period: Period, rows: Path, loads: Path, out: Optional[Path], round_prices: bool) -> Answer:
     """Migrates load in a book for one period: the nets, and the contracts that are added; with `out` the whole case is written there in the form that it
     had."""
     found = opened(folder, round_prices)
@@ -81,4 +93,4 @@ def migrate(folder: Path, period: int, rows: Path, loads: Path, out: Optional[Pa
     text = csv_text(("LSE", *lses), nets) + "\n" + csv_text(BOOK, added)
     told = f"{f'{out}: ' if out else ''}{len(added):,} of {len(contracts):,} contracts are new\n"
     data: Dict[str, object] = {"nets": {row[0]: dict(zip(lses, row[1:])) for row in nets}, "added": objects(BOOK, added), "contracts": len(contracts)}
-    return Answer(PASSES, text, {**data, "out": str(out) if out else ""}, told)
+    return Answer(PASSES, text, {**data, "out": str(out) if out else None}, told)

@@ -6,7 +6,7 @@ from typing import List
 
 from .files import written
 from .interface import MAX_BOOK_BYTES, MAX_LSES
-from .native import Bytes, Cells, Entry, Given, Lent, lend_bytes, lend_cells, zeros
+from .native import Bytes, Cells, Entry, Lent, zeros
 
 _migrate_load = Entry("crr_migrate_load")
 _net_transfers = Entry("crr_net_transfers")
@@ -16,9 +16,7 @@ def migrate_load(
     nodes: int, period: int, book: Bytes, classes: Bytes, customers: Cells, rates: Cells, olds: Cells, news: Cells, loads: Cells
 ) -> bytes:
     """The book's file with the contracts that one period's rows add, for a grid of so many nodes. LSE i is holder i, and loads[i - 1] is its load."""
-    lists = [lend_cells(cells, "Q") for cells in (customers, rates, olds, news, loads)]
-    given: List[Given] = [nodes, period, lend_bytes(book), lend_bytes(classes), *lists]
-    return written(_migrate_load, MAX_BOOK_BYTES, given)
+    return written(_migrate_load, MAX_BOOK_BYTES, (nodes, period, book, classes, customers, rates, olds, news, loads))
 
 
 def net_transfers(
@@ -27,6 +25,5 @@ def net_transfers(
     """The net load from each of so many LSEs to each, in thousandths of a MW: that from LSE i to LSE j in
     row i - 1 and place j - 1. Lost load is positive, and each is the opposite of its mirror."""
     nets = zeros("q", min(max(lses, 0), MAX_LSES) ** 2)
-    lists = [lend_cells(cells, "Q") for cells in (customers, rates, olds, news)]
-    _net_transfers(lses, lend_bytes(classes), *lists, Lent(nets, "q", True))
+    _net_transfers(lses, classes, customers, rates, olds, news, Lent(nets, "q", True))
     return [nets[lses * row : lses * (row + 1)].tolist() for row in range(lses)]

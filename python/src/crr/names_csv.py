@@ -12,7 +12,7 @@ from typing import Dict, List, Sequence, Tuple
 from .case import FORMS, Names, plain_number
 from .faults import Fault
 from .interface import HOLDER
-from .sheet import Sheet
+from .sheet import Sheet, is_there
 
 Tables = Dict[str, Dict[int, str]]
 HEADING = ("TABLE", "NUMBER", "NAME")
@@ -22,9 +22,9 @@ def read_names(folder: Path, faults: List[Fault]) -> Tables:
     """Names by table and number; none where the folder has no names.csv."""
     tables: Tables = {table: {} for table in ("node", "constraint", "contract", "holder", "hour", "form")}
     path = folder / "names.csv"
-    if not path.exists():
+    if not is_there(path):
         return tables
-    sheet = Sheet(path, HEADING, faults)
+    sheet = Sheet(path, HEADING, faults, name=path.name)
     if len(sheet.at) < len(HEADING):
         return tables
     table_at, number_at, name_at = (sheet.at[ours] for ours in HEADING)

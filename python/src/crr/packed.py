@@ -9,13 +9,15 @@ from dataclasses import dataclass
 from pathlib import Path
 from typing import Dict, List, Tuple, cast
 
-from .case import Case, Names, PricedHour
+from .case import Case, Names, PricedHour, check_lengths
 from .faults import Fault, Faults, raise_any
 from .files import read_book, read_book_form, read_grid, read_prices, write_book, write_grid, write_prices
+from .from_csv import is_date
 from .hours import PriceFile, read_price_file
 from .interface import MAX_BOOK_BYTES, MAX_GRID_BYTES
 from .names_csv import HEADING, name_rows, names_of, read_names
 from .native import Refused
+from .sheet import alike, unread
 from .to_csv import csv_text, write_files
 
 _HOUR_FILE = re.compile(r"HE(0[1-9]|1[0-9]|2[0-5])\.bin")
@@ -35,6 +37,7 @@ class Packed:
 
 def packed(case: Case) -> Packed:
     """A case's files, written by the library, which checks every figure once more."""
+    check_lengths(case)
     grid, book = write_grid(case.grid), write_book(len(case.names.nodes), case.book, case.book_form)
     hours = [PriceFile(hour.day, hour.hour, write_prices(hour.period, hour.prices)) for hour in case.hours]
     return Packed(case.names, grid, book, hours)
@@ -45,7 +48,11 @@ def unpacked(files: Packed) -> Case:
     grid, book = read_grid(files.grid), read_book(read_grid(files.grid).nodes, files.book)
     hours, faults = [], []
     for hour in files.hours:
-        data, name = read_price_file(hour.file)
+        try:
+            data, name = read_price_file(hour.file)
+        except OSError as error:
+            faults.append(Fault(_short(str(hour.file)), 0, "", unread(Path(str(hour.file)), error)))
+            continue
         try:
             period, prices = read_prices(grid.constraints, data)
             hours.append(PricedHour(hour.day, hour.hour, period, prices))
@@ -102,17 +109,38 @@ def write_packed(case: Case, folder: Path) -> List[str]:
 
 def price_files(folder: Path) -> List[str]:
     """The price files of a bin folder, in the order of their hours."""
-    found = ["prices.bin"] if (folder / "prices.bin").exists() else []
+    found = ["prices.bin"] if os.path.lexists(folder / "prices.bin") else []
     days = folder / "prices"
     for day in sorted(os.listdir(days)) if days.is_dir() else []:
-        if _DAY.fullmatch(day):
+        if _DAY.fullmatch(day) and (days / day).is_dir():
             found += [f"prices/{day}/{name}" for name in sorted(os.listdir(days / day)) if _HOUR_FILE.fullmatch(name)]
     return found
+
+
+def _strays(folder: Path) -> List[Fault]:
+    """What looks like hours but is none, such as Prices.bin, prices/2026-7-1 and HE8.bin: it would be left out in silence."""
+    days, one = folder / "prices", folder / "prices.bin"
+    if not os.path.lexists(one) and alike(one):
+        return [Fault(one.name, 0, "", unread(one, FileNotFoundError()))]
+    if days.is_symlink() and not days.exists():
+        return [Fault("prices", 0, "", f"a symbolic link to {os.readlink(days)}, which is not there")]
+    faults = []
+    for day in sorted(os.listdir(days)) if days.is_dir() else []:
+        if not (days / day).is_dir():
+            names = [day] if day.lower().endswith(".bin") else []
+        elif not is_date(day):
+            faults.append(Fault(f"prices/{day}", 0, "", "a folder that is no day, YYYY-MM-DD"))
+            continue
+        else:
+            names = [f"{day}/{name}" for name in sorted(os.listdir(days / day)) if name.lower().endswith(".bin") and not _HOUR_FILE.fullmatch(name)]
+        faults += [Fault(f"prices/{name}", 0, "", "no hour's file: YYYY-MM-DD/HE01.bin to HE25.bin") for name in names]
+    return faults
 
 
 def _hours(folder: Path, told: Dict[int, str], faults: List[Fault]) -> List[PriceFile]:
     """A bin folder's hours, by path."""
     names = price_files(folder)
+    faults += _strays(folder)
     if names[:1] != ["prices.bin"]:
         return [PriceFile(name[7:17], int(name[20:22]), os.path.join(folder, name)) for name in names]
     if len(names) > 1:
@@ -144,7 +172,7 @@ def _read(path: Path, longest: int, faults: List[Fault]) -> bytes:
         with open(path, "rb") as file:
             return file.read(longest + 1)
     except OSError as error:
-        faults.append(Fault(path.name, 0, "", f"{error.strerror}: {path}"))
+        faults.append(Fault(path.name, 0, "", unread(path, error)))
         return b""
 
 

@@ -9,10 +9,11 @@ from html import escape
 from typing import Callable, Dict, List, Mapping, NamedTuple, Sequence, Tuple
 
 from .decimals import decimal
-from .feasibility import PERIODS, PROCESSES, Flows, Verdict
+from .feasibility import Flows, Verdict
 from .interface import FLOW_PLACES, LIMIT, PART_PLACES
 from .results import dollars
 from .style import CSS
+from .words import PERIODS, PROCESSES
 
 MOST_LOADED = 15  # constraints shown at once; the others are folded
 MOST_HOLDERS = 25

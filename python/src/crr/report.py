@@ -8,15 +8,20 @@ from fractions import Fraction
 from pathlib import Path
 from typing import Dict, List, Optional, cast
 
-from .commands import PASSES, Answer, Opened, counts_told, cut_rows, files_of, is_csv, opened, settled, verdicts
-from .feasibility import PERIODS, PROCESSES, find_flows, released_percent
+from .bar import Bar
+from .command import FOLDER, PASSES, ROUND_PRICES, Answer, command, writes
+from .commands import cut_rows, verdicts
+from .feasibility import find_flows, released_percent
 from .files import read_grid
-from .hours import Progress, Settled
+from .hours import Settled
+from .opening import Opened, counts_told, files_of, is_csv, opened, settled
 from .packed import Packed, price_files
 from .page import Figures, Input, Month, page
 from .results import dollars, exact_dollars, holder_sums
 from .settlement import HourTotal
+from .streams import readable
 from .to_csv import write_files
+from .words import Period, Process
 
 
 def _inputs(folder: Path) -> List[Input]:
@@ -52,24 +57,25 @@ def figures(folder: Path, found: Opened, files: Packed, result: Settled) -> Figu
     grid, answers = read_grid(files.grid), verdicts(files)
     holders = [(found.names.holder(holder), cents) for holder, cents in holder_sums(result, found.book).items()]
     return Figures(
-        folder.resolve().name,
+        readable(folder.resolve().name),
         f"{counts_told(found)}.",
         found.names.constraints,
         cast("array[int]", grid.limits),
-        [released_percent(process) for process in range(len(PROCESSES))],
+        [released_percent(process) for process in Process],
         answers,
         cut_rows(found, answers),
-        [find_flows(grid, files.book, period) for period in range(len(PERIODS))],
+        [find_flows(grid, files.book, period) for period in Period],
         holders,
         _months(found, result),
         _inputs(folder),
     )
 
 
-def report(folder: Path, out: Optional[Path], round_prices: bool, progress: Progress) -> Answer:
+@command("report", "one HTML page: verdicts, loading of constraints, payments", FOLDER, ROUND_PRICES, writes("the HTML file"))
+def report(folder: Path, out: Optional[Path], round_prices: bool) -> Answer:
     """Writes the page; a book that fails is what it tells and no fault of it."""
     found = opened(folder, round_prices)
-    text = page(figures(folder, found, files_of(found), settled(found, 1, progress)))
+    text = page(figures(folder, found, files_of(found), settled(found, 1, Bar("settle"))))
     target = out or folder / "report.html"
     write_files(target.parent, {target.name: text.encode()})
     return Answer(PASSES, f"{target} written\n", {"out": str(target)})

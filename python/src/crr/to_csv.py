@@ -8,13 +8,15 @@ import os
 from pathlib import Path
 from typing import Dict, Iterable, List, Sequence, Tuple
 
-from .case import HEDGE_TYPES, TIMES_OF_USE, Case, Names, PricedHour
+from .book_csv import BOOK
+from .case import Case, Names, PricedHour, check_lengths
 from .decimals import decimal
 from .faults import Fault, raise_any
 from .files import Contract
-from .from_csv import BOOK, PRICES
+from .from_csv import PRICES
 from .interface import LIMIT, QUANTITY, SHADOW_PRICE, SHIFT_FACTOR
 from .names_csv import HEADING, name_rows
+from .words import HEDGE_TYPES, TIMES_OF_USE
 
 
 def csv_text(heading: Sequence[str], rows: Iterable[Sequence[object]]) -> str:
@@ -42,6 +44,7 @@ def book_row(names: Names, crr_id: str, contract: Contract) -> Tuple[str, ...]:
 
 def csv_files(case: Case, hour_name: str = "") -> Dict[str, str]:
     """The text of each CSV file of a case."""
+    check_lengths(case)
     names, count = case.names, len(case.names.constraints)
     limits = [decimal(limit, LIMIT.places) for limit in case.limits]
     factors = [decimal(factor, SHIFT_FACTOR.places) for factor in case.factors]
