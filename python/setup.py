@@ -1,5 +1,7 @@
-"""Puts the shared library into the package, that of dist/ where it is of these sources (see crr/library.py), and tags the
-wheel: any Python 3, x86-64 Linux. Neither a compiler nor the Rattle kit is needed."""
+"""Puts the shared library into the package, that of dist/ where it is of these sources (crr/library.py).
+
+The wheel is tagged for any Python 3 on x86-64 Linux. Neither a compiler nor the Rattle kit is needed.
+"""
 
 import shutil
 import sys

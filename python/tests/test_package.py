@@ -1,4 +1,7 @@
-"""The package as others get it: a wheel in a fresh environment, and types that mypy accepts. What a machine lacks for it is skipped and said."""
+"""The package as others get it: a wheel in a fresh environment, its version, types that mypy accepts.
+
+What a machine lacks for a test is skipped and said.
+"""
 
 import importlib.util
 import os
@@ -28,7 +31,8 @@ def packing_python():
 
 
 def run(*arguments, **options):
-    return subprocess.run([str(argument) for argument in arguments], stdout=subprocess.PIPE, stderr=subprocess.STDOUT, **options)
+    words = [str(argument) for argument in arguments]
+    return subprocess.run(words, stdout=subprocess.PIPE, stderr=subprocess.STDOUT, **options)
 
 
 class Wheel(FolderTest):
@@ -49,7 +53,8 @@ class Wheel(FolderTest):
         return run(self.python, "-m", "pip", *arguments, env=environment, cwd=self.folder / "clone")
 
     def make_wheel(self):
-        return self.pip("wheel", "--no-index", "--no-build-isolation", "--no-deps", "-w", self.folder, "./python")
+        options = ("--no-index", "--no-build-isolation", "--no-deps", "-w", self.folder)
+        return self.pip("wheel", *options, "./python")
 
     def test_it_runs_with_nothing_else(self):
         built = self.make_wheel()
@@ -87,8 +92,9 @@ class Version(unittest.TestCase):
         hashed = sha256(library_path().read_bytes()).hexdigest()
         lines = told.splitlines()
         self.assertEqual((status, said), (0, ""))
-        self.assertEqual(lines[:2] + lines[3:], [f"crr {crr.__version__}", f"library {library_path()}", f"sha256  {hashed}"])
-        self.assertRegex(lines[2], "^from    (dist/, made from this clone|./library, built from this clone|CRR_LIBRARY$)")
+        about = [f"crr {crr.__version__}", f"library {library_path()}", f"sha256  {hashed}"]
+        self.assertEqual(lines[:2] + lines[3:], about)
+        self.assertRegex(lines[2], "^from    (dist/, made from |./library, built from |CRR_LIBRARY$)")
 
 
 class Types(FolderTest):

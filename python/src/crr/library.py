@@ -56,8 +56,10 @@ def _unlike(listing: Path, folder: Path) -> Optional[str]:
     if not listing.is_file():
         return f"there is no {listing.name} beside it"
     for line in _lines(listing):
+        if line.startswith("#"):
+            continue
         hashed, _, name = line.partition("  ")
         file = folder / name
-        if not line.startswith("#") and (not file.is_file() or sha256(file.read_bytes()).hexdigest() != hashed):
+        if not file.is_file() or sha256(file.read_bytes()).hexdigest() != hashed:
             return f"{name} is not the file of {listing.name}"
     return None
