@@ -92,7 +92,7 @@ def wide(page):
     for number, line in enumerate(page.read_text(encoding="utf-8").splitlines(), 1):
         if line.lstrip().startswith("```"):
             fenced = not fenced
-        prose = not fenced and not line.lstrip().startswith("|") and not re.match(r"^\[.*\]: |^!\[", line)
+        prose = not fenced and not line.startswith("    ") and not line.lstrip().startswith("|") and not re.match(r"^\[.*\]: |^!\[", line)
         if prose and len(line) > WIDTH and " " in line.strip()[:WIDTH]:
             yield f"line {number} has {len(line)} columns"
 

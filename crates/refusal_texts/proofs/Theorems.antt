@@ -22,7 +22,7 @@ use Rattle.refusal_texts.specs.Inner.{numbers}
 use Rattle.refusal_texts.proofs.Parts.{agree}
 
 -- a number above the last refusal's has none
-pub beyond : (n : ℕ) → numbers ≤ n → meaning n ≡ []
+pub beyond : (n : ℕ) → 28 ≤ n → meaning n ≡ []
 unfolding meaning sentences
 beyond n h = List·getD-eq-default sentences [] {n = n} h
 
