@@ -1,7 +1,7 @@
 """The command `crr`.
 
 Exit status: 0; 1 where `crr test` or `crr cuts` finds that the book fails, `crr same` that two books differ, or `crr tiers` that an operation is refused;
-2 where the input has faults, or something can't be read or written.
+2 where the input has faults, or something can't be read or written; 130 where it is interrupted (Ctrl-C).
 """
 
 from __future__ import annotations
@@ -13,9 +13,10 @@ import sys
 from typing import Dict, List, Optional
 
 from . import book_commands, commands, copies, hubs, migrate, plain_commands, report, tiers
-from .command import COMMANDS, FAULTY, Answer, Command
+from .command import COMMANDS, FAULTY, INTERRUPTED, Answer, Command
 from .faults import Faults
 from .native import Refused
+from .writing import is_output
 
 # Help lists the commands module by module.
 _MODULES = [module.__name__ for module in (commands, report, book_commands, copies, hubs, tiers, migrate, plain_commands)]
@@ -28,7 +29,7 @@ def _listed() -> List[Command]:
 def _parser() -> argparse.ArgumentParser:
     parser = argparse.ArgumentParser(prog="crr", description="Congestion revenue rights: feasibility test and hourly settlement.")
     fails = "1 the book fails (crr test, crr cuts), two books differ (crr same), or an operation is refused (crr tiers)"
-    parser.epilog = f"Exit status: 0; {fails}; 2 the input has faults, or something can't be read or written."
+    parser.epilog = f"Exit status: 0; {fails}; 2 the input has faults, or something can't be read or written; 130 interrupted."
     adding = parser.add_subparsers(dest="command", required=True, metavar="COMMAND")
     for command in _listed():
         of_command = adding.add_parser(command.name, help=command.help, description=command.help)
@@ -61,10 +62,19 @@ def _answer(options: argparse.Namespace) -> Answer:
 
 def main(arguments: Optional[List[str]] = None) -> int:
     """Runs the command and gives its exit status."""
+    try:
+        return _run(arguments)
+    except KeyboardInterrupt:
+        print("crr: interrupted; nothing is left half written", file=sys.stderr)
+        return INTERRUPTED
+
+
+def _run(arguments: Optional[List[str]]) -> int:
     options = _parser().parse_args(arguments)
     answer = _answer(options)
     told = json.dumps(answer.data, indent=1) + "\n" if options.json else answer.text
-    stream = sys.stderr if answer.status == FAULTY and not options.json else sys.stdout
+    aside = answer.status == FAULTY or is_output(getattr(options, "out", None))
+    stream = sys.stderr if aside and not options.json else sys.stdout
     try:
         stream.write(told)
         stream.flush()
