@@ -16,6 +16,7 @@ from pathlib import Path
 from unittest import mock
 
 from support import CASE_L, IEEE14, MIGRATION, ROOT, FolderTest, command, contents
+import crr.cli  # which knows all commands
 from crr.command import COMMANDS
 
 CRR = [sys.executable, "-m", "crr"]
@@ -100,9 +101,11 @@ class Targets(FolderTest):
         """By whatever name: the bytes alone, whether it is a pipe, a file, or a file that is written on."""
         command("market", CASE_L, "-o", self.folder / "market.bin")
         view = (self.folder / "market.bin").read_bytes()
-        done = started("market", CASE_L, "-o", "/dev/stdout")
+        (self.place / "stdout").symlink_to("/proc/self/fd/1")  # as /dev/stdout is, which must not be the one that is replaced
+        done = started("market", CASE_L, "-o", self.place / "stdout")
         out, err = done.communicate()
         self.assertEqual((done.returncode, out, err.count(b"26 bytes written\n")), (0, view, 1))
+        self.assertEqual(os.readlink(self.place / "stdout"), "/proc/self/fd/1")
         for mode, before in (("wb", b""), ("ab", b"before")):
             with open(self.place / "file", mode) as file:
                 file.write(before)
@@ -352,25 +355,25 @@ class BrokenOff(FolderTest):
         self.assertEqual((status, err, os.listdir(self.folder)), (2, said, []))
 
     def test_killed(self):
-        """Ended by force while it waits in the middle: what is left is no case, nor is any folder below."""
-        os.mkfifo(self.folder / "stop")
+        """Ended by force when all but the last file is there: what is left is no case, nor is any folder below."""
         code = (
-            "import os, sys, crr.writing as w\n"
+            "import sys, time, crr.writing as w\n"
             "real = w._stage\n"
             "def slow(staged, folder, files, names):\n"
             "    real(staged, folder, files, list(names)[:-1])\n"
-            f"    open({str(self.folder / 'stop')!r}, 'wb').close()\n"
+            "    print('waits', flush=True)\n"
+            "    time.sleep(60)\n"
             "w._stage = slow\n"
             "from crr.cli import main\n"
             "sys.exit(main(sys.argv[1:]))\n"
         )
-        done = subprocess.Popen([sys.executable, "-c", code, "pack", str(IEEE14), "-o", str(self.folder / "packed")], env=PATHS)
-        with open(self.folder / "stop", "rb"):
-            done.kill()
-            done.wait()
-        self.assertFalse((self.folder / "packed").exists())
-        left = [path for path in self.folder.iterdir() if path.is_dir()]
-        self.assertEqual([command("check", path)[0] for path in left], [2])
+        arguments = [sys.executable, "-c", code, "pack", str(self.case), "-o", str(self.folder / "packed")]
+        with subprocess.Popen(arguments, env=PATHS, stdout=subprocess.PIPE) as process:
+            said = process.stdout.readline()
+            process.kill()
+        self.assertEqual((said, process.returncode), (b"waits\n", -signal.SIGKILL))
+        left = list(self.folder.iterdir())
+        self.assertEqual([(path.name[:5], command("check", path)[0]) for path in left], [(".crr-", 2)])
 
 
 class Interrupted(FolderTest):
@@ -387,10 +390,14 @@ class Interrupted(FolderTest):
         required = {"remap": ["p", "-o", "o"], "market": ["-o", "o"], "holder": ["1"], "same": ["o"], "hub-mcc": ["h"]}
         required.update({"hub-add": ["h", "c", "-o", "o"], "migrate": ["r", "l", "--period", "on"], "share": ["d"]})
         required["tiers"] = ["--period", "on", "--process", "lt"]
+        self.assertGreaterEqual(len(COMMANDS), 18)
         for name, own in COMMANDS.items():
             first = "2026" if name == "hours" else "1.00" if name == "share" else "case"
             with mock.patch.dict(COMMANDS, {name: interrupted(own)}):
-                got = command(name, first, *required.get(name, []))
+                try:
+                    got = command(name, first, *required.get(name, []))
+                except KeyboardInterrupt:
+                    self.fail(f"{name} ends in a traceback")
             self.assertEqual(got, (130, "", self.SAID), name)
 
     def told(self, process):
