@@ -1,4 +1,5 @@
-"""The page in Chromium: nothing beside the screen at 1280 and 390 pixels, dark where that is asked for, what unfolds, breaks, print."""
+"""The page in Chromium: nothing beside the screen at 1280 and 390 pixels, dark where that is asked for, what
+unfolds, bars that are broken off, print."""
 
 import json
 import re
@@ -13,8 +14,8 @@ from support import IEEE14, FolderTest, command
 BROWSER = next(filter(None, map(shutil.which, ("chromium", "chromium-browser", "google-chrome"))), None)
 SHELL = ["--headless", "--no-sandbox", "--disable-gpu", "--hide-scrollbars", "--allow-file-access-from-files"]
 
-# What is measured in each frame: its width and the page's, how many cards stand in the first row, colours, how high the rows are that
-# unfold, before and after, and how far breaks and their figures stand out of their bars.
+# What is measured in each frame: its width and the page's, how many cards stand in the first row, colours,
+# how high the rows are that unfold, before and after, and where the figures of broken bars stand in them.
 MEASURE = """
 const told = {};
 for (const frame of document.querySelectorAll("iframe")) {
@@ -22,17 +23,20 @@ for (const frame of document.querySelectorAll("iframe")) {
   const box = element => element.getBoundingClientRect();
   const cards = [...page.querySelectorAll(".verdicts li")].map(card => box(card).top);
   const folded = [...page.querySelectorAll("details table")];
-  const height = () => folded.map(table => table.checkVisibility({contentVisibilityAuto: true}) ? box(table).height : 0);
+  const seen = table => table.checkVisibility({contentVisibilityAuto: true});
+  const height = () => folded.map(table => seen(table) ? box(table).height : 0);
   const before = height();
   const wide = root.scrollWidth;
   page.querySelectorAll("details").forEach(part => part.open = true);
   const breaks = [...page.querySelectorAll(".broken text")].map(text => {
     const own = box(text), bar = box(text.closest("td").querySelector("svg"));
-    return [own.left - bar.left, bar.right - own.right, own.top - bar.top, bar.bottom - own.bottom, text.textContent];
+    const room = [own.left - bar.left, bar.right - own.right, own.top - bar.top, bar.bottom - own.bottom];
+    return [...room, text.textContent];
   });
+  const style = page.defaultView.getComputedStyle(page.body);
   told[frame.id] = {
-    width: frame.clientWidth, wide, unfolded: root.scrollWidth, columns: cards.filter(top => top == cards[0]).length,
-    page: page.defaultView.getComputedStyle(page.body).backgroundColor, text: page.defaultView.getComputedStyle(page.body).color,
+    width: frame.clientWidth, wide, unfolded: root.scrollWidth,
+    columns: cards.filter(top => top == cards[0]).length, page: style.backgroundColor, text: style.color,
     before, after: height(), breaks,
   };
 }
@@ -40,7 +44,9 @@ document.getElementById("told").textContent = JSON.stringify(told);
 """
 
 
-@unittest.skipUnless(BROWSER, "neither chromium nor google-chrome is installed (Debian: apt-get install chromium)")
+@unittest.skipUnless(
+    BROWSER, "neither chromium nor google-chrome is installed (Debian: apt-get install chromium)"
+)
 class Browser(FolderTest):
     def run_browser(self, *arguments):
         with tempfile.TemporaryDirectory() as profile:
@@ -50,16 +56,23 @@ class Browser(FolderTest):
         return done.stdout.decode()
 
     def failing(self):
-        """The example with hardly a limit, holders and constraints with long names, and more holders than are shown at once."""
+        """The example with hardly a limit, long names, and more holders than are shown at once."""
         case = self.folder / "failing case"
         shutil.copytree(IEEE14, case)
         for name in ("constraints.csv", "factors.csv", "prices.csv"):
             path = case / name
-            path.write_text(path.read_text().replace("7-9", "230_KV_LINE_NORTH-TO-SOUTH_CONTINGENCY_OF_THE_SECOND_CIRCUIT"))
+            path.write_text(
+                path.read_text().replace(
+                    "7-9", "230_KV_LINE_NORTH-TO-SOUTH_CONTINGENCY_OF_THE_SECOND_CIRCUIT"
+                )
+            )
         limits = case / "constraints.csv"
         limits.write_text(re.sub(r",\d+\.000", ",0.010", limits.read_text()))
         book = case / "book.csv"
-        more = "".join(f"N-{i},Northern Irrigation District number {i},OBL,ON,Bus 1,Bus 4,900.{i:03}\n" for i in range(1, 31))
+        more = "".join(
+            f"N-{i},Northern Irrigation District number {i},OBL,ON,Bus 1,Bus 4,900.{i:03}\n"
+            for i in range(1, 31)
+        )
         book.write_text(book.read_text() + more)
         return case
 
@@ -72,7 +85,8 @@ class Browser(FolderTest):
     def measured(self, *arguments):
         """What is measured of both pages, in frames of 1280 and 390 pixels."""
         frames = [
-            f'<iframe id="{name}-{width}" style="border:0;width:{width}px;height:900px" srcdoc="{escape(path.read_text())}"></iframe>'
+            f'<iframe id="{name}-{width}" style="border:0;width:{width}px;height:900px"'
+            f' srcdoc="{escape(path.read_text())}"></iframe>'
             for name, path in self.pages()
             for width in (1280, 390)
         ]
@@ -110,9 +124,18 @@ class Browser(FolderTest):
             self.run_browser("--no-pdf-header-footer", f"--print-to-pdf={pdf}", path.as_uri())
             self.assertEqual(pdf.read_bytes()[:5], b"%PDF-")
             if not shutil.which("pdftotext"):
-                self.skipTest("pdftotext is not installed (Debian: apt-get install poppler-utils); the PDF was made, and not read")
-            text = subprocess.run(["pdftotext", "-layout", pdf, "-"], stdout=subprocess.PIPE, check=True).stdout.decode()
-            for said in ("9-10 reverse", "2 days covered", "SHA-256", "Fir Storage"):  # the first is folded, in the failing case the last too
+                self.skipTest(
+                    "pdftotext is not installed (Debian: apt-get install poppler-utils): the PDF was not read"
+                )
+            text = subprocess.run(
+                ["pdftotext", "-layout", pdf, "-"], stdout=subprocess.PIPE, check=True
+            ).stdout.decode()
+            for said in (
+                "9-10 reverse",
+                "2 days covered",
+                "SHA-256",
+                "Fir Storage",
+            ):  # the first is folded, in the failing case the last too
                 self.assertTrue(said in text, said)
 
     def test_pictures(self):
@@ -122,7 +145,10 @@ class Browser(FolderTest):
                 picture = self.folder / f"{name}-{width}.png"
                 self.run_browser(f"--window-size={width},{height}", f"--screenshot={picture}", path.as_uri())
                 data = picture.read_bytes()
-                self.assertEqual((data[:8], data[16:24]), (b"\x89PNG\r\n\x1a\n", width.to_bytes(4, "big") + height.to_bytes(4, "big")))
+                self.assertEqual(
+                    (data[:8], data[16:24]),
+                    (b"\x89PNG\r\n\x1a\n", width.to_bytes(4, "big") + height.to_bytes(4, "big")),
+                )
                 self.assertGreater(len(data), 40_000)
 
 

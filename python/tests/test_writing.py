@@ -1,47 +1,17 @@
-"""Writing: whole or not at all, through links and devices, over nobody's work; Ctrl-C; what is copied is read."""
+"""Writing: through links and devices, over nobody's work, and what is copied is read first."""
 
-import builtins
 import os
-import resource
 import shutil
-import signal
 import stat
-import subprocess
-import sys
-import tempfile
 import threading
 import unittest
-from functools import wraps
-from pathlib import Path
-from unittest import mock
 
-from support import CASE_L, IEEE14, MIGRATION, ROOT, FolderTest, command, contents
+from support import CASE_L, IEEE14, MIGRATION, FolderTest, command, contents, everything, started
 import crr.cli  # which knows all commands
 from crr.command import COMMANDS
 
-CRR = [sys.executable, "-m", "crr"]
-PATHS = {**os.environ, "PYTHONPATH": str(ROOT / "python" / "src")}
 PAIRS = "OLD_NODE,NEW_NODE\nBus 14,Bus 13\n"
 PAGE = b"<!doctype html>\n"
-OPEN = open
-
-
-def started(*arguments, **options):
-    """The command in a process of its own."""
-    given = dict(stdout=subprocess.PIPE, stderr=subprocess.PIPE, env=PATHS)
-    return subprocess.Popen([*CRR, *map(str, arguments)], **{**given, **options})
-
-
-def everything(folder):
-    """What stands below a folder, with what it is: a link's text, a file's bytes."""
-    found = {}
-    for path in sorted(folder.rglob("*")):
-        name = str(path.relative_to(folder))
-        if path.is_symlink():
-            found[name] = ("link", os.readlink(path))
-        else:
-            found[name] = path.read_bytes() if path.is_file() else stat.S_IFMT(path.stat().st_mode)
-    return found
 
 
 class Targets(FolderTest):
@@ -63,7 +33,8 @@ class Targets(FolderTest):
     def test_link_to_itself(self):
         (self.place / "loop").symlink_to("loop")
         status, _, err = command("report", CASE_L, "-o", self.place / "loop")
-        said = f"crr: {self.place / 'loop'} can't be written: Too many levels of symbolic links; nothing was changed\n"
+        why = "Too many levels of symbolic links; nothing was changed"
+        said = f"crr: {self.place / 'loop'} can't be written: {why}\n"
         self.assertEqual((status, err, os.readlink(self.place / "loop")), (2, said, "loop"))
 
     def test_pipe(self):
@@ -101,7 +72,9 @@ class Targets(FolderTest):
         """By whatever name: the bytes alone, whether it is a pipe, a file, or a file that is written on."""
         command("market", CASE_L, "-o", self.folder / "market.bin")
         view = (self.folder / "market.bin").read_bytes()
-        (self.place / "stdout").symlink_to("/proc/self/fd/1")  # as /dev/stdout is, which must not be the one that is replaced
+        (self.place / "stdout").symlink_to(
+            "/proc/self/fd/1"
+        )  # as /dev/stdout is, which must not be the one that is replaced
         done = started("market", CASE_L, "-o", self.place / "stdout")
         out, err = done.communicate()
         self.assertEqual((done.returncode, out, err.count(b"26 bytes written\n")), (0, view, 1))
@@ -112,7 +85,9 @@ class Targets(FolderTest):
                 file.flush()
                 done = started("market", CASE_L, "-o", self.place / "file", stdout=file)
                 self.assertEqual((done.wait(), done.communicate()[1].count(b"26 bytes")), (0, 1))
-            self.assertEqual((self.place / "file").read_bytes(), before + view if mode == "wb" else view + before + view)
+            self.assertEqual(
+                (self.place / "file").read_bytes(), before + view if mode == "wb" else view + before + view
+            )
 
     def test_files_of_others(self):
         """No name beside the target is taken, and what was there keeps its rights."""
@@ -122,7 +97,9 @@ class Targets(FolderTest):
         os.chmod(self.place / "page.html", 0o640)
         self.assertEqual(command("report", CASE_L, "-o", self.place / "page.html")[0], 0)
         found = everything(self.place)
-        self.assertEqual((found["page.html.new"], found[".page.html.new"], len(found)), (b"mine", b"mine too", 3))
+        self.assertEqual(
+            (found["page.html.new"], found[".page.html.new"], len(found)), (b"mine", b"mine too", 3)
+        )
         self.assertEqual(stat.S_IMODE((self.place / "page.html").stat().st_mode), 0o640)
         (self.place / "book.csv.new").write_text("mine")
         self.assertEqual(command("unpack", CASE_L, "-o", self.place)[0], 0)
@@ -130,7 +107,9 @@ class Targets(FolderTest):
 
     def test_folder(self):
         status, _, err = command("report", CASE_L, "-o", self.place)
-        self.assertEqual((status, err), (2, f"crr: {self.place} can't be written: Is a directory; nothing was changed\n"))
+        self.assertEqual(
+            (status, err), (2, f"crr: {self.place} can't be written: Is a directory; nothing was changed\n")
+        )
 
     def test_links_in_a_folder(self):
         """A link among the files of a folder is refused, forced or not; the folder itself may be one."""
@@ -195,15 +174,19 @@ class Spared(FolderTest):
             book = self.folder / "case" / "book.csv"
             book.write_text(book.read_text().replace(",25.000", f",{quantity}"))
             self.assertEqual(command("pack", self.folder / "case")[0], 0)
-        self.assertEqual(command("pack", self.folder / "case", "-o", self.folder / "case" / ".." / "case")[0], 0)
+        self.assertEqual(
+            command("pack", self.folder / "case", "-o", self.folder / "case" / ".." / "case")[0], 0
+        )
 
     def test_pack_keeps_names(self):
-        """A holder that has no contract yet keeps its name and number, in names.csv beside the CSV files too."""
+        """A holder that has no contract yet keeps its name and number in names.csv beside the CSV files."""
         command("unpack", CASE_L, "-o", self.folder / "case")
         names = self.folder / "case" / "names.csv"
         names.write_text(names.read_text() + "holder,3,Cedar\nholder,7,Ash\n")
         book = self.folder / "case" / "book.csv"
-        book.write_text(book.read_text().replace(",8,", ",Ash,"))  # 7 stands for itself there, and Ash has to move
+        book.write_text(
+            book.read_text().replace(",8,", ",Ash,")
+        )  # 7 stands for itself there, and Ash has to move
         self.assertEqual(command("pack", self.folder / "case")[0], 0)
         rows = [line for line in names.read_text().splitlines() if line.startswith("holder")]
         self.assertEqual(rows, ["holder,0,Ash", "holder,3,Cedar"])
@@ -238,197 +221,9 @@ class Spared(FolderTest):
                     place = self.folder / case / name
                     status, _, err = command(*arguments, self.folder / case, "-o", place)
                     said = f"{place}: that is a file of the case itself: choose another"
-                    self.assertEqual((status, err.splitlines()[0], everything(self.folder)), (2, said, before))
-
-
-class Broken:
-    """Calls by which files are made and moved, the n-th of which fails."""
-
-    CALLS = ((builtins, "open"), (os, "mkdir"), (os, "rename"), (os, "replace"))
-
-    def __init__(self, folder, last, error):
-        self.folder, self.last, self.error, self.count = str(folder), last, error, 0
-
-    def _counting(self, real):
-        def call(path, *arguments, **options):
-            writes = real is not OPEN or any(mode in str(arguments[:1]) for mode in "wx")
-            if writes and isinstance(path, (str, os.PathLike)) and os.fspath(path).startswith(self.folder):
-                self.count += 1
-                if self.count == self.last:
-                    raise self.error
-            return real(path, *arguments, **options)
-
-        return call
-
-    def __enter__(self):
-        self.patches = [mock.patch.object(*own, self._counting(getattr(*own))) for own in self.CALLS]
-        for patch in self.patches:
-            patch.start()
-        return self
-
-    def __exit__(self, *_):
-        for patch in self.patches:
-            patch.stop()
-
-
-class BrokenOff(FolderTest):
-    def setUp(self):
-        """A case of three hours, in CSV files, outside the folder that is looked at."""
-        super().setUp()
-        held = tempfile.TemporaryDirectory()
-        self.addCleanup(held.cleanup)
-        self.case = Path(held.name)
-        command("unpack", CASE_L, "-o", self.case)
-        hours = "2026-01-31,24,OFF,K0,1.00\n2026-02-01,1,OFF,,\n2026-02-01,8,ON,K1,2.50\n"
-        (self.case / "prices.csv").write_text(f"OPR_DT,OPR_HR,TIME_OF_USE,CONSTRAINT_ID,SHADOW_PRICE\n{hours}")
-
-    def each(self, error, status, *arguments):
-        """The command with the first, the second, .. of these calls failing, until none fails any more."""
-        before = everything(self.folder)
-        for last in range(1, 500):
-            with Broken(self.folder, last, error) as broken:
-                got = command(*arguments)
-            if broken.count < last:
-                self.assertEqual(got[0], 0)
-                return last
-            self.assertEqual(got[0], status, got)
-            left = everything(self.folder)
-            self.assertEqual(left, before, f"after call {last}: {got}")
-            yield got[2]
-        self.fail("there is no end to it")
-
-    def packs(self, error, status, out):
-        calls = 0
-        for said in self.each(error, status, "pack", self.case, "-o", out, "--force"):
-            calls += 1
-            if status == 2:
-                self.assertIn(" can't be written: No space left on device; nothing was changed\n", said)
-                self.assertIn(f"crr: {out}", said)
-        self.assertGreater(calls, 10)
-        self.assertEqual(command("check", out)[0], 0)
-
-    def test_new_folder(self):
-        full = OSError(28, os.strerror(28))
-        self.packs(full, 2, self.folder / "below" / "again" / "packed")
-        shutil.rmtree(self.folder / "below")
-        self.packs(KeyboardInterrupt(), 130, self.folder / "packed")
-
-    def test_folder_of_another_case(self):
-        """What was there before is there after, whole."""
-        book = self.case / "book.csv"
-        book.write_text(book.read_text().replace(",10.000", ",9.000"))
-        command("pack", self.case, "-o", self.folder / "packed")
-        book.write_text(book.read_text().replace(",9.000", ",10.000"))
-        (self.folder / "packed" / "note.txt").write_text("mine")
-        os.remove(self.folder / "packed" / "names.csv")  # so that it is made anew, not replaced
-        self.packs(OSError(28, os.strerror(28)), 2, self.folder / "packed")
-        self.assertEqual((self.folder / "packed" / "note.txt").read_text(), "mine")
-
-    def test_results(self):
-        command("settle", IEEE14, "-o", self.folder)
-        full = OSError(28, os.strerror(28))
-        calls = list(self.each(full, 2, "settle", CASE_L, "-o", self.folder))
-        self.assertGreater(len(calls), 5)
-
-    def test_single_file(self):
-        (self.folder / "market.bin").write_text("mine")
-        full = OSError(28, os.strerror(28))
-        for said in self.each(full, 2, "market", CASE_L, "-o", self.folder / "market.bin", "--force"):
-            self.assertEqual(said, f"crr: {self.folder / 'market.bin'} can't be written: No space left on device; nothing was changed\n")
-
-    def test_file_too_large(self):
-        """In a process that may write grid.bin, book.bin and price files, but no file as large as names.csv."""
-        command("pack", IEEE14, "-o", self.folder / "sizes")
-        sizes = {name: len(data) for name, data in contents(self.folder / "sizes").items()}
-        most = sizes.pop("names.csv") - 1
-        self.assertGreater(most, max(sizes.values()))
-        limit = lambda: resource.setrlimit(resource.RLIMIT_FSIZE, (most, most))
-        done = started("pack", IEEE14, "-o", self.folder / "packed", preexec_fn=limit)
-        said = f"crr: {self.folder / 'packed' / 'names.csv'} can't be written: File too large; nothing was changed\n"
-        self.assertEqual((done.communicate()[1].decode(), done.returncode), (said, 2))
-        self.assertEqual(os.listdir(self.folder), ["sizes"])
-
-    def test_not_read_back(self):
-        with mock.patch("crr.packed.unpacked", return_value=None):
-            status, _, err = command("pack", IEEE14, "-o", self.folder / "packed")
-        said = f"crr: {self.folder / 'packed'} can't be written: it does not read back as the same case; nothing was changed\n"
-        self.assertEqual((status, err, os.listdir(self.folder)), (2, said, []))
-
-    def test_killed(self):
-        """Ended by force when all but the last file is there: what is left is no case, nor is any folder below."""
-        code = (
-            "import sys, time, crr.writing as w\n"
-            "real = w._stage\n"
-            "def slow(staged, folder, files, names):\n"
-            "    real(staged, folder, files, list(names)[:-1])\n"
-            "    print('waits', flush=True)\n"
-            "    time.sleep(60)\n"
-            "w._stage = slow\n"
-            "from crr.cli import main\n"
-            "sys.exit(main(sys.argv[1:]))\n"
-        )
-        arguments = [sys.executable, "-c", code, "pack", str(self.case), "-o", str(self.folder / "packed")]
-        with subprocess.Popen(arguments, env=PATHS, stdout=subprocess.PIPE) as process:
-            said = process.stdout.readline()
-            process.kill()
-        self.assertEqual((said, process.returncode), (b"waits\n", -signal.SIGKILL))
-        left = list(self.folder.iterdir())
-        self.assertEqual([(path.name[:5], command("check", path)[0]) for path in left], [(".crr-", 2)])
-
-
-class Interrupted(FolderTest):
-    SAID = "crr: interrupted; nothing is left half written\n"
-
-    def test_every_command(self):
-        def interrupted(own):
-            @wraps(own.function)
-            def function(**_):
-                raise KeyboardInterrupt
-
-            return own._replace(function=function)
-
-        required = {"remap": ["p", "-o", "o"], "market": ["-o", "o"], "holder": ["1"], "same": ["o"], "hub-mcc": ["h"]}
-        required.update({"hub-add": ["h", "c", "-o", "o"], "migrate": ["r", "l", "--period", "on"], "share": ["d"]})
-        required["tiers"] = ["--period", "on", "--process", "lt"]
-        self.assertGreaterEqual(len(COMMANDS), 18)
-        for name, own in COMMANDS.items():
-            first = "2026" if name == "hours" else "1.00" if name == "share" else "case"
-            with mock.patch.dict(COMMANDS, {name: interrupted(own)}):
-                try:
-                    got = command(name, first, *required.get(name, []))
-                except KeyboardInterrupt:
-                    self.fail(f"{name} ends in a traceback")
-            self.assertEqual(got, (130, "", self.SAID), name)
-
-    def told(self, process):
-        """(status, what it said) of a process that is interrupted now."""
-        os.killpg(process.pid, signal.SIGINT)
-        out, err = process.communicate(timeout=30)
-        return process.returncode, out.decode(), err.decode()
-
-    def test_reading(self):
-        shutil.copytree(IEEE14, self.folder / "case")
-        os.remove(self.folder / "case" / "book.csv")
-        os.mkfifo(self.folder / "case" / "book.csv")
-        for arguments in (("check",), ("settle",), ("pack", "-o", self.folder / "packed"), ("report",)):
-            process = started(arguments[0], self.folder / "case", *arguments[1:], start_new_session=True)
-            with open(self.folder / "case" / "book.csv", "wb"):  # opens when it is read
-                self.assertEqual(self.told(process), (130, "", self.SAID), arguments)
-        self.assertEqual(sorted(os.listdir(self.folder)), ["case"])
-        self.assertEqual(len(os.listdir(self.folder / "case")), len(os.listdir(IEEE14)))
-
-    def test_processes(self):
-        """Workers say nothing, and none of them goes on."""
-        command("pack", IEEE14, "-o", self.folder / "case")
-        hour = self.folder / "case" / "prices" / "2026-08-01" / "HE24.bin"
-        os.remove(hour)
-        os.mkfifo(hour)
-        process = started("settle", self.folder / "case", "-j", 2, "-o", self.folder / "out", start_new_session=True)
-        with open(hour, "wb"):
-            self.assertEqual(self.told(process), (130, "", self.SAID))
-        with self.assertRaises(ProcessLookupError):
-            os.killpg(process.pid, 0)
-        self.assertFalse((self.folder / "out").exists())
+                    self.assertEqual(
+                        (status, err.splitlines()[0], everything(self.folder)), (2, said, before)
+                    )
 
 
 class Copied(FolderTest):
@@ -440,7 +235,9 @@ class Copied(FolderTest):
         command("pack", IEEE14, "-o", self.case)
         (self.folder / "pairs.csv").write_text(PAIRS)
         (self.folder / "hubs.csv").write_text("HUB,NODE_ID,PERCENT\nH,Bus 1,100\n")
-        (self.folder / "awards.csv").write_text("CRR_ID,OWNER,HEDGE_TYPE,TIME_OF_USE,SOURCE,SINK,MW\nA,B,OBL,ON,H,Bus 4,1\n")
+        (self.folder / "awards.csv").write_text(
+            "CRR_ID,OWNER,HEDGE_TYPE,TIME_OF_USE,SOURCE,SINK,MW\nA,B,OBL,ON,H,Bus 4,1\n"
+        )
         for name in ("rows.csv", "loads.csv"):
             shutil.copy(MIGRATION / name, self.folder / name)
         files = {name: self.folder / f"{name}.csv" for name in ("pairs", "hubs", "awards", "rows", "loads")}
@@ -474,7 +271,10 @@ class Copied(FolderTest):
         self.assertIn("length differs", told)
 
     def test_a_price_too_large(self):
-        self.assertIn("a price above 500,000", self.told(lambda path: path.write_bytes(path.read_bytes()[:1] + b"\xff" * 95)))
+        self.assertIn(
+            "a price above 500,000",
+            self.told(lambda path: path.write_bytes(path.read_bytes()[:1] + b"\xff" * 95)),
+        )
 
     def test_gone(self):
         def damage(path):

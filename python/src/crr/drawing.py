@@ -61,7 +61,8 @@ def share(flow: int, limit: int) -> str:
 def row(name: str, picture: str, figure: str, *more: str) -> str:
     """A row with a bar, its figure, and lines below that."""
     lines = "".join(f" <small>{text}</small>" for text in more)
-    return f"<tr><th scope=row>{escape(name)}</th><td class=bar>{picture}</td><td class=figure>{figure}{lines}</td></tr>"
+    cells = f"<td class=bar>{picture}</td><td class=figure>{figure}{lines}</td>"
+    return f"<tr><th scope=row>{escape(name)}</th>{cells}</tr>"
 
 
 def line(at: float, style: str) -> str:

@@ -9,7 +9,21 @@ from html import escape
 from typing import Callable, Dict, List, Mapping, NamedTuple, Sequence, Tuple
 
 from .decimals import decimal
-from .drawing import HATCH, bar, broken, exact_megawatts, exact_money, folded, grouped, limit_told, line, megawatts, money, row, share
+from .drawing import (
+    HATCH,
+    bar,
+    broken,
+    exact_megawatts,
+    exact_money,
+    folded,
+    grouped,
+    limit_told,
+    line,
+    megawatts,
+    money,
+    row,
+    share,
+)
 from .feasibility import PERIODS, PROCESSES, Flows, Verdict
 from .inputs import Input
 from .interface import FLOW_PLACES, LIMIT, MONTHLY, PART_PLACES
@@ -23,7 +37,8 @@ LONGEST = 1.5  # of a limit; a bar that is longer is broken
 
 
 class Month(NamedTuple):
-    """A month's days and hours, and in dollars its payments, rounded and exact, its congestion rent, and the rent less the exact payments."""
+    """A month's days and hours, and in dollars its payments, rounded and exact, its congestion rent, and the
+    rent less the exact payments."""
 
     name: str
     days: int
@@ -81,7 +96,8 @@ def _verdict_card(figures: Figures, period: int, process: int) -> str:
     where = "there" if verdict.count == 1 else f"at {escape(figures.constraints[verdict.lowest])}"
     return (
         f"<li class=fail>{head}<b>\u2717 FAIL</b>{_where(figures, (period, process))}"
-        f"<p>At one cent per MWh {where} and 0 elsewhere, an hour pays {owed} more than its congestion rent.</p>"
+        f"<p>At one cent per MWh {where} and 0 elsewhere, an hour pays {owed} more than its "
+        "congestion rent.</p>"
         f"{_cut_table(figures.cuts[period, process])}</li>"
     )
 
@@ -106,9 +122,12 @@ def _cut_table(rows: Sequence[CutRow]) -> str:
 
 
 def _verdict_section(figures: Figures) -> str:
-    cards = "".join(_verdict_card(figures, period, process) for period in (1, 0) for process in range(len(PROCESSES)))
+    cards = "".join(
+        _verdict_card(figures, period, process) for period in (1, 0) for process in range(len(PROCESSES))
+    )
     return (
-        "<section><h2>Simultaneous feasibility test</h2><p>A book passes exactly when no list of shadow prices makes the holders' "
+        "<section><h2>Simultaneous feasibility test</h2><p>A book passes exactly when no list of shadow "
+        "prices makes the holders' "
         f"net payment exceed the congestion rent.</p><ul class=verdicts>{cards}</ul></section>"
     )
 
@@ -122,10 +141,13 @@ class _Loading(NamedTuple):
 
 
 def _loadings(figures: Figures, period: int) -> List[_Loading]:
-    """Constraints by their share, the fullest first. Which are over is what the test said, not a comparison made here."""
+    """Constraints by their share, the fullest first. Which are over is what the test said, not a comparison
+    made here."""
     out = []
     for k, (limit, flow) in enumerate(zip(figures.limits, figures.flows[period].flows)):
-        over = [process for process in range(len(PROCESSES)) if figures.verdicts[period, process].set >> k & 1]
+        over = [
+            process for process in range(len(PROCESSES)) if figures.verdicts[period, process].set >> k & 1
+        ]
         scale = 10 ** (FLOW_PLACES - LIMIT.places)
         out.append(_Loading(k, over, flow / (limit * scale) if limit else float(flow > 0) * 1e9))
     return sorted(out, key=lambda loading: (-loading.share, -figures.flows[period].flows[loading.k]))
@@ -143,11 +165,14 @@ def _loading_row(figures: Figures, period: int, loading: _Loading, full: float) 
     of_limit = share(flow, limit) if limit else "limit 0"
     said = _over_told(figures, period, loading)
     kind = "within" if not loading.over else "over" if len(loading.over) == len(PROCESSES) else "some"
-    marks = "".join(line(percent / full, f"mark{process}") for process, percent in enumerate(figures.percents))
+    marks = "".join(
+        line(percent / full, f"mark{process}") for process, percent in enumerate(figures.percents)
+    )
     end = 100 * max(0.0, min(loading.share, full)) / full
     if loading.share > full:
         marks += broken(of_limit)
-    label = f"{name}: {grouped(decimal(flow, FLOW_PLACES))} MW of {limit_told(limit)} MW, {', '.join([of_limit, *said])}"
+    words = ", ".join([of_limit, *said])
+    label = f"{name}: {grouped(decimal(flow, FLOW_PLACES))} MW of {limit_told(limit)} MW, {words}"
     more = [of_limit, *said] if loading.over else [f"{of_limit}, {said[0]}"]
     return row(name, bar(label, 0, end, kind, marks), f"{megawatts(flow)} of {limit_told(limit)} MW", *more)
 
@@ -156,10 +181,16 @@ def _legend(figures: Figures, beyond: bool) -> str:
     keys = [("within", "within in every process"), ("some", "over in some"), ("over", "over in all")]
     boxes = "".join(f"<span>{_sample(bar(text, 0, 100, kind, ''))}{text}</span>" for kind, text in keys)
     lines = "".join(
-        f'<span><svg aria-hidden="true">{line(50, f"mark{process}")}</svg>{PROCESSES[process]} {percent}%</span>'
+        f'<span><svg aria-hidden="true">{line(50, f"mark{process}")}</svg>'
+        f"{PROCESSES[process]} {percent}%</span>"
         for percent, process in sorted((percent, process) for process, percent in enumerate(figures.percents))
     )
-    cut = f"<p class=legend>A bar of more than {100 * LONGEST:.0f}% is broken off; its figure stands behind the break.</p>" if beyond else ""
+    cut = (
+        f"<p class=legend>A bar of more than {100 * LONGEST:.0f}% is broken off; its figure stands behind "
+        "the break.</p>"
+        if beyond
+        else ""
+    )
     return f"<p class=legend>{boxes}</p><p class=legend>Released shares of the limit: {lines}</p>{cut}"
 
 
@@ -178,9 +209,10 @@ def _loading_section(figures: Figures, period: int) -> str:
     table = f"{_legend(figures, beyond)}<table class=bars>{''.join(rows[:shown])}</table>{more}"
     counted = figures.flows[period].counted
     return (
-        f"<section class=loading><h2>Loading of constraints, {PERIODS[period]}</h2><p class=faint>Flow of {counted:,} "
-        f"contract{'' if counted == 1 else 's'} as a share of each limit, the fullest first; where it is over, by how much "
-        f"it exceeds the released limit.</p>{table if rows else '<p>The grid has no constraints.</p>'}</section>"
+        f"<section class=loading><h2>Loading of constraints, {PERIODS[period]}</h2><p class=faint>Flow of "
+        f"{counted:,} contract{'' if counted == 1 else 's'} as a share of each limit, the fullest first; "
+        "where it is over, by how much it exceeds the released limit.</p>"
+        f"{table if rows else '<p>The grid has no constraints.</p>'}</section>"
     )
 
 
@@ -197,7 +229,14 @@ def _holder_section(figures: Figures) -> str:
             said = "paid" if cents > 0 else "charged" if cents < 0 else ""
             start, end = sorted((place(0), place(cents)))
             kind, amount = "over" if cents < 0 else "within", money(dollars(cents))
-            drawn.append(row(name, bar(f"{name}: {amount} {said}", start, end, kind, line(place(0), "mark2")), amount, said))
+            drawn.append(
+                row(
+                    name,
+                    bar(f"{name}: {amount} {said}", start, end, kind, line(place(0), "mark2")),
+                    amount,
+                    said,
+                )
+            )
         return f"<table class=bars>{''.join(drawn)}</table>"
 
     others = by_size[MOST_HOLDERS:]
@@ -206,42 +245,64 @@ def _holder_section(figures: Figures) -> str:
     return f"<section><h2>Payments by holder</h2>{table(by_size[:MOST_HOLDERS])}{rest}</section>"
 
 
-_MONTHS = ("month", "days", "hours", "payments, rounded cents", "payments, exact", "congestion rent", "rent less exact payments")
+_MONTHS = (
+    "month",
+    "days",
+    "hours",
+    "payments, rounded cents",
+    "payments, exact",
+    "congestion rent",
+    "rent less exact payments",
+)
 
 
 def _month_section(figures: Figures) -> str:
     rows = []
     for month in figures.months:
-        told = (f"{month.days:,}", f"{month.hours:,}", *map(exact_money, (month.sum, month.exact, month.rent, month.left)))
-        cells = "".join(f'<td class=figure data-name="{name}">{figure}</td>' for name, figure in zip(_MONTHS[1:], told))
+        told = (
+            f"{month.days:,}",
+            f"{month.hours:,}",
+            *map(exact_money, (month.sum, month.exact, month.rent, month.left)),
+        )
+        cells = "".join(
+            f'<td class=figure data-name="{name}">{figure}</td>' for name, figure in zip(_MONTHS[1:], told)
+        )
         rows.append(f"<tr><th scope=row>{escape(month.name)}</th>{cells}</tr>")
     heads = "".join(f"<th scope=col class=figure>{name}</th>" for name in _MONTHS[1:])
-    others = [f"{percent}% ({PROCESSES[process]})" for process, percent in enumerate(figures.percents) if process != MONTHLY]
+    others = [
+        f"{percent}% ({PROCESSES[process]})"
+        for process, percent in enumerate(figures.percents)
+        if process != MONTHLY
+    ]
     return (
-        f'<section><h2>Payments and congestion rent by month</h2><table class="plain months"><tr class=heads><th scope=col>{_MONTHS[0]}'
-        f"</th>{heads}</tr>{''.join(rows)}</table><p class=faint>Congestion rent: each hour's shadow price of each constraint times the "
-        f"limit that the monthly process releases, {figures.percents[MONTHLY]}% of it, added up over constraints and hours. The other "
-        f"processes release {' and '.join(others)} of each limit, and so of this rent. Where the book passes in the monthly process, no "
-        "hour's exact payments exceed its rent.</p></section>"
+        '<section><h2>Payments and congestion rent by month</h2><table class="plain months">'
+        f"<tr class=heads><th scope=col>{_MONTHS[0]}</th>{heads}</tr>{''.join(rows)}</table>"
+        "<p class=faint>Congestion rent: each hour's shadow price of each constraint times the limit that "
+        f"the monthly process releases, {figures.percents[MONTHLY]}% of it, added up over constraints and "
+        f"hours. The other processes release {' and '.join(others)} of each limit, and so of this rent. "
+        "Where the book passes in the monthly process, no hour's exact payments exceed its rent.</p></section>"
     )
 
 
 def _input_section(figures: Figures) -> str:
     rows = "".join(
-        f"<tr><td>{escape(file.name)}</td><td class=figure>{file.bytes:,} bytes</td><td><code>{file.sha256}</code></td></tr>"
+        f"<tr><td>{escape(file.name)}</td><td class=figure>{file.bytes:,} bytes</td>"
+        f"<td><code>{file.sha256}</code></td></tr>"
         for file in (*figures.inputs, figures.library)
     )
     return (
-        f'<section><h2>Files that this page is on, and the library</h2><table class="plain hashes">{rows}</table>'
+        "<section><h2>Files that this page is on, and the library</h2>"
+        f'<table class="plain hashes">{rows}</table>'
         "<p class=faint>SHA-256 of each, of the bytes as they were read.</p></section>"
     )
 
 
 _NOTE = (
-    "<p class=faint>The proved library's own figures: whether the book passes, which constraints are overloaded, how many, the "
-    "lowest numbered and its excess; the flows; the released shares; the cuts; each hour's cents of each contract, their sum and the "
-    "exact total. Worked out here from these, in whole numbers: the excess at every other constraint (its flow less its released "
-    "limit) and which is the worst; the sums over hours, by holder and by month; the congestion rent; the shares in percent.</p>"
+    "<p class=faint>The proved library's own figures: whether the book passes, which constraints are "
+    "overloaded, how many, the lowest numbered and its excess; the flows; the released shares; the cuts; "
+    "each hour's cents of each contract, their sum and the exact total. Worked out here from these, in whole "
+    "numbers: the excess at every other constraint (its flow less its released limit) and which is the "
+    "worst; the sums over hours, by holder and by month; the congestion rent; the shares in percent.</p>"
 )
 
 
@@ -254,7 +315,8 @@ def page(figures: Figures) -> str:
     """The page."""
     title = escape(figures.title)
     head = (
-        '<!doctype html>\n<html lang="en"><head><meta charset="utf-8"><meta name="viewport" content="width=device-width, initial-scale=1">'
+        '<!doctype html>\n<html lang="en"><head><meta charset="utf-8">'
+        '<meta name="viewport" content="width=device-width, initial-scale=1">'
         f"<title>{title}: congestion revenue rights</title><style>{CSS}</style></head>\n"
     )
     about = f"<p class=faint>{escape(figures.summary)}</p><p class=faint>{escape(figures.covered)}</p>"

@@ -29,7 +29,7 @@ FULL_DAY = 23  # hours of the shortest whole day
 
 
 def _inputs(found: Opened, hours: Sequence[PriceFile]) -> List[Input]:
-    """The files that were read. The price files of many hours are taken as one, in the order of their hours."""
+    """The files that were read. The price files of many hours are taken as one, in the order of hours."""
     if found.case:
         return found.case.inputs
     name = "prices.bin" if len(hours) == 1 else f"prices/, {len(hours):,} files one behind the other"
@@ -44,8 +44,8 @@ def _library() -> Input:
 
 
 def rent(limits: Sequence[int], prices: Sequence[int], percent: int) -> int:
-    """An hour's congestion rent where so much of each limit is released: the sum over constraints of released limit times price,
-    in 10^-8 cents."""
+    """An hour's congestion rent where so many percent of each limit are released, in 10^-8 cents: the sum
+    over constraints of released limit times price."""
     return sum(released_limit(limit, percent) * price for limit, price in zip(limits, prices) if price)
 
 
@@ -62,7 +62,9 @@ def _month(name: str, hours: Sequence[_Hour]) -> Month:
     rents = Fraction(sum(hour.rent for hour in hours), 10**PART_PLACES)
     days = len({hour.day for hour in hours if hour.day})
     paid = dollars(sum(hour.total.sum for hour in hours))
-    return Month(name, days, len(hours), paid, exact_dollars(exact), exact_dollars(rents), exact_dollars(rents - exact))
+    return Month(
+        name, days, len(hours), paid, exact_dollars(exact), exact_dollars(rents), exact_dollars(rents - exact)
+    )
 
 
 def _months(hours: Sequence[_Hour]) -> List[Month]:
@@ -70,7 +72,9 @@ def _months(hours: Sequence[_Hour]) -> List[Month]:
     months: Dict[str, List[_Hour]] = {}
     for hour in hours:
         months.setdefault(hour.day[:7], []).append(hour)
-    return [_month(name, months[name]) for name in sorted(months) if name] + ([_month("all", hours)] if hours else [])
+    return [_month(name, months[name]) for name in sorted(months) if name] + (
+        [_month("all", hours)] if hours else []
+    )
 
 
 def covered(times: Sequence[Time]) -> str:
@@ -86,13 +90,20 @@ def covered(times: Sequence[Time]) -> str:
     return said + (f"; {counted(short, 'day')} of fewer than {FULL_DAY} hours" if short else "") + "."
 
 
-def figures(folder: Path, found: Opened, hours: Sequence[Tuple[PriceFile, Prices]], result: Settled) -> Figures:
+def figures(
+    folder: Path, found: Opened, hours: Sequence[Tuple[PriceFile, Prices]], result: Settled
+) -> Figures:
     """All that the page shows of a case."""
     files, answers = files_of(found), verdicts(files_of(found))
     grid = read_grid(files.grid)
-    limits, percents = cast("array[int]", grid.limits), [released_percent(process) for process in range(len(PROCESSES))]
+    limits, percents = cast("array[int]", grid.limits), [
+        released_percent(process) for process in range(len(PROCESSES))
+    ]
     flows = [find_flows(grid, files.book, period) for period in range(len(PERIODS))]
-    over = {(period, process): excesses(limits, flows[period].flows, percents[process]) for period, process in answers}
+    over = {
+        (period, process): excesses(limits, flows[period].flows, percents[process])
+        for period, process in answers
+    }
     rents = [rent(limits, prices.prices, percents[MONTHLY]) for _, prices in hours]
     return Figures(
         title=folder.resolve().name,
@@ -106,8 +117,12 @@ def figures(folder: Path, found: Opened, hours: Sequence[Tuple[PriceFile, Prices
         worst={line: worst(verdict, over[line]) for line, verdict in answers.items() if not verdict.passed},
         cuts=cut_rows(found, answers),
         flows=flows,
-        holders=[(found.names.holder(holder), cents) for holder, cents in holder_sums(result, found.book).items()],
-        months=_months([_Hour(day, total, own) for (day, _), total, own in zip(found.times, result.hours, rents)]),
+        holders=[
+            (found.names.holder(holder), cents) for holder, cents in holder_sums(result, found.book).items()
+        ],
+        months=_months(
+            [_Hour(day, total, own) for (day, _), total, own in zip(found.times, result.hours, rents)]
+        ),
         inputs=_inputs(found, [hour for hour, _ in hours]),
         library=_library(),
     )

@@ -2,8 +2,8 @@
 
 A single file is written beside its place and moved there. The files of a folder are written into a folder of
 their own first, beside a folder that is new and else within it, and moved when all of them are there. A link
-leads to the file that is written; a device, a pipe or standard output takes the bytes. Nothing but plain files
-is replaced, and none that differs, unless it is an earlier answer of the same command or it is forced.
+leads to the file that is written; a device, a pipe or standard output takes the bytes. Nothing but plain
+files is replaced, and none that differs, unless it is an earlier answer of the same command or it is forced.
 """
 
 from __future__ import annotations
@@ -105,7 +105,7 @@ def _spare(name: str, path: Path, data: bytes, force: bool, ours: Ours, choose: 
 
 
 def write_file(path: Path, data: bytes, force: bool = False, ours: Ours = no_answer) -> None:
-    """Writes a file, whole or not at all; a device, a pipe or standard output takes the bytes as they come."""
+    """Writes a file, whole or not at all; a device, a pipe or standard output takes the bytes."""
     made: List[Path] = []
     try:
         if _takes_bytes(path):
@@ -154,7 +154,9 @@ def _refuse_others(folder: Path, names: Iterable[str]) -> None:
     for name in names:
         path = folder / name
         if os.path.lexists(path) and (path.is_symlink() or not path.is_file()):
-            text = f"{path} is no plain file, and no other is replaced: remove it, or choose another folder (-o)"
+            text = (
+                f"{path} is no plain file, and no other is replaced: remove it, or choose another folder (-o)"
+            )
             faults.append(Fault(name, 0, "", text))
         elif path.exists() and not os.access(path, os.W_OK):
             faults.append(Fault(name, 0, "", f"{path} may not be written to"))
@@ -168,14 +170,16 @@ def write_files(
     ours: Ours = no_answer,
     whole: Callable[[Path], None] = lambda staged: None,
 ) -> None:
-    """Writes files below a folder, all or none. `whole` is given the folder in which they stand before they are
-    moved, and raises what it has against them."""
+    """Writes files below a folder, all or none. `whole` is given the folder in which they stand before they
+    are moved, and raises what it has against them."""
     names = sorted(files, key=_KEYS.__contains__)
     made: List[Path] = []
     staged: Optional[Path] = None
     try:
         _refuse_others(folder, names)
-        differ = [_spare(name, folder / name, files[name], force, ours, "another folder (-o)") for name in files]
+        differ = [
+            _spare(name, folder / name, files[name], force, ours, "another folder (-o)") for name in files
+        ]
         raise_any([fault for faults in differ for fault in faults])
         made = _make_folders(folder.parent)
         staged = _fresh_name(folder if folder.is_dir() else folder.parent)
@@ -206,8 +210,8 @@ def _stage(staged: Path, folder: Path, files: Mapping[str, bytes], names: Iterab
 
 
 def _move(staged: Path, folder: Path, names: List[str]) -> None:
-    """Moves what is staged into its place. A new folder is moved as a whole. In one that is there the key goes
-    first and comes last, so that at no time another case is to be seen; what fails is moved back."""
+    """Moves what is staged into its place. A new folder is moved as a whole. In one that is there the key
+    goes first and comes last, so that at no time another case is to be seen; what fails is moved back."""
     if staged.parent != folder:
         os.rename(staged, folder)
         return
@@ -245,7 +249,7 @@ def _moved_back(moved: List[Tuple[Path, Path]], made: List[Path], before: Path) 
 
 
 def _drop(staged: Path) -> None:
-    """Removes the folder in which files waited, unless it has what was in the way and could not be moved back."""
+    """Removes the folder in which files waited, unless it has what could not be moved back."""
     before = staged / _BEFORE
     if not before.is_dir() or not os.listdir(before):
         shutil.rmtree(staged, ignore_errors=True)
