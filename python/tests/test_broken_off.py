@@ -171,23 +171,26 @@ class Interrupted(FolderTest):
 
             return own._replace(function=function)
 
-        required = {
-            "remap": ["p", "-o", "o"],
-            "market": ["-o", "o"],
-            "holder": ["1"],
-            "same": ["o"],
-            "hub-mcc": ["h"],
+        given = {
+            "remap": "case pairs -o out",
+            "market": "case -o out",
+            "holder": "case 1",
+            "same": "case other",
+            "hub-mcc": "case hubs",
+            "hub-add": "case hubs contracts -o out",
+            "tiers": "case --period on --process lt",
+            "migrate": "case rows loads --period on",
+            "hours": "2026",
+            "share": "1.00 demands",
+            "help": "",
+            "completion": "bash",
+            "man": "",
         }
-        required.update(
-            {"hub-add": ["h", "c", "-o", "o"], "migrate": ["r", "l", "--period", "on"], "share": ["d"]}
-        )
-        required["tiers"] = ["--period", "on", "--process", "lt"]
         self.assertGreaterEqual(len(COMMANDS), 18)
         for name, own in COMMANDS.items():
-            first = "2026" if name == "hours" else "1.00" if name == "share" else "case"
             with mock.patch.dict(COMMANDS, {name: interrupted(own)}):
                 try:
-                    got = command(name, first, *required.get(name, []))
+                    got = command(name, *given.get(name, "case").split())
                 except KeyboardInterrupt:
                     self.fail(f"{name} ends in a traceback")
             self.assertEqual(got, (130, "", self.SAID), name)

@@ -318,14 +318,14 @@ class Hours(unittest.TestCase):
         status, out, err = command("hours", "2024-01", "--json")
         self.assertEqual((status, json.loads(out), err), (0, {"months": [month], "on_peak_days": 26, "on_peak_hours": 416}, ""))
         status, out, err = command("hours", "2024-13", "--json")
-        fault = {"file": "2024-13", "line": 0, "column": "", "text": crr.MEANINGS[19], "refusal": 19}
+        fault = {"file": "2024-13", "line": None, "column": None, "text": "no month of 2010 to 2037", "refusal": 19}
         self.assertEqual((status, json.loads(out), err), (2, {"faults": [fault]}, ""))
 
     def test_no_such_month(self):
         asked = {"2009": "2009-01", "2038-01": "2038-01", "2024-13": "2024-13", "2024-00": "2024-00", "2024-11..2024-13": "2024-13"}
         asked.update({"2009-12..2010-01": "2009-12", "2037..2038": "2038-12", "2024-00..2024-02": "2024-00"})
         for months, named in asked.items():
-            said = f"crr: {named}: refused 19 by crr_month_hours: {crr.MEANINGS[19]}\n"
+            said = f"{named}: no month of 2010 to 2037 (refusal 19)\ncrr: 1 fault; nothing was written\n"
             self.assertEqual(command("hours", months), (2, "", said))
 
     def test_usage(self):
@@ -368,7 +368,7 @@ class Share(FolderTest):
         status, out, err = self.shared(".05", "COORDINATOR,MEASURED_DEMAND\nAlder,7\n", "--json")
         self.assertEqual((status, json.loads(out), err), (0, answer, ""))
         status, out, err = self.shared("1", "COORDINATOR,MEASURED_DEMAND\nAlder,0\n", "--json")
-        fault = {"file": "demands.csv", "line": 2, "column": "MEASURED_DEMAND", "text": "the demands total 0", "refusal": 27}
+        fault = {"file": str(self.folder / "demands.csv"), "line": 2, "column": "MEASURED_DEMAND", "text": "the demands total 0", "refusal": 27}
         self.assertEqual((status, json.loads(out), err), (2, {"faults": [fault]}, ""))
 
     def test_usage(self):

@@ -183,7 +183,8 @@ class Refusals(unittest.TestCase):
         crr.add_award(running, row)
         for at, value, number in ((0, 2, 17), (1, 2, 17), (2, 1024, 18), (3, 2, 11), (4, 2, 11), (5, 0, 13), (5, 10**6 + 1, 13), (5, 1, 21)):
             self.refused(number, crr.add_award, running, [*row[:at], value, *row[at + 1 :]])
-        self.refused(9, crr.add_award, running, row[:5])
+        with self.assertRaisesRegex(ValueError, "award has 5 figures and not 6"):
+            crr.add_award(running, row[:5])
         for tier in (0, 5, 2**64 - 1):
             self.refused(20, crr.mark_tier, running, tier)
             self.refused(20, crr.return_to_tier, running, tier)

@@ -136,7 +136,7 @@ class Migrate(FolderTest):
         (self.folder / "case").mkdir()
         (self.folder / "case" / "grid.bin").write_bytes((CASE_L / "grid.bin").read_bytes())
         (self.folder / "case" / "book.bin").write_bytes(crr.write_book(3, [(0, 1, 4, 0, 1, 1_000)] * 334))
-        said = f"crr: refused 10 by crr_migrate_load: {crr.MEANINGS[10]}\n"
+        said = f"crr: {crr.MEANINGS[10]} (refusal 10)\n"
         self.assertEqual(self.migrated(self.folder / "case", "--period", "on", "-o", self.folder / "out"), (2, "", said))
         self.assertFalse((self.folder / "out").exists())
 

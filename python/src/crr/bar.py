@@ -14,7 +14,7 @@ class Bar:
 
     def __call__(self, done: int, total: int) -> None:
         now = time.monotonic()
-        if not sys.stderr.isatty() or now - self._start < 0.3 or (now - self._shown < 0.1 and done < total):
+        if sys.stderr is None or not sys.stderr.isatty() or now - self._start < 0.3 or (now - self._shown < 0.1 and done < total):
             return
         self._shown = now
         width = 30 * done // total

@@ -3,7 +3,7 @@
 from __future__ import annotations
 
 from pathlib import Path
-from typing import Dict, List, NamedTuple, Optional, Tuple
+from typing import Dict, List, NamedTuple, Optional, Tuple, Type
 
 from .case import holder_numbers
 from .faults import Fault
@@ -11,11 +11,9 @@ from .files import Contract
 from .inputs import Inputs
 from .interface import HOLDER, MAX_CONTRACTS, QUANTITY
 from .sheet import Sheet
+from .words import BOTH_PERIODS, Kind, Period, Word, understood
 
 BOOK = ("CRR_ID", "OWNER", "HEDGE_TYPE", "TIME_OF_USE", "SOURCE", "SINK", "MW")
-_KINDS = {"OBL": 0, "OBLIGATION": 0, "OPT": 1, "OPTION": 1}
-PERIOD_WORDS = {"OFF": 0, "OFFPEAK": 0, "OFF-PEAK": 0, "OFF_PEAK": 0, "ON": 1, "ONPEAK": 1, "ON-PEAK": 1, "ON_PEAK": 1, "PEAK": 1}
-_BOTH_PERIODS = ("24H", "24HR", "24 HOUR", "24-HOUR", "FLAT")
 
 
 class Award(NamedTuple):
@@ -34,14 +32,14 @@ def node_number(sheet: Sheet, line: int, column: str, name: str, nodes: Dict[str
     return nodes.get(name, 0)
 
 
-def _choice(sheet: Sheet, line: int, column: str, text: str, choices: Dict[str, int], words: str) -> int:
-    """The number of a word; a fault is noted and gives 0."""
-    number = choices.get(text.upper())
-    if number is None:
-        both = "; split such a contract into an ON and an OFF row" if text.upper() in _BOTH_PERIODS else ""
-        sheet.fault(line, column, f"{text!r} is neither {words}{both}", 17)
-        return 0
-    return number
+def word_in(sheet: Sheet, line: int, column: str, text: str, words: Type[Word]) -> Optional[Word]:
+    """The word that a field has. A fault is noted where it is none."""
+    word = understood(words, text)
+    if word is None:
+        neither = "ON nor OFF" if words is Period else "OBL nor OPT"
+        both = "; split such a contract into an ON and an OFF row" if words is Period and text.upper() in BOTH_PERIODS else ""
+        sheet.fault(line, column, f"{text!r} is neither {neither}{both}", 17)
+    return word
 
 
 def read_award(
@@ -57,10 +55,9 @@ def read_award(
         if source not in hubs and hubs:
             sheet.fault(line, "SOURCE", f"no such hub: {source!r}")
     end = node_number(sheet, line, "SINK", sink, nodes, where)
-    kind_number = _choice(sheet, line, "HEDGE_TYPE", kind, _KINDS, "OBL nor OPT")
-    period_number = _choice(sheet, line, "TIME_OF_USE", period, PERIOD_WORDS, "ON nor OFF")
+    is_kind, is_period = word_in(sheet, line, "HEDGE_TYPE", kind, Kind), word_in(sheet, line, "TIME_OF_USE", period, Period)
     quantity = sheet.figure(line, sheet.at["MW"], megawatts, QUANTITY)
-    return Award(line, crr_id, owner, Contract(kind_number, period_number, 0, start, end, quantity))
+    return Award(line, crr_id, owner, Contract(is_kind or 0, is_period or 0, 0, start, end, quantity))
 
 
 def read_awards(
@@ -81,7 +78,7 @@ def read_book(
     path: Path, nodes: Dict[str, int], known: Dict[int, str], any_size: bool, faults: List[Fault], inputs: Inputs = None
 ) -> Tuple[List[Contract], List[str], Dict[int, str]]:
     """The contracts of book.csv, their names, and the names of holders by number. Holders keep the numbers that are known."""
-    sheet = Sheet(path, BOOK, faults, inputs=inputs)
+    sheet = Sheet(path, BOOK, faults, name=path.name, inputs=inputs)
     awards = read_awards(sheet, nodes, "factors.csv")
     if len(awards) > MAX_CONTRACTS and not any_size:
         sheet.fault(awards[MAX_CONTRACTS].line, "CRR_ID", f"more than {MAX_CONTRACTS} contracts", 10)

@@ -8,47 +8,86 @@ from __future__ import annotations
 
 import argparse
 import json
-import os
 import sys
-from typing import Dict, List, Optional
+from typing import IO, Dict, List, NoReturn, Optional
 
-from . import book_commands, commands, copies, hubs, migrate, plain_commands, report, tiers
-from .command import COMMANDS, FAULTY, INTERRUPTED, Answer, Command
-from .faults import Faults
+from . import book_commands, commands, copies, help_commands, hubs, migrate, plain_commands, report, tiers
+from .command import COMMANDS, FAULTY, INTERRUPTED, PASSES, Answer, Command
+from .faults import Fault, Faults
 from .native import Refused
+from .streams import write_to
 from .writing import is_output
 
 # Help lists the commands module by module.
-_MODULES = [module.__name__ for module in (commands, report, book_commands, copies, hubs, tiers, migrate, plain_commands)]
+_MODULES = [module.__name__ for module in (commands, report, book_commands, copies, hubs, tiers, migrate, plain_commands, help_commands)]
 
 
-def _listed() -> List[Command]:
+class Shown(Exception):
+    """A text that was asked for, such as help."""
+
+
+class Usage(Exception):
+    """A command line that is none: how it goes, and what is wrong."""
+
+    def __init__(self, usage: str, text: str) -> None:
+        super().__init__(usage, text)
+        self.usage, self.text = usage, text
+
+
+class _Parser(argparse.ArgumentParser):
+    """A parser whose words are given and written as answers are."""
+
+    def error(self, message: str) -> NoReturn:
+        raise Usage(self.format_usage(), f"{self.prog}: error: {message}")
+
+    def exit(self, status: int = 0, message: Optional[str] = None) -> NoReturn:
+        if status:
+            raise Usage("", (message or "").rstrip("\n"))
+        raise Shown(message or "")
+
+    def _print_message(self, message: str, file: Optional[IO[str]] = None) -> None:
+        raise Shown(message)
+
+
+def listed() -> List[Command]:
+    """All commands, in the order of help."""
     return sorted(COMMANDS.values(), key=lambda command: _MODULES.index(command.function.__module__))
 
 
-def _parser() -> argparse.ArgumentParser:
-    parser = argparse.ArgumentParser(prog="crr", description="Congestion revenue rights: feasibility test and hourly settlement.")
+def parser() -> argparse.ArgumentParser:
+    """The parser of the command line, made of the commands."""
+    parser = _Parser(prog="crr", description="Congestion revenue rights: feasibility test and hourly settlement.")
     fails = "1 the book fails (crr test, crr cuts), two books differ (crr same), or an operation is refused (crr tiers)"
     parser.epilog = f"Exit status: 0; {fails}; 2 the input has faults, or something can't be read or written; 130 interrupted."
+    parser.add_argument("--json", action="store_true", help="as behind a command: the answer, or the faults, as one JSON object")
     adding = parser.add_subparsers(dest="command", required=True, metavar="COMMAND")
-    for command in _listed():
+    for command in listed():
         of_command = adding.add_parser(command.name, help=command.help, description=command.help)
-        of_command.add_argument("--json", action="store_true", help="the answer, or the faults, as one JSON object")
+        # Said before the command, it stays said where it is not said behind it.
+        of_command.add_argument("--json", action="store_true", default=argparse.SUPPRESS, help="the answer, or the faults, as one JSON object")
         for argument in command.arguments:
             of_command.add_argument(*argument.names, **argument.settings)
     return parser
+
+
+def _fault_object(fault: Fault) -> Dict[str, object]:
+    """A fault for a script: null where it has no file, line, column or refusal."""
+    return {name: value or None for name, value in fault._asdict().items()}
 
 
 def _faulty(options: argparse.Namespace, problem: Exception) -> Answer:
     """The answer where something is wrong, all of it."""
     if isinstance(problem, Faults):
         count, where = len(problem.faults), f" in {options.folder}" if "folder" in options else ""
-        text = f"{problem}\ncrr: {count} fault{'' if count == 1 else 's'}{where}; nothing was written\n"
-        return Answer(FAULTY, text, {"faults": [fault._asdict() for fault in problem.faults]})
+        text = f"{problem}\ncrr: {count:,} fault{'' if count == 1 else 's'}{where}; nothing was written\n"
+        return Answer(FAULTY, text, {"faults": list(map(_fault_object, problem.faults))})
     if isinstance(problem, Refused):
-        data: Dict[str, object] = {"file": problem.file, "line": 0, "column": "", "text": problem.meaning, "refusal": problem.number}
-        return Answer(FAULTY, f"crr: {problem}\n", {"faults": [data]})
-    return Answer(FAULTY, f"crr: {problem}\n", {"faults": [{"file": "", "line": 0, "column": "", "text": str(problem), "refusal": 0}]})
+        fault = Fault(problem.file, 0, "", problem.meaning, problem.number)
+    elif isinstance(problem, OSError) and problem.strerror and problem.filename is not None:
+        fault = Fault(str(problem.filename), 0, "", problem.strerror)
+    else:
+        fault = Fault("", 0, "", str(problem))
+    return Answer(FAULTY, f"crr: {fault}\n", {"faults": [_fault_object(fault)]})
 
 
 def _answer(options: argparse.Namespace) -> Answer:
@@ -60,28 +99,34 @@ def _answer(options: argparse.Namespace) -> Answer:
         return _faulty(options, problem)
 
 
+def _asks_json(arguments: List[str]) -> bool:
+    """Whether a command line that can't be read asks for JSON."""
+    return "--json" in (arguments[: arguments.index("--")] if "--" in arguments else arguments)
+
+
 def main(arguments: Optional[List[str]] = None) -> int:
     """Runs the command and gives its exit status."""
     try:
-        return _run(arguments)
+        return _run(sys.argv[1:] if arguments is None else arguments)
     except KeyboardInterrupt:
-        print("crr: interrupted; nothing is left half written", file=sys.stderr)
+        write_to(sys.stderr, "crr: interrupted; nothing is left half written\n")
         return INTERRUPTED
 
 
-def _run(arguments: Optional[List[str]]) -> int:
-    options = _parser().parse_args(arguments)
-    answer = _answer(options)
-    told = json.dumps(answer.data, indent=1) + "\n" if options.json else answer.text
-    aside = answer.status == FAULTY or is_output(getattr(options, "out", None))
-    stream = sys.stderr if aside and not options.json else sys.stdout
+def _run(given: List[str]) -> int:
+    as_json, aside = _asks_json(given), False
     try:
-        stream.write(told)
-        stream.flush()
-        sys.stderr.write("" if options.json else answer.note)
-    except BrokenPipeError:  # the reader, such as head, has seen enough
-        os.dup2(os.open(os.devnull, os.O_WRONLY), stream.fileno())
-    except OSError as error:
-        print(f"crr: the output can't be written: {error.strerror}", file=sys.stderr)
-        return FAULTY
-    return answer.status
+        options = parser().parse_args(given)
+        as_json, answer = options.json, _answer(options)
+        aside = is_output(getattr(options, "out", None))  # which has bytes of another kind
+    except Shown as shown:
+        as_json, answer = False, Answer(PASSES, str(shown), {})
+    except Usage as usage:
+        answer = Answer(FAULTY, f"{usage.usage}{usage.text}\n", {"faults": [_fault_object(Fault("", 0, "", usage.text))], "usage": usage.usage})
+    text = json.dumps(answer.data, indent=1) + "\n" if as_json else answer.text
+    stream = sys.stderr if (answer.status == FAULTY or aside) and not as_json else sys.stdout
+    unwritten = write_to(stream, text)
+    if unwritten and stream is not sys.stderr:
+        write_to(sys.stderr, f"crr: the output can't be written: {unwritten}\n")
+    unwritten = unwritten or write_to(sys.stderr, "" if as_json else answer.note)
+    return FAULTY if unwritten else answer.status

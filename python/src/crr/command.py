@@ -7,7 +7,9 @@ from __future__ import annotations
 
 import argparse
 from pathlib import Path
-from typing import Any, Callable, Dict, Iterable, List, NamedTuple, Sequence, Tuple, TypeVar
+from typing import Any, Callable, Dict, Iterable, List, NamedTuple, Sequence, Tuple, Type, TypeVar
+
+from .words import SPELLINGS, Period, Process, Word, understood
 
 PASSES, FAILS, FAULTY, INTERRUPTED = 0, 1, 2, 130  # exit statuses
 
@@ -22,19 +24,20 @@ class Answer(NamedTuple):
 
 
 class Argument(NamedTuple):
-    """An argument as `add_argument` takes it."""
+    """An argument as `add_argument` takes it, and the words that it can be, where they are few."""
 
     names: Tuple[str, ...]
     settings: Dict[str, Any]
+    words: Tuple[str, ...] = ()
 
     def with_help(self, text: str) -> Argument:
         """The same argument with another help."""
-        return Argument(self.names, {**self.settings, "help": text})
+        return self._replace(settings={**self.settings, "help": text})
 
 
-def argument(*names: str, **settings: Any) -> Argument:
+def argument(*names: str, words: Sequence[str] = (), **settings: Any) -> Argument:
     """An argument by what `add_argument` is called with."""
-    return Argument(names, settings)
+    return Argument(names, settings, tuple(words))
 
 
 class Command(NamedTuple):
@@ -78,23 +81,26 @@ def reads(name: str, text: str, **settings: Any) -> Argument:
     return argument(name, type=Path, metavar=name.upper(), help=text, **settings)
 
 
-def choice(name: str, choices: Dict[str, Any], **settings: Any) -> Argument:
-    """An option that is one of several words, each of which stands for a value."""
+def _choice(name: str, choices: Type[Word], every: str, **settings: Any) -> Argument:
+    """An option whose value is one of several words, as it may be spelled anywhere; `every` stands for all of them, where it is one."""
+    options = [spelling.option for spelling in SPELLINGS[choices]] + ([every] if every else [])
 
-    def value(word: str) -> Any:
-        if word not in choices:
-            raise argparse.ArgumentTypeError(f"invalid choice: {word!r} (choose from {', '.join(map(repr, choices))})")
-        return choices[word]
+    def value(text: str) -> Any:
+        word = understood(choices, text)
+        if text.lower() == every and every:
+            return list(choices)
+        if word is None:
+            raise argparse.ArgumentTypeError(f"{text!r} is none of {', '.join(options)}")
+        return [word] if every else word
 
-    return argument(name, type=value, metavar=f"{{{','.join(choices)}}}", **settings)
+    return argument(name, type=value, metavar=f"{{{','.join(options)}}}", words=options, **settings)
 
 
-_PERIODS = {"off": 0, "on": 1}
-_PROCESSES = {"annual": 0, "lt": 1, "monthly": 2}
-PERIOD = choice("--period", _PERIODS, required=True)
-PROCESS = choice("--process", _PROCESSES, required=True)
-ANY_PERIODS = choice("--period", {**{word: [number] for word, number in _PERIODS.items()}, "both": [0, 1]}, default="both", dest="periods")
-ANY_PROCESSES = choice("--process", {**{word: [number] for word, number in _PROCESSES.items()}, "all": [0, 1, 2]}, default="all", dest="processes")
+_HOURS, _SHARE = "off-peak or on-peak hours", "the allocation or auction, which releases its share of every limit"
+PERIOD = _choice("--period", Period, "", required=True, help=_HOURS)
+PROCESS = _choice("--process", Process, "", required=True, help=_SHARE)
+ANY_PERIODS = _choice("--period", Period, "both", default="both", dest="periods", help=_HOURS)
+ANY_PROCESSES = _choice("--process", Process, "all", default="all", dest="processes", help=_SHARE)
 
 
 def counted(number: int, what: str) -> str:
@@ -103,5 +109,5 @@ def counted(number: int, what: str) -> str:
 
 
 def objects(heading: Sequence[str], rows: Iterable[Sequence[object]]) -> List[Dict[str, object]]:
-    """Rows of a table as objects."""
-    return [{name.lower(): value for name, value in zip(heading, row)} for row in rows]
+    """Rows of a table as objects: an empty field is null."""
+    return [{name.lower(): None if value == "" else value for name, value in zip(heading, row)} for row in rows]

@@ -2,22 +2,27 @@
 
 from __future__ import annotations
 
+import argparse
+import os
 from array import array
 from pathlib import Path
 from typing import Dict, List, Optional, Sequence, Tuple, cast
 
 from .bar import Bar
-from .case import TIMES_OF_USE, Names
+from .case import Names
 from .command import ANY_PERIODS, ANY_PROCESSES, FAILS, FOLDER, FORCE, PASSES, ROUND_PRICES, Answer, argument, command, counted, objects, writes
 from .decimals import decimal
-from .feasibility import PROCESSES, Cut, Verdict, excesses, find_cuts, find_flows, released_percent, test_book, worst
+from .faults import Fault, raise_any
+from .feasibility import Cut, Verdict, excesses, find_cuts, find_flows, released_percent, test_book, worst
 from .files import read_grid
 from .from_csv import load
 from .interface import FLOW_PLACES, QUANTITY
-from .opening import Opened, counts, counts_told, files_of, opened, rounded_told, settled
+from .notes import notes
+from .opening import Opened, counts, counts_told, files_of, is_csv, opened, rounded_told, settled
 from .packed import Packed, hour_name, read_packed, unpacked, write_packed
 from .results import HOLDERS, HOURS, dollars, exact_dollars, holder_months, hour_rows, is_result, result_files
 from .to_csv import csv_text, write_csv
+from .words import PROCESSES, TIMES_OF_USE, Period, Process
 from .writing import write_files
 
 
@@ -29,13 +34,17 @@ def check(folder: Path, round_prices: bool) -> Answer:
         unpacked(files_of(found))  # its price files too
     form = "CSV" if found.case else "bin"
     text = f"{folder}: {counts_told(found)}; {form} files without a fault{rounded_told(found.rounded)}\n"
-    return Answer(PASSES, text, {"folder": str(folder), "form": form, **counts(found), "rounded_prices": found.rounded})
+    beside = notes(folder, form == "CSV")
+    data: Dict[str, object] = {"folder": str(folder), "form": form, **counts(found), "rounded_prices": found.rounded, "notes": beside}
+    return Answer(PASSES, text + "".join(f"{note}\n" for note in beside), data)
 
 
 @command("pack", "CSV files to grid.bin, book.bin, names.csv and price files", FOLDER, ROUND_PRICES, writes("a folder"), FORCE)
 def pack(folder: Path, out: Optional[Path], round_prices: bool, force: bool) -> Answer:
     """CSV files to bin files, read back and compared. Beside the CSV files, where no other folder is named, they replace those of before."""
     target = out or folder
+    if not is_csv(folder):
+        raise_any([Fault(str(folder), 0, "", "packed already: grid.bin, and no CSV files; crr unpack makes CSV files of it")])
     case, rounded = load(folder, round_prices=round_prices)
     written = write_packed(case, target, force or target.resolve() == folder.resolve())
     text = f"{target}: grid.bin, book.bin, names.csv and {counted(len(case.hours), 'hour')} of prices written and read back{rounded_told(rounded)}\n"
@@ -46,6 +55,8 @@ def pack(folder: Path, out: Optional[Path], round_prices: bool, force: bool) -> 
 def unpack(folder: Path, out: Optional[Path], force: bool) -> Answer:
     """Bin files to CSV files, beside them where no other folder is named."""
     target = out or folder
+    if is_csv(folder) and not os.path.lexists(folder / "grid.bin"):
+        raise_any([Fault(str(folder), 0, "", "CSV files already, and no grid.bin; crr pack makes bin files of them")])
     files = read_packed(folder)
     written = write_csv(unpacked(files), target, hour_name(files.hours), force)
     return Answer(PASSES, f"{target}: {', '.join(sorted(written))} written\n", {"out": str(target), "written": written})
@@ -57,7 +68,7 @@ VERDICTS = (
 )
 
 
-def verdicts(files: Packed, periods: Sequence[int] = (0, 1), processes: Sequence[int] = (0, 1, 2)) -> Dict[Tuple[int, int], Verdict]:
+def verdicts(files: Packed, periods: Sequence[int] = tuple(Period), processes: Sequence[int] = tuple(Process)) -> Dict[Tuple[int, int], Verdict]:
     """The test's answers by period and process."""
     grid = read_grid(files.grid)
     return {(period, process): test_book(grid, files.book, process, period) for period in periods for process in processes}
@@ -152,6 +163,13 @@ def _cuts_told(names: Names, answers: Dict[Tuple[int, int], Verdict], listed: Di
     return "".join(said) + (f"{passing}: the book passes\n" if passing else "")
 
 
+def _jobs(text: str) -> int:
+    """How many processes: at least one."""
+    if not (text.isascii() and text.isdigit() and len(text) < 5 and int(text)):
+        raise argparse.ArgumentTypeError(f"{text!r} is no number of processes, from 1 to 9999")
+    return int(text)
+
+
 @command(
     "settle",
     "settle every hour: holder by month, hour by hour, contract by contract",
@@ -159,7 +177,7 @@ def _cuts_told(names: Names, answers: Dict[Tuple[int, int], Verdict], listed: Di
     ROUND_PRICES,
     writes("a folder for the result files"),
     FORCE,
-    argument("-j", "--jobs", type=int, default=1, metavar="N", help="how many processes"),
+    argument("-j", "--jobs", type=_jobs, default=1, metavar="N", help="how many processes, at least 1"),
 )
 def settle(folder: Path, out: Optional[Path], jobs: int, round_prices: bool, force: bool) -> Answer:
     """Settles every hour; with `out` writes hours.csv, holders.csv and contracts.csv there, over those of before."""

@@ -9,7 +9,6 @@ import hashlib
 from pathlib import Path
 from typing import Dict, List, NamedTuple, Optional, Sequence, Tuple
 
-from .case import HEDGE_TYPES, TIMES_OF_USE
 from .command import FAILS, FOLDER, FORCE, PASSES, Answer, argument, command, counted, objects, writes
 from .decimals import decimal
 from .faults import Fault, Faults, raise_any
@@ -17,6 +16,7 @@ from .files import Contract, read_book, read_grid, write_book, write_settled_boo
 from .interface import HOLDER, QUANTITY, WIDE
 from .opening import Opened, files_of, opened, write_beside
 from .to_csv import csv_text
+from .words import HEDGE_TYPES, TIMES_OF_USE
 
 SETTLED = ("OWNER", "HEDGE_TYPE", "TIME_OF_USE", "SOURCE", "SINK", "MW")
 DIFFERENCES = (*SETTLED[:-1], "FIRST_MW", "SECOND_MW", "CHANGE_MW")

@@ -11,6 +11,7 @@ from .interface import DEMAND, MAX_COORDINATORS
 from .sheet import Sheet
 
 _DECIMALS = re.compile(r"[+-]?[0-9]*\.([0-9]*?)0*")  # those that count
+_MOST_DECIMALS = 18  # with more, no demand of a unit is in range
 DEMANDS = ("COORDINATOR", "MEASURED_DEMAND")
 
 
@@ -32,7 +33,7 @@ def read_demands(path: Path, faults: List[Fault]) -> Demands:
     rows = list(sheet.rows())
     texts = [row[demand_at] for _, row in rows]
     decimals = [match[1] for match in map(_DECIMALS.fullmatch, texts) if match]
-    unit = DEMAND._replace(places=max(map(len, decimals), default=0))
+    unit = DEMAND._replace(places=min(_MOST_DECIMALS, max(map(len, decimals), default=0)))
     names: Dict[str, int] = {}
     units: List[int] = []
     for line, row in rows:

@@ -8,7 +8,7 @@ from typing import List, NamedTuple, Optional, Sequence, Tuple
 
 from .files import Grid
 from .interface import FLOW_PLACES, LIMIT, MAX_CONTRACTS
-from .native import Bytes, Entry, Lent, lend_bytes, lend_cells, zeros
+from .native import Bytes, Entry, Lent, zeros
 
 _test_book = Entry("crr_test_book")
 _find_flows = Entry("crr_find_flows")
@@ -16,9 +16,6 @@ _find_cuts = Entry("crr_find_cuts")
 _released_percent = Entry("crr_released_percent")
 
 _PERCENT_IN_FLOWS: int = 10 ** (FLOW_PLACES - LIMIT.places - 2)  # a percent of a limit's unit
-
-PERIODS = ("off-peak", "on-peak")  # by number
-PROCESSES = ("annual", "Tier LT", "monthly")  # by number
 
 
 @dataclass(frozen=True)
@@ -63,16 +60,14 @@ class Cut(NamedTuple):
 def test_book(grid: Grid, book: Bytes, process: int, period: int) -> Verdict:
     """Whether the contracts of a period are feasible on the grid in a process."""
     overloaded, count, lowest, excess = c_uint64(), c_uint64(), c_uint64(), c_int64()
-    limits, factors = lend_cells(grid.limits, "Q"), lend_cells(grid.factors, "q")
-    _test_book(grid.nodes, grid.constraints, process, period, limits, factors, lend_bytes(book), overloaded, count, lowest, excess)
+    _test_book(grid.nodes, grid.constraints, process, period, grid.limits, grid.factors, book, overloaded, count, lowest, excess)
     return Verdict(overloaded.value, count.value, lowest.value, excess.value)
 
 
 def find_flows(grid: Grid, book: Bytes, period: int) -> Flows:
     """The flow on each constraint, as the test sums it."""
     flows, counted = zeros("q", grid.constraints), c_uint64()
-    limits, factors = lend_cells(grid.limits, "Q"), lend_cells(grid.factors, "q")
-    _find_flows(grid.nodes, grid.constraints, period, limits, factors, lend_bytes(book), Lent(flows, "q", True), counted)
+    _find_flows(grid.nodes, grid.constraints, period, grid.limits, grid.factors, book, Lent(flows, "q", True), counted)
     return Flows(list(flows), counted.value)
 
 
@@ -81,9 +76,8 @@ def find_cuts(grid: Grid, book: Bytes, process: int, period: int) -> List[Cut]:
 
     Empty where the book passes, and also where no single contract's cut clears it: `test_book` tells these apart."""
     numbers, cuts, listed = zeros("Q", MAX_CONTRACTS), zeros("Q", MAX_CONTRACTS), c_uint64()
-    limits, factors = lend_cells(grid.limits, "Q"), lend_cells(grid.factors, "q")
     places = (Lent(numbers, "Q", True), Lent(cuts, "Q", True))
-    _find_cuts(grid.nodes, grid.constraints, process, period, limits, factors, lend_bytes(book), *places, listed)
+    _find_cuts(grid.nodes, grid.constraints, process, period, grid.limits, grid.factors, book, *places, listed)
     return list(map(Cut, numbers[: listed.value], cuts[: listed.value]))
 
 

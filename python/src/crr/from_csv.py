@@ -15,17 +15,19 @@ from datetime import date
 from pathlib import Path
 from typing import Dict, List, Optional, Set, Tuple
 
-from .book_csv import PERIOD_WORDS, read_book
+from .book_csv import read_book, word_in
 from .case import FORMS, Case, Names, PricedHour, book_form, grid_form
 from .faults import Fault, raise_any
 from .inputs import Input
 from .interface import LIMIT, MAX_CONSTRAINTS, MAX_NODES, SHADOW_PRICE, SHIFT_FACTOR
 from .names_csv import read_names
-from .sheet import Sheet
+from .sheet import Sheet, is_there
+from .words import Period
 
 _DAY = re.compile(r"[0-9]{4}-[0-9]{2}-[0-9]{2}")
 _HOUR = re.compile(r"0?[1-9]|1[0-9]|2[0-5]")  # hour ending; the day on which clocks go back has 25
 
+CONSTRAINTS = ("CONSTRAINT_ID", "LIMIT_MW")
 PRICES = ("OPR_DT", "OPR_HR", "TIME_OF_USE", "CONSTRAINT_ID", "SHADOW_PRICE")
 
 
@@ -59,7 +61,7 @@ def load(folder: Path, any_size: bool = False, round_prices: bool = False, price
     _read_factors(loaded)
     told = read_names(loaded.folder, loaded.faults, loaded.inputs)
     book, ids, holders = read_book(loaded.folder / "book.csv", loaded.nodes, told["holder"], any_size, loaded.faults, loaded.inputs)
-    hours = _read_prices(loaded) if prices and (loaded.folder / "prices.csv").exists() else []
+    hours = _read_prices(loaded) if prices and is_there(loaded.folder / "prices.csv") else []
     raise_any(loaded.faults)
     used = {contract.holder for contract in book}  # names.csv may name holders that have no contract
     others = {number: name for number, name in told["holder"].items() if number not in used and name not in (*holders.values(), str(number))}
@@ -70,7 +72,7 @@ def load(folder: Path, any_size: bool = False, round_prices: bool = False, price
 
 
 def _read_constraints(loaded: Loaded) -> None:
-    sheet = Sheet(loaded.folder / "constraints.csv", ("CONSTRAINT_ID", "LIMIT_MW"), loaded.faults, inputs=loaded.inputs)
+    sheet = Sheet(loaded.folder / "constraints.csv", CONSTRAINTS, loaded.faults, name="constraints.csv", inputs=loaded.inputs)
     if len(sheet.at) < 2:
         return
     loaded.constraints_read = True
@@ -83,20 +85,21 @@ def _read_constraints(loaded: Loaded) -> None:
 
 def _factor_columns(loaded: Loaded, sheet: Sheet) -> List[int]:
     """Where each constraint's factors stand: every column but the first is a constraint's."""
-    others = sheet.heading[1:]
-    for at, name in enumerate(others, start=1):
+    places: Dict[str, int] = {}
+    for at, name in enumerate(sheet.heading[1:], start=1):
         if name not in loaded.constraints:
             loaded.faults.append(Fault(sheet.name, 1, sheet.column(at), "no such constraint in constraints.csv"))
-        elif name in others[: at - 1]:
+        elif name in places:
             loaded.faults.append(Fault(sheet.name, 1, name, "the constraint's column occurs twice"))
+        places.setdefault(name, at)
     for name in loaded.constraints:
-        if name not in others:
+        if name not in places:
             loaded.faults.append(Fault(sheet.name, 1, name, "the constraint's column is missing"))
-    return [1 + others.index(name) for name in loaded.constraints if name in others]
+    return [places[name] for name in loaded.constraints if name in places]
 
 
 def _read_factors(loaded: Loaded) -> None:
-    sheet = Sheet(loaded.folder / "factors.csv", ("NODE_ID",), loaded.faults, first=True, inputs=loaded.inputs)
+    sheet = Sheet(loaded.folder / "factors.csv", ("NODE_ID",), loaded.faults, first=True, name="factors.csv", inputs=loaded.inputs)
     if not sheet.at:
         return
     columns = _factor_columns(loaded, sheet) if loaded.constraints_read else []
@@ -110,7 +113,7 @@ def _read_factors(loaded: Loaded) -> None:
 
 
 def _read_prices(loaded: Loaded) -> List[PricedHour]:
-    sheet = Sheet(loaded.folder / "prices.csv", PRICES, loaded.faults, inputs=loaded.inputs)
+    sheet = Sheet(loaded.folder / "prices.csv", PRICES, loaded.faults, name="prices.csv", inputs=loaded.inputs)
     if len(sheet.at) < len(PRICES):
         return []
     day_at, hour_at, period_at, constraint_at, price_at = (sheet.at[ours] for ours in PRICES)
@@ -151,9 +154,7 @@ class _Times:
         return self._seen[key]
 
     def _new(self, line: int, day: str, hour: str, time_of_use: str) -> Optional[PricedHour]:
-        period = PERIOD_WORDS.get(time_of_use.upper())
-        if period is None:
-            self._sheet.fault(line, "TIME_OF_USE", f"{time_of_use!r} is neither ON nor OFF", 17)
+        period = word_in(self._sheet, line, "TIME_OF_USE", time_of_use, Period)
         if not self._is_time(line, day, hour) or period is None:
             return None
         number = int(hour or 0)
@@ -172,7 +173,7 @@ class _Times:
         if not day and not hour:
             return True
         right = True
-        if not _DAY.fullmatch(day) or not _is_date(day):
+        if not is_date(day):
             self._sheet.fault(line, "OPR_DT", f"{day!r} is not a day, YYYY-MM-DD")
             right = False
         if not _HOUR.fullmatch(hour):
@@ -185,7 +186,10 @@ class _Times:
         return [self._hours[key] for key in sorted(self._hours)]
 
 
-def _is_date(day: str) -> bool:
+def is_date(day: str) -> bool:
+    """Whether a text is a day, YYYY-MM-DD."""
+    if not _DAY.fullmatch(day):
+        return False
     try:
         date.fromisoformat(day)
         return True

@@ -6,7 +6,7 @@ from pathlib import Path
 from typing import List, Sequence
 
 from .book_csv import BOOK, Award
-from .case import NARROW_ENDS, TIMES_OF_USE, Names
+from .case import NARROW_ENDS, Names
 from .command import FOLDER, FORCE, PASSES, ROUND_PRICES, Answer, command, counted, objects, reads, writes
 from .faults import Fault, raise_any
 from .files import add_hub_contract, read_book, read_book_form, write_book
@@ -19,6 +19,7 @@ from .results import mcc_dollars
 from .settlement import find_hub_mcc
 from .sheet import Sheet
 from .to_csv import book_row, csv_text
+from .words import TIMES_OF_USE
 
 HUBS = reads("hubs", "a CSV file HUB,NODE_ID,PERCENT")
 HUB_MCC = ("OPR_DT", "OPR_HR", "TIME_OF_USE", "HUB", "MCC")

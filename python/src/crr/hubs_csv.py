@@ -47,7 +47,7 @@ def read_hubs(path: Path, nodes: Sequence[str], faults: List[Fault]) -> Dict[str
 
 def _read_hub_node(sheet: Sheet, line: int, name: str, numbers: Dict[str, int], hub: Hub) -> None:
     number = node_number(sheet, line, "NODE_ID", name, numbers, "the grid")
-    if name in numbers and number in hub.nodes:
+    if name in numbers and number in hub.nodes[: MAX_HUB_NODES + 1]:
         sheet.fault(line, "NODE_ID", f"{name} occurs twice in this hub", 25)
     hub.nodes.append(number if name in numbers else -1)
     if len(hub.nodes) == MAX_HUB_NODES + 1:

@@ -19,6 +19,7 @@ from .names_csv import read_names
 from .opening import Opened, files_of, opened, write_like
 from .packed import Packed
 from .to_csv import book_row, csv_text
+from .words import Period
 
 
 def _holders(folder: Path, found: Opened) -> Dict[int, str]:
@@ -74,7 +75,7 @@ def _net_rows(names: Names, migration: Migration) -> List[Tuple[str, ...]]:
     writes("a folder"),
     FORCE,
 )
-def migrate(folder: Path, period: int, rows: Path, loads: Path, out: Optional[Path], round_prices: bool, force: bool) -> Answer:
+def migrate(folder: Path, period: Period, rows: Path, loads: Path, out: Optional[Path], round_prices: bool, force: bool) -> Answer:
     """Migrates load in a book for one period: the nets, and the contracts that are added; with `out` the whole case is written there in the form that it
     had."""
     found = opened(folder, round_prices)
@@ -95,4 +96,4 @@ def migrate(folder: Path, period: int, rows: Path, loads: Path, out: Optional[Pa
     text = csv_text(("LSE", *lses), nets) + "\n" + csv_text(BOOK, added)
     told = f"{f'{out}: ' if out else ''}{len(added):,} of {len(contracts):,} contracts are new\n"
     data: Dict[str, object] = {"nets": {row[0]: dict(zip(lses, row[1:])) for row in nets}, "added": objects(BOOK, added), "contracts": len(contracts)}
-    return Answer(PASSES, text, {**data, "out": str(out) if out else ""}, told)
+    return Answer(PASSES, text, {**data, "out": str(out) if out else None}, told)

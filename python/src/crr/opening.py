@@ -17,7 +17,7 @@ from .hours import Progress, Settled, settle_hours
 from .interface import HOLDER
 from .packed import Packed, hour_name, packed, price_files, read_packed, unpacked, write_bin
 from .results import Time
-from .sheet import Sheet
+from .sheet import Sheet, alike
 from .slices import settle_sliced
 from .to_csv import write_csv
 from .writing import Ours, no_answer, write_file
@@ -37,12 +37,23 @@ class Opened(NamedTuple):
 def is_csv(folder: Path) -> bool:
     """Whether a folder is taken as CSV files; the bin files that `pack` puts beside them are then left alone."""
     if not folder.is_dir():
-        raise_any([Fault(str(folder), 0, "", "no such folder")])
-    if any((folder / name).exists() for name in ("constraints.csv", "factors.csv", "book.csv")):
+        raise_any([Fault(str(folder), 0, "", _no_folder(folder))])
+    if any(os.path.lexists(folder / name) for name in _CSV):
         return True
-    if not (folder / "grid.bin").exists():
-        raise_any([Fault(str(folder), 0, "", "neither CSV files (constraints.csv, factors.csv, book.csv) nor grid.bin")])
+    if not os.path.lexists(folder / "grid.bin"):
+        others = [other for name in (*_CSV, "grid.bin") for other in alike(folder / name)]
+        hint = f"; {', '.join(others)}: found by their names alone, in small letters" if others else ""
+        raise_any([Fault(str(folder), 0, "", f"neither CSV files ({', '.join(_CSV)}) nor grid.bin{hint}")])
     return False
+
+
+_CSV = ("constraints.csv", "factors.csv", "book.csv")
+
+
+def _no_folder(path: Path) -> str:
+    if path.is_symlink() and not path.exists():
+        return f"a symbolic link to {os.readlink(path)}, which is not there"
+    return "a file, and a folder is needed" if path.exists() else "no such folder"
 
 
 def opened(folder: Path, round_prices: bool = False, any_size: bool = False, prices: bool = True) -> Opened:

@@ -9,14 +9,16 @@ from dataclasses import dataclass, field
 from pathlib import Path
 from typing import Callable, Dict, List, Tuple, cast
 
-from .case import Case, Names, PricedHour
+from .case import Case, Names, PricedHour, check_lengths
 from .faults import Fault, Faults, raise_any
 from .files import Prices, read_book, read_book_form, read_grid, read_prices, write_book, write_grid, write_prices
+from .from_csv import is_date
 from .hours import PriceFile, read_price_file
 from .inputs import Input, note
 from .interface import MAX_BOOK_BYTES, MAX_GRID_BYTES
 from .names_csv import HEADING, name_rows, names_of, read_names
 from .native import Refused
+from .sheet import alike, unread
 from .to_csv import csv_text
 from .writing import write_files
 
@@ -38,6 +40,7 @@ class Packed:
 
 def packed(case: Case) -> Packed:
     """A case's files, written by the library, which checks every figure once more."""
+    check_lengths(case)
     grid, book = write_grid(case.grid), write_book(len(case.names.nodes), case.book, case.book_form)
     hours = [PriceFile(hour.day, hour.hour, write_prices(hour.period, hour.prices)) for hour in case.hours]
     return Packed(case.names, grid, book, hours)
@@ -55,7 +58,7 @@ def read_hours(files: Packed) -> List[Tuple[PriceFile, Prices]]:
         except Refused as refused:
             faults.append(Fault(_short(name), 0, "", refused.meaning, refused.number))
         except OSError as error:
-            faults.append(Fault(_short(name), 0, "", f"{error.strerror}: {name}"))
+            faults.append(Fault(_short(name), 0, "", unread(Path(name), error)))
     raise_any(faults)
     return hours
 
@@ -119,17 +122,38 @@ def write_packed(case: Case, folder: Path, force: bool = False) -> List[str]:
 
 def price_files(folder: Path) -> List[str]:
     """The price files of a bin folder, in the order of their hours."""
-    found = ["prices.bin"] if (folder / "prices.bin").exists() else []
+    found = ["prices.bin"] if os.path.lexists(folder / "prices.bin") else []
     days = folder / "prices"
     for day in sorted(os.listdir(days)) if days.is_dir() else []:
-        if _DAY.fullmatch(day):
+        if _DAY.fullmatch(day) and (days / day).is_dir():
             found += [f"prices/{day}/{name}" for name in sorted(os.listdir(days / day)) if _HOUR_FILE.fullmatch(name)]
     return found
+
+
+def _strays(folder: Path) -> List[Fault]:
+    """What looks like hours but is none, such as Prices.bin, prices/2026-7-1 and HE8.bin: it would be left out in silence."""
+    days, one = folder / "prices", folder / "prices.bin"
+    if not os.path.lexists(one) and alike(one):
+        return [Fault(one.name, 0, "", unread(one, FileNotFoundError()))]
+    if days.is_symlink() and not days.exists():
+        return [Fault("prices", 0, "", f"a symbolic link to {os.readlink(days)}, which is not there")]
+    faults = []
+    for day in sorted(os.listdir(days)) if days.is_dir() else []:
+        if not (days / day).is_dir():
+            names = [day] if day.lower().endswith(".bin") else []
+        elif not is_date(day):
+            faults.append(Fault(f"prices/{day}", 0, "", "a folder that is no day, YYYY-MM-DD"))
+            continue
+        else:
+            names = [f"{day}/{name}" for name in sorted(os.listdir(days / day)) if name.lower().endswith(".bin") and not _HOUR_FILE.fullmatch(name)]
+        faults += [Fault(f"prices/{name}", 0, "", "no hour's file: YYYY-MM-DD/HE01.bin to HE25.bin") for name in names]
+    return faults
 
 
 def _hours(folder: Path, told: Dict[int, str], faults: List[Fault]) -> List[PriceFile]:
     """A bin folder's hours, by path."""
     names = price_files(folder)
+    faults += _strays(folder)
     if names[:1] != ["prices.bin"]:
         return [PriceFile(name[7:17], int(name[20:22]), os.path.join(folder, name)) for name in names]
     if len(names) > 1:
@@ -164,7 +188,7 @@ def _read(path: Path, longest: int, faults: List[Fault], inputs: List[Input]) ->
         note(inputs, path.name, data)
         return data
     except OSError as error:
-        faults.append(Fault(path.name, 0, "", f"{error.strerror}: {path}"))
+        faults.append(Fault(path.name, 0, "", unread(path, error)))
         return b""
 
 

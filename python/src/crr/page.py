@@ -24,11 +24,12 @@ from .drawing import (
     row,
     share,
 )
-from .feasibility import PERIODS, PROCESSES, Flows, Verdict
+from .feasibility import Flows, Verdict
 from .inputs import Input
 from .interface import FLOW_PLACES, LIMIT, MONTHLY, PART_PLACES
 from .results import dollars
 from .style import CSS
+from .words import PERIODS, PROCESSES
 
 MOST_LOADED = 15  # constraints shown at once, and all that are overloaded; the others are folded
 MOST_HOLDERS = 25

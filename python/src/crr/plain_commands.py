@@ -11,8 +11,8 @@ from .command import PASSES, Answer, argument, command, counted, objects, reads
 from .dates import HOURS_A_DAY, month_hours
 from .decimals import whole
 from .demands_csv import DEMANDS, read_demands
-from .faults import Fault, raise_any
-from .interface import BALANCE
+from .faults import Fault, Faults, raise_any
+from .interface import BALANCE, FIRST_YEAR, LAST_YEAR
 from .native import Refused
 from .results import dollars
 from .shares import share_balance
@@ -52,10 +52,10 @@ def hours(months: Tuple[Month, Month]) -> Answer:
 def _on_peak(year: int, month: int) -> Tuple[str, int, int]:
     name = f"{year:04}-{month:02}"
     try:
-        found = month_hours(year, month)
+        on_peak = month_hours(year, month)
     except Refused as refused:
-        raise Refused(refused.number, refused.entry, name) from None
-    return name, found // HOURS_A_DAY, found
+        raise Faults([Fault(name, 0, "", f"no month of {FIRST_YEAR} to {LAST_YEAR}", refused.number)]) from None
+    return name, on_peak // HOURS_A_DAY, on_peak
 
 
 def _balance(text: str, faults: List[Fault]) -> int:

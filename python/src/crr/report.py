@@ -13,17 +13,19 @@ from typing import Dict, List, NamedTuple, Optional, Sequence, Tuple, cast
 from .bar import Bar
 from .command import FOLDER, FORCE, PASSES, ROUND_PRICES, Answer, command, counted, writes
 from .commands import cut_rows, verdicts
-from .feasibility import PERIODS, PROCESSES, excesses, find_flows, released_limit, released_percent, worst
+from .feasibility import excesses, find_flows, released_limit, released_percent, worst
 from .files import Prices, read_grid
 from .hours import PriceFile, Settled, settle_hours
 from .inputs import Input, input_of
-from .interface import MONTHLY, PART_PLACES
+from .interface import PART_PLACES
 from .native import library_path
 from .opening import Opened, counts_told, files_of, opened, write_beside
-from .packed import Packed, read_hours
+from .packed import read_hours
 from .page import Figures, Month, is_page, page
 from .results import Time, dollars, exact_dollars, holder_sums
 from .settlement import HourTotal
+from .streams import readable
+from .words import Period, Process
 
 FULL_DAY = 23  # hours of the shortest whole day
 
@@ -97,16 +99,16 @@ def figures(
     files, answers = files_of(found), verdicts(files_of(found))
     grid = read_grid(files.grid)
     limits, percents = cast("array[int]", grid.limits), [
-        released_percent(process) for process in range(len(PROCESSES))
+        released_percent(process) for process in Process
     ]
-    flows = [find_flows(grid, files.book, period) for period in range(len(PERIODS))]
+    flows = [find_flows(grid, files.book, period) for period in Period]
     over = {
         (period, process): excesses(limits, flows[period].flows, percents[process])
         for period, process in answers
     }
-    rents = [rent(limits, prices.prices, percents[MONTHLY]) for _, prices in hours]
+    rents = [rent(limits, prices.prices, percents[Process.MONTHLY]) for _, prices in hours]
     return Figures(
-        title=folder.resolve().name,
+        title=readable(folder.resolve().name),
         summary=f"{counts_told(found)}.",
         covered=covered(found.times),
         constraints=found.names.constraints,

@@ -5,13 +5,14 @@ from __future__ import annotations
 from fractions import Fraction
 from typing import Dict, List, Sequence, Tuple
 
-from .case import HEDGE_TYPES, TIMES_OF_USE, Names
+from .case import Names
 from .decimals import decimal
 from .files import Contract
 from .hours import Settled
 from .interface import HUB_PLACES, HUB_WEIGHT, MCC_PLACES, PART_PLACES
 from .settlement import HubMcc
 from .to_csv import csv_text
+from .words import HEDGE_TYPES, TIMES_OF_USE
 
 _CENTS = 2  # decimals of a dollar
 Time = Tuple[str, int]  # the day and the hour ending

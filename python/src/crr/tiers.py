@@ -7,11 +7,11 @@ from pathlib import Path
 from typing import Dict, List, NamedTuple, Optional, Sequence, Tuple
 
 from .book_csv import BOOK
-from .case import TIMES_OF_USE, Names, book_form
+from .case import Names, book_form
 from .command import FAILS, FOLDER, FORCE, PASSES, PERIOD, PROCESS, ROUND_PRICES, Answer, command, counted, objects, reads, writes
 from .decimals import decimal
 from .faults import Fault, raise_any
-from .feasibility import PROCESSES, Verdict, test_book
+from .feasibility import Verdict, test_book
 from .files import Contract, Grid, read_book_form, read_grid, write_book
 from .interface import FLOW_PLACES, WIDE
 from .native import Refused
@@ -21,6 +21,7 @@ from .running import TIERS, RunningTest
 from .sheet import Sheet
 from .tiers_csv import ADD, MARK, Operation, read_operations
 from .to_csv import book_row, csv_text
+from .words import PROCESSES, TIMES_OF_USE, Period, Process
 
 PLAYED = ("OPERATION", "NAME", "ANSWER", "HELD", "COUNTED", "OVERLOADED", "LOWEST_NUMBERED", "EXCESS_MW")
 _DONE = {"add": "held", "mark": "marked", "return": "returned"}
@@ -107,7 +108,7 @@ _AWARDS = "a CSV file OPERATION,TIER and the columns of book.csv: add, mark, ret
     FORCE,
 )
 def tiers(
-    folder: Path, period: int, process: int, awards: Optional[Path], out: Optional[Path], round_prices: bool, force: bool
+    folder: Path, period: Period, process: Process, awards: Optional[Path], out: Optional[Path], round_prices: bool, force: bool
 ) -> Answer:
     """Plays operations on a running test on the grid of a folder, or the contracts of its book as awards; with `out` writes the whole case there, with the
     awards held for its book, in the form that it had."""
@@ -134,4 +135,4 @@ def tiers(
     data["marks"] = {TIERS[tier]: count for tier, count in running.marks.items()}
     data["flows_mw"] = {name: decimal(flow, FLOW_PLACES) for name, flow in zip(names.constraints, running.flows)}
     status = FAILS if played.refused else PASSES
-    return Answer(status, csv_text(PLAYED, played.rows), {**data, "out": str(out) if out else ""}, told)
+    return Answer(status, csv_text(PLAYED, played.rows), {**data, "out": str(out) if out else None}, told)

@@ -8,12 +8,13 @@ from pathlib import Path
 from typing import Dict, Iterable, List, Sequence, Tuple
 
 from .book_csv import BOOK
-from .case import HEDGE_TYPES, TIMES_OF_USE, Case, Names, PricedHour
+from .case import Case, Names, PricedHour, check_lengths
 from .decimals import decimal
 from .files import Contract
 from .from_csv import PRICES
 from .interface import LIMIT, QUANTITY, SHADOW_PRICE, SHIFT_FACTOR
 from .names_csv import HEADING, name_rows
+from .words import HEDGE_TYPES, TIMES_OF_USE
 from .writing import write_files
 
 
@@ -42,6 +43,7 @@ def book_row(names: Names, crr_id: str, contract: Contract) -> Tuple[str, ...]:
 
 def csv_files(case: Case, hour_name: str = "") -> Dict[str, str]:
     """The text of each CSV file of a case."""
+    check_lengths(case)
     names, count = case.names, len(case.names.constraints)
     limits = [decimal(limit, LIMIT.places) for limit in case.limits]
     factors = [decimal(factor, SHIFT_FACTOR.places) for factor in case.factors]
