@@ -4,7 +4,7 @@ function."""
 from __future__ import annotations
 
 import argparse
-from typing import List, Optional
+from typing import Dict, List, Optional
 
 from .command import COMMANDS, PASSES, Answer, Argument, Command, argument
 from .command import command as as_command
@@ -49,9 +49,9 @@ def _shell(text: str) -> str:
 )
 def completion(shell: str) -> Answer:
     """A shell's completion script."""
-    from .cli import listed
+    from .cli import listed, parser
 
-    text = _bash(listed()) if shell == "bash" else _zsh(listed())
+    text = (_bash if shell == "bash" else _zsh)(listed(), _before(parser()))
     return Answer(PASSES, text, {"script": text})
 
 
@@ -62,6 +62,16 @@ def man() -> Answer:
 
     page = _page(listed(), parser())
     return Answer(PASSES, page, {"page": page})
+
+
+def _before(parser: argparse.ArgumentParser) -> Dict[str, str]:
+    """The options that stand before a command, and their help."""
+    return {
+        name: action.help or ""
+        for action in parser._actions
+        for name in action.option_strings
+        if name[:2] == "--"
+    }
 
 
 def _options(command: Command) -> List[Argument]:
@@ -97,10 +107,10 @@ complete -o default -F _crr crr
 """
 
 
-def _bash(commands: List[Command]) -> str:
+def _bash(commands: List[Command], before: Dict[str, str]) -> str:
     names = " ".join(command.name for command in commands)
     values = []
-    words = [f'        "") words="{names} --json --help" ;;']
+    words = [f'        "") words="{names} {" ".join(before)}" ;;']
     for command in commands:
         for each in _options(command):
             if each.words:
@@ -148,7 +158,8 @@ def _zsh_argument(each: Argument) -> str:
     return " ".join(f"'{name}[{text}]{value}'" for name in each.names)
 
 
-def _zsh(commands: List[Command]) -> str:
+def _zsh(commands: List[Command], before: Dict[str, str]) -> str:
+    first = " ".join(f"'{name}[{_zsh_text(text)}]'" for name, text in before.items())
     lines = [
         "#compdef crr",
         "# Completion of crr for zsh: source <(crr completion zsh)",
@@ -161,9 +172,7 @@ def _zsh(commands: List[Command]) -> str:
         + [f"        '{command.name}:{_zsh_text(command.help)}'" for command in commands]
         + ["    )"]
     )
-    lines += [
-        "    _arguments -C '--json[the answer as JSON]' '--help[all commands]' '1:COMMAND:->command' '*::argument:->argument'"
-    ]
+    lines += [f"    _arguments -C {first} '1:COMMAND:->command' '*::argument:->argument'"]
     lines += [
         "    case $state in",
         "        command) _describe -t commands 'crr command' commands ;;",
@@ -221,14 +230,12 @@ def _synopsis(each: Argument) -> str:
 
 
 def _page(commands: List[Command], parser: argparse.ArgumentParser) -> str:
-    lines = [
-        '.TH CRR 1 "" "crr" "User commands"',
-        ".ad l",
-        ".nh",
-        ".SH NAME",
-        f"crr \\- {_roff((parser.description or '').rstrip('.'))}",
-    ]
-    lines += [".SH SYNOPSIS", ".B crr", _roff("[--json] COMMAND .."), ".SH COMMANDS"]
+    lines = ['.TH CRR 1 "" "crr" "User commands"', ".ad l", ".nh", ".SH NAME"]
+    lines += [f"crr \\- {_roff((parser.description or '').rstrip('.'))}"]
+    lines += [".SH SYNOPSIS", ".B crr", _roff("[OPTION] COMMAND .."), ".SH OPTIONS"]
+    for name, text in _before(parser).items():
+        lines += [".TP", f".B {_roff(name)}", _roff(f"{text}.")]
+    lines += [".SH COMMANDS"]
     for command in commands:
         lines += _of_command(command)
     lines += [".SH EXIT STATUS", _roff((parser.epilog or "").replace("Exit status: ", ""))]
