@@ -104,8 +104,6 @@ class Migrate(FolderTest):
         self.assertEqual(self.migrated(case, "--period", "on", "-o", self.folder / "out", rows=rows, loads=loads)[:2], told[:2])
         self.assertEqual((self.folder / "out" / "book.csv").read_text(), (case / "book.csv").read_text() + added)
         command("pack", case, "-o", self.folder / "packed")
-        names = self.folder / "packed" / "names.csv"
-        names.write_text(names.read_text() + "holder,3,Cedar\n")
         self.assertEqual(self.migrated(self.folder / "packed", "--period", "on", rows=rows, loads=loads), told)
 
     def test_months(self):

@@ -110,7 +110,7 @@ class Json(FolderTest):
     def test_null_where_there_is_no_figure(self):
         verdict = json.loads(command("test", CASE_L, "--json")[1])["verdicts"][0]
         self.assertEqual(
-            (verdict["verdict"], verdict["overloaded"], verdict["lowest"], verdict["excess_mw"]),
+            (verdict["verdict"], verdict["overloaded"], verdict["lowest_numbered"], verdict["excess_mw"]),
             ("pass", 0, None, None),
         )
         hour = json.loads(command("settle", CASE_L, "--json")[1])["by_hour"][0]
@@ -119,7 +119,7 @@ class Json(FolderTest):
         self.assertEqual(holder, {"owner": "7", "month": None, "amount": "8.99"})
         answer = json.loads(command("tiers", IEEE14, "--period", "on", "--process", "monthly", "--json")[1])
         self.assertEqual(
-            (answer["out"], answer["operations"][0]["overloaded"], answer["operations"][0]["lowest"]),
+            (answer["out"], answer["operations"][0]["overloaded"], answer["operations"][0]["lowest_numbered"]),
             (None, None, None),
         )
         fault = json.loads(command("test", self.folder, "--json")[1])["faults"][0]

@@ -7,14 +7,14 @@ from typing import Dict, List, Optional, Sequence, Tuple
 
 from .book_csv import BOOK, node_number
 from .case import Names, plain_number
-from .command import FOLDER, PASSES, ROUND_PRICES, Answer, argument, command, counted, objects, reads, writes
+from .command import FOLDER, FORCE, PASSES, ROUND_PRICES, Answer, argument, command, counted, objects, reads, writes
 from .faults import Fault, Faults, raise_any
 from .files import read_book, read_book_form, read_grid, remap_book
 from .interface import HOLDER
-from .opening import counts, files_of, opened, write_like
+from .opening import counts, files_of, opened, write_beside, write_like
 from .packed import Packed
 from .sheet import Sheet
-from .to_csv import book_row, csv_text, write_files
+from .to_csv import book_row, csv_text
 from .views import read_holder_view, write_holder_view, write_market_view
 
 
@@ -38,8 +38,9 @@ def _pairs(path: Path, nodes: Sequence[str]) -> Tuple[List[int], List[int]]:
     ROUND_PRICES,
     reads("pairs", "a CSV file OLD_NODE,NEW_NODE"),
     writes("a folder", required=True),
+    FORCE,
 )
-def remap(folder: Path, pairs: Path, out: Path, round_prices: bool) -> Answer:
+def remap(folder: Path, pairs: Path, out: Path, round_prices: bool, force: bool) -> Answer:
     """Moves the ends of a book's contracts, pair after pair, and writes the whole case to another folder in the form that it had."""
     found = opened(folder, round_prices)
     files = files_of(found)
@@ -48,28 +49,24 @@ def remap(folder: Path, pairs: Path, out: Path, round_prices: bool) -> Answer:
     moved = Packed(found.names, files.grid, remap_book(nodes, files.book, old, new), files.hours)
     contracts = read_book(nodes, moved.book)
     changed = sum(before != after for before, after in zip(found.book, contracts))
-    write_like(found, moved, out)
+    write_like(found, moved, out, force)
     text = f"{out}: {counted(len(old), 'pair')} applied, {counted(changed, 'contract')} of {len(contracts):,} changed\n"
     return Answer(PASSES, text, {"out": str(out), "pairs": len(old), "changed": changed, "contracts": len(contracts)})
 
 
-_CASE_FILES = ("grid.bin", "book.bin", "prices.bin", "names.csv", "constraints.csv", "factors.csv", "book.csv", "prices.csv")
-
-
-def _write_view(folder: Path, out: Path, view: bytes) -> None:
-    """Writes a view, over no file of the case that it is of."""
-    if out.name in _CASE_FILES and out.resolve().parent == folder.resolve():
-        raise_any([Fault(str(out), 0, "", "that is a file of the case itself: choose another")])
-    write_files(out.parent, {out.name: view})
-
-
-@command("market", "the book as the market sees it: its file with holder 0 in every contract", FOLDER, writes("the market's file", required=True))
-def market(folder: Path, out: Path) -> Answer:
+@command(
+    "market",
+    "the book as the market sees it: its file with holder 0 in every contract",
+    FOLDER,
+    writes("the market's file", required=True),
+    FORCE,
+)
+def market(folder: Path, out: Path, force: bool) -> Answer:
     """Writes the book as the market sees it."""
     found = opened(folder, prices=False)
     files = files_of(found)
     view = write_market_view(read_grid(files.grid).nodes, files.book)
-    _write_view(folder, out, view)
+    write_beside(folder, out, view, force)
     many = counts(found)
     text = f"{out}: {counted(many['contracts'], 'contract')} of {counted(many['holders'], 'holder')}, all as holder 0; {len(view):,} bytes written\n"
     return Answer(PASSES, text, {"out": str(out), "contracts": many["contracts"], "bytes": len(view)})
@@ -92,8 +89,9 @@ VIEW = ("NUMBER", *BOOK)
     FOLDER,
     argument("asked", metavar="HOLDER", help="its name, as in OWNER, or its number, 0 to 1023"),
     writes("a file for the view as the library writes it"),
+    FORCE,
 )
-def holder(folder: Path, asked: str, out: Optional[Path]) -> Answer:
+def holder(folder: Path, asked: str, out: Optional[Path], force: bool) -> Answer:
     """What a holder sees of the book, read from the view; with `out` writes the view itself there."""
     found = opened(folder, prices=False)
     files, number = files_of(found), _holder(asked, found.names)
@@ -104,6 +102,6 @@ def holder(folder: Path, asked: str, out: Optional[Path]) -> Answer:
     told = f"{found.names.holder(number)}: {counted(len(rows), 'contract')} of {len(found.book):,}"
     data: Dict[str, object] = {"holder": found.names.holder(number), "number": number, "contracts": objects(VIEW, rows), "bytes": len(view)}
     if out:
-        _write_view(folder, out, view)
+        write_beside(folder, out, view, force)
         told, data["out"] = f"{told}; {out}: {counted(len(view), 'byte')} written", str(out)
     return Answer(PASSES, csv_text(VIEW, rows), data, f"{told}\n")

@@ -8,6 +8,7 @@ from typing import Dict, List, NamedTuple, Optional, Tuple, Type
 from .case import holder_numbers
 from .faults import Fault
 from .files import Contract
+from .inputs import Inputs
 from .interface import HOLDER, MAX_CONTRACTS, QUANTITY
 from .sheet import Sheet
 from .words import BOTH_PERIODS, Kind, Period, Word, understood
@@ -74,10 +75,10 @@ def read_awards(
 
 
 def read_book(
-    path: Path, nodes: Dict[str, int], known: Dict[int, str], any_size: bool, faults: List[Fault]
+    path: Path, nodes: Dict[str, int], known: Dict[int, str], any_size: bool, faults: List[Fault], inputs: Inputs = None
 ) -> Tuple[List[Contract], List[str], Dict[int, str]]:
     """The contracts of book.csv, their names, and the names of holders by number. Holders keep the numbers that are known."""
-    sheet = Sheet(path, BOOK, faults, name=path.name)
+    sheet = Sheet(path, BOOK, faults, name=path.name, inputs=inputs)
     awards = read_awards(sheet, nodes, "factors.csv")
     if len(awards) > MAX_CONTRACTS and not any_size:
         sheet.fault(awards[MAX_CONTRACTS].line, "CRR_ID", f"more than {MAX_CONTRACTS} contracts", 10)

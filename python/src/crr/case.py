@@ -7,6 +7,7 @@ from dataclasses import dataclass, field
 from typing import Dict, List, NamedTuple, Optional, Sequence
 
 from .files import Contract, Grid
+from .inputs import Input
 from .interface import HOLDER, MAX_CONSTRAINTS, MAX_CONTRACTS, MAX_NARROW_NODES, MAX_NODES, NARROW, WIDE
 
 
@@ -44,6 +45,7 @@ class Case:
     hours: List[PricedHour] = field(default_factory=list)
     grid_form: int = NARROW
     book_form: int = NARROW
+    inputs: List[Input] = field(default_factory=list, compare=False)  # the files that it was read from
 
     @property
     def grid(self) -> Grid:

@@ -1,7 +1,7 @@
 """The command `crr`.
 
 Exit status: 0; 1 where `crr test` or `crr cuts` finds that the book fails, `crr same` that two books differ, or `crr tiers` that an operation is refused;
-2 where the input has faults, or something can't be read or written.
+2 where the input has faults, or something can't be read or written; 130 where it is interrupted (Ctrl-C).
 """
 
 from __future__ import annotations
@@ -12,11 +12,12 @@ import sys
 from typing import IO, Dict, List, NoReturn, Optional
 
 from . import book_commands, commands, copies, help_commands, hubs, migrate, plain_commands, report, tiers
-from .command import COMMANDS, FAULTY, PASSES, Answer, Command
+from .command import COMMANDS, FAULTY, INTERRUPTED, PASSES, Answer, Command
 from .faults import Fault, Faults
 from .native import Refused
 from .streams import write_to
 from .version import Version
+from .writing import is_output
 
 # Help lists the commands module by module.
 _MODULES = [module.__name__ for module in (commands, report, book_commands, copies, hubs, tiers, migrate, plain_commands, help_commands)]
@@ -58,7 +59,7 @@ def parser() -> argparse.ArgumentParser:
     """The parser of the command line, made of the commands."""
     parser = _Parser(prog="crr", description="Congestion revenue rights: feasibility test and hourly settlement.")
     fails = "1 the book fails (crr test, crr cuts), two books differ (crr same), or an operation is refused (crr tiers)"
-    parser.epilog = f"Exit status: 0; {fails}; 2 the input has faults, or something can't be read or written."
+    parser.epilog = f"Exit status: 0; {fails}; 2 the input has faults, or something can't be read or written; 130 interrupted."
     parser.add_argument("--version", action=Version, help="the version, and the library taken, its origin and hash")
     parser.add_argument("--json", action="store_true", help="as behind a command: the answer, or the faults, as one JSON object")
     adding = parser.add_subparsers(dest="command", required=True, metavar="COMMAND")
@@ -107,17 +108,25 @@ def _asks_json(arguments: List[str]) -> bool:
 
 def main(arguments: Optional[List[str]] = None) -> int:
     """Runs the command and gives its exit status."""
-    given = sys.argv[1:] if arguments is None else arguments
-    as_json = _asks_json(given)
+    try:
+        return _run(sys.argv[1:] if arguments is None else arguments)
+    except KeyboardInterrupt:
+        write_to(sys.stderr, "crr: interrupted; nothing is left half written\n")
+        return INTERRUPTED
+
+
+def _run(given: List[str]) -> int:
+    as_json, aside = _asks_json(given), False
     try:
         options = parser().parse_args(given)
         as_json, answer = options.json, _answer(options)
+        aside = is_output(getattr(options, "out", None))  # which has bytes of another kind
     except Shown as shown:
         as_json, answer = False, Answer(PASSES, str(shown), {})
     except Usage as usage:
         answer = Answer(FAULTY, f"{usage.usage}{usage.text}\n", {"faults": [_fault_object(Fault("", 0, "", usage.text))], "usage": usage.usage})
     text = json.dumps(answer.data, indent=1) + "\n" if as_json else answer.text
-    stream = sys.stderr if answer.status == FAULTY and not as_json else sys.stdout
+    stream = sys.stderr if (answer.status == FAULTY or aside) and not as_json else sys.stdout
     unwritten = write_to(stream, text)
     if unwritten and stream is not sys.stderr:
         write_to(sys.stderr, f"crr: the output can't be written: {unwritten}\n")

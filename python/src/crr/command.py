@@ -11,7 +11,7 @@ from typing import Any, Callable, Dict, Iterable, List, NamedTuple, Sequence, Tu
 
 from .words import SPELLINGS, Period, Process, Word, understood
 
-PASSES, FAILS, FAULTY = 0, 1, 2  # exit statuses
+PASSES, FAILS, FAULTY, INTERRUPTED = 0, 1, 2, 130  # exit statuses
 
 
 class Answer(NamedTuple):
@@ -70,6 +70,10 @@ ROUND_PRICES = argument("--round-prices", action="store_true", help="round price
 def writes(text: str, required: bool = False) -> Argument:
     """Where the command writes."""
     return argument("-o", "--out", type=Path, metavar="OUT", required=required, help=text)
+
+
+# Beside every -o.
+FORCE = argument("--force", action="store_true", help="write over files that are there and differ")
 
 
 def reads(name: str, text: str, **settings: Any) -> Argument:

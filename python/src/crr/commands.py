@@ -4,24 +4,26 @@ from __future__ import annotations
 
 import argparse
 import os
+from array import array
 from pathlib import Path
-from typing import Dict, List, Optional, Sequence, Tuple
+from typing import Dict, List, Optional, Sequence, Tuple, cast
 
 from .bar import Bar
 from .case import Names
-from .command import ANY_PERIODS, ANY_PROCESSES, FAILS, FOLDER, PASSES, ROUND_PRICES, Answer, argument, command, counted, objects, writes
+from .command import ANY_PERIODS, ANY_PROCESSES, FAILS, FOLDER, FORCE, PASSES, ROUND_PRICES, Answer, argument, command, counted, objects, writes
 from .decimals import decimal
 from .faults import Fault, raise_any
-from .feasibility import Cut, Verdict, find_cuts, test_book
+from .feasibility import Cut, Verdict, excesses, find_cuts, find_flows, released_percent, test_book, worst
 from .files import read_grid
 from .from_csv import load
 from .interface import FLOW_PLACES, QUANTITY
 from .notes import notes
 from .opening import Opened, counts, counts_told, files_of, is_csv, opened, rounded_told, settled
 from .packed import Packed, hour_name, read_packed, unpacked, write_packed
-from .results import HOLDERS, HOURS, dollars, exact_dollars, holder_months, hour_rows, result_files
-from .to_csv import csv_text, write_csv, write_files
+from .results import HOLDERS, HOURS, dollars, exact_dollars, holder_months, hour_rows, is_result, result_files
+from .to_csv import csv_text, write_csv
 from .words import PROCESSES, TIMES_OF_USE, Period, Process
+from .writing import write_files
 
 
 @command("check", "read everything and list every fault", FOLDER, ROUND_PRICES)
@@ -37,17 +39,14 @@ def check(folder: Path, round_prices: bool) -> Answer:
     return Answer(PASSES, text + "".join(f"{note}\n" for note in beside), data)
 
 
-FORCE = argument("--force", action="store_true", help="write over CSV files that differ")
-
-
-@command("pack", "CSV files to grid.bin, book.bin, names.csv and price files", FOLDER, ROUND_PRICES, writes("a folder"))
-def pack(folder: Path, out: Optional[Path], round_prices: bool) -> Answer:
-    """CSV files to bin files, read back and compared; beside them where no other folder is named."""
+@command("pack", "CSV files to grid.bin, book.bin, names.csv and price files", FOLDER, ROUND_PRICES, writes("a folder"), FORCE)
+def pack(folder: Path, out: Optional[Path], round_prices: bool, force: bool) -> Answer:
+    """CSV files to bin files, read back and compared. Beside the CSV files, where no other folder is named, they replace those of before."""
     target = out or folder
     if not is_csv(folder):
         raise_any([Fault(str(folder), 0, "", "packed already: grid.bin, and no CSV files; crr unpack makes CSV files of it")])
     case, rounded = load(folder, round_prices=round_prices)
-    written = write_packed(case, target)
+    written = write_packed(case, target, force or target.resolve() == folder.resolve())
     text = f"{target}: grid.bin, book.bin, names.csv and {counted(len(case.hours), 'hour')} of prices written and read back{rounded_told(rounded)}\n"
     return Answer(PASSES, text, {"out": str(target), "written": written, "rounded_prices": rounded})
 
@@ -63,7 +62,10 @@ def unpack(folder: Path, out: Optional[Path], force: bool) -> Answer:
     return Answer(PASSES, f"{target}: {', '.join(sorted(written))} written\n", {"out": str(target), "written": written})
 
 
-VERDICTS = ("TIME_OF_USE", "PROCESS", "VERDICT", "OVERLOADED", "LOWEST", "EXCESS_MW", "CONSTRAINTS")
+VERDICTS = (
+    *("TIME_OF_USE", "PROCESS", "VERDICT", "OVERLOADED", "LOWEST_NUMBERED", "EXCESS_MW"),
+    *("WORST", "WORST_EXCESS_MW", "CONSTRAINTS"),
+)
 
 
 def verdicts(files: Packed, periods: Sequence[int] = tuple(Period), processes: Sequence[int] = tuple(Process)) -> Dict[Tuple[int, int], Verdict]:
@@ -72,12 +74,23 @@ def verdicts(files: Packed, periods: Sequence[int] = tuple(Period), processes: S
     return {(period, process): test_book(grid, files.book, process, period) for period in periods for process in processes}
 
 
-def _verdict_row(names: Names, period: int, process: int, verdict: Verdict) -> Tuple[str, str, str, int, str, str, List[str]]:
-    told = (TIMES_OF_USE[period], PROCESSES[process])
-    if verdict.passed:
-        return (*told, "pass", 0, "", "", [])
-    overloaded = [names.constraints[k] for k in verdict.overloaded]
-    return (*told, "fail", verdict.count, names.constraints[verdict.lowest], decimal(verdict.excess, FLOW_PLACES), overloaded)
+def _verdict_rows(found: Opened, answers: Dict[Tuple[int, int], Verdict]) -> List[Tuple[object, ...]]:
+    """A row for each period and process, as VERDICTS heads them; the constraints as a list."""
+    files, names = files_of(found), found.names.constraints
+    grid = read_grid(files.grid)
+    flows = {period: find_flows(grid, files.book, period).flows for period, _ in answers}
+    rows: List[Tuple[object, ...]] = []
+    for (period, process), verdict in answers.items():
+        told = (TIMES_OF_USE[period], PROCESSES[process])
+        if verdict.passed:
+            rows.append((*told, "pass", 0, "", "", "", "", []))
+            continue
+        over = excesses(cast("array[int]", grid.limits), flows[period], released_percent(process))
+        most = worst(verdict, over)
+        lowest = (names[verdict.lowest], decimal(verdict.excess, FLOW_PLACES))
+        overloaded = [names[k] for k in verdict.overloaded]
+        rows.append((*told, "fail", verdict.count, *lowest, names[most], decimal(over[most], FLOW_PLACES), overloaded))
+    return rows
 
 
 @command("test", "the simultaneous feasibility test", FOLDER, ANY_PERIODS, ANY_PROCESSES)
@@ -85,9 +98,9 @@ def test(folder: Path, periods: Sequence[int], processes: Sequence[int]) -> Answ
     """The simultaneous feasibility test; status 1 where the book fails in one of the periods and processes asked for."""
     found = opened(folder, prices=False)
     answers = verdicts(files_of(found), periods, processes)
-    rows = [_verdict_row(found.names, period, process, verdict) for (period, process), verdict in answers.items()]
+    rows = _verdict_rows(found, answers)
     status = PASSES if all(verdict.passed for verdict in answers.values()) else FAILS
-    text = csv_text(VERDICTS, ((*row[:-1], "; ".join(row[-1])) for row in rows))
+    text = csv_text(VERDICTS, ((*row[:-1], "; ".join(cast(List[str], row[-1]))) for row in rows))
     return Answer(status, text, {"passed": status == PASSES, "verdicts": objects(VERDICTS, rows)})
 
 
@@ -123,7 +136,7 @@ def cuts(folder: Path, periods: Sequence[int], processes: Sequence[int]) -> Answ
     listed = cut_rows(found, answers)
     status = FAILS if listed else PASSES
     text = csv_text(("TIME_OF_USE", "PROCESS", *CUTS), ((*_line(line), *row) for line, rows in listed.items() for row in rows))
-    told = objects(VERDICTS, [_verdict_row(found.names, *line, verdict) for line, verdict in answers.items()])
+    told = objects(VERDICTS, _verdict_rows(found, answers))
     data = [dict(verdict, cuts=objects(CUTS, listed.get(line, []))) for line, verdict in zip(answers, told)]
     return Answer(status, text, {"passed": status == PASSES, "verdicts": data}, _cuts_told(found.names, answers, listed))
 
@@ -163,15 +176,16 @@ def _jobs(text: str) -> int:
     FOLDER,
     ROUND_PRICES,
     writes("a folder for the result files"),
+    FORCE,
     argument("-j", "--jobs", type=_jobs, default=1, metavar="N", help="how many processes, at least 1"),
 )
-def settle(folder: Path, out: Optional[Path], jobs: int, round_prices: bool) -> Answer:
-    """Settles every hour; with `out` writes hours.csv, holders.csv and contracts.csv there."""
+def settle(folder: Path, out: Optional[Path], jobs: int, round_prices: bool, force: bool) -> Answer:
+    """Settles every hour; with `out` writes hours.csv, holders.csv and contracts.csv there, over those of before."""
     found = opened(folder, round_prices, any_size=True)
     result = settled(found, jobs, Bar("settle"))
     if out:
         files = result_files(result, found.names, found.book, found.times)
-        write_files(out, {name: text.encode() for name, text in files.items()})
+        write_files(out, {name: text.encode() for name, text in files.items()}, force, is_result)
     rows = [(found.names.holder(holder), month, dollars(cents)) for (holder, month), cents in holder_months(result, found.book).items()]
     told = f"{counted(len(result.hours), 'hour')}: sum {dollars(result.sum)}, exact total {exact_dollars(result.exact)}{rounded_told(found.rounded)}\n"
     data: Dict[str, object] = {

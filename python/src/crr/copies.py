@@ -9,13 +9,13 @@ import hashlib
 from pathlib import Path
 from typing import Dict, List, NamedTuple, Optional, Sequence, Tuple
 
-from .command import FAILS, FOLDER, PASSES, Answer, argument, command, counted, objects, writes
+from .command import FAILS, FOLDER, FORCE, PASSES, Answer, argument, command, counted, objects, writes
 from .decimals import decimal
 from .faults import Fault, Faults, raise_any
 from .files import Contract, read_book, read_grid, write_book, write_settled_book
 from .interface import HOLDER, QUANTITY, WIDE
-from .opening import Opened, files_of, opened
-from .to_csv import csv_text, write_files
+from .opening import Opened, files_of, opened, write_beside
+from .to_csv import csv_text
 from .words import HEDGE_TYPES, TIMES_OF_USE
 
 SETTLED = ("OWNER", "HEDGE_TYPE", "TIME_OF_USE", "SOURCE", "SINK", "MW")
@@ -44,8 +44,9 @@ class Numbers(NamedTuple):
     "the settled form of a book: sorted, equal contracts added together; one for all copies with rows shuffled or split",
     FOLDER,
     writes("a file for the settled book, as the library reads it"),
+    FORCE,
 )
-def settled(folder: Path, out: Optional[Path]) -> Answer:
+def settled(folder: Path, out: Optional[Path], force: bool) -> Answer:
     """The settled form of a folder's book as a table; with `out` as the library's file."""
     found = opened(folder, prices=False)
     files = files_of(found)
@@ -58,7 +59,7 @@ def settled(folder: Path, out: Optional[Path]) -> Answer:
     data: Dict[str, object] = {"contracts": len(found.book), "rows": objects(SETTLED, rows), "sha256": hashlib.sha256(form).hexdigest()}
     if not out:
         return Answer(PASSES, csv_text(SETTLED, rows), data, told)
-    write_files(out.parent, {out.name: form})
+    write_beside(folder, out, form, force)
     return Answer(PASSES, f"{out}: {told}", {"out": str(out), **data})
 
 

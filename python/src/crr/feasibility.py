@@ -4,16 +4,18 @@ from __future__ import annotations
 
 from ctypes import c_int64, c_uint64
 from dataclasses import dataclass
-from typing import List, NamedTuple, Optional, Tuple
+from typing import List, NamedTuple, Optional, Sequence, Tuple
 
 from .files import Grid
-from .interface import MAX_CONTRACTS
+from .interface import FLOW_PLACES, LIMIT, MAX_CONTRACTS
 from .native import Bytes, Entry, Lent, zeros
 
 _test_book = Entry("crr_test_book")
 _find_flows = Entry("crr_find_flows")
 _find_cuts = Entry("crr_find_cuts")
 _released_percent = Entry("crr_released_percent")
+
+_PERCENT_IN_FLOWS: int = 10 ** (FLOW_PLACES - LIMIT.places - 2)  # a percent of a limit's unit
 
 
 @dataclass(frozen=True)
@@ -84,3 +86,19 @@ def released_percent(process: int) -> int:
     percent = c_uint64()
     _released_percent(process, percent)
     return percent.value
+
+
+def released_limit(limit: int, percent: int) -> int:
+    """So many percent of a limit as a flow, in 10^-8 MW, with nothing lost. Worked out here."""
+    return limit * percent * _PERCENT_IN_FLOWS
+
+
+def excesses(limits: Sequence[int], flows: Sequence[int], percent: int) -> List[int]:
+    """By how much the flow on each constraint exceeds so many percent of its limit, in 10^-8 MW; negative where there is room. Worked
+    out here: the library's test gives the excess of the lowest-numbered overloaded constraint alone, and there the two are equal."""
+    return [flow - released_limit(limit, percent) for limit, flow in zip(limits, flows)]
+
+
+def worst(verdict: Verdict, over: Sequence[int]) -> int:
+    """The overloaded constraint of the largest excess, of equal ones the lowest-numbered."""
+    return max(verdict.overloaded, key=lambda k: (over[k], -k))

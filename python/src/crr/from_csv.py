@@ -18,6 +18,7 @@ from typing import Dict, List, Optional, Set, Tuple
 from .book_csv import read_book, word_in
 from .case import FORMS, Case, Names, PricedHour, book_form, grid_form
 from .faults import Fault, raise_any
+from .inputs import Input
 from .interface import LIMIT, MAX_CONSTRAINTS, MAX_NODES, SHADOW_PRICE, SHIFT_FACTOR
 from .names_csv import read_names
 from .sheet import Sheet, is_there
@@ -36,6 +37,7 @@ class Loaded:
     def __init__(self, folder: Path, any_size: bool, round_prices: bool) -> None:
         self.folder, self.any_size, self.round_prices = folder, any_size, round_prices
         self.faults: List[Fault] = []
+        self.inputs: List[Input] = []
         self.rounded = 0
         self.constraints_read = False  # else nothing is said of names that would not be found
         self.constraints: Dict[str, int] = {}
@@ -57,18 +59,20 @@ def load(folder: Path, any_size: bool = False, round_prices: bool = False, price
     loaded = Loaded(Path(folder), any_size, round_prices)
     _read_constraints(loaded)
     _read_factors(loaded)
-    told = read_names(loaded.folder, loaded.faults)
-    book, ids, holders = read_book(loaded.folder / "book.csv", loaded.nodes, told["holder"], any_size, loaded.faults)
+    told = read_names(loaded.folder, loaded.faults, loaded.inputs)
+    book, ids, holders = read_book(loaded.folder / "book.csv", loaded.nodes, told["holder"], any_size, loaded.faults, loaded.inputs)
     hours = _read_prices(loaded) if prices and is_there(loaded.folder / "prices.csv") else []
     raise_any(loaded.faults)
-    names = Names(list(loaded.nodes), list(loaded.constraints), ids, holders)
+    used = {contract.holder for contract in book}  # names.csv may name holders that have no contract
+    others = {number: name for number, name in told["holder"].items() if number not in used and name not in (*holders.values(), str(number))}
+    names = Names(list(loaded.nodes), list(loaded.constraints), ids, {**others, **holders})
     forms = {number: FORMS.index(name) for number, name in told["form"].items()}
     of_grid, of_book = forms.get(0, grid_form(len(names.nodes))), forms.get(1, book_form(book))
-    return Case(names, loaded.limits, loaded.factors, book, hours, of_grid, of_book), loaded.rounded
+    return Case(names, loaded.limits, loaded.factors, book, hours, of_grid, of_book, loaded.inputs), loaded.rounded
 
 
 def _read_constraints(loaded: Loaded) -> None:
-    sheet = Sheet(loaded.folder / "constraints.csv", CONSTRAINTS, loaded.faults, name="constraints.csv")
+    sheet = Sheet(loaded.folder / "constraints.csv", CONSTRAINTS, loaded.faults, name="constraints.csv", inputs=loaded.inputs)
     if len(sheet.at) < 2:
         return
     loaded.constraints_read = True
@@ -95,7 +99,7 @@ def _factor_columns(loaded: Loaded, sheet: Sheet) -> List[int]:
 
 
 def _read_factors(loaded: Loaded) -> None:
-    sheet = Sheet(loaded.folder / "factors.csv", ("NODE_ID",), loaded.faults, first=True, name="factors.csv")
+    sheet = Sheet(loaded.folder / "factors.csv", ("NODE_ID",), loaded.faults, first=True, name="factors.csv", inputs=loaded.inputs)
     if not sheet.at:
         return
     columns = _factor_columns(loaded, sheet) if loaded.constraints_read else []
@@ -109,7 +113,7 @@ def _read_factors(loaded: Loaded) -> None:
 
 
 def _read_prices(loaded: Loaded) -> List[PricedHour]:
-    sheet = Sheet(loaded.folder / "prices.csv", PRICES, loaded.faults, name="prices.csv")
+    sheet = Sheet(loaded.folder / "prices.csv", PRICES, loaded.faults, name="prices.csv", inputs=loaded.inputs)
     if len(sheet.at) < len(PRICES):
         return []
     day_at, hour_at, period_at, constraint_at, price_at = (sheet.at[ours] for ours in PRICES)

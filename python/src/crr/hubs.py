@@ -7,7 +7,7 @@ from typing import List, Sequence
 
 from .book_csv import BOOK, Award
 from .case import NARROW_ENDS, Names
-from .command import FOLDER, PASSES, ROUND_PRICES, Answer, command, counted, objects, reads, writes
+from .command import FOLDER, FORCE, PASSES, ROUND_PRICES, Answer, command, counted, objects, reads, writes
 from .faults import Fault, raise_any
 from .files import add_hub_contract, read_book, read_book_form, write_book
 from .hubs_csv import Hub, read_hub_contracts, read_hubs
@@ -81,8 +81,9 @@ def _grown(found: Opened, sheet: Sheet, rows: Sequence[Award], hubs: Sequence[Hu
     HUBS,
     reads("contracts", "a CSV file like book.csv, with hubs for sources"),
     writes("a folder", required=True),
+    FORCE,
 )
-def hub_add(folder: Path, hubs: Path, contracts: Path, out: Path, round_prices: bool) -> Answer:
+def hub_add(folder: Path, hubs: Path, contracts: Path, out: Path, round_prices: bool, force: bool) -> Answer:
     """Adds contracts from hubs to a book, as contracts from their nodes, and writes the whole case to another folder in the form that it had."""
     found = opened(folder, round_prices)
     faults: List[Fault] = []
@@ -90,7 +91,7 @@ def hub_add(folder: Path, hubs: Path, contracts: Path, out: Path, round_prices: 
     sheet, rows = read_hub_contracts(contracts, of_file, found.names.nodes, faults)
     raise_any(faults)
     grown = _grown(found, sheet, rows, list(of_file.values()))
-    write_like(found, grown, out)
+    write_like(found, grown, out, force)
     book = read_book(len(found.names.nodes), grown.book)
     added = [book_row(grown.names, grown.names.contracts[number], book[number]) for number in range(len(found.book), len(book))]
     text = f"{out}: {counted(len(rows), 'hub contract')} added as {counted(len(added), 'contract')}, {counted(len(book), 'contract')} in all\n"

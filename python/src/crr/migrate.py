@@ -8,7 +8,7 @@ from typing import Dict, List, Optional, Tuple
 
 from .book_csv import BOOK
 from .case import Names
-from .command import FOLDER, PASSES, PERIOD, ROUND_PRICES, Answer, command, objects, reads, writes
+from .command import FOLDER, FORCE, PASSES, PERIOD, ROUND_PRICES, Answer, command, objects, reads, writes
 from .decimals import decimal
 from .faults import Fault, raise_any
 from .files import Contract, read_book, write_book
@@ -72,8 +72,9 @@ def _net_rows(names: Names, migration: Migration) -> List[Tuple[str, ...]]:
     reads("loads", "a CSV file LSE,LOAD_MW"),
     PERIOD.with_help("whose rates and loads these are"),
     writes("a folder"),
+    FORCE,
 )
-def migrate(folder: Path, period: Period, rows: Path, loads: Path, out: Optional[Path], round_prices: bool) -> Answer:
+def migrate(folder: Path, period: Period, rows: Path, loads: Path, out: Optional[Path], round_prices: bool, force: bool) -> Answer:
     """Migrates load in a book for one period: the nets, and the contracts that are added; with `out` the whole case is written there in the form that it
     had."""
     found = opened(folder, round_prices)
@@ -87,7 +88,7 @@ def migrate(folder: Path, period: Period, rows: Path, loads: Path, out: Optional
     names = replace(found.names, holders=holders)
     names.contracts = _ids(names, _pairs(nodes, period, found.book, migration))
     if out:
-        write_like(found, Packed(names, files.grid, book, files.hours), out)
+        write_like(found, Packed(names, files.grid, book, files.hours), out, force)
     added = [book_row(names, names.contracts[number], contracts[number]) for number in range(len(found.book), len(contracts))]
     lses, nets = [names.holder(number) for number in migration.lses], _net_rows(names, migration)
     text = csv_text(("LSE", *lses), nets) + "\n" + csv_text(BOOK, added)

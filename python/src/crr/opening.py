@@ -3,6 +3,7 @@
 from __future__ import annotations
 
 import os
+import signal
 from concurrent.futures import Executor
 from pathlib import Path
 from typing import Dict, List, NamedTuple, Optional, Sequence, Tuple
@@ -14,11 +15,12 @@ from .files import Contract, read_book, read_grid
 from .from_csv import load
 from .hours import Progress, Settled, settle_hours
 from .interface import HOLDER
-from .packed import Packed, hour_name, packed, read_packed, unpacked, write_bin
+from .packed import Packed, hour_name, packed, price_files, read_packed, unpacked, write_bin
 from .results import Time
 from .sheet import Sheet, alike
 from .slices import settle_sliced
 from .to_csv import write_csv
+from .writing import Ours, no_answer, write_file
 
 
 class Opened(NamedTuple):
@@ -98,8 +100,13 @@ def settled(found: Opened, jobs: int, progress: Progress) -> Settled:
         return _settled(found, None, progress)
     from concurrent.futures import ProcessPoolExecutor  # a tenth of a second that other commands do without
 
-    with ProcessPoolExecutor(jobs) as pool:
+    with ProcessPoolExecutor(jobs, initializer=_end_at_once) as pool:
         return _settled(found, pool, progress)
+
+
+def _end_at_once() -> None:
+    """A worker ends at Ctrl-C without a word: its parent has the last one."""
+    signal.signal(signal.SIGINT, signal.SIG_DFL)
 
 
 def _settled(found: Opened, executor: Optional[Executor], progress: Progress) -> Settled:
@@ -110,12 +117,30 @@ def _settled(found: Opened, executor: Optional[Executor], progress: Progress) ->
     return settle_sliced(found.case, executor, progress=progress)
 
 
-def write_like(found: Opened, files: Packed, out: Path) -> None:
+def write_like(found: Opened, files: Packed, out: Path, force: bool) -> None:
     """Writes files to a folder as CSV or bin files, whichever the folder that was opened has."""
     if found.case:
-        write_csv(unpacked(files), out, hour_name(files.hours))
+        write_csv(unpacked(files), out, hour_name(files.hours), force)
     else:
-        write_bin(files, out)
+        write_bin(files, out, force)
+
+
+_CASE_FILES = ("grid.bin", "book.bin", "prices.bin", "names.csv", "constraints.csv", "factors.csv", "book.csv", "prices.csv")
+
+
+def _is_of_case(folder: Path, out: Path) -> bool:
+    """Whether a file is one of the case's own, by its name or by a link."""
+    if out.name in _CASE_FILES and out.resolve().parent == folder.resolve():
+        return True
+    own = [folder / name for name in (*_CASE_FILES, *price_files(folder))]
+    return out.exists() and any(path.exists() and os.path.samefile(path, out) for path in own)
+
+
+def write_beside(folder: Path, out: Path, data: bytes, force: bool, ours: Ours = no_answer) -> None:
+    """Writes a file that was made from a case, over no file of that case, forced or not."""
+    if _is_of_case(folder, out):
+        raise_any([Fault(str(out), 0, "", "that is a file of the case itself: choose another")])
+    write_file(out, data, force, ours)
 
 
 def owner_numbers(found: Opened, sheet: Sheet, rows: Sequence[Tuple[int, str]]) -> Dict[str, int]:

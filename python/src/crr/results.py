@@ -63,6 +63,12 @@ HOLDERS = ("OWNER", "MONTH", "AMOUNT")
 CONTRACTS = ("CRR_ID", "OWNER", "HEDGE_TYPE", "TIME_OF_USE", "AMOUNT")
 
 
+def is_result(name: str, found: bytes) -> bool:
+    """Whether a file has the heading of the result file of its name."""
+    heading = {"hours.csv": HOURS, "holders.csv": HOLDERS, "contracts.csv": CONTRACTS}.get(name, ())
+    return found.split(b"\n", 1)[0] == ",".join(heading).encode()
+
+
 def result_files(settled: Settled, names: Names, book: Sequence[Contract], times: Sequence[Time]) -> Dict[str, str]:
     """hours.csv, holders.csv and contracts.csv. Amounts are dollars; positive is paid, negative charged."""
     holders = [(names.holder(holder), month, dollars(cents)) for (holder, month), cents in holder_months(settled, book).items()]

@@ -14,6 +14,7 @@ from typing import Dict, Iterator, List, Sequence, Tuple
 
 from .decimals import decimal, whole
 from .faults import Fault, brief
+from .inputs import Inputs, note
 from .interface import Unit
 
 # Our name of a column, and other names for it, in capitals with _ for a blank.
@@ -69,25 +70,29 @@ def our_name(heading: str, need: Sequence[str]) -> str:
 
 class Sheet:
     """A CSV file. Faults go to the list that it is given; `at` says where each column that is needed stands. With `first` the one that is needed
-    is the first column, whatever the others are called. Faults call it by its path as it was given, or by its name in a folder."""
+    is the first column, whatever the others are called. Faults call it by its path as it was given, or by its name in a folder. What was read is noted
+    in `inputs`."""
 
-    def __init__(self, path: Path, need: Sequence[str], faults: List[Fault], first: bool = False, name: str = "") -> None:
+    def __init__(
+        self, path: Path, need: Sequence[str], faults: List[Fault], first: bool = False, name: str = "", inputs: Inputs = None
+    ) -> None:
         self.name, self.faults = name or str(path), faults
         self.heading: List[str] = []
         self.at: Dict[str, int] = {}
-        self._text, self._doubtful = self._decoded(path, need)
+        self._text, self._doubtful = self._decoded(path, need, inputs)
         self._delimiter = _delimiter(self._text)
         self._reader = csv.reader(_lines(self._text), delimiter=self._delimiter, strict=True)
         self._starts: List[int] = []  # of lines, found when a fault needs them
         if self._text:
             self._read_heading(need, first)
 
-    def _decoded(self, path: Path, need: Sequence[str]) -> Tuple[str, bool]:
+    def _decoded(self, path: Path, need: Sequence[str], inputs: Inputs) -> Tuple[str, bool]:
         try:
             data = path.read_bytes()
         except OSError as error:
             self.faults.append(Fault(self.name, 0, "", unread(path, error)))
             return "", False
+        note(inputs, self.name, data)
         if data[:2] in (b"\xff\xfe", b"\xfe\xff"):
             self.faults.append(Fault(self.name, 1, need[0], "UTF-16, as some spreadsheets save it; save as CSV UTF-8"))
             return "", False

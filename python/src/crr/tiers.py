@@ -8,7 +8,7 @@ from typing import Dict, List, NamedTuple, Optional, Sequence, Tuple
 
 from .book_csv import BOOK
 from .case import Names, book_form
-from .command import FAILS, FOLDER, PASSES, PERIOD, PROCESS, ROUND_PRICES, Answer, command, counted, objects, reads, writes
+from .command import FAILS, FOLDER, FORCE, PASSES, PERIOD, PROCESS, ROUND_PRICES, Answer, command, counted, objects, reads, writes
 from .decimals import decimal
 from .faults import Fault, raise_any
 from .feasibility import Verdict, test_book
@@ -23,7 +23,7 @@ from .tiers_csv import ADD, MARK, Operation, read_operations
 from .to_csv import book_row, csv_text
 from .words import PROCESSES, TIMES_OF_USE, Period, Process
 
-PLAYED = ("OPERATION", "NAME", "ANSWER", "HELD", "COUNTED", "OVERLOADED", "LOWEST", "EXCESS_MW")
+PLAYED = ("OPERATION", "NAME", "ANSWER", "HELD", "COUNTED", "OVERLOADED", "LOWEST_NUMBERED", "EXCESS_MW")
 _DONE = {"add": "held", "mark": "marked", "return": "returned"}
 
 
@@ -105,8 +105,11 @@ _AWARDS = "a CSV file OPERATION,TIER and the columns of book.csv: add, mark, ret
     PERIOD,
     PROCESS,
     writes("a folder for the case with the awards held for its book"),
+    FORCE,
 )
-def tiers(folder: Path, period: Period, process: Process, awards: Optional[Path], out: Optional[Path], round_prices: bool) -> Answer:
+def tiers(
+    folder: Path, period: Period, process: Process, awards: Optional[Path], out: Optional[Path], round_prices: bool, force: bool
+) -> Answer:
     """Plays operations on a running test on the grid of a folder, or the contracts of its book as awards; with `out` writes the whole case there, with the
     awards held for its book, in the form that it had."""
     found = opened(folder, round_prices, prices=out is not None)
@@ -124,7 +127,7 @@ def tiers(folder: Path, period: Period, process: Process, awards: Optional[Path]
     names = replace(names, contracts=played.ids)
     if out:
         form = max(read_book_form(grid.nodes, files.book), book_form(held))
-        write_like(found, Packed(names, files.grid, running.book(form), files.hours), out)
+        write_like(found, Packed(names, files.grid, running.book(form), files.hours), out, force)
     told = f"{f'{out}: ' if out else ''}{counted(len(held), 'award')} held, {running.counted:,} of them {TIMES_OF_USE[period]}; "
     told += f"{counted(played.refused, 'operation')} of {len(played.rows):,} refused\n"
     data: Dict[str, object] = {"process": PROCESSES[process], "time_of_use": TIMES_OF_USE[period], "operations": objects(PLAYED, played.rows)}
