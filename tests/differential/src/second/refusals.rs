@@ -20,3 +20,9 @@ pub fn text(number: u64, room: usize) -> Answer<Vec<u8>> {
         Ok(sentence.as_bytes().to_vec())
     }
 }
+
+/// The number that the header gives the interface.
+pub fn interface() -> u64 {
+    let defined = HEADER.lines().find_map(|line| line.strip_prefix("#define CRR_INTERFACE ")).expect("the header has its number");
+    defined.trim().parse().expect("a number")
+}

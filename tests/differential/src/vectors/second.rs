@@ -7,7 +7,7 @@ use crate::second::cuts::{placed, Row, Tested};
 use crate::second::hubs::Hub;
 use crate::second::running::{add_by_cells, mark_by_cells, return_by_cells, Running};
 use crate::second::{
-    book, calendar, flows, grid, hubs, migration, prices, remap, set_of, settled, settlement, shares, test, text, views, Answer, Form,
+    book, calendar, flows, grid, hubs, migration, prices, refusals, remap, set_of, settled, settlement, shares, test, text, views, Answer, Form,
 };
 use std::collections::HashMap;
 
@@ -215,10 +215,18 @@ fn share_balance(g: &Given) -> Answer<Written> {
     Ok(vec![("shares", shares::share(g.cells("balance")[0] as i64, &g.list("demands"), g.room("shares"))?)])
 }
 
+fn moved(g: &Given, loads: Vec<u64>) -> Migration {
+    let [customers, rates, olds, news] = ["customers", "rates", "olds", "news"].map(|name| g.list(name));
+    Migration { classes: g.bytes("classes"), customers, rates, olds, news, loads }
+}
+
 fn migrate_load(g: &Given) -> Answer<Written> {
-    let [customers, rates, olds, news, loads] = ["customers", "rates", "olds", "news", "loads"].map(|name| g.list(name));
-    let lists = Migration { classes: g.bytes("classes"), customers, rates, olds, news, loads };
+    let lists = moved(g, g.list("loads"));
     Ok(file("file", migration::migrate(g.count("nodes"), g.number("period"), &g.bytes("book"), &lists, g.room("file"))?))
+}
+
+fn net_transfers(g: &Given) -> Answer<Written> {
+    Ok(vec![("nets", migration::net_transfers(g.count("lses"), &moved(g, Vec::new()), g.room("nets"))?)])
 }
 
 fn write_report(g: &Given) -> Answer<Written> {
@@ -268,6 +276,10 @@ pub fn answered(function: &str, slots: &[Slot], run: Option<&str>, runs: &mut Ru
         "settle_hour" => settle_hour(&g),
         "share_balance" => share_balance(&g),
         "migrate_load" => migrate_load(&g),
+        "net_transfers" => net_transfers(&g),
+        "refusal_text" => Ok(file("text", refusals::text(g.number("number"), g.room("text"))?)),
+        // Its answer is its figure and no refusal.
+        "interface" => Err(refusals::interface()),
         "write_report" => write_report(&g),
         "write_statement" => write_statement(&g),
         "month_hours" => month_hours(&g),
