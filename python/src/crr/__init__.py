@@ -35,6 +35,7 @@ from .running import RunningTest, add_award, mark_tier, open_running, return_to_
 from .settlement import Hour, HourTotal, HubMcc, Settler, find_hub_mcc, find_mcc, settle_hour
 from .shares import share_balance
 from .texts import write_report, write_statement
+from .version import __version__
 from .views import Held, read_holder_view, write_holder_view, write_market_view
 from .words import PERIODS, PROCESSES, Kind, Period, Process
 
@@ -87,6 +88,7 @@ __all__ = [
     "Settled",
     "Settler",
     "Verdict",
+    "__version__",
     "add_award",
     "add_hub_contract",
     "find_cuts",

@@ -16,6 +16,7 @@ from .command import COMMANDS, FAULTY, INTERRUPTED, PASSES, Answer, Command
 from .faults import Fault, Faults
 from .native import Refused
 from .streams import write_to
+from .version import Version
 from .writing import is_output
 
 # Help lists the commands module by module.
@@ -59,6 +60,7 @@ def parser() -> argparse.ArgumentParser:
     parser = _Parser(prog="crr", description="Congestion revenue rights: feasibility test and hourly settlement.")
     fails = "1 the book fails (crr test, crr cuts), two books differ (crr same), or an operation is refused (crr tiers)"
     parser.epilog = f"Exit status: 0; {fails}; 2 the input has faults, or something can't be read or written; 130 interrupted."
+    parser.add_argument("--version", action=Version, help="the version, and the library taken, its origin and hash")
     parser.add_argument("--json", action="store_true", help="as behind a command: the answer, or the faults, as one JSON object")
     adding = parser.add_subparsers(dest="command", required=True, metavar="COMMAND")
     for command in listed():

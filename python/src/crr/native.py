@@ -1,4 +1,4 @@
-"""The shared library by ctypes: where it is, how buffers are lent to it, how its answers become exceptions.
+"""The shared library by ctypes: how buffers are lent to it, how its answers become exceptions.
 
 Nothing but the standard library is needed. A buffer is lent, never copied: bytes, array, memoryview, numpy arrays, pandas columns.
 """
@@ -7,14 +7,13 @@ from __future__ import annotations
 
 import ctypes
 import operator
-import os
 import struct
 from array import array
 from functools import cached_property, lru_cache
-from pathlib import Path
 from typing import TYPE_CHECKING, Any, Callable, Dict, List, Optional, Sequence, Tuple, Type, Union
 
 from .interface import DECLARATIONS, MEANINGS, Parameter, parameters
+from .library import library_path
 
 if TYPE_CHECKING:
     from typing import Protocol
@@ -52,17 +51,6 @@ class Refused(ValueError):
     def __reduce__(self) -> Tuple[Type["Refused"], Tuple[int, str, str]]:
         # A pool of processes hands an exception over by its arguments, and those of the base class are the message alone.
         return (Refused, (self.number, self.entry, self.file))
-
-
-def library_path() -> Path:
-    """Where the shared library is: CRR_LIBRARY, else beside this module (installed), else in the clone that this module stands in."""
-    here = Path(__file__).resolve()
-    asked = os.environ.get("CRR_LIBRARY")
-    places = [Path(asked)] if asked else [here.with_name("libcrr.so"), here.parents[3] / "target" / "sharedlib" / "libcrr.so"]
-    for place in places:
-        if place.is_file():
-            return place
-    raise FileNotFoundError(f"no shared library at {' or '.join(map(str, places))}: ./library builds it, CRR_LIBRARY names another")
 
 
 @lru_cache(maxsize=1)

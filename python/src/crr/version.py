@@ -1,0 +1,32 @@
+"""The package's version, and what `crr --version` says of the library that was taken."""
+
+from __future__ import annotations
+
+from argparse import SUPPRESS, Action, ArgumentParser
+from hashlib import sha256
+from typing import Any, Sequence
+
+from .library import library_origin, library_path
+
+__version__ = "0.1.0"
+
+
+def about() -> str:
+    """The version; the library that was taken, where it comes from and its hash."""
+    path = library_path()
+    hashed = sha256(path.read_bytes()).hexdigest()
+    return f"crr {__version__}\nlibrary {path}\nfrom    {library_origin(path)}\nsha256  {hashed}\n"
+
+
+class Version(Action):
+    """The option --version: its text is made when it is asked for, and shown by the command's parser."""
+
+    def __init__(self, option_strings: Sequence[str], dest: str, help: str) -> None:
+        super().__init__(option_strings, dest=SUPPRESS, default=SUPPRESS, nargs=0, help=help)
+
+    def __call__(self, parser: ArgumentParser, *_: Any) -> None:
+        try:
+            text = about()
+        except OSError as problem:
+            parser.exit(2, f"crr {__version__}: {problem}\n")
+        parser.exit(0, text)
