@@ -19,7 +19,7 @@ from crr.decimals import decimal
 from crr.drawing import exact_megawatts, exact_money, grouped, megawatts, money, share
 from crr.feasibility import excesses, worst
 from crr.from_csv import load
-from crr.native import library_path
+from crr.library import library_path
 from crr.report import covered
 
 VOID = {"meta", "rect", "line", "br", "path"}
@@ -212,11 +212,7 @@ class Page(FolderTest):
             library = library_path().read_bytes()
             self.assertEqual(set(told[:-1]), expected)
             self.assertEqual(told[-1], (f"{len(library):,}", hashlib.sha256(library).hexdigest()))
-            self.says(
-                text,
-                "<td>names.csv</td>",
-                f"libcrr.so{f', version {crr.__version__}' if hasattr(crr, '__version__') else ''}</td>",
-            )
+            self.says(text, "<td>names.csv</td>", f"<td>libcrr.so, version {crr.__version__}</td>")
 
     def test_worst(self):
         text = self.page(self.case(**{"1-2": "10.000", "2-4": "0.001"}))

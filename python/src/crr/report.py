@@ -2,7 +2,6 @@
 
 from __future__ import annotations
 
-import sys
 from array import array
 from collections import Counter
 from datetime import date
@@ -18,13 +17,14 @@ from .files import Prices, read_grid
 from .hours import PriceFile, Settled, settle_hours
 from .inputs import Input, input_of
 from .interface import PART_PLACES
-from .native import library_path
+from .library import library_path
 from .opening import Opened, counts_told, files_of, opened, write_beside
 from .packed import read_hours
 from .page import Figures, Month, is_page, page
 from .results import Time, dollars, exact_dollars, holder_sums
 from .settlement import HourTotal
 from .streams import readable
+from .version import __version__
 from .words import Period, Process
 
 FULL_DAY = 23  # hours of the shortest whole day
@@ -41,8 +41,7 @@ def _inputs(found: Opened, hours: Sequence[PriceFile]) -> List[Input]:
 
 def _library() -> Input:
     """The library that answered, with the package's version."""
-    version = getattr(sys.modules[__package__], "__version__", "")
-    return input_of(f"libcrr.so{f', version {version}' if version else ''}", [library_path().read_bytes()])
+    return input_of(f"libcrr.so, version {__version__}", [library_path().read_bytes()])
 
 
 def rent(limits: Sequence[int], prices: Sequence[int], percent: int) -> int:
