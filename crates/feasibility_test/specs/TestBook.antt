@@ -74,8 +74,8 @@ module _ (g : Grid) (process : Process) (cs : List Contract) where
       ∷ excess g process cs (lowestOverload g process cs)
       ∷ [])
 
-  -- Demand 3: pass exactly when the worst shortfall is 0; on fail the constraint named is one of the grid's, and the list with one cent there has as its shortfall the
-  -- excess given, above 0
+  -- Demand 3: pass exactly when the worst shortfall is 0; on fail the constraint named is one of the grid's, and the list with one cent there has as its
+  -- shortfall the excess given, above 0
   pub record Demand3 (answer : TestAnswer) : Type 0 where
     pub pass-is-worst-zero : (answer ≡ is.Pass) ↔ IsWorst g process cs (pos 0)
     pub fail-is-of-the-grid : (set count lowest : ℕ) (over : Flow) → answer ≡ is.Fail set count lowest over → lowest < g .factors .constraints
