@@ -392,7 +392,9 @@ class FromTheShell(FolderTest):
         """A library without the functions of today is told, and so is none at all."""
         with tempfile.TemporaryDirectory() as held:
             older = Path(held) / "libcrr.so"
-            subprocess.run(["gcc", "-shared", "-o", str(older), "-x", "c", os.devnull], check=True)
+            interface = f"unsigned long crr_interface(void) {{ return {crr.interface.INTERFACE}; }}"
+            made = ["gcc", "-shared", "-o", str(older), "-x", "c", "-"]
+            subprocess.run(made, input=interface.encode(), check=True)
             done = self.run_crr("test", CASE_L, env={**os.environ, "CRR_LIBRARY": str(older)})
             said = f"crr: {older} has no crr_read_grid: it is older than this package; ./library builds it anew\n"
             self.assertEqual((done.returncode, done.stderr.decode()), (2, said))
