@@ -813,9 +813,10 @@ uint64_t crr_share_balance(int64_t balance,
  * crr_migrate_load takes the same rows and as many loads, the contracts that it adds
  * follow these cells.
  *
- * Refusals, in this order: 22 MIGRATION_RANGE (not 1 to 16 LSEs, more than 1,000 rows, lists of unequal
- * length, customers above 1,000,000, a rate above 10,000, an LSE number that is 0 or
- * above lses, a row whose old and new LSE are one), and 9 SHORT_TABLE if the cells don't fit.
+ * Refusals, in this order: 22 MIGRATION_RANGE (not 1 to 16 LSEs, more than 1,000
+ * rows, lists of unequal length, customers above 1,000,000, a rate above 10,000, an
+ * LSE number that is 0 or above lses, a row whose old and new LSE are one), and
+ * 9 SHORT_TABLE if the cells don't fit.
  */
 uint64_t crr_net_transfers(size_t lses,
                            const uint8_t *classes, size_t classes_len,
