@@ -5,6 +5,7 @@ from __future__ import annotations
 import io
 import os
 import random
+import signal
 import stat
 import subprocess
 import sys
@@ -103,6 +104,7 @@ def command(*arguments):
 def started(*arguments, **options):
     """The command in a process of its own."""
     given = dict(stdout=subprocess.PIPE, stderr=subprocess.PIPE, env=ENVIRONMENT)
+    given["preexec_fn"] = lambda: signal.signal(signal.SIGINT, signal.SIG_DFL)  # a job in the background ignores it
     return subprocess.Popen([sys.executable, "-m", "crr", *map(str, arguments)], **{**given, **options})
 
 

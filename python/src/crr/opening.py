@@ -105,8 +105,9 @@ def settled(found: Opened, jobs: int, progress: Progress) -> Settled:
 
 
 def _end_at_once() -> None:
-    """A worker ends at Ctrl-C without a word: its parent has the last one."""
-    signal.signal(signal.SIGINT, signal.SIG_DFL)
+    """A worker ends at Ctrl-C without a word: its parent has the last one. Where Ctrl-C is ignored, it stays so."""
+    if signal.getsignal(signal.SIGINT) is not signal.SIG_IGN:
+        signal.signal(signal.SIGINT, signal.SIG_DFL)
 
 
 def _settled(found: Opened, executor: Optional[Executor], progress: Progress) -> Settled:
