@@ -117,31 +117,6 @@ class SixFigures(unittest.TestCase):
         )
         self.assertEqual(running.held, [])
 
-    def test_moves(self):
-        self.refused(
-            ValueError,
-            "rates has 1 figures where another list has 2: row 1 has none",
-            crr.net_transfers,
-            [1, 1],
-            [1],
-            [1, 1],
-            [2, 2],
-            2,
-        )
-        self.refused(
-            ValueError,
-            "row 1: LSEs are 1 to 2, not 0 and 2",
-            crr.net_transfers,
-            [1, 1],
-            [1, 1],
-            [1, 0],
-            [2, 2],
-            2,
-        )
-        self.refused(
-            ValueError, "row 0: LSEs are 1 to 2, not 1 and 3", crr.net_transfers, [1], [1], [1], [3], 2
-        )
-
     def test_matrices(self):
         self.refused(
             ValueError,
