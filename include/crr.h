@@ -121,15 +121,18 @@
  * is for node numbers of one byte: a grid of at most 200 nodes, a book whose sources
  * and sinks are at most 255. The wide one is for up to 4,000 nodes: a node count of
  * 16 bits, sources and sinks of 12. Each function that takes such a file takes both
- * and tells them apart by the first two bytes. A grid and a book may differ in form,
- * and grids or books that differ in nothing else give the same answers. Writers are
- * told the form by a number: 0 (CRR_NARROW) is narrow, any other number is wide
- * (CRR_WIDE is 1). Readers give 0 or 1, so that what was read can be written again,
- * byte for byte; a book made from a book (remapped, settled, for the market, grown by a
- * hub's contract or by load migration) keeps its form. Write the wide form where a node
- * number needs it, and otherwise the narrow one: it is shorter, and it is the one that
- * libraries without forms take, which refuse every wide file. The layouts are in
- * crates/layouts/specs.
+ * and tells them apart by the first two bytes. A grid and a book may differ in form.
+ * Grids or books that differ in nothing else are tested, listed for cuts and settled
+ * alike, and are read to the same tables. What depends on the form besides is a view or
+ * file written from a book (its length and bytes, and so its 9), the 11 of a node above
+ * 255 that would go into a narrow book (remapped, a hub's nodes and sink), and a text's
+ * 5 for a grid of more than 32,768 bytes. Writers are told the form by a number: 0
+ * (CRR_NARROW) is narrow, any other number is wide (CRR_WIDE is 1). Readers give 0 or
+ * 1, so that what was read can be written again, byte for byte; a book made from a book
+ * (remapped, settled, for the market, grown by a hub's contract or by load migration)
+ * keeps its form. Write the wide form where a node number needs it, and otherwise the
+ * narrow one: it is shorter, and it is the one that libraries without forms take, which
+ * refuse every wide file. The layouts are in crates/layouts/specs.
  *
  *
  * ANSWERS. Every function but crr_interface returns 0, or the number of the refusal

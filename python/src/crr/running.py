@@ -25,8 +25,9 @@ def _copy(cells: Cells, code: str, name: str) -> "array[int]":
 class RunningTest:
     """A running test on a grid. An award is held where, with it, no flow exceeds its released limit; `Refused` is raised otherwise, and nothing changes.
 
-    At every moment the awards held pass the test of the process and period, and `counted` and `flows` are those of `test_book` and `find_flows` on them. An
-    award of the other period is held too; it has no flow and is not counted."""
+    At every moment the awards held pass the test of the process and period: written as a book, in a form that
+    can hold their ends (the wide one always can), they pass `test_book`, and `find_flows` gives `flows` and
+    `counted` of it. An award of the other period is held too; it has no flow and is not counted."""
 
     def __init__(self, grid: Grid, process: int, period: int) -> None:
         self.nodes, self.constraints, self.process, self.period = grid.nodes, grid.constraints, process, period
@@ -89,7 +90,7 @@ class RunningTest:
         return {tier: self._numbers[3 * tier] for tier in TIERS if self._numbers[3 * tier - 1]}
 
     def book(self, form: int = NARROW) -> bytes:
-        """The awards held as a book's file."""
+        """The awards held as a book's file. Ends above 255 need the wide form: the narrow one is `Refused`."""
         return write_book(self.nodes, self.cells, form)
 
 
