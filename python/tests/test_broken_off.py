@@ -228,5 +228,12 @@ class Interrupted(FolderTest):
         self.assertFalse((self.folder / "out").exists())
 
 
+class Workers(FolderTest):
+    def test_a_worker_that_is_killed(self):
+        with mock.patch("crr.opening._end_at_once", os.abort):
+            self.assertEqual(crr.cli.main(["settle", str(IEEE14), "-j", "2", "-o", str(self.folder / "out")]), 2)
+        self.assertFalse((self.folder / "out").exists())
+
+
 if __name__ == "__main__":
     unittest.main()

@@ -99,9 +99,13 @@ def settled(found: Opened, jobs: int, progress: Progress) -> Settled:
     if jobs <= 1:
         return _settled(found, None, progress)
     from concurrent.futures import ProcessPoolExecutor  # a tenth of a second that other commands do without
+    from concurrent.futures.process import BrokenProcessPool
 
-    with ProcessPoolExecutor(jobs, initializer=_end_at_once) as pool:
-        return _settled(found, pool, progress)
+    try:
+        with ProcessPoolExecutor(jobs, initializer=_end_at_once) as pool:
+            return _settled(found, pool, progress)
+    except BrokenProcessPool:
+        raise OSError("a worker process was ended from outside, for lack of memory perhaps: take fewer with -j") from None
 
 
 def _end_at_once() -> None:
