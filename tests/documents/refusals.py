@@ -23,6 +23,8 @@ UNFIT = (
     (re.compile(r"\bis expected here"), "takes what it names for something else"),
     (re.compile(r"\bwas not admitted\b"), "stands on something that was refused"),
 )
+# A function without a proof file is refused in a note; its callers then stand on what was not admitted.
+REFUSED_BELOW = re.compile(r"^note: \S+\.rt:\d+:\d+: it is not proved that ", re.M)
 # `NAME-spec` hands over the needs one by one.
 NEEDS = re.compile(r"(?:expected type|but this has type) `tie\.Need-")
 FACT = re.compile(
@@ -63,6 +65,8 @@ def fault_of(log: str) -> Optional[str]:
         return f"{place}: the proof text can't be read: {message.splitlines()[0][:200]}"
     name, said = declared[1], " ".join(declared[2].split("\n"))
     head = said[:600]
+    if head.startswith("`close` was not admitted") and REFUSED_BELOW.search(log):
+        return None
     for pattern, why in UNFIT:
         if pattern.search(head):
             return f"{place}: {name} {why}: {head[:200]}"

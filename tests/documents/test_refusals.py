@@ -51,6 +51,12 @@ class Kinds(unittest.TestCase):
             with self.subTest(said):
                 self.assertIsNotNone(fault_of(AT + said + "\nlogic=not-proved\n"))
 
+    def test_a_function_without_a_proof_file(self) -> None:
+        """Its fact stands in a note, and the callers' specs are the errors."""
+        noted = "note: src/lib.rt:23:1: it is not proved that what the function ensures holds when it returns (`returns-2`)\n"
+        self.assertIsNone(fault_of(AT + UNFIT[-1] + "\n" + noted))
+        self.assertIsNotNone(fault_of(AT + UNFIT[0] + "\n" + noted))
+
     def test_only_the_first_error_counts(self) -> None:
         both = AT + FACTS[0] + "\n" + AT + UNFIT[0] + "\nlogic=not-proved\n"
         self.assertIsNone(fault_of(both))
