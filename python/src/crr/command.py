@@ -23,6 +23,14 @@ class Answer(NamedTuple):
     note: str = ""
 
 
+class Shown(Exception):
+    """A text that was asked for, such as help, and the same for a script."""
+
+    def __init__(self, text: str, data: Dict[str, object]) -> None:
+        super().__init__(text)
+        self.data = data
+
+
 class Argument(NamedTuple):
     """An argument as `add_argument` takes it, and the words that it can be, where they are few."""
 
