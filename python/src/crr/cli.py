@@ -120,7 +120,7 @@ def _run(given: List[str]) -> int:
     except Usage as usage:
         answer = Answer(FAULTY, f"{usage.usage}{usage.text}\n", {"faults": [_fault_object(Fault("", 0, "", usage.text))], "usage": usage.usage})
     text = json.dumps(answer.data, indent=1) + "\n" if as_json else answer.text
-    stream = sys.stderr if (answer.status == FAULTY or aside) and not as_json else sys.stdout
+    stream = sys.stderr if aside or (answer.status == FAULTY and not as_json) else sys.stdout
     unwritten = write_to(stream, text)
     if unwritten and stream is not sys.stderr:
         write_to(sys.stderr, f"crr: the output can't be written: {unwritten}\n")
