@@ -2,7 +2,7 @@
  * Tests the book of a folder against its grid, monthly, and settles its hour.
  *
  * Started in that folder, with no arguments: it reads grid.bin, book.bin and prices.bin.
- * Made by gcc -I include -o target/hour examples/c/hour.c target/staticlib/libcrr.a
+ * Made by gcc -I include -o hour examples/c/hour.c dist/x86-64-linux/libcrr.a
  */
 #include <inttypes.h>
 #include <stdio.h>

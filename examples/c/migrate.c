@@ -6,7 +6,7 @@
  * Started in that folder, which has grid.bin and book.bin, with the name of that file:
  * migrate NEW_BOOK. 001 gives no loads; these are ours. Everything is in thousandths of
  * a MW.
- * Made by gcc -I include -o target/migrate examples/c/migrate.c target/staticlib/libcrr.a
+ * Made by gcc -I include -o migrate examples/c/migrate.c dist/x86-64-linux/libcrr.a
  */
 #include <inttypes.h>
 #include <stdio.h>

@@ -13,7 +13,7 @@
  * Started in that folder, which has grid.bin, with the process, the period and the name
  * of that file: tiers PROCESS PERIOD NEW_BOOK. Written as book.bin beside its grid.bin,
  * it is ready for ./run.
- * Made by gcc -I include -o target/tiers examples/c/tiers.c target/staticlib/libcrr.a
+ * Made by gcc -I include -o tiers examples/c/tiers.c dist/x86-64-linux/libcrr.a
  */
 #include <inttypes.h>
 #include <stdio.h>

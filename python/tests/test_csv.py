@@ -41,6 +41,15 @@ class RoundTrips(FolderTest):
         (self.folder / "bin").rename(self.folder / "source")
         self.assertEqual(self.there_and_back(self.folder / "source"), {})
 
+    def test_a_folder_by_its_name(self):
+        """The package takes a folder as text too."""
+        case, rounded = crr.from_csv.load(str(IEEE14))
+        self.assertEqual((case, rounded), load(IEEE14))
+        crr.packed.write_packed(case, str(self.folder / "bin"))
+        self.assertEqual(crr.packed.unpacked(crr.packed.read_packed(str(self.folder / "bin"))), case)
+        crr.to_csv.write_csv(case, str(self.folder / "csv"))
+        self.assertEqual(load(self.folder / "csv"), (case, 0))
+
     def test_drawn(self):
         for nodes, constraints, contracts, hours in ((1, 0, 0, 0), (2, 0, 3, 1), (200, 64, 1000, 3), (7, 5, 9, 30)):
             with self.subTest(nodes=nodes):

@@ -202,7 +202,7 @@ class DamagedDemands(FolderTest):
         self.assertEqual(self.said("1", "")[0], given(self.folder, ["demands.csv:1:COORDINATOR: the file is empty: its first line is the heading"])[0])
         self.assertEqual(self.said("1", "COORDINATOR,MW\nAlder,1\n")[0], given(self.folder, ["demands.csv:1:MEASURED_DEMAND: the column is missing"])[0])
         missing = self.folder / "nowhere.csv"
-        self.assertEqual(command("share", "1", missing)[2].splitlines()[0], f"{missing}: No such file or directory: {missing}")
+        self.assertEqual(command("share", "1", missing)[2].splitlines()[0], f"{missing}: No such file or directory")
 
 
 # What is wrong with a file of hubs or of contracts from hubs, and what is said, line by line.
@@ -285,8 +285,11 @@ class DamagedHubs(FolderTest):
         self.assertEqual(self.said(case, NORTH, rows)[0], given(self.folder, ["contracts.csv:27:OWNER: more than 1024 owners (refusal 18)"])[0])
 
     def test_whole_files(self):
+        for asked in (("test", ""), ("same", IEEE14, ""), ("settle", IEEE14, "-o", ""), ("hub-mcc", IEEE14, "")):
+            status, out, err = command(*asked)  # as an unset variable gives it; not the current folder
+            self.assertEqual((status, out, err.count(": it is empty, and a path is needed\n")), (2, "", 1))
         missing = self.folder / "nowhere.csv"
-        self.assertEqual(command("hub-mcc", IEEE14, missing)[2].splitlines()[0], f"{missing}: No such file or directory: {missing}")
+        self.assertEqual(command("hub-mcc", IEEE14, missing)[2].splitlines()[0], f"{missing}: No such file or directory")
         (self.folder / "hubs.csv").write_text("HUB,NODE_ID,WEIGHT\nNorth,Bus 2,100\n")
         self.assertEqual(command("hub-mcc", IEEE14, self.folder / "hubs.csv")[2].splitlines()[0], f"{self.folder}/hubs.csv:1:PERCENT: the column is missing")
 

@@ -39,6 +39,11 @@ class Commands(unittest.TestCase):
             self.assertEqual((status, out.startswith(f"usage: crr {one.name} "), err), (0, True, ""))
             self.assertRegex(command("help")[1], rf"\n    {one.name}\s")
 
+    def test_json(self):
+        for asked in (("--json", "--help"), ("--help", "--json")):
+            self.assertEqual(json.loads(command(*asked)[1]), {"help": command("--help")[1]})
+        self.assertEqual(command("test", "--help", "--json"), command("help", "test", "--json"))
+
     def test_no_such_command(self):
         status, out, err = command("help", "tset")
         self.assertEqual(

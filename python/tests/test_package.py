@@ -4,6 +4,7 @@ What a machine lacks for a test is skipped and said.
 """
 
 import importlib.util
+import json
 import os
 import shutil
 import subprocess
@@ -95,6 +96,15 @@ class Version(unittest.TestCase):
         about = [f"crr {crr.__version__}", f"library {library_path()}", f"sha256  {hashed}"]
         self.assertEqual(lines[:2] + lines[3:], about)
         self.assertRegex(lines[2], "^from    (dist/, made from |./library, built from |CRR_LIBRARY$)")
+
+    def test_json(self):
+        lines = command("--version")[1].splitlines()
+        for asked in (("--json", "--version"), ("--version", "--json")):
+            status, told, said = command(*asked)
+            self.assertEqual((status, said), (0, ""))
+            given = json.loads(told)
+            self.assertEqual(given.pop("version"), crr.__version__)
+            self.assertEqual([f"{name:<7} {value}" for name, value in given.items()], lines[1:])
 
 
 class Types(FolderTest):

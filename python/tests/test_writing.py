@@ -1,5 +1,6 @@
 """Writing: through links and devices, over nobody's work, and what is copied is read first."""
 
+import json
 import os
 import shutil
 import stat
@@ -79,6 +80,9 @@ class Targets(FolderTest):
         out, err = done.communicate()
         self.assertEqual((done.returncode, out, err.count(b"26 bytes written\n")), (0, view, 1))
         self.assertEqual(os.readlink(self.place / "stdout"), "/proc/self/fd/1")
+        done = started("market", CASE_L, "-o", self.place / "stdout", "--json")
+        out, err = done.communicate()
+        self.assertEqual((done.returncode, out, json.loads(err)["bytes"]), (0, view, 26))
         for mode, before in (("wb", b""), ("ab", b"before")):
             with open(self.place / "file", mode) as file:
                 file.write(before)

@@ -12,7 +12,7 @@ import sys
 from typing import IO, Dict, List, NoReturn, Optional
 
 from . import book_commands, commands, copies, help_commands, hubs, migrate, plain_commands, report, tiers
-from .command import COMMANDS, FAULTY, INTERRUPTED, PASSES, Answer, Command
+from .command import COMMANDS, FAULTY, INTERRUPTED, PASSES, Answer, Command, Shown
 from .faults import Fault, Faults
 from .native import Refused
 from .streams import write_to
@@ -21,10 +21,6 @@ from .writing import is_output
 
 # Help lists the commands module by module.
 _MODULES = [module.__name__ for module in (commands, report, book_commands, copies, hubs, tiers, migrate, plain_commands, help_commands)]
-
-
-class Shown(Exception):
-    """A text that was asked for, such as help."""
 
 
 class Usage(Exception):
@@ -42,12 +38,10 @@ class _Parser(argparse.ArgumentParser):
         raise Usage(self.format_usage(), f"{self.prog}: error: {message}")
 
     def exit(self, status: int = 0, message: Optional[str] = None) -> NoReturn:
-        if status:
-            raise Usage("", (message or "").rstrip("\n"))
-        raise Shown(message or "")
+        raise Usage("", (message or "").rstrip("\n"))
 
     def _print_message(self, message: str, file: Optional[IO[str]] = None) -> None:
-        raise Shown(message)
+        raise Shown(message, {"help": message})
 
 
 def listed() -> List[Command]:
@@ -122,11 +116,11 @@ def _run(given: List[str]) -> int:
         as_json, answer = options.json, _answer(options)
         aside = is_output(getattr(options, "out", None))  # which has bytes of another kind
     except Shown as shown:
-        as_json, answer = False, Answer(PASSES, str(shown), {})
+        answer = Answer(PASSES, str(shown), shown.data)
     except Usage as usage:
         answer = Answer(FAULTY, f"{usage.usage}{usage.text}\n", {"faults": [_fault_object(Fault("", 0, "", usage.text))], "usage": usage.usage})
     text = json.dumps(answer.data, indent=1) + "\n" if as_json else answer.text
-    stream = sys.stderr if (answer.status == FAULTY or aside) and not as_json else sys.stdout
+    stream = sys.stderr if aside or (answer.status == FAULTY and not as_json) else sys.stdout
     unwritten = write_to(stream, text)
     if unwritten and stream is not sys.stderr:
         write_to(sys.stderr, f"crr: the output can't be written: {unwritten}\n")

@@ -23,6 +23,14 @@ class Answer(NamedTuple):
     note: str = ""
 
 
+class Shown(Exception):
+    """A text that was asked for, such as help, and the same for a script."""
+
+    def __init__(self, text: str, data: Dict[str, object]) -> None:
+        super().__init__(text)
+        self.data = data
+
+
 class Argument(NamedTuple):
     """An argument as `add_argument` takes it, and the words that it can be, where they are few."""
 
@@ -63,13 +71,20 @@ def command(name: str, text: str, *arguments: Argument) -> Callable[[Function], 
     return noted
 
 
-FOLDER = argument("folder", type=Path, metavar="FOLDER", help="a folder of CSV files, or of bin files")
+def a_path(text: str) -> Path:
+    """A path of the command line. An empty one, such as that of an unset variable, would be the current folder."""
+    if not text:
+        raise argparse.ArgumentTypeError("it is empty, and a path is needed")
+    return Path(text)
+
+
+FOLDER = argument("folder", type=a_path, metavar="FOLDER", help="a folder of CSV files, or of bin files")
 ROUND_PRICES = argument("--round-prices", action="store_true", help="round prices of more than two decimals to the nearest cent")
 
 
 def writes(text: str, required: bool = False) -> Argument:
     """Where the command writes."""
-    return argument("-o", "--out", type=Path, metavar="OUT", required=required, help=text)
+    return argument("-o", "--out", type=a_path, metavar="OUT", required=required, help=text)
 
 
 # Beside every -o.
@@ -78,7 +93,7 @@ FORCE = argument("--force", action="store_true", help="write over files that are
 
 def reads(name: str, text: str, **settings: Any) -> Argument:
     """A file that the command reads."""
-    return argument(name, type=Path, metavar=name.upper(), help=text, **settings)
+    return argument(name, type=a_path, metavar=name.upper(), help=text, **settings)
 
 
 def _choice(name: str, choices: Type[Word], every: str, **settings: Any) -> Argument:

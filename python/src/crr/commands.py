@@ -39,7 +39,10 @@ def check(folder: Path, round_prices: bool) -> Answer:
     return Answer(PASSES, text + "".join(f"{note}\n" for note in beside), data)
 
 
-@command("pack", "CSV files to grid.bin, book.bin, names.csv and price files", FOLDER, ROUND_PRICES, writes("a folder"), FORCE)
+_BESIDE = "a folder; without it, the same folder"
+
+
+@command("pack", "CSV files to grid.bin, book.bin, names.csv and price files", FOLDER, ROUND_PRICES, writes(_BESIDE), FORCE)
 def pack(folder: Path, out: Optional[Path], round_prices: bool, force: bool) -> Answer:
     """CSV files to bin files, read back and compared. Beside the CSV files, where no other folder is named, they replace those of before."""
     target = out or folder
@@ -51,7 +54,7 @@ def pack(folder: Path, out: Optional[Path], round_prices: bool, force: bool) -> 
     return Answer(PASSES, text, {"out": str(target), "written": written, "rounded_prices": rounded})
 
 
-@command("unpack", "bin files to CSV files", FOLDER, writes("a folder"), FORCE)
+@command("unpack", "bin files to CSV files", FOLDER, writes(_BESIDE), FORCE)
 def unpack(folder: Path, out: Optional[Path], force: bool) -> Answer:
     """Bin files to CSV files, beside them where no other folder is named."""
     target = out or folder
@@ -177,7 +180,7 @@ def _jobs(text: str) -> int:
     ROUND_PRICES,
     writes("a folder for the result files"),
     FORCE,
-    argument("-j", "--jobs", type=_jobs, default=1, metavar="N", help="how many processes, at least 1"),
+    argument("-j", "--jobs", type=_jobs, default=1, metavar="N", help="how many processes, 1 to 9999; without it, 1"),
 )
 def settle(folder: Path, out: Optional[Path], jobs: int, round_prices: bool, force: bool) -> Answer:
     """Settles every hour; with `out` writes hours.csv, holders.csv and contracts.csv there, over those of before."""

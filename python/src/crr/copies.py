@@ -9,7 +9,7 @@ import hashlib
 from pathlib import Path
 from typing import Dict, List, NamedTuple, Optional, Sequence, Tuple
 
-from .command import FAILS, FOLDER, FORCE, PASSES, Answer, argument, command, counted, objects, writes
+from .command import FAILS, FOLDER, FORCE, PASSES, Answer, a_path, argument, command, counted, objects, writes
 from .decimals import decimal
 from .faults import Fault, Faults, raise_any
 from .files import Contract, read_book, read_grid, write_book, write_settled_book
@@ -125,8 +125,8 @@ def _both(folders: Sequence[Path]) -> List[Opened]:
 @command(
     "same",
     "whether two folders have the same book, rows shuffled or split or not, and the totals that differ",
-    argument("first", type=Path, metavar="FOLDER", help=FOLDER.settings["help"]),
-    argument("second", type=Path, metavar="FOLDER", help="another such folder"),
+    argument("first", type=a_path, metavar="FOLDER", help=FOLDER.settings["help"]),
+    argument("second", type=a_path, metavar="FOLDER", help="another such folder"),
 )
 def same(first: Path, second: Path) -> Answer:
     """Whether two folders have the same book; status 1 where they have not, with every total that differs."""

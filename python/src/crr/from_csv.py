@@ -13,7 +13,7 @@ import re
 from array import array
 from datetime import date
 from pathlib import Path
-from typing import Dict, List, Optional, Set, Tuple
+from typing import Dict, List, Optional, Set, Tuple, Union
 
 from .book_csv import read_book, word_in
 from .case import FORMS, Case, Names, PricedHour, book_form, grid_form
@@ -51,7 +51,9 @@ class Loaded:
             sheet.fault(line, ours, f"more than {most} {what}", refusal)
 
 
-def load(folder: Path, any_size: bool = False, round_prices: bool = False, prices: bool = True) -> Tuple[Case, int]:
+def load(
+    folder: Union[str, Path], any_size: bool = False, round_prices: bool = False, prices: bool = True
+) -> Tuple[Case, int]:
     """The case of a folder, and how many of its prices were rounded. Raises `Faults`.
 
     With `any_size` counts above the library's are taken, for settling by slices. With `round_prices` a price of more than two decimals is

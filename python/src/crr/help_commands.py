@@ -6,7 +6,7 @@ from __future__ import annotations
 import argparse
 from typing import Dict, List, Optional
 
-from .command import COMMANDS, PASSES, Answer, Argument, Command, argument
+from .command import COMMANDS, PASSES, Answer, Argument, Command, Shown, argument
 from .command import command as as_command
 
 SHELLS = ("bash", "zsh")
@@ -27,12 +27,12 @@ def _name(text: str) -> str:
 )
 def help_command(about: Optional[str]) -> Answer:
     """The same as --help behind the command."""
-    from .cli import Shown, parser  # which lists the commands of this module too
+    from .cli import parser  # which lists the commands of this module too
 
     try:
         parser().parse_args([about, "--help"] if about else ["--help"])
     except Shown as shown:
-        return Answer(PASSES, str(shown), {"help": str(shown)})
+        return Answer(PASSES, str(shown), shown.data)
     raise AssertionError("help ends the parser")
 
 

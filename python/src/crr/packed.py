@@ -7,7 +7,7 @@ import re
 from array import array
 from dataclasses import dataclass, field
 from pathlib import Path
-from typing import Callable, Dict, List, Tuple, cast
+from typing import Callable, Dict, List, Tuple, Union, cast
 
 from .case import Case, Names, PricedHour, check_lengths
 from .faults import Fault, Faults, raise_any
@@ -107,7 +107,7 @@ def write_bin(files: Packed, folder: Path, force: bool = False, whole: Callable[
     return list(out)
 
 
-def write_packed(case: Case, folder: Path, force: bool = False) -> List[str]:
+def write_packed(case: Case, folder: Union[str, Path], force: bool = False) -> List[str]:
     """Packs a case into a folder. What was written is read back and compared before it is moved to its place."""
 
     def same(staged: Path) -> None:
@@ -117,7 +117,7 @@ def write_packed(case: Case, folder: Path, force: bool = False) -> List[str]:
         except (Faults, Refused) as problem:
             raise OSError(f"it does not read back: {problem}") from None
 
-    return write_bin(packed(case), folder, force, same)
+    return write_bin(packed(case), Path(folder), force, same)
 
 
 def price_files(folder: Path) -> List[str]:
@@ -165,10 +165,11 @@ def _hours(folder: Path, told: Dict[int, str], faults: List[Fault]) -> List[Pric
     return [PriceFile(day, hour, os.path.join(folder, "prices.bin"))]
 
 
-def read_packed(folder: Path) -> Packed:
+def read_packed(folder: Union[str, Path]) -> Packed:
     """The files of a bin folder. A grid or book that is missing or refused is a fault; price files are read when they are needed."""
     faults: List[Fault] = []
     inputs: List[Input] = []
+    folder = Path(folder)
     grid = _read(folder / "grid.bin", MAX_GRID_BYTES, faults, inputs)
     book = _read(folder / "book.bin", MAX_BOOK_BYTES, faults, inputs)
     tables = read_names(folder, faults, inputs)

@@ -132,7 +132,7 @@ def figures(
 _TEXT = "one HTML page: verdicts, loading of constraints, payments and congestion rent"
 
 
-@command("report", _TEXT, FOLDER, ROUND_PRICES, writes("the HTML file"), FORCE)
+@command("report", _TEXT, FOLDER, ROUND_PRICES, writes("the HTML file; without it, report.html in the folder"), FORCE)
 def report(folder: Path, out: Optional[Path], round_prices: bool, force: bool) -> Answer:
     """Writes the page, over one of before; a book that fails is what it tells and no fault of it."""
     found = opened(folder, round_prices)

@@ -90,7 +90,7 @@ class Sheet:
         try:
             data = path.read_bytes()
         except OSError as error:
-            self.faults.append(Fault(self.name, 0, "", unread(path, error)))
+            self.faults.append(Fault(self.name, 0, "", unread(path, error, self.name)))
             return "", False
         note(inputs, self.name, data)
         if data[:2] in (b"\xff\xfe", b"\xfe\xff"):
@@ -228,15 +228,16 @@ def _reason(error: csv.Error) -> str:
     return f"quotes: {error}"
 
 
-def unread(path: Path, error: OSError) -> str:
-    """Why a file can't be read: a link that leads nowhere and a file under a name much like it are told."""
+def unread(path: Path, error: OSError, name: str = "") -> str:
+    """Why a file can't be read: a link that leads nowhere and a file under a name much like it are told, and its
+    path where that is not the name that it is told by."""
     if isinstance(error, FileNotFoundError):
         if path.is_symlink():
             return f"a symbolic link to {os.readlink(path)}, which is not there"
         others = alike(path)
         if others:
             return f"not there, and {', '.join(others)} is: it is read under the name {path.name} alone"
-    return f"{error.strerror}: {path}"
+    return str(error.strerror) if name == str(path) else f"{error.strerror}: {path}"
 
 
 _EXTENSIONS = ("csv", "txt", "tsv", "xls", "xlsx", "ods", "bin")

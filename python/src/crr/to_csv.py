@@ -5,7 +5,7 @@ from __future__ import annotations
 import csv
 import io
 from pathlib import Path
-from typing import Dict, Iterable, List, Sequence, Tuple
+from typing import Dict, Iterable, List, Sequence, Tuple, Union
 
 from .book_csv import BOOK
 from .case import Case, Names, PricedHour, check_lengths
@@ -61,8 +61,8 @@ def csv_files(case: Case, hour_name: str = "") -> Dict[str, str]:
     return files
 
 
-def write_csv(case: Case, folder: Path, hour_name: str = "", force: bool = False) -> List[str]:
+def write_csv(case: Case, folder: Union[str, Path], hour_name: str = "", force: bool = False) -> List[str]:
     """Writes a case's CSV files and gives their names. A file that is there and says something else is a fault, unless forced."""
     files = {name: text.encode() for name, text in csv_files(case, hour_name).items()}
-    write_files(folder, files, force)
+    write_files(Path(folder), files, force)
     return list(files)

@@ -4,18 +4,19 @@ from __future__ import annotations
 
 from argparse import SUPPRESS, Action, ArgumentParser
 from hashlib import sha256
-from typing import Any, Sequence
+from typing import Any, Dict, Sequence
 
+from .command import Shown
 from .library import library_origin, library_path
 
 __version__ = "0.1.0"
 
 
-def about() -> str:
+def about() -> Dict[str, str]:
     """The version; the library that was taken, where it comes from and its hash."""
     path = library_path()
     hashed = sha256(path.read_bytes()).hexdigest()
-    return f"crr {__version__}\nlibrary {path}\nfrom    {library_origin(path)}\nsha256  {hashed}\n"
+    return {"version": __version__, "library": str(path), "from": library_origin(path), "sha256": hashed}
 
 
 class Version(Action):
@@ -26,7 +27,8 @@ class Version(Action):
 
     def __call__(self, parser: ArgumentParser, *_: Any) -> None:
         try:
-            text = about()
+            told = about()
         except OSError as problem:
             parser.exit(2, f"crr {__version__}: {problem}\n")
-        parser.exit(0, text)
+        text = "crr {version}\nlibrary {library}\nfrom    {from}\nsha256  {sha256}\n".format_map(told)
+        raise Shown(text, dict(told))
