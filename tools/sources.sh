@@ -9,6 +9,7 @@ machine=x86-64-linux
 declare -A stands_on=()
 read_crates() {
     local line name below
+    [ -r crates.txt ] || { echo "crates.txt can't be read" >&2; exit 2; }
     while IFS= read -r line || [ -n "$line" ]; do
         line=${line%%#*}
         [[ $line == *:* ]] || continue

@@ -109,13 +109,13 @@ pub fn net_transfers(load: Load) -> Result<Times, String> {
     let lists = lists(&mut Draw::new(2013), load);
     let mut nets = vec![7; load.lses * load.lses + 1];
     let mut plain_nets = nets.clone();
-    let proved = library::net_transfers(load.lses, &lists, &mut nets);
+    let proved = library::net_transfers(load.lses, &lent(&lists), &mut nets);
     let plain = plain::net_transfers(load.lses, &lists_of(&lists), &mut plain_nets);
     agree(&proved, &plain.err().unwrap_or(0))?;
     agree(&nets, &plain_nets)?;
     Ok(side_by_side(
         &mut || {
-            black_box(library::net_transfers(load.lses, black_box(&lists), &mut nets));
+            black_box(library::net_transfers(load.lses, &lent(black_box(&lists)), &mut nets));
             black_box(&nets);
         },
         &mut || {
