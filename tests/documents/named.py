@@ -15,7 +15,7 @@ ROOT = Path(__file__).resolve().parents[2]
 SOURCES = (".rt", ".antt", ".py", ".rs", ".h", ".c", ".hpp", ".v", ".edit", ".txt", ".toml", ".sh")
 PATH = re.compile(r"[\w.*-]+(/[\w.*-]+)+/?|[\w-]+\.(?:antt|rt|py|rs|c|h|md|csv|bin|edit|so|a|v|txt|html)")
 NAME = re.compile(r"[A-Za-z][\w]*(?:[-_][\w]+)+|[a-z]+[A-Z]\w*|[A-Z][a-z]+[A-Z]\w*")
-PLACEHOLDER = re.compile(r"\b(?:NN|CRATE|LABEL|NAME|YYYY|DIR)\b|\bX_|HEhh|\bmine\b")
+PLACEHOLDER = re.compile(r"\b(?:NN|CRATE|LABEL|NAME|YYYY|DIR|FOLDER|OUT)\b|\bX_|HEhh|\bmine\b")
 WIDTH = 100
 
 
@@ -75,10 +75,17 @@ def named(page, names, known, listed):
         elif command:
             continue
         elif PATH.fullmatch(span) and not re.fullmatch(r"[\d./]+", span):
-            if not there(span, page, names) and Path(span).name not in known:
+            if not there(span, page, names) and ("/" in span or span not in known):
                 yield f"`{span}` is not there"
         elif NAME.fullmatch(span) and span not in known:
             yield f"`{span}` stands in no source"
+
+
+def bare(page, names):
+    """Files of crates that a page names without backquotes."""
+    for path in re.findall(r"(?<![\w/`])\w+/(?:specs|proofs|src)/[\w/]+\.(?:antt|rt)\b", page.read_text(encoding="utf-8")):
+        if f"crates/{path}" not in names:
+            yield f"{path} is not there"
 
 
 def links(page):
@@ -109,7 +116,7 @@ def main():
     for name in pages(names):
         page = ROOT / name
         told = name.startswith("docs/landings/") or name == "CHANGELOG.md"
-        found = [*links(page), *wide(page), *([] if told else named(page, names, known, listed))]
+        found = [*links(page), *wide(page), *([] if told else [*named(page, names, known, listed), *bare(page, names)])]
         problems += [f"{name}: {problem}" for problem in found]
     for problem in problems:
         print(f"documents: {problem}", file=sys.stderr)
