@@ -7,7 +7,16 @@
  * nothing, keeps no state and does no input or output, so any number of threads may
  * call it at once. There is no floating point in it.
  * crr_write_report and crr_write_statement hold a grid's tables on the stack: 200,000
- * bytes are enough for either. 50,000 are enough for any other function.
+ * bytes (CRR_TEXT_STACK_BYTES) are enough for either. 50,000 (CRR_STACK_BYTES) are
+ * enough for any other function.
+ *
+ *
+ * INTERFACE. This header's declarations have the number CRR_INTERFACE, and
+ * crr_interface gives that of the library. A program that loads the library compares
+ * the two once, before any other call: where they differ, it was made for another
+ * library. The number changes where a function, a size, a unit or a meaning that was
+ * there becomes another one, and with it the name that the shared library goes by
+ * (libcrr.so.1); a function more leaves it as it is.
  *
  *
  * UNITS. All figures are whole numbers.
@@ -40,7 +49,8 @@
  *
  * TABLES. Each may be longer than is needed: only the first cells are read or
  * written. Lists are exact and read whole, their lengths say how many there are:
- * demands, a hub's two lists, and those of crr_remap_book and crr_migrate_load.
+ * demands, a hub's two lists, and those of crr_remap_book, crr_net_transfers and
+ * crr_migrate_load.
  *
  *   limits    one cell for each constraint
  *   factors   one cell for each node and constraint; the factor of node n on
@@ -94,8 +104,9 @@
  *
  * After every call, refused or not, flows and count are those worked out afresh over
  * the awards held. These, written as a book by crr_write_book from the rows as they
- * stand, pass crr_test_book in the process and period, so that no list of shadow
- * prices makes their net payment exceed the congestion rent.
+ * stand, in a form that can hold their ends (the wide one always can), pass
+ * crr_test_book in the process and period, so that no list of shadow prices makes
+ * their net payment exceed the congestion rent.
  *
  * What callers owe for this: the state was opened by crr_open_running, no cell of it
  * was altered but by these functions, and counts, process, period and tables are the
@@ -110,20 +121,24 @@
  * is for node numbers of one byte: a grid of at most 200 nodes, a book whose sources
  * and sinks are at most 255. The wide one is for up to 4,000 nodes: a node count of
  * 16 bits, sources and sinks of 12. Each function that takes such a file takes both
- * and tells them apart by the first two bytes. A grid and a book may differ in form,
- * and grids or books that differ in nothing else give the same answers. Writers are
- * told the form by a number: 0 (CRR_NARROW) is narrow, any other number is wide
- * (CRR_WIDE is 1). Readers give 0 or 1, so that what was read can be written again,
- * byte for byte; a book made from a book (remapped, settled, for the market, grown by a
- * hub's contract or by load migration) keeps its form. Write the wide form where a node
- * number needs it, and otherwise the narrow one: it is shorter, and it is the one that
- * libraries without forms take, which refuse every wide file. The layouts are in
- * crates/layouts/specs.
+ * and tells them apart by the first two bytes. A grid and a book may differ in form.
+ * Grids or books that differ in nothing else are tested, listed for cuts and settled
+ * alike, and are read to the same tables. What depends on the form besides is a view or
+ * file written from a book (its length and bytes, and so its 9), the 11 of a node above
+ * 255 that would go into a narrow book (remapped, a hub's nodes and sink), and a text's
+ * 5 for a grid of more than 32,768 bytes. Writers are told the form by a number: 0
+ * (CRR_NARROW) is narrow, any other number is wide (CRR_WIDE is 1). Readers give 0 or
+ * 1, so that what was read can be written again, byte for byte; a book made from a book
+ * (remapped, settled, for the market, grown by a hub's contract or by load migration)
+ * keeps its form. Write the wide form where a node number needs it, and otherwise the
+ * narrow one: it is shorter, and it is the one that libraries without forms take, which
+ * refuse every wide file. The layouts are in crates/layouts/specs.
  *
  *
- * ANSWERS. Every function returns 0, or the number of the refusal (below). Its
- * checks run in the order that its comment lists, and the first that fails gives
- * the number. On a refusal nothing that was lent has changed: no cell of any
+ * ANSWERS. Every function but crr_interface returns 0, or the number of the refusal
+ * (below). Its checks run in the order that its comment lists, by number and by name
+ * without CRR_, and the first that fails gives the number. crr_refusal_text has a
+ * sentence for each. On a refusal nothing that was lent has changed: no cell of any
  * buffer, and no figure. On success only what the comment names is written: the
  * first cells of a buffer, and the figures; a buffer's other cells stay as they
  * are. Every function answers on every input of the right form; none needs its
@@ -133,8 +148,9 @@
  * WHAT CALLERS OWE. A buffer is passed as a pointer and a length in cells, not in
  * bytes.
  *
- *   - Every pointer is non-null, also where the length is 0, and aligned for its
- *     type.
+ *   - Every pointer is aligned for its type, and non-null but where the length beside
+ *     it is 0: an empty std::vector's null is taken, and so is that of a file of no
+ *     bytes. A figure's pointer is never null.
  *   - The length cells from the pointer on are one object's, readable, and
  *     writable where the parameter is not const. What is lent to be written need
  *     not be set before the call: any bytes there will do.
@@ -156,6 +172,13 @@
 #ifdef __cplusplus
 extern "C" {
 #endif
+
+/* The number of this interface. */
+#define CRR_INTERFACE 1
+
+/* Stack that is enough: for crr_write_report and crr_write_statement, and for any other. */
+#define CRR_TEXT_STACK_BYTES 200000
+#define CRR_STACK_BYTES 50000
 
 /* Sizes: the most that is accepted. */
 #define CRR_MAX_NODES 4000
@@ -196,6 +219,9 @@ extern "C" {
 #define CRR_STATEMENT_BYTES 29085
 #define CRR_REPORT_BYTES 2048
 
+/* The longest sentence of crr_refusal_text fits into so many. */
+#define CRR_REFUSAL_TEXT_BYTES 128
+
 /* The years of the calendar. */
 #define CRR_FIRST_YEAR 2010
 #define CRR_LAST_YEAR 2037
@@ -233,7 +259,7 @@ extern "C" {
 #define CRR_PROCESS_NUMBER 16  /* process not 0 to 2 */
 #define CRR_PERIOD_OR_KIND 17  /* a period not 0 or 1; writing a book, adding to one or adding an award, a kind or period not 0 or 1 */
 #define CRR_HOLDER_RANGE 18    /* holder above 1,023 */
-#define CRR_NO_SUCH_DATE 19    /* a date or month that does not exist or is outside 2010 to 2037, given or reached */
+#define CRR_NO_SUCH_DATE 19    /* a date or month that does not exist or is outside 2010 to 2037 */
 #define CRR_TIER_MARK 20       /* running test: a tier not 1 to 4, or returning to one that is not marked */
 #define CRR_AWARD_OVERLOAD 21  /* running test: with the award some flow would exceed its released limit */
 #define CRR_MIGRATION_RANGE 22 /* load migration: a figure, count or LSE number outside its range, unequal lists, or a row whose old and new LSE are one */
@@ -244,17 +270,37 @@ extern "C" {
 #define CRR_NO_DEMAND 27       /* sharing a balance: the demands total 0 */
 
 /*
+ * Gives the number of the interface that the library has: CRR_INTERFACE of the header
+ * that it was built with. It refuses nothing.
+ */
+uint64_t crr_interface(void);
+
+/*
+ * Writes what a refusal's number means: the sentence that stands beside it above, 0
+ * for none among them. ASCII, no line feed, no 0 byte at the end. A number that no
+ * refusal has is without a sentence, which is no refusal: it gives 0 bytes.
+ *
+ * On success writes the sentence to the first bytes of text, and its length to
+ * *bytes. CRR_REFUSAL_TEXT_BYTES are enough for any.
+ *
+ * Refusals: 9 SHORT_TABLE if the sentence doesn't fit.
+ */
+uint64_t crr_refusal_text(uint64_t number, uint8_t *text, size_t text_len, size_t *bytes);
+
+/*
  * Reads a grid's file, of either form.
  *
  * On success writes the file's limits and factors to the first cells of both
  * tables, the counts to *nodes and *constraints, and 0 (narrow) or 1 (wide) to
  * *form.
  *
- * The file is wide where its node field, the first byte, is 0 and its spare bit,
- * the last of the second byte, is set; else it is narrow. Refusals, in this order:
- * 1 (narrow, fewer than two bytes; wide, fewer than four), 2 (narrow, not 1 to 200
- * nodes; wide, not 1 to 4,000), 3, 4 (narrow alone: the spare bit is set), 5 (by
- * the form's own length), 6, 7, 8, and 9 if the limits or the factors don't fit.
+ * The file is wide where its node field, the first byte, is 0 and its spare bit, the
+ * last of the second byte, is set; else it is narrow. Refusals, in this order:
+ * 1 SHORT_FILE (narrow, fewer than two bytes; wide, fewer than four), 2 NODE_COUNT
+ * (narrow, not 1 to 200 nodes; wide, not 1 to 4,000), 3 CONSTRAINT_COUNT,
+ * 4 SPARE_BITS (narrow alone: the spare bit is set), 5 FILE_LENGTH (by the form's own
+ * length), 6 LIMIT_RANGE, 7 FACTOR_RANGE, 8 PADDING, and 9 SHORT_TABLE if the limits
+ * or the factors don't fit.
  */
 uint64_t crr_read_grid(const uint8_t *file, size_t file_len,
                        uint64_t *limits, size_t limits_len,
@@ -268,8 +314,9 @@ uint64_t crr_read_grid(const uint8_t *file, size_t file_len,
  * On success writes the file to the first bytes of file, and its length to
  * *bytes. The longest has CRR_MAX_GRID_BYTES, the longest narrow one 29,018.
  *
- * Refusals, in this order: 2 (narrow, not 1 to 200 nodes; wide, not 1 to 4,000), 3,
- * 9 (limits, factors), 6, 7, and 9 if the bytes don't fit.
+ * Refusals, in this order: 2 NODE_COUNT (narrow, not 1 to 200 nodes; wide, not 1 to
+ * 4,000), 3 CONSTRAINT_COUNT, 9 SHORT_TABLE (limits, factors), 6 LIMIT_RANGE,
+ * 7 FACTOR_RANGE, and 9 SHORT_TABLE if the bytes don't fit.
  */
 uint64_t crr_write_grid(uint64_t form, size_t nodes, size_t constraints,
                         const uint64_t *limits, size_t limits_len,
@@ -285,10 +332,11 @@ uint64_t crr_write_grid(uint64_t form, size_t nodes, size_t constraints,
  * (wide) to *form.
  *
  * The file is wide where all six spare bits, the last of the second byte, are set,
- * and narrow where they are clear. Refusals, in this order: 2 (not 1 to 4,000 nodes,
- * for both forms), 1 (fewer than two bytes), 10, 4 (some of the spare bits are set
- * and some clear), 5 (by the form's own length), then contract by contract 11, 13,
- * and 9 if the contracts don't fit.
+ * and narrow where they are clear. Refusals, in this order: 2 NODE_COUNT (not 1 to
+ * 4,000 nodes, for both forms), 1 SHORT_FILE (fewer than two bytes),
+ * 10 CONTRACT_COUNT, 4 SPARE_BITS (some of the spare bits are set and some clear),
+ * 5 FILE_LENGTH (by the form's own length), then contract by contract 11 NODE_NUMBER,
+ * 13 QUANTITY_RANGE, and 9 SHORT_TABLE if the contracts don't fit.
  */
 uint64_t crr_read_book(size_t nodes,
                        const uint8_t *file, size_t file_len,
@@ -302,9 +350,10 @@ uint64_t crr_read_book(size_t nodes,
  * On success writes the file to the first bytes of file, and its length to
  * *bytes. The longest has CRR_MAX_BOOK_BYTES, the longest narrow one 6,002.
  *
- * Refusals, in this order: 2 (not 1 to 4,000 nodes, for both forms), 10, 9 (book),
- * then contract by contract 17, 18, 11 (narrow, also a source or sink above 255),
- * 13, and 9 if the bytes don't fit.
+ * Refusals, in this order: 2 NODE_COUNT (not 1 to 4,000 nodes, for both forms),
+ * 10 CONTRACT_COUNT, 9 SHORT_TABLE (book), then contract by contract
+ * 17 PERIOD_OR_KIND, 18 HOLDER_RANGE, 11 NODE_NUMBER (narrow, also a source or sink
+ * above 255), 13 QUANTITY_RANGE, and 9 SHORT_TABLE if the bytes don't fit.
  */
 uint64_t crr_write_book(uint64_t form, size_t nodes, size_t contracts,
                         const uint64_t *book, size_t book_len,
@@ -325,9 +374,11 @@ uint64_t crr_write_book(uint64_t form, size_t nodes, size_t contracts,
  * periods, holders, quantities and the order of the contracts stay. Ends may become
  * equal.
  *
- * Refusals, in this order: 2, 1, 10, 4, 5, then contract by contract 11, 13; 11 (a
- * number of old_nodes, of new_nodes; where the book is narrow, also one of new_nodes
- * above 255), 9 if the lists differ in length, and 9 if the bytes don't fit.
+ * Refusals, in this order: 2 NODE_COUNT, 1 SHORT_FILE, 10 CONTRACT_COUNT,
+ * 4 SPARE_BITS, 5 FILE_LENGTH, then contract by contract 11 NODE_NUMBER,
+ * 13 QUANTITY_RANGE; 11 NODE_NUMBER (a number of old_nodes, of new_nodes; where the
+ * book is narrow, also one of new_nodes above 255), 9 SHORT_TABLE if the lists differ
+ * in length, and 9 SHORT_TABLE if the bytes don't fit.
  */
 uint64_t crr_remap_book(size_t nodes,
                         const uint8_t *book, size_t book_len,
@@ -349,8 +400,9 @@ uint64_t crr_remap_book(size_t nodes,
  * and the same bytes, also where they are refused. That is said of what is answered
  * and written, not of the time that it takes.
  *
- * Refusals, in this order: 2, 1, 10, 4, 5, then contract by contract 11, 13; and 9 if
- * the bytes don't fit.
+ * Refusals, in this order: 2 NODE_COUNT, 1 SHORT_FILE, 10 CONTRACT_COUNT,
+ * 4 SPARE_BITS, 5 FILE_LENGTH, then contract by contract 11 NODE_NUMBER,
+ * 13 QUANTITY_RANGE; and 9 SHORT_TABLE if the bytes don't fit.
  */
 uint64_t crr_write_market_view(size_t nodes,
                                const uint8_t *book, size_t book_len,
@@ -376,8 +428,9 @@ uint64_t crr_write_market_view(size_t nodes,
  * is said of what is answered and written, not of time: a call takes the longer, the
  * more contracts match the holder.
  *
- * Refusals, in this order: 2, 1, 10, 4, 5, then contract by contract 11, 13; 18, and 9
- * if the view doesn't fit.
+ * Refusals, in this order: 2 NODE_COUNT, 1 SHORT_FILE, 10 CONTRACT_COUNT,
+ * 4 SPARE_BITS, 5 FILE_LENGTH, then contract by contract 11 NODE_NUMBER,
+ * 13 QUANTITY_RANGE; 18 HOLDER_RANGE, and 9 SHORT_TABLE if the view doesn't fit.
  */
 uint64_t crr_write_holder_view(size_t nodes,
                                const uint8_t *book, size_t book_len,
@@ -402,8 +455,9 @@ uint64_t crr_write_holder_view(size_t nodes,
  * crr_find_flows give the same but for *counted, and crr_settle_hour the same *whole
  * and *parts. Cents are rounded row by row, so they and their *sum may differ.
  *
- * Refusals, in this order: 2, 1, 10, 4, 5, then contract by contract 11, 13, and 9 if
- * the bytes of the settled form don't fit.
+ * Refusals, in this order: 2 NODE_COUNT, 1 SHORT_FILE, 10 CONTRACT_COUNT,
+ * 4 SPARE_BITS, 5 FILE_LENGTH, then contract by contract 11 NODE_NUMBER,
+ * 13 QUANTITY_RANGE, and 9 SHORT_TABLE if the bytes of the settled form don't fit.
  */
 uint64_t crr_write_settled_book(size_t nodes,
                                 const uint8_t *book, size_t book_len,
@@ -432,10 +486,13 @@ uint64_t crr_write_settled_book(size_t nodes,
  * in the settlement: it is no option on the hub's price. Allocated contracts are not
  * combined into one of the hub again, as the text of 003, 36.8.4.1, would have it.
  *
- * Refusals, in this order: 2, 1, 10, 4, 5, then contract by contract 11, 13; 17 (kind,
- * period), 18, 11 (a number of hub_nodes, the sink; where the book is narrow, also one
- * above 255), 13, 24, 25, 10 (the book's contracts and those made are more than 1,000),
- * and 9 if the bytes don't fit. Unequal lists are 24.
+ * Refusals, in this order: 2 NODE_COUNT, 1 SHORT_FILE, 10 CONTRACT_COUNT,
+ * 4 SPARE_BITS, 5 FILE_LENGTH, then contract by contract 11 NODE_NUMBER,
+ * 13 QUANTITY_RANGE; 17 PERIOD_OR_KIND (kind, period), 18 HOLDER_RANGE,
+ * 11 NODE_NUMBER (a number of hub_nodes, the sink; where the book is narrow, also one
+ * above 255), 13 QUANTITY_RANGE, 24 HUB_SHAPE, 25 HUB_NODE_TWICE, 10 CONTRACT_COUNT
+ * (the book's contracts and those made are more than 1,000), and 9 SHORT_TABLE if the
+ * bytes don't fit. Unequal lists are 24.
  */
 uint64_t crr_add_hub_contract(size_t nodes,
                               const uint8_t *book, size_t book_len,
@@ -452,7 +509,9 @@ uint64_t crr_add_hub_contract(size_t nodes,
  * On success writes one price for each constraint to the first cells of prices,
  * and the hour's period to *period.
  *
- * Refusals, in this order: 3, 1, 14, 5, 15, 8, and 9 if the prices don't fit.
+ * Refusals, in this order: 3 CONSTRAINT_COUNT, 1 SHORT_FILE, 14 PRICE_COUNT,
+ * 5 FILE_LENGTH, 15 PRICE_RANGE, 8 PADDING, and 9 SHORT_TABLE if the prices don't
+ * fit.
  */
 uint64_t crr_read_prices(size_t constraints,
                          const uint8_t *file, size_t file_len,
@@ -465,7 +524,8 @@ uint64_t crr_read_prices(size_t constraints,
  * On success writes the file to the first bytes of file, and its length to
  * *bytes. The longest has CRR_MAX_PRICE_BYTES.
  *
- * Refusals, in this order: 17, 3, 9 (prices), 15, and 9 if the bytes don't fit.
+ * Refusals, in this order: 17 PERIOD_OR_KIND, 3 CONSTRAINT_COUNT, 9 SHORT_TABLE
+ * (prices), 15 PRICE_RANGE, and 9 SHORT_TABLE if the bytes don't fit.
  */
 uint64_t crr_write_prices(uint64_t period, size_t constraints,
                           const uint64_t *prices, size_t prices_len,
@@ -486,8 +546,10 @@ uint64_t crr_write_prices(uint64_t period, size_t constraints,
  * period's contracts exceed the congestion rent. On fail, prices of 1 cent at
  * *lowest and 0 elsewhere do, by *excess in 10^-8 cents for an hour.
  *
- * Refusals, in this order: 2, 3, 16, 17, 9 (limits, factors), 6, 7, then the
- * book's own: 1, 10, 4, 5, and contract by contract 11, 13.
+ * Refusals, in this order: 2 NODE_COUNT, 3 CONSTRAINT_COUNT, 16 PROCESS_NUMBER,
+ * 17 PERIOD_OR_KIND, 9 SHORT_TABLE (limits, factors), 6 LIMIT_RANGE, 7 FACTOR_RANGE,
+ * then the book's own: 1 SHORT_FILE, 10 CONTRACT_COUNT, 4 SPARE_BITS, 5 FILE_LENGTH,
+ * and contract by contract 11 NODE_NUMBER, 13 QUANTITY_RANGE.
  */
 uint64_t crr_test_book(size_t nodes, size_t constraints,
                        uint64_t process, uint64_t period,
@@ -506,8 +568,11 @@ uint64_t crr_test_book(size_t nodes, size_t constraints,
  * overloaded in a process exactly when flows[k] is above limits[k] * percent *
  * 1,000, with the percent that crr_released_percent gives.
  *
- * Refusals, in this order: 2, 3, 17, 9 (limits, factors), 6, 7, then the book's
- * own: 1, 10, 4, 5, and contract by contract 11, 13; and 9 if the flows don't fit.
+ * Refusals, in this order: 2 NODE_COUNT, 3 CONSTRAINT_COUNT, 17 PERIOD_OR_KIND,
+ * 9 SHORT_TABLE (limits, factors), 6 LIMIT_RANGE, 7 FACTOR_RANGE, then the book's
+ * own: 1 SHORT_FILE, 10 CONTRACT_COUNT, 4 SPARE_BITS, 5 FILE_LENGTH, and contract by
+ * contract 11 NODE_NUMBER, 13 QUANTITY_RANGE; and 9 SHORT_TABLE if the flows don't
+ * fit.
  */
 uint64_t crr_find_flows(size_t nodes, size_t constraints, uint64_t period,
                         const uint64_t *limits, size_t limits_len,
@@ -535,10 +600,12 @@ uint64_t crr_find_flows(size_t nodes, size_t constraints, uint64_t period,
  * *listed is 0 for a book that passes, and also for one that fails and that no
  * single contract's cut clears: crr_test_book tells them apart.
  *
- * Refusals, in this order: 2, 3, 16, 17, 9 (limits, factors), 6, 7, then the book's
- * own: 1, 10, 4, 5, and contract by contract 11, 13; last 9 if numbers or cuts has
- * fewer cells than there are rows. CRR_MAX_CONTRACTS cells of each are enough, and a
- * book that passes asks for none.
+ * Refusals, in this order: 2 NODE_COUNT, 3 CONSTRAINT_COUNT, 16 PROCESS_NUMBER,
+ * 17 PERIOD_OR_KIND, 9 SHORT_TABLE (limits, factors), 6 LIMIT_RANGE, 7 FACTOR_RANGE,
+ * then the book's own: 1 SHORT_FILE, 10 CONTRACT_COUNT, 4 SPARE_BITS, 5 FILE_LENGTH,
+ * and contract by contract 11 NODE_NUMBER, 13 QUANTITY_RANGE; last 9 SHORT_TABLE if
+ * numbers or cuts has fewer cells than there are rows. CRR_MAX_CONTRACTS cells of
+ * each are enough, and a book that passes asks for none.
  */
 uint64_t crr_find_cuts(size_t nodes, size_t constraints,
                        uint64_t process, uint64_t period,
@@ -571,8 +638,10 @@ struct crr_running {
  * On success writes 0 to the first 14 cells of numbers and the first 320 of flows, and
  * nothing to awards.
  *
- * Refusals, in this order: 2, 3, 16, 17, 9 (limits, factors; awards of fewer than 6,000
- * cells, numbers of fewer than 14, flows of fewer than 320), 6, 7.
+ * Refusals, in this order: 2 NODE_COUNT, 3 CONSTRAINT_COUNT, 16 PROCESS_NUMBER,
+ * 17 PERIOD_OR_KIND, 9 SHORT_TABLE (limits, factors; awards of fewer than 6,000
+ * cells, numbers of fewer than 14, flows of fewer than 320), 6 LIMIT_RANGE,
+ * 7 FACTOR_RANGE.
  */
 uint64_t crr_open_running(size_t nodes, size_t constraints,
                           uint64_t process, uint64_t period,
@@ -593,9 +662,12 @@ uint64_t crr_open_running(size_t nodes, size_t constraints,
  * cell 0 of numbers one more, and, for an award of the period, to cell 1 one more and
  * to the first cells of flows, one for each constraint, the flows with the award's.
  *
- * Refusals, in this order: 2, 3, 16, 17, 9 (as crr_open_running, and an award of fewer
- * than six cells), 6, 7, 10 (1,000 awards are held), then of the award 17, 18, 11, 13,
- * and 21 (some flow would exceed its released limit; it is not said which).
+ * Refusals, in this order: 2 NODE_COUNT, 3 CONSTRAINT_COUNT, 16 PROCESS_NUMBER,
+ * 17 PERIOD_OR_KIND, 9 SHORT_TABLE (as crr_open_running, and an award of fewer than
+ * six cells), 6 LIMIT_RANGE, 7 FACTOR_RANGE, 10 CONTRACT_COUNT (1,000 awards are
+ * held), then of the award 17 PERIOD_OR_KIND, 18 HOLDER_RANGE, 11 NODE_NUMBER,
+ * 13 QUANTITY_RANGE, and 21 AWARD_OVERLOAD (some flow would exceed its released
+ * limit; it is not said which).
  */
 uint64_t crr_add_award(size_t nodes, size_t constraints,
                        uint64_t process, uint64_t period,
@@ -613,7 +685,8 @@ uint64_t crr_add_award(size_t nodes, size_t constraints,
  * On success writes, of tier i, 1 and cells 0 and 1 to cells 3 * i - 1, 3 * i and
  * 3 * i + 1 of numbers, and cells 0 to 63 of flows to cells 64 * i to 64 * i + 63.
  *
- * Refusals, in this order: 9 (numbers, flows), 20 (a tier not 1 to 4).
+ * Refusals, in this order: 9 SHORT_TABLE (numbers, flows), 20 TIER_MARK (a tier not 1
+ * to 4).
  */
 uint64_t crr_mark_tier(uint64_t tier,
                        uint64_t *numbers, size_t numbers_len,
@@ -628,8 +701,8 @@ uint64_t crr_mark_tier(uint64_t tier,
  * cells 64 * i to 64 * i + 63 of flows to cells 0 to 63, and 0 to cell 3 * j - 1 of
  * numbers for each tier j whose cell 3 * j is above cell 3 * i.
  *
- * Refusals, in this order: 9 (numbers, flows), 20 (a tier not 1 to 4), 20 (one that is
- * not marked).
+ * Refusals, in this order: 9 SHORT_TABLE (numbers, flows), 20 TIER_MARK (a tier not 1
+ * to 4), 20 TIER_MARK (one that is not marked).
  */
 uint64_t crr_return_to_tier(uint64_t tier,
                             uint64_t *numbers, size_t numbers_len,
@@ -640,7 +713,7 @@ uint64_t crr_return_to_tier(uint64_t tier,
  *
  * On success writes it to *percent: 65, 60 or 100.
  *
- * Refusals: 16.
+ * Refusals: 16 PROCESS_NUMBER.
  */
 uint64_t crr_released_percent(uint64_t process, uint64_t *percent);
 
@@ -649,7 +722,8 @@ uint64_t crr_released_percent(uint64_t process, uint64_t *percent);
  *
  * On success writes one MCC for each node to the first cells of mcc.
  *
- * Refusals, in this order: 2, 3, 9 (factors, prices, mcc), 7, 15.
+ * Refusals, in this order: 2 NODE_COUNT, 3 CONSTRAINT_COUNT, 9 SHORT_TABLE (factors,
+ * prices, mcc), 7 FACTOR_RANGE, 15 PRICE_RANGE.
  */
 uint64_t crr_find_mcc(size_t nodes, size_t constraints,
                       const int64_t *factors, size_t factors_len,
@@ -664,9 +738,10 @@ uint64_t crr_find_mcc(size_t nodes, size_t constraints,
  * to *remainder what is left, 0 to 99,999: *quotient * 100,000 + *remainder is the sum.
  * A sum of -1 is -1 and 99,999.
  *
- * Refusals, in this order: 2, 3, 9 (factors, prices), 7, 15, 11 (a number of hub_nodes),
- * 24, 25. Those before 11 are of all factors and prices, as for crr_find_mcc. Unequal
- * lists are 24.
+ * Refusals, in this order: 2 NODE_COUNT, 3 CONSTRAINT_COUNT, 9 SHORT_TABLE (factors,
+ * prices), 7 FACTOR_RANGE, 15 PRICE_RANGE, 11 NODE_NUMBER (a number of hub_nodes),
+ * 24 HUB_SHAPE, 25 HUB_NODE_TWICE. Those before 11 are of all factors and prices, as
+ * for crr_find_mcc. Unequal lists are 24.
  */
 uint64_t crr_find_hub_mcc(size_t nodes, size_t constraints,
                           const int64_t *factors, size_t factors_len,
@@ -689,8 +764,10 @@ uint64_t crr_find_hub_mcc(size_t nodes, size_t constraints,
  * rounding, as *whole cents, rounded down, and *parts. A total of -83,000,000 is
  * -1 whole cents and 17,000,000 parts.
  *
- * Refusals, in this order: 2, 3, 17, 9 (factors, prices), 7, 15, then the book's
- * own: 1, 10, 4, 5, and contract by contract 11, 13; last 9 if the cents or the
+ * Refusals, in this order: 2 NODE_COUNT, 3 CONSTRAINT_COUNT, 17 PERIOD_OR_KIND,
+ * 9 SHORT_TABLE (factors, prices), 7 FACTOR_RANGE, 15 PRICE_RANGE, then the book's
+ * own: 1 SHORT_FILE, 10 CONTRACT_COUNT, 4 SPARE_BITS, 5 FILE_LENGTH, and contract by
+ * contract 11 NODE_NUMBER, 13 QUANTITY_RANGE; last 9 SHORT_TABLE if the cents or the
  * sets don't fit.
  */
 uint64_t crr_settle_hour(size_t nodes, size_t constraints, uint64_t period,
@@ -717,13 +794,40 @@ uint64_t crr_settle_hour(size_t nodes, size_t constraints, uint64_t period,
  * On success writes one share for each coordinator, in cents, to the first cells of
  * shares.
  *
- * Refusals, in this order: 26 (not 1 to 256 demands; a balance below -1,000,000,000
- * or above 1,000,000,000; a demand above 1,000,000,000), 27, and 9 if the shares
- * don't fit.
+ * Refusals, in this order: 26 SHARE_RANGE (not 1 to 256 demands; a balance below
+ * -1,000,000,000 or above 1,000,000,000; a demand above 1,000,000,000), 27 NO_DEMAND,
+ * and 9 SHORT_TABLE if the shares don't fit.
  */
 uint64_t crr_share_balance(int64_t balance,
                            const uint64_t *demands, size_t demands_len,
                            int64_t *shares, size_t shares_len);
+
+/*
+ * Nets the load that moved between LSEs: the square of net transfers that
+ * crr_migrate_load follows, for those who want to see it; no paper asks for it by
+ * itself. There are so many LSEs, 1 to CRR_MAX_LSES, and the rows of five lists are
+ * those of crr_migrate_load, where the net transfer from one LSE to another is
+ * defined. The lists may be empty.
+ *
+ * On success writes lses * lses cells, a row for each LSE: that from LSE i to LSE j is
+ * in cell (i - 1) * lses + j - 1 of nets, in thousandths of a MW. What LSE i loses to
+ * LSE j is above 0, what it gains below 0; each is the opposite of its mirror, the
+ * cell from j to i. CRR_MAX_LSES * CRR_MAX_LSES cells are always enough. Where
+ * crr_migrate_load takes the same rows and as many loads, the contracts that it adds
+ * follow these cells.
+ *
+ * Refusals, in this order: 22 MIGRATION_RANGE (not 1 to 16 LSEs, more than 1,000
+ * rows, lists of unequal length, customers above 1,000,000, a rate above 10,000, an
+ * LSE number that is 0 or above lses, a row whose old and new LSE are one), and
+ * 9 SHORT_TABLE if the cells don't fit.
+ */
+uint64_t crr_net_transfers(size_t lses,
+                           const uint8_t *classes, size_t classes_len,
+                           const uint64_t *customers, size_t customers_len,
+                           const uint64_t *rates, size_t rates_len,
+                           const uint64_t *olds, size_t olds_len,
+                           const uint64_t *news, size_t news_len,
+                           int64_t *nets, size_t nets_len);
 
 /*
  * Migrates load: the monthly transfer of CRRs between LSEs whose customers moved, for
@@ -754,13 +858,15 @@ uint64_t crr_share_balance(int64_t balance,
  * Cents are rounded contract by contract, so their *sum may differ. The other period
  * is another call, on the new book, with that period's rates and loads.
  *
- * Refusals, in this order: 17, 2, 1, 10, 4, 5, then contract by contract 11, 13; 22 (not
- * 1 to 16 loads, more than 1,000 rows, lists of unequal length, customers above
- * 1,000,000, a rate above 10,000, a load above 1,000,000,000,000, an LSE number that is
- * 0 or above loads_len, a row whose old and new LSE are one), 23 (an LSE with a net
- * above 0 to some other, whose load is 0 or less than its nets above 0 together; what
- * it gains is not set off), 10 (the book's contracts and the new ones are more than
- * 1,000), and 9 if the bytes don't fit.
+ * Refusals, in this order: 17 PERIOD_OR_KIND, 2 NODE_COUNT, 1 SHORT_FILE,
+ * 10 CONTRACT_COUNT, 4 SPARE_BITS, 5 FILE_LENGTH, then contract by contract
+ * 11 NODE_NUMBER, 13 QUANTITY_RANGE; 22 MIGRATION_RANGE (not 1 to 16 loads, more than
+ * 1,000 rows, lists of unequal length, customers above 1,000,000, a rate above
+ * 10,000, a load above 1,000,000,000,000, an LSE number that is 0 or above loads_len,
+ * a row whose old and new LSE are one), 23 LOAD_EXCEEDED (an LSE with a net above 0
+ * to some other, whose load is 0 or less than its nets above 0 together; what it
+ * gains is not set off), 10 CONTRACT_COUNT (the book's contracts and the new ones are
+ * more than 1,000), and 9 SHORT_TABLE if the bytes don't fit.
  */
 uint64_t crr_migrate_load(size_t nodes, uint64_t period,
                           const uint8_t *book, size_t book_len,
@@ -784,8 +890,8 @@ uint64_t crr_migrate_load(size_t nodes, uint64_t period,
  * On success writes the report to the first bytes of text, and its length to
  * *bytes.
  *
- * Refusals: 9 if text has fewer than CRR_REPORT_BYTES bytes. What is wrong with a
- * file is told by the report's line, and the answer is 0.
+ * Refusals: 9 SHORT_TABLE if text has fewer than CRR_REPORT_BYTES bytes. What is
+ * wrong with a file is told by the report's line, and the answer is 0.
  */
 uint64_t crr_write_report(const uint8_t *grid_file, size_t grid_file_len,
                           const uint8_t *book_file, size_t book_file_len,
@@ -803,8 +909,8 @@ uint64_t crr_write_report(const uint8_t *grid_file, size_t grid_file_len,
  * On success writes the statement to the first bytes of text, and its length to
  * *bytes.
  *
- * Refusals: 9 if text has fewer than CRR_STATEMENT_BYTES bytes. What is wrong with
- * a file is told by the statement's line, and the answer is 0.
+ * Refusals: 9 SHORT_TABLE if text has fewer than CRR_STATEMENT_BYTES bytes. What is
+ * wrong with a file is told by the statement's line, and the answer is 0.
  */
 uint64_t crr_write_statement(const uint8_t *grid_file, size_t grid_file_len,
                              const uint8_t *book_file, size_t book_file_len,
@@ -822,7 +928,7 @@ uint64_t crr_write_statement(const uint8_t *grid_file, size_t grid_file_len,
  * On success writes their number to *hours: 384, 400, 416 or 432. January 2024 has
  * 416.
  *
- * Refusals: 19 (a year not 2010 to 2037, a month not 1 to 12).
+ * Refusals: 19 NO_SUCH_DATE (a year not 2010 to 2037, a month not 1 to 12).
  */
 uint64_t crr_month_hours(uint64_t year, uint64_t month, uint64_t *hours);
 
@@ -831,8 +937,8 @@ uint64_t crr_month_hours(uint64_t year, uint64_t month, uint64_t *hours);
  *
  * On success writes it to *weekday: 1 is Monday, 7 is Sunday.
  *
- * Refusals: 19 (a year not 2010 to 2037, a month not 1 to 12, a day that the month
- * does not have).
+ * Refusals: 19 NO_SUCH_DATE (a year not 2010 to 2037, a month not 1 to 12, a day that
+ * the month does not have).
  */
 uint64_t crr_weekday(uint64_t year, uint64_t month, uint64_t day,
                      uint64_t *weekday);
@@ -844,8 +950,8 @@ uint64_t crr_weekday(uint64_t year, uint64_t month, uint64_t day,
  *
  * On success writes the date to *later_year, *later_month and *later_day.
  *
- * Refusals, in this order: 19 (the date given, as for crr_weekday), 19 (the date
- * reached: all of December 2037).
+ * Refusals, in this order: 19 NO_SUCH_DATE (the date given, as for crr_weekday),
+ * 19 NO_SUCH_DATE (the date reached: all of December 2037).
  */
 uint64_t crr_month_later(uint64_t year, uint64_t month, uint64_t day,
                          uint64_t *later_year, uint64_t *later_month,

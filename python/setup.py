@@ -1,7 +1,10 @@
-"""Puts the shared library that ./library built into the package, and tags the wheel: any Python 3, x86-64 Linux. No compiler is needed."""
+"""Puts the shared library into the package, that of dist/ where it is of these sources (crr/library.py).
 
-import os
+The wheel is tagged for any Python 3 on x86-64 Linux. Neither a compiler nor the Rattle kit is needed.
+"""
+
 import shutil
+import sys
 from pathlib import Path
 
 from setuptools import Distribution, setup
@@ -12,15 +15,20 @@ try:
 except ImportError:  # setuptools before 70.1
     from wheel.bdist_wheel import bdist_wheel
 
-LIBRARY = Path(os.environ.get("CRR_LIBRARY") or Path(__file__).resolve().parent.parent / "target" / "sharedlib" / "libcrr.so")
+sys.path.insert(0, str(Path(__file__).resolve().parent / "src"))
+from crr.library import library_path  # noqa: E402
 
 
 class Build(build_py):
     def run(self):
+        try:
+            library = library_path()
+        except FileNotFoundError as missing:
+            raise SystemExit(str(missing))
+        package = Path(self.build_lib) / "crr"
+        shutil.rmtree(package, ignore_errors=True)  # modules of an earlier build
         super().run()
-        if not LIBRARY.is_file():
-            raise SystemExit(f"no {LIBRARY}: ./library builds it, CRR_LIBRARY names another")
-        shutil.copyfile(LIBRARY, Path(self.build_lib) / "crr" / "libcrr.so")
+        shutil.copyfile(library, package / "libcrr.so")
 
 
 class Wheel(bdist_wheel):
@@ -29,7 +37,8 @@ class Wheel(bdist_wheel):
         self.root_is_pure = False
 
     def get_tag(self):
-        return "py3", "none", "manylinux_2_17_x86_64"  # the library asks libc for memset (2.2.5) and memcpy (2.14), and for nothing else
+        # The library asks for memset and memcpy of any version. pip before 20.3 knows the second name alone.
+        return "py3", "none", "manylinux_2_17_x86_64.manylinux2014_x86_64"
 
 
 class Binary(Distribution):

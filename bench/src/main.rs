@@ -3,10 +3,6 @@
 mod calendar;
 mod entries;
 mod inputs;
-// `released_percent`, a choice among three figures, is not timed.
-#[allow(dead_code)]
-#[path = "../../tests/differential/src/library.rs"]
-mod library;
 mod migration;
 mod plain;
 mod running;
@@ -16,6 +12,8 @@ mod splitmix;
 mod timing;
 mod views;
 
+// `released_percent`, a choice among three figures, is not timed.
+use crr::lent as library;
 use entries::{Entry, ENTRIES};
 use inputs::{Inputs, Size, LARGEST, WIDEST, WIDEST_TEXT};
 use migration::Load;
@@ -118,6 +116,12 @@ fn migrated(label: &str, load: Load, form: Form) -> Result<(), String> {
     Ok(())
 }
 
+/// Netting so much load.
+fn netted(label: &str, load: Load) -> Result<(), String> {
+    row(label, &migration::net_transfers(load).map_err(|why| format!("net_transfers, {label}: {why}"))?);
+    Ok(())
+}
+
 /// The running test on a grid: an opening, an award, a tier marked and returned to.
 fn tried(size: Size, suffix: &str) -> Result<(), String> {
     let entries: [(&str, fn(Size) -> Result<Times, String>); 3] =
@@ -148,6 +152,7 @@ fn tables() -> Result<(), String> {
     }
     viewed("write_holder_view", LARGEST, Form::Narrow, views::MATCHING)?;
     shared("share_balance", shares::MOST)?;
+    netted("net_transfers", migration::MOST)?;
     migrated("migrate_load", migration::MOST, Form::Narrow)?;
     tried(LARGEST, "")?;
     calendar()?;
@@ -162,6 +167,10 @@ fn tables() -> Result<(), String> {
     heading("write_holder_view, matching");
     for matching in [0, 125, 250, 500, 1000] {
         viewed(&matching.to_string(), LARGEST, narrow, matching)?;
+    }
+    heading("net_transfers, rows");
+    for rows in [0, 8, 125, 1000] {
+        netted(&rows.to_string(), Load { rows, ..migration::MOST })?;
     }
     heading("migrate_load, rows");
     for rows in [125, 250, 500, 1000] {

@@ -3,8 +3,10 @@
  * section 7.4.8, among LSEs 1 to 4. Prints the nets, to be laid beside 001's matrix,
  * and the contracts that are added, and writes the new book to a file.
  *
- * Started with the name of that file: migrate NEW_BOOK. 001 gives no loads; these are
- * ours. Everything is in thousandths of a MW.
+ * Started in that folder, which has grid.bin and book.bin, with the name of that file:
+ * migrate NEW_BOOK. 001 gives no loads; these are ours. Everything is in thousandths of
+ * a MW.
+ * Made by gcc -I include -o migrate examples/c/migrate.c dist/x86-64-linux/libcrr.a
  */
 #include <inttypes.h>
 #include <stdio.h>
@@ -22,7 +24,7 @@ static const uint64_t loads[LSES] = {90000, 86000, 40000, 45000};
 
 static uint8_t grid[CRR_MAX_GRID_BYTES + 1], book[CRR_MAX_BOOK_BYTES + 1], file[CRR_MAX_BOOK_BYTES];
 static uint64_t limits[CRR_MAX_CONSTRAINTS], rows[6 * CRR_MAX_CONTRACTS];
-static int64_t factors[CRR_MAX_NODES * CRR_MAX_CONSTRAINTS];
+static int64_t factors[CRR_MAX_NODES * CRR_MAX_CONSTRAINTS], nets[LSES * LSES];
 
 static size_t load(const char *name, uint8_t *bytes, size_t room) {
     FILE *in = fopen(name, "rb");
@@ -32,23 +34,20 @@ static size_t load(const char *name, uint8_t *bytes, size_t room) {
 }
 
 static int refused(const char *what, uint64_t number) {
-    if (number) printf("%s refused: %" PRIu64 "\n", what, number);
-    return number != 0;
+    uint8_t text[CRR_REFUSAL_TEXT_BYTES];
+    size_t bytes = 0;
+
+    if (number == CRR_OK) return 0;
+    crr_refusal_text(number, text, sizeof text, &bytes);
+    fprintf(stderr, "%s refused: %" PRIu64 ", %.*s\n", what, number, (int)bytes, (const char *)text);
+    return 1;
 }
 
 /* A line for each LSE: what it loses to each other one; what it gains is negative. */
 static void print_nets(void) {
-    for (uint64_t from = 1; from <= LSES; from++) {
-        printf("LSE %" PRIu64 ":", from);
-        for (uint64_t to = 1; to <= LSES; to++) {
-            int64_t net = 0;
-            for (size_t i = 0; i < ROWS; i++) {
-                int64_t moved = (int64_t)(customers[i] * rates[i]);
-                if (olds[i] == from && news[i] == to) net += moved;
-                if (olds[i] == to && news[i] == from) net -= moved;
-            }
-            printf(" %6" PRId64, net);
-        }
+    for (size_t from = 1; from <= LSES; from++) {
+        printf("LSE %zu:", from);
+        for (size_t to = 1; to <= LSES; to++) printf(" %6" PRId64, nets[(from - 1) * LSES + to - 1]);
         printf("\n");
     }
 }
@@ -60,12 +59,16 @@ int main(int count, char **words) {
     uint64_t form;
     FILE *out;
 
-    if (count != 2) return 2;
+    if (count != 2) {
+        fprintf(stderr, "usage: %s NEW_BOOK, in a folder with grid.bin and book.bin\n", words[0]);
+        return 2;
+    }
     if (refused("grid", crr_read_grid(grid, grid_len, limits, CRR_MAX_CONSTRAINTS, factors,
                                       CRR_MAX_NODES * CRR_MAX_CONSTRAINTS, &nodes, &constraints, &form))) return 1;
     if (refused("book", crr_read_book(nodes, book, book_len, rows, 6 * CRR_MAX_CONTRACTS, &before, &form))) return 1;
     if (refused("migration", crr_migrate_load(nodes, CRR_ON_PEAK, book, book_len, classes, ROWS, customers, ROWS, rates, ROWS,
                                               olds, ROWS, news, ROWS, loads, LSES, file, sizeof file, &bytes))) return 1;
+    if (refused("nets", crr_net_transfers(LSES, classes, ROWS, customers, ROWS, rates, ROWS, olds, ROWS, news, ROWS, nets, LSES * LSES))) return 1;
     if (refused("new book", crr_read_book(nodes, file, bytes, rows, 6 * CRR_MAX_CONTRACTS, &after, &form))) return 1;
     print_nets();
     for (size_t i = before; i < after; i++) {
@@ -74,7 +77,7 @@ int main(int count, char **words) {
     }
     out = fopen(words[1], "wb");
     if (!out || fwrite(file, 1, bytes, out) != bytes || fclose(out) != 0) {
-        printf("%s can't be written\n", words[1]);
+        fprintf(stderr, "%s can't be written\n", words[1]);
         return 1;
     }
     printf("%zu contracts, %zu new: %zu bytes\n", after, after - before, bytes);

@@ -10,8 +10,10 @@
  * refusal's number or 0, the awards held, and how many of them the period counts. At
  * the end writes the awards held as a book's file.
  *
- * Started with the process, the period and the name of that file: tiers PROCESS PERIOD
- * NEW_BOOK. Written as book.bin beside its grid.bin, it is ready for ./run.
+ * Started in that folder, which has grid.bin, with the process, the period and the name
+ * of that file: tiers PROCESS PERIOD NEW_BOOK. Written as book.bin beside its grid.bin,
+ * it is ready for ./run.
+ * Made by gcc -I include -o tiers examples/c/tiers.c dist/x86-64-linux/libcrr.a
  */
 #include <inttypes.h>
 #include <stdio.h>
@@ -32,8 +34,13 @@ static size_t load(const char *name, uint8_t *bytes, size_t room) {
 }
 
 static int refused(const char *what, uint64_t number) {
-    if (number) printf("%s refused: %" PRIu64 "\n", what, number);
-    return number != 0;
+    uint8_t text[CRR_REFUSAL_TEXT_BYTES];
+    size_t bytes = 0;
+
+    if (number == CRR_OK) return 0;
+    crr_refusal_text(number, text, sizeof text, &bytes);
+    fprintf(stderr, "%s refused: %" PRIu64 ", %.*s\n", what, number, (int)bytes, (const char *)text);
+    return 1;
 }
 
 static int number(const char *word, uint64_t *value) {
@@ -65,13 +72,18 @@ int main(int count, char **words) {
     char line[256];
     FILE *out;
 
-    if (count != 4 || !number(words[1], &process) || !number(words[2], &period)) return 2;
+    if (count != 4 || !number(words[1], &process) || !number(words[2], &period)) {
+        fprintf(stderr, "usage: %s PROCESS PERIOD NEW_BOOK, in a folder with grid.bin\n"
+                "process: %d annual, %d Tier LT, %d monthly; period: %d off-peak, %d on-peak\n",
+                words[0], CRR_ANNUAL, CRR_TIER_LT, CRR_MONTHLY, CRR_OFF_PEAK, CRR_ON_PEAK);
+        return 2;
+    }
     if (refused("grid", crr_read_grid(grid, grid_len, limits, CRR_MAX_CONSTRAINTS, factors,
                                       CRR_MAX_NODES * CRR_MAX_CONSTRAINTS, &nodes, &constraints, &form))) return 1;
     if (refused("opening", crr_open_running(nodes, constraints, process, period, limits, constraints, factors, nodes * constraints, CRR_RUNNING(&state)))) return 1;
     while (fgets(line, sizeof line, stdin)) {
         if (!carried_out(line, &answer)) {
-            printf("neither add, mark nor return: %s", line);
+            fprintf(stderr, "neither add, mark nor return: %s", line);
             return 1;
         }
         printf("%" PRIu64 ",%" PRIu64 ",%" PRIu64 "\n", answer, state.numbers[0], state.numbers[1]);
@@ -80,7 +92,7 @@ int main(int count, char **words) {
     if (refused("book", crr_write_book(form, nodes, (size_t)state.numbers[0], state.awards, CRR_RUNNING_AWARDS, file, sizeof file, &bytes))) return 1;
     out = fopen(words[3], "wb");
     if (!out || fwrite(file, 1, bytes, out) != bytes || fclose(out) != 0) {
-        printf("%s can't be written\n", words[3]);
+        fprintf(stderr, "%s can't be written\n", words[3]);
         return 1;
     }
     return 0;

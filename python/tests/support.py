@@ -5,6 +5,9 @@ from __future__ import annotations
 import io
 import os
 import random
+import signal
+import stat
+import subprocess
 import sys
 import tempfile
 import unittest
@@ -18,6 +21,7 @@ SEED = int(os.environ.get("CRR_SEED", "1"))
 CASE_L = ROOT / "examples" / "case-l"
 IEEE14 = ROOT / "examples" / "ieee14"
 MIGRATION = ROOT / "examples" / "migration"
+ENVIRONMENT = {**os.environ, "PYTHONPATH": str(ROOT / "python" / "src")}
 
 
 def bits(fields):
@@ -95,6 +99,25 @@ def command(*arguments):
         except SystemExit as left:
             status = left.code
     return status, out.getvalue(), err.getvalue()
+
+
+def started(*arguments, **options):
+    """The command in a process of its own."""
+    given = dict(stdout=subprocess.PIPE, stderr=subprocess.PIPE, env=ENVIRONMENT)
+    given["preexec_fn"] = lambda: signal.signal(signal.SIGINT, signal.SIG_DFL)  # a job in the background ignores it
+    return subprocess.Popen([sys.executable, "-m", "crr", *map(str, arguments)], **{**given, **options})
+
+
+def everything(folder):
+    """What stands below a folder, with what it is: a link's text, a file's bytes."""
+    found = {}
+    for path in sorted(folder.rglob("*")):
+        name = str(path.relative_to(folder))
+        if path.is_symlink():
+            found[name] = ("link", os.readlink(path))
+        else:
+            found[name] = path.read_bytes() if path.is_file() else stat.S_IFMT(path.stat().st_mode)
+    return found
 
 
 def contents(folder):

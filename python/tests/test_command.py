@@ -11,10 +11,11 @@ from contextlib import redirect_stderr
 from pathlib import Path
 from unittest import mock
 
-from support import CASE_L, IEEE14, ROOT, FolderTest, command, contents
+from support import CASE_L, IEEE14, ROOT, FolderTest, command, contents, flows
 import crr
-from crr.cli import Bar
+from crr.bar import Bar
 from crr.decimals import decimal, whole
+from crr.from_csv import load
 
 CRR = ROOT / "crr"
 
@@ -24,7 +25,7 @@ class Statuses(FolderTest):
         self.assertEqual(command("test", CASE_L)[0], 0)
         status, out, err = command("test", IEEE14)
         self.assertEqual((status, err), (1, ""))
-        self.assertIn("ON,annual,fail,1,7-8 reverse,2.25000000,7-8 reverse\n", out)
+        self.assertIn("ON,annual,fail,1,7-8 reverse,2.25000000,7-8 reverse,2.25000000,7-8 reverse\n", out)
         self.assertEqual(command("test", IEEE14, "--process", "monthly")[0], 0)
         self.assertEqual(command("test", IEEE14, "--period", "off")[0], 0)
         self.assertEqual(command("test", IEEE14, "--period", "on", "--process", "lt")[0], 1)
@@ -47,8 +48,9 @@ class Statuses(FolderTest):
         status, out, _ = command("test", IEEE14, "--json")
         answer = json.loads(out)
         self.assertEqual((status, answer["passed"], len(answer["verdicts"])), (1, False, 6))
-        failing = {"time_of_use": "ON", "process": "Tier LT", "verdict": "fail", "overloaded": 2, "lowest": "7-8 reverse"}
-        self.assertEqual(answer["verdicts"][4], {**failing, "excess_mw": "4.00000000", "constraints": ["7-8 reverse", "7-9"]})
+        failing = {"time_of_use": "ON", "process": "Tier LT", "verdict": "fail", "overloaded": 2, "lowest_numbered": "7-8 reverse"}
+        failing.update({"excess_mw": "4.00000000", "worst": "7-8 reverse", "worst_excess_mw": "4.00000000"})
+        self.assertEqual(answer["verdicts"][4], {**failing, "constraints": ["7-8 reverse", "7-9"]})
         answer = json.loads(command("settle", CASE_L, "--json")[1])
         self.assertEqual((answer["sum"], answer["exact_total"], answer["hours"]), ("8.99", "8.9917000000", 1))
         answer = json.loads(command("check", IEEE14, "--json")[1])
@@ -56,6 +58,17 @@ class Statuses(FolderTest):
         for arguments in (("pack", IEEE14), ("unpack", CASE_L), ("report", CASE_L)):
             status, out, err = command(*arguments, "-o", self.folder / arguments[0], "--json")
             self.assertEqual((status, json.loads(out)["out"], err), (0, str(self.folder / arguments[0]), ""))
+
+    def test_worst(self):
+        """The largest excess, where another constraint has the lowest number, by a second sum of flows."""
+        shutil.copytree(IEEE14, self.folder / "case")
+        limits = self.folder / "case" / "constraints.csv"
+        limits.write_text(limits.read_text().replace("1-2,150.000", "1-2,10.000").replace("2-4,65.000", "2-4,0.001"))
+        case = load(self.folder / "case")[0]
+        flow = dict(zip(case.names.constraints, flows(case.book, case.factors, len(case.names.constraints), 1)))
+        lowest, most = (decimal(flow[name] - limit * 10**8 // 1000, 8) for name, limit in (("1-2", 10_000), ("2-4", 1)))
+        row = next(line for line in command("test", self.folder / "case")[1].splitlines() if line.startswith("ON,monthly"))
+        self.assertEqual(row.split(",")[3:8], ["2", "1-2", lowest, "2-4", most])
 
     def test_the_answer_is_the_same_in_both_forms(self):
         command("pack", IEEE14, "-o", self.folder)
@@ -235,7 +248,7 @@ class Views(FolderTest):
         status, _, err = command("holder", CASE_L, 7, "-o", out)
         self.assertEqual((status, err), (0, f"7: 2 contracts of 4; {out}: 16 bytes written\n"))
         self.assertEqual(out.read_bytes().hex(" "), "00 00 40 70 00 10 27 10 00 02 40 70 00 20 00 01")
-        self.assertEqual(command("holder", CASE_L, 0, "-o", out)[2], f"0: 0 contracts of 4; {out}: 0 bytes written\n")
+        self.assertEqual(command("holder", CASE_L, 0, "-o", out, "--force")[2], f"0: 0 contracts of 4; {out}: 0 bytes written\n")
         self.assertEqual(out.read_bytes(), b"")
 
     def test_wide(self):
@@ -256,7 +269,7 @@ class Views(FolderTest):
         self.assertEqual((status, json.loads(out), err), (0, {"holder": "9", "number": 9, "contracts": [row], "bytes": 8}, ""))
         place = self.folder / "out.bin"
         self.assertEqual(json.loads(command("holder", CASE_L, 9, "-o", place, "--json")[1])["out"], str(place))
-        answer = json.loads(command("market", CASE_L, "-o", place, "--json")[1])
+        answer = json.loads(command("market", CASE_L, "-o", place, "--json", "--force")[1])
         self.assertEqual(answer, {"out": str(place), "contracts": 4, "bytes": 26})
 
     def test_both_forms_of_a_folder(self):
@@ -305,14 +318,14 @@ class Hours(unittest.TestCase):
         status, out, err = command("hours", "2024-01", "--json")
         self.assertEqual((status, json.loads(out), err), (0, {"months": [month], "on_peak_days": 26, "on_peak_hours": 416}, ""))
         status, out, err = command("hours", "2024-13", "--json")
-        fault = {"file": "2024-13", "line": 0, "column": "", "text": crr.MEANINGS[19], "refusal": 19}
+        fault = {"file": "2024-13", "line": None, "column": None, "text": "no month of 2010 to 2037", "refusal": 19}
         self.assertEqual((status, json.loads(out), err), (2, {"faults": [fault]}, ""))
 
     def test_no_such_month(self):
         asked = {"2009": "2009-01", "2038-01": "2038-01", "2024-13": "2024-13", "2024-00": "2024-00", "2024-11..2024-13": "2024-13"}
         asked.update({"2009-12..2010-01": "2009-12", "2037..2038": "2038-12", "2024-00..2024-02": "2024-00"})
         for months, named in asked.items():
-            said = f"crr: {named}: refused 19 by crr_month_hours: {crr.MEANINGS[19]}\n"
+            said = f"{named}: no month of 2010 to 2037 (refusal 19)\ncrr: 1 fault; nothing was written\n"
             self.assertEqual(command("hours", months), (2, "", said))
 
     def test_usage(self):
@@ -355,7 +368,7 @@ class Share(FolderTest):
         status, out, err = self.shared(".05", "COORDINATOR,MEASURED_DEMAND\nAlder,7\n", "--json")
         self.assertEqual((status, json.loads(out), err), (0, answer, ""))
         status, out, err = self.shared("1", "COORDINATOR,MEASURED_DEMAND\nAlder,0\n", "--json")
-        fault = {"file": "demands.csv", "line": 2, "column": "MEASURED_DEMAND", "text": "the demands total 0", "refusal": 27}
+        fault = {"file": str(self.folder / "demands.csv"), "line": 2, "column": "MEASURED_DEMAND", "text": "the demands total 0", "refusal": 27}
         self.assertEqual((status, json.loads(out), err), (2, {"faults": [fault]}, ""))
 
     def test_usage(self):
@@ -379,7 +392,9 @@ class FromTheShell(FolderTest):
         """A library without the functions of today is told, and so is none at all."""
         with tempfile.TemporaryDirectory() as held:
             older = Path(held) / "libcrr.so"
-            subprocess.run(["gcc", "-shared", "-o", str(older), "-x", "c", os.devnull], check=True)
+            interface = f"unsigned long crr_interface(void) {{ return {crr.interface.INTERFACE}; }}"
+            made = ["gcc", "-shared", "-o", str(older), "-x", "c", "-"]
+            subprocess.run(made, input=interface.encode(), check=True)
             done = self.run_crr("test", CASE_L, env={**os.environ, "CRR_LIBRARY": str(older)})
             said = f"crr: {older} has no crr_read_grid: it is older than this package; ./library builds it anew\n"
             self.assertEqual((done.returncode, done.stderr.decode()), (2, said))

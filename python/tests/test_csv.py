@@ -6,7 +6,10 @@ import unittest
 from support import CASE_L, IEEE14, FolderTest, command, contents, draw_book, draw_grid, draw_prices
 import crr
 from crr.case import holder_numbers
-from crr.from_csv import BOOK, DEMANDS, HUBS, PRICES, load
+from crr.book_csv import BOOK
+from crr.demands_csv import DEMANDS
+from crr.from_csv import PRICES, load
+from crr.hubs_csv import HUBS
 from crr.migration_csv import LOADS, ROWS
 from crr.names_csv import HEADING
 from crr.sheet import ALIASES
@@ -37,6 +40,15 @@ class RoundTrips(FolderTest):
         shutil.rmtree(self.folder / "csv")
         (self.folder / "bin").rename(self.folder / "source")
         self.assertEqual(self.there_and_back(self.folder / "source"), {})
+
+    def test_a_folder_by_its_name(self):
+        """The package takes a folder as text too."""
+        case, rounded = crr.from_csv.load(str(IEEE14))
+        self.assertEqual((case, rounded), load(IEEE14))
+        crr.packed.write_packed(case, str(self.folder / "bin"))
+        self.assertEqual(crr.packed.unpacked(crr.packed.read_packed(str(self.folder / "bin"))), case)
+        crr.to_csv.write_csv(case, str(self.folder / "csv"))
+        self.assertEqual(load(self.folder / "csv"), (case, 0))
 
     def test_drawn(self):
         for nodes, constraints, contracts, hours in ((1, 0, 0, 0), (2, 0, 3, 1), (200, 64, 1000, 3), (7, 5, 9, 30)):

@@ -30,11 +30,6 @@ class Decimals(unittest.TestCase):
             self.assertEqual(whole(decimal(number, places), places), number)
             self.assertEqual(Decimal(decimal(number, places)), Decimal(number).scaleb(-places))
 
-    def test_floats_would_be_wrong(self):
-        wrong = sum(int(float(decimal(n, 3)) * 1000) != n for n in range(10_000))
-        self.assertGreater(wrong, 0)
-        self.assertTrue(all(whole(decimal(n, 3), 3) == n for n in range(10_000)))
-
 
 if __name__ == "__main__":
     unittest.main()

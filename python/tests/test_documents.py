@@ -50,11 +50,18 @@ class Documents(FolderTest):
         (self.folder / "first").mkdir()
         for name, content in files:
             (self.folder / "first" / name).write_text(content)
-        self.walk(text, 4)
+        self.walk(text, 3)
+
+    def test_readme_quotes_demand_3(self):
+        quoted = re.search(r"^```antt\n(.*?)^```$", (ROOT / "README.md").read_text(), re.S | re.M)
+        contract = (ROOT / "crates/feasibility_test/specs/TestBook.antt").read_text()
+        self.assertIn(" ".join(quoted.group(1).split()), " ".join(contract.split()))
 
     def test_links(self):
         for page in [ROOT / "README.md", ROOT / "CHANGELOG.md", *(ROOT / "docs").rglob("*.md")]:
-            for target in re.findall(r"\]\(([^)#]+?)(?:#[^)]*)?\)", page.read_text()):
+            text = page.read_text()
+            inline, named = r"\]\(([^)#]+?)(?:#[^)]*)?\)", r"^\[[^\]]+\]: (\S+?)(?:#\S*)?$"
+            for target in re.findall(inline, text) + re.findall(named, text, re.M):
                 if "://" not in target:
                     self.assertTrue((page.parent / target).exists(), f"{page}: {target}")
 

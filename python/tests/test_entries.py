@@ -183,7 +183,8 @@ class Refusals(unittest.TestCase):
         crr.add_award(running, row)
         for at, value, number in ((0, 2, 17), (1, 2, 17), (2, 1024, 18), (3, 2, 11), (4, 2, 11), (5, 0, 13), (5, 10**6 + 1, 13), (5, 1, 21)):
             self.refused(number, crr.add_award, running, [*row[:at], value, *row[at + 1 :]])
-        self.refused(9, crr.add_award, running, row[:5])
+        with self.assertRaisesRegex(ValueError, "award has 5 figures and not 6"):
+            crr.add_award(running, row[:5])
         for tier in (0, 5, 2**64 - 1):
             self.refused(20, crr.mark_tier, running, tier)
             self.refused(20, crr.return_to_tier, running, tier)
@@ -263,7 +264,7 @@ class Refusals(unittest.TestCase):
             with self.assertRaisesRegex(OverflowError, "balance of crr_share_balance is a number of 64 bits with its sign"):
                 crr.share_balance(balance, [1])
 
-    def test_migrate_load(self):
+    def test_migrate_load_and_net_transfers(self):
         book = crr.write_book(2, [(0, 1, 1, 0, 1, 1000)])
         one = (b"\7", [10], [1], [1], [2])
 
@@ -280,9 +281,14 @@ class Refusals(unittest.TestCase):
         wrong = [(0, b""), (1, [1_000_001]), (2, [10_001]), (3, [0]), (3, [3]), (4, [0]), (4, [3]), (4, [1]), (4, []), (1, [10, 10])]
         for place, value in wrong:
             self.refused(22, crr.migrate_load, 2, 1, book, *changed(place, value), [0, 0])
+            self.refused(22, crr.net_transfers, 2, *changed(place, value))
         for loads in ([], [0] * 17, [10**12 + 1, 0]):
             self.refused(22, crr.migrate_load, 2, 1, book, *one, loads)
-        self.refused(22, crr.migrate_load, 2, 1, book, bytes(1001), [0] * 1001, [0] * 1001, [1] * 1001, [2] * 1001, [0, 0])
+        many = (bytes(1001), [0] * 1001, [0] * 1001, [1] * 1001, [2] * 1001)
+        self.refused(22, crr.migrate_load, 2, 1, book, *many, [0, 0])
+        self.assertEqual([crr.net_transfers(2, *one), crr.net_transfers(1, b"", [], [], [], [])], [[[0, 10], [-10, 0]], [[0]]])
+        for lses, lists in ((0, one), (17, one), (2**64 - 1, one), (2, many)):
+            self.refused(22, crr.net_transfers, lses, *lists)
         for load in (0, 9):
             self.refused(23, crr.migrate_load, 2, 1, book, *one, [load, 0])
         self.refused(10, crr.migrate_load, 2, 1, crr.write_book(2, [(0, 1, 1, 0, 1, 1000)] * 334), *one, [40, 0])

@@ -80,9 +80,11 @@ class Damaged(FolderTest):
 
     def test_all_are_listed(self):
         said = self.damaged("book.csv", (IEEE14 / "book.csv").read_text().replace(",OBL,", ",F,").replace("Bus 9", "Bus 99"))
-        self.assertEqual(said.count("(refusal 17)"), 11)
+        self.assertEqual((said.count("(refusal 17)"), said.count("and 6 more like it")), (5, 1))
         self.assertEqual(said.count("(refusal 11)"), 4)
         self.assertIn("crr: 15 faults in", said)
+        faults = json.loads(command("check", self.folder / "case", "--json")[1])["faults"]
+        self.assertEqual([sum(fault["refusal"] == number for fault in faults) for number in (17, 11)], [11, 4])
 
     def test_whole_files(self):
         for text, message in (
@@ -120,7 +122,9 @@ class Damaged(FolderTest):
         for name in ("constraints.csv", "factors.csv"):
             self.assertIn("crr: 1 fault in", self.damaged(name, ""))
         heading = "CONSTRAINT_ID,LIMIT_MW\n"
-        self.assertEqual(self.damaged("constraints.csv", heading).count("constraints.csv\n"), 40 + 42)  # no constraint: every column and price is a fault
+        said = self.damaged("constraints.csv", heading)  # no constraint: every column and price is a fault
+        self.assertEqual((said.count("constraints.csv\n"), said.count(": and 22 more like it, the last in line 62\n")), (40 + 20, 1))
+        self.assertIn("crr: 82 faults in", said)
 
     def test_headings_that_cannot_be_printed(self):
         text = (IEEE14 / "factors.csv").read_text()
@@ -176,6 +180,11 @@ SHARES = [
 ]
 
 
+def given(folder, faults):
+    """Faults of files that were given by their paths, which are told as they were given."""
+    return [f"{folder}/{fault}" if fault.split(":")[0].endswith(".csv") else fault for fault in faults]
+
+
 class DamagedDemands(FolderTest):
     def said(self, balance, text):
         (self.folder / "demands.csv").write_text(text)
@@ -187,13 +196,13 @@ class DamagedDemands(FolderTest):
         for balance, rows, faults in SHARES:
             with self.subTest(faults=faults):
                 end = f"crr: {len(faults)} fault{'s' * (len(faults) > 1)}; nothing was written"
-                self.assertEqual(self.said(balance, f"COORDINATOR,MEASURED_DEMAND\n{rows}\n"), [*faults, end])
+                self.assertEqual(self.said(balance, f"COORDINATOR,MEASURED_DEMAND\n{rows}\n"), [*given(self.folder, faults), end])
 
     def test_whole_files(self):
-        self.assertEqual(self.said("1", "")[0], "demands.csv:1:COORDINATOR: the file is empty: its first line is the heading")
-        self.assertEqual(self.said("1", "COORDINATOR,MW\nAlder,1\n")[0], "demands.csv:1:MEASURED_DEMAND: the column is missing")
+        self.assertEqual(self.said("1", "")[0], given(self.folder, ["demands.csv:1:COORDINATOR: the file is empty: its first line is the heading"])[0])
+        self.assertEqual(self.said("1", "COORDINATOR,MW\nAlder,1\n")[0], given(self.folder, ["demands.csv:1:MEASURED_DEMAND: the column is missing"])[0])
         missing = self.folder / "nowhere.csv"
-        self.assertEqual(command("share", "1", missing)[2].splitlines()[0], f"nowhere.csv: No such file or directory: {missing}")
+        self.assertEqual(command("share", "1", missing)[2].splitlines()[0], f"{missing}: No such file or directory")
 
 
 # What is wrong with a file of hubs or of contracts from hubs, and what is said, line by line.
@@ -249,9 +258,9 @@ class DamagedHubs(FolderTest):
         for hubs, contracts, faults in HUBS:
             with self.subTest(faults=faults):
                 end = f"crr: {len(faults)} fault{'s' * (len(faults) > 1)} in {IEEE14}; nothing was written"
-                self.assertEqual(self.said(IEEE14, hubs, contracts), [*faults, end])
+                self.assertEqual(self.said(IEEE14, hubs, contracts), [*given(self.folder, faults), end])
                 if faults[0].startswith("hubs"):
-                    own = [fault for fault in faults if fault.startswith("hubs")]
+                    own = given(self.folder, [fault for fault in faults if fault.startswith("hubs")])
                     status, out, err = command("hub-mcc", IEEE14, self.folder / "hubs.csv")
                     self.assertEqual((status, out, err.splitlines()[:-1]), (2, "", own))
 
@@ -261,25 +270,28 @@ class DamagedHubs(FolderTest):
         heading, nodes = "NODE_ID," + ",".join(line.split(",")[0] for line in (case / "constraints.csv").read_text().splitlines()[1:]), 40
         (case / "factors.csv").write_text(heading + "\n" + "".join(f"Bus {n}{',0' * 40}\n" for n in range(1, nodes)))
         many = "\n".join(f"North,Bus {n},{'3' if n < 33 else '4'}" for n in range(1, 34))
-        self.assertEqual(self.said(case, many, CONTRACT)[0], "hubs.csv:34:NODE_ID: more than 32 nodes in this hub (refusal 24)")
+        self.assertEqual(self.said(case, many, CONTRACT)[:1], given(self.folder, ["hubs.csv:34:NODE_ID: more than 32 nodes in this hub (refusal 24)"]))
         (case / "book.csv").write_text(self.BOOK + "".join(f"{i},Ash,OBL,ON,Bus 1,Bus 2,1\n" for i in range(999)))
         growth = "contracts.csv:2:CRR_ID: more than 1,000 contracts, a book that would grow past 1,000, or a 1,001st award (refusal 10)"
-        self.assertEqual(self.said(case, NORTH, CONTRACT)[0], growth)
+        self.assertEqual(self.said(case, NORTH, CONTRACT)[0], given(self.folder, [growth])[0])
         (case / "book.csv").write_text(self.BOOK + "H Bus 2,Ash,OBL,ON,Bus 1,Bus 2,1\n")
-        self.assertEqual(self.said(case, NORTH, CONTRACT)[0], "contracts.csv:2:CRR_ID: H Bus 2 occurs twice")
+        self.assertEqual(self.said(case, NORTH, CONTRACT)[0], given(self.folder, ["contracts.csv:2:CRR_ID: H Bus 2 occurs twice"])[0])
 
     def test_owners(self):
         case = self.folder / "case"
         shutil.copytree(IEEE14, case)
         (case / "book.csv").write_text(self.BOOK + "".join(f"{i},name {i},OBL,ON,Bus 1,Bus 2,1\n" for i in range(999)))
         rows = "\n".join(f"H{i},new {i},OBL,ON,North,Bus 4,0.001" for i in range(30))
-        self.assertEqual(self.said(case, NORTH, rows)[0], "contracts.csv:27:OWNER: more than 1024 owners (refusal 18)")
+        self.assertEqual(self.said(case, NORTH, rows)[0], given(self.folder, ["contracts.csv:27:OWNER: more than 1024 owners (refusal 18)"])[0])
 
     def test_whole_files(self):
+        for asked in (("test", ""), ("same", IEEE14, ""), ("settle", IEEE14, "-o", ""), ("hub-mcc", IEEE14, "")):
+            status, out, err = command(*asked)  # as an unset variable gives it; not the current folder
+            self.assertEqual((status, out, err.count(": it is empty, and a path is needed\n")), (2, "", 1))
         missing = self.folder / "nowhere.csv"
-        self.assertEqual(command("hub-mcc", IEEE14, missing)[2].splitlines()[0], f"nowhere.csv: No such file or directory: {missing}")
+        self.assertEqual(command("hub-mcc", IEEE14, missing)[2].splitlines()[0], f"{missing}: No such file or directory")
         (self.folder / "hubs.csv").write_text("HUB,NODE_ID,WEIGHT\nNorth,Bus 2,100\n")
-        self.assertEqual(command("hub-mcc", IEEE14, self.folder / "hubs.csv")[2].splitlines()[0], "hubs.csv:1:PERCENT: the column is missing")
+        self.assertEqual(command("hub-mcc", IEEE14, self.folder / "hubs.csv")[2].splitlines()[0], f"{self.folder}/hubs.csv:1:PERCENT: the column is missing")
 
 
 # What is wrong with the rows or the loads of a migration, and what is said, line by line.
@@ -319,14 +331,16 @@ class DamagedMigrations(FolderTest):
             with self.subTest(faults=faults):
                 heading = "CUSTOMER_CLASS,CUSTOMERS,MW_PER_CUSTOMER,OLD_LSE,NEW_LSE"
                 end = f"crr: {len(faults)} fault{'s' * (len(faults) > 1)} in {MIGRATION}; nothing was written"
-                self.assertEqual(self.said(f"{heading}\n{rows}\n", f"LSE,LOAD_MW\n2,0\n{loads}\n"), [*faults, end])
+                self.assertEqual(self.said(f"{heading}\n{rows}\n", f"LSE,LOAD_MW\n2,0\n{loads}\n"), [*given(self.folder, faults), end])
 
     def test_whole_files(self):
         heading = "CUSTOMER_CLASS,CUSTOMERS,MW_PER_CUSTOMER,OLD_LSE,NEW_LSE\n"
-        self.assertEqual(self.said("", "LSE,LOAD_MW\n1,1\n")[0], "rows.csv:1:CUSTOMER_CLASS: the file is empty: its first line is the heading")
-        self.assertEqual(self.said(heading, "LSE,LOAD_MW\n")[0], "loads.csv:1:LSE: no LSE (refusal 22)")
-        self.assertEqual(self.said(heading, "LSE,LOADS\n1,1\n")[0], "loads.csv:1:LOAD_MW: the column is missing")
-        self.assertEqual(self.said(heading.replace("OLD_LSE", "OLD_NODE"), "LSE,LOAD_MW\n1,1\n")[0], "rows.csv:1:OLD_LSE: the column is missing")
+        empty = "rows.csv:1:CUSTOMER_CLASS: the file is empty: its first line is the heading"
+        self.assertEqual(self.said("", "LSE,LOAD_MW\n1,1\n")[:1], given(self.folder, [empty]))
+        self.assertEqual(self.said(heading, "LSE,LOAD_MW\n")[0], given(self.folder, ["loads.csv:1:LSE: no LSE (refusal 22)"])[0])
+        self.assertEqual(self.said(heading, "LSE,LOADS\n1,1\n")[0], given(self.folder, ["loads.csv:1:LOAD_MW: the column is missing"])[0])
+        missing = given(self.folder, ["rows.csv:1:OLD_LSE: the column is missing"])
+        self.assertEqual(self.said(heading.replace("OLD_LSE", "OLD_NODE"), "LSE,LOAD_MW\n1,1\n")[:1], missing)
 
 
 # What is wrong with the operations of a running test, and what is said, line by line.
@@ -364,11 +378,12 @@ class DamagedTiers(FolderTest):
         for rows, faults in TIERS:
             with self.subTest(faults=faults):
                 end = f"crr: {len(faults)} fault{'s' * (len(faults) > 1)} in {IEEE14}; nothing was written"
-                self.assertEqual(self.said(f"OPERATION,TIER,CRR_ID,OWNER,HEDGE_TYPE,TIME_OF_USE,SOURCE,SINK,MW\n{rows}\n"), [*faults, end])
+                self.assertEqual(self.said(f"OPERATION,TIER,CRR_ID,OWNER,HEDGE_TYPE,TIME_OF_USE,SOURCE,SINK,MW\n{rows}\n"), [*given(self.folder, faults), end])
 
     def test_whole_files(self):
-        self.assertEqual(self.said("")[0], "awards.csv:1:OPERATION: the file is empty: its first line is the heading")
-        self.assertEqual(self.said("OPERATION,CRR_ID,OWNER,HEDGE_TYPE,TIME_OF_USE,SOURCE,SINK,MW\n")[0], "awards.csv:1:TIER: the column is missing")
+        self.assertEqual(self.said("")[0], given(self.folder, ["awards.csv:1:OPERATION: the file is empty: its first line is the heading"])[0])
+        missing = given(self.folder, ["awards.csv:1:TIER: the column is missing"])
+        self.assertEqual(self.said("OPERATION,CRR_ID,OWNER,HEDGE_TYPE,TIME_OF_USE,SOURCE,SINK,MW\n")[:1], missing)
 
 
 class Drawn(FolderTest):
@@ -419,7 +434,7 @@ class DamagedBin(FolderTest):
         self.assertEqual((status, err.count("prices/2026-08-01/HE0"), err.count("(refusal 1)")), (2, 2, 2))
         status, _, err = command("settle", self.folder)
         self.assertEqual(status, 2)
-        self.assertRegex(err, r"^crr: .*prices/2026-08-01/HE07.bin: refused 1 by crr_read_prices: ")
+        self.assertRegex(err, r"^crr: .*/prices/2026-08-01/HE07.bin: a file of fewer bytes than .* \(refusal 1\)\n$")
 
 
 if __name__ == "__main__":

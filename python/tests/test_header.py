@@ -22,6 +22,8 @@ class Header(unittest.TestCase):
 
     def test_every_entry_has_a_function(self):
         for name in interface.DECLARATIONS:
+            if name == "crr_interface":  # asked once, when the library is loaded
+                continue
             self.assertTrue(callable(getattr(crr, name[len("crr_") :], None)), name)
 
     def test_constants(self):
@@ -34,6 +36,26 @@ class Header(unittest.TestCase):
         self.assertEqual(sorted(found), sorted(map(int, re.findall(r"#define CRR_\w+ +(\d+)", REFUSALS))))  # none without its meaning
         self.assertEqual(found.pop(0), "no refusal")
         self.assertEqual(found, interface.MEANINGS)
+
+    def test_meanings_are_the_library_s(self):
+        told = {number: crr.refusal_text(number) for number in [*range(300), (1 << 64) - 1]}
+        self.assertEqual(told.pop(0), "no refusal")
+        self.assertEqual({number: meaning for number, meaning in told.items() if meaning}, interface.MEANINGS)
+        self.assertLessEqual(max(map(len, interface.MEANINGS.values())), interface.REFUSAL_TEXT_BYTES)
+
+    def test_refusals_are_listed_by_number_and_name(self):
+        names = {number: name for name, number in re.findall(r"#define CRR_(\w+) +(\d+) +/\*", REFUSALS)}
+        comments = re.findall(r"/\*\n((?: \*.*\n)+?) \*/\nuint64_t (\w+)\(", HEADER)
+        self.assertEqual({name for _, name in comments}, set(interface.DECLARATIONS))
+        for comment, name in comments:
+            if name == "crr_interface":
+                continue
+            words = re.sub(r"\s*\n \* ?", " ", "\n" + comment)
+            plain = re.sub(r"\([^()]*\)", "", words)
+            listed = re.search(r"Refusals(?:, in this order)?: (.*?)\.(?: |$)", plain)
+            self.assertIsNotNone(listed, name)
+            for number, told in re.findall(r"(?<![\w,])(\d+)(?: ([A-Z_]+))?", listed.group(1)):
+                self.assertEqual(told, names[number], f"{name}: {number}")
 
     def test_units(self):
         for unit, words, places in (

@@ -27,7 +27,7 @@ class Hubs(FolderTest):
         told = "OPR_DT,OPR_HR,TIME_OF_USE,HUB,MCC\n,,ON,Mid,-6.433361000000\n,,ON,Zero,0.000000000000\n"
         self.assertEqual(command("hub-mcc", CASE_L, self.folder / "hubs.csv"), (0, told, "2 hubs, 1 hour\n"))
         status, out, err = command("hub-mcc", CASE_L, self.folder / "hubs.csv", "--json")
-        row = {"opr_dt": "", "opr_hr": "", "time_of_use": "ON", "hub": "Zero", "mcc": "0.000000000000"}
+        row = {"opr_dt": None, "opr_hr": None, "time_of_use": "ON", "hub": "Zero", "mcc": "0.000000000000"}
         self.assertEqual((status, json.loads(out)["mcc"][1], err), (0, row, ""))
 
     def test_mcc_in_both_forms(self):

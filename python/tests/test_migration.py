@@ -16,7 +16,7 @@ class Figures(unittest.TestCase):
     def test_manual_migration(self):
         """001's nine rows, on the book and loads that go with them."""
         nets = [[0, 2000, 7000, 0], [-2000, 0, 3600, 5000], [-7000, -3600, 0, -4500], [0, -5000, 4500, 0]]
-        self.assertEqual(crr.net_transfers(*self.MANUAL[1:], 4), nets)
+        self.assertEqual(crr.net_transfers(4, *self.MANUAL), nets)
         new = crr.migrate_load(3, 1, (MIGRATION / "book.bin").read_bytes(), *self.MANUAL, [90_000, 86_000, 40_000, 45_000])
         self.assertEqual(new, (ROOT / "tests" / "examples" / "migrated.bin").read_bytes())
 
@@ -28,8 +28,12 @@ class Figures(unittest.TestCase):
             olds = [rng.randint(1, lses) for _ in range(count)]
             news = [(old + rng.randint(0, lses - 2)) % lses + 1 for old in olds]
             customers, rates = rng.choices((0, 1, 7, 200, 1_000_000), k=count), rng.choices((0, 1, 5, 800, 10_000), k=count)
-            nets = crr.net_transfers(customers, rates, olds, news, lses)
-            self.assertTrue(all(nets[i][j] == -nets[j][i] for i in range(lses) for j in range(lses)))
+            classes = bytes(rng.choices(range(256), k=count))
+            moved_load = {(i, j): 0 for i in range(1, lses + 1) for j in range(1, lses + 1)}
+            for moving, rate, left, joined in zip(customers, rates, olds, news):
+                moved_load[left, joined] += moving * rate
+            nets = crr.net_transfers(lses, classes, customers, rates, olds, news)
+            self.assertEqual(nets, [[moved_load[i, j] - moved_load[j, i] for j in range(1, lses + 1)] for i in range(1, lses + 1)])
             loads = [sum(max(0, net) for net in line) * rng.choice((1, 1, 2, 3)) + rng.choice((0, 1, 10)) for line in nets]
             grid = crr.read_grid(draw_grid(rng, nodes, constraints)[0])
             rows = [(*row[:2], rng.randint(0, lses + 1), *row[3:]) for row in draw_book(rng, nodes, rng.randint(0, 12))[1]]
@@ -39,7 +43,7 @@ class Figures(unittest.TestCase):
                     part = int(Fraction(row[5] * net, loads[row[2] - 1])) if net > 0 else 0
                     expected += [(0, 1, gainer, *row[3:5], part), (0, 1, row[2], row[4], row[3], part)] if part else []
             old = crr.write_book(nodes, rows)
-            new = crr.migrate_load(nodes, 1, old, bytes(rng.choices(range(256), k=count)), customers, rates, olds, news, loads)
+            new = crr.migrate_load(nodes, 1, old, classes, customers, rates, olds, news, loads)
             self.assertEqual(crr.read_book(nodes, new), expected)
             moved += len(expected) > len(rows)
             for period in (0, 1):
@@ -100,8 +104,6 @@ class Migrate(FolderTest):
         self.assertEqual(self.migrated(case, "--period", "on", "-o", self.folder / "out", rows=rows, loads=loads)[:2], told[:2])
         self.assertEqual((self.folder / "out" / "book.csv").read_text(), (case / "book.csv").read_text() + added)
         command("pack", case, "-o", self.folder / "packed")
-        names = self.folder / "packed" / "names.csv"
-        names.write_text(names.read_text() + "holder,3,Cedar\n")
         self.assertEqual(self.migrated(self.folder / "packed", "--period", "on", rows=rows, loads=loads), told)
 
     def test_months(self):
@@ -119,6 +121,17 @@ class Migrate(FolderTest):
         for contract in crr.read_book(3, (self.folder / "february" / "book.bin").read_bytes()):
             held[contract.holder] += contract.quantity if contract.source == 0 else -contract.quantity
         self.assertEqual(held, {1: 81_000, 2: 19_000})
+
+    def test_equal_contracts(self):
+        """Each new contract has the name of its own base contract, also where two are equal and one gives nothing."""
+        (self.folder / "case").mkdir()
+        (self.folder / "case" / "grid.bin").write_bytes((CASE_L / "grid.bin").read_bytes())
+        book = [(0, 1, 1, 0, 1, 1_000), (0, 1, 1, 0, 1, 1), (1, 1, 1, 0, 1, 1_000), (0, 1, 1, 0, 1, 1_000)]
+        (self.folder / "case" / "book.bin").write_bytes(crr.write_book(3, book))
+        rows = "CUSTOMER_CLASS,CUSTOMERS,MW_PER_CUSTOMER,OLD_LSE,NEW_LSE\nR,10,1,1,2\nR,20,1,1,3\n"
+        said = self.migrated(self.folder / "case", "--period", "on", rows=rows, loads="LSE,LOAD_MW\n1,40\n2,0\n3,0\n")[1]
+        names = [f"{base} {mark} {gainer}" for base in (0, 3) for gainer in (2, 3) for mark in ("LMT", "CNT")]
+        self.assertEqual([line.split(",")[0] for line in said.split("\n\n")[1].splitlines()[1:]], names)
 
     def test_json(self):
         status, out, err = self.migrated(MIGRATION, "--period", "on", "--json")
@@ -138,7 +151,7 @@ class Migrate(FolderTest):
         (self.folder / "case").mkdir()
         (self.folder / "case" / "grid.bin").write_bytes((CASE_L / "grid.bin").read_bytes())
         (self.folder / "case" / "book.bin").write_bytes(crr.write_book(3, [(0, 1, 4, 0, 1, 1_000)] * 334))
-        said = f"crr: refused 10 by crr_migrate_load: {crr.MEANINGS[10]}\n"
+        said = f"crr: {crr.MEANINGS[10]} (refusal 10)\n"
         self.assertEqual(self.migrated(self.folder / "case", "--period", "on", "-o", self.folder / "out"), (2, "", said))
         self.assertFalse((self.folder / "out").exists())
 

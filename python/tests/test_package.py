@@ -1,39 +1,110 @@
-"""The package as others get it: a wheel in a fresh environment, and types that mypy accepts. What a machine lacks for it is skipped and said."""
+"""The package as others get it: a wheel in a fresh environment, its version, types that mypy accepts.
+
+What a machine lacks for a test is skipped and said.
+"""
 
 import importlib.util
+import json
 import os
 import shutil
 import subprocess
 import sys
 import unittest
+import zipfile
+from hashlib import sha256
 
-from support import CASE_L, ROOT, FolderTest
-from crr.native import library_path
+from support import IEEE14, ROOT, FolderTest, command
+from crr.library import library_path
+import crr
+
+PACKING = ("pip", "setuptools", "wheel", "venv")
 
 
 def missing(*modules):
     return [name for name in modules if importlib.util.find_spec(name) is None]
 
 
+def packing_python():
+    """This Python or the system's, whichever has what packing needs; None where neither has."""
+    asked = f"import importlib.util as u, sys; sys.exit(not all(map(u.find_spec, {PACKING})))"
+    found = (python for python in (sys.executable, "/usr/bin/python3") if os.path.exists(python))
+    return next((python for python in found if run(python, "-c", asked).returncode == 0), None)
+
+
 def run(*arguments, **options):
-    return subprocess.run([str(argument) for argument in arguments], stdout=subprocess.PIPE, stderr=subprocess.STDOUT, **options)
+    words = [str(argument) for argument in arguments]
+    return subprocess.run(words, stdout=subprocess.PIPE, stderr=subprocess.STDOUT, **options)
 
 
 class Wheel(FolderTest):
-    @unittest.skipIf(missing("pip", "setuptools", "wheel", "venv"), f"not installed: {', '.join(missing('pip', 'setuptools', 'wheel', 'venv'))}")
+    """Of a clone with nothing but what the package and its library are made from: no kit, no compiler."""
+
+    def setUp(self):
+        super().setUp()
+        self.python = packing_python()
+        if self.python is None:
+            self.skipTest(f"not installed: {', '.join(missing(*PACKING))}")
+        ignored = shutil.ignore_patterns("tests", "build", "*.egg-info", "__pycache__")
+        shutil.copytree(ROOT / "python", self.folder / "clone" / "python", ignore=ignored)
+        for name in ("crates", "include", "dist", "target"):
+            os.symlink(ROOT / name, self.folder / "clone" / name)
+
+    def pip(self, *arguments):
+        environment = {"PATH": "", "CRR_LIBRARY": os.environ.get("CRR_LIBRARY", "")}
+        return run(self.python, "-m", "pip", *arguments, env=environment, cwd=self.folder / "clone")
+
+    def make_wheel(self):
+        options = ("--no-index", "--no-build-isolation", "--no-deps", "-w", self.folder)
+        return self.pip("wheel", *options, "./python")
+
     def test_it_runs_with_nothing_else(self):
-        source = self.folder / "source"
-        shutil.copytree(ROOT / "python", source, ignore=shutil.ignore_patterns("tests", "build", "*.egg-info", "__pycache__"))
-        environment = {**os.environ, "CRR_LIBRARY": str(library_path())}
-        built = run(sys.executable, "-m", "pip", "wheel", "--no-index", "--no-build-isolation", "--no-deps", "-w", self.folder, source, env=environment)
+        built = self.make_wheel()
         self.assertEqual(built.returncode, 0, built.stdout.decode())
-        wheel = next(self.folder.glob("crr-*-py3-none-manylinux_2_17_x86_64.whl"))
-        run(sys.executable, "-m", "venv", "--without-pip", self.folder / "venv", check=True)
-        place = next((self.folder / "venv" / "lib").glob("python3*")) / "site-packages"
-        shutil.unpack_archive(wheel, place, "zip")
-        plain = {name: value for name, value in os.environ.items() if name not in ("CRR_LIBRARY", "PYTHONPATH")}
-        done = run(self.folder / "venv" / "bin" / "python", "-m", "crr", "settle", CASE_L, env=plain, cwd=self.folder)
-        self.assertEqual(done.stdout.decode(), "OWNER,MONTH,AMOUNT\n7,,8.99\n8,,0.00\n9,,0.00\n1 hour: sum 8.99, exact total 8.9917000000\n")
+        wheel = next(self.folder.glob("crr-*-py3-none-manylinux_2_17_x86_64.manylinux2014_x86_64.whl"))
+        with zipfile.ZipFile(wheel) as packed:
+            self.assertEqual(packed.read("crr/libcrr.so"), library_path().read_bytes())
+        run(self.python, "-m", "venv", "--without-pip", self.folder / "venv", check=True)
+        place = self.folder / "venv" / "bin"
+        installed = self.pip("--python", place / "python", "install", "--no-index", wheel)
+        self.assertEqual(installed.returncode, 0, installed.stdout.decode())
+        alone = {"env": {}, "cwd": self.folder}
+        verdicts = run(place / "crr", "test", IEEE14, **alone)
+        self.assertEqual((verdicts.returncode, verdicts.stdout.decode()), command("test", IEEE14)[:2])
+        told = run(place / "crr", "--version", **alone).stdout.decode().splitlines()
+        self.assertEqual((told[0], told[2]), (f"crr {crr.__version__}", "from    the installed package"))
+        self.assertEqual(told[1], f"library {next(place.parent.rglob('libcrr.so')).resolve()}")
+
+    def test_a_library_of_other_sources_is_not_packed(self):
+        if os.environ.get("CRR_LIBRARY"):
+            self.skipTest("CRR_LIBRARY names the library")
+        clone = self.folder / "clone"
+        os.unlink(clone / "include")
+        shutil.copytree(ROOT / "include", clone / "include")
+        with open(clone / "include" / "crr.h", "a") as header:
+            header.write("/* another */\n")
+        built = self.make_wheel()
+        self.assertNotEqual(built.returncode, 0)
+        self.assertIn("include/crr.h is not the file of MADE-FROM", built.stdout.decode())
+
+
+class Version(unittest.TestCase):
+    def test_it_names_the_library(self):
+        status, told, said = command("--version")
+        hashed = sha256(library_path().read_bytes()).hexdigest()
+        lines = told.splitlines()
+        self.assertEqual((status, said), (0, ""))
+        about = [f"crr {crr.__version__}", f"library {library_path()}", f"sha256  {hashed}"]
+        self.assertEqual(lines[:2] + lines[3:], about)
+        self.assertRegex(lines[2], "^from    (dist/, made from |./library, built from |CRR_LIBRARY$)")
+
+    def test_json(self):
+        lines = command("--version")[1].splitlines()
+        for asked in (("--json", "--version"), ("--version", "--json")):
+            status, told, said = command(*asked)
+            self.assertEqual((status, said), (0, ""))
+            given = json.loads(told)
+            self.assertEqual(given.pop("version"), crr.__version__)
+            self.assertEqual([f"{name:<7} {value}" for name, value in given.items()], lines[1:])
 
 
 class Types(FolderTest):

@@ -103,7 +103,7 @@ class Tiers(FolderTest):
         "add,,A-3,Ash,OBL,ON,Bus 1,Bus 4,1000\nadd,,A-3,Ash,OBL,ON,Bus 1,Bus 4,1\nreturn,2,,,,,,,\nadd,,A-3,Ash,OPT,ON,Bus 9,Bus 2,0.001\nreturn,3,,,,,,,\n"
     )
     TOLD = (
-        "OPERATION,NAME,ANSWER,HELD,COUNTED,OVERLOADED,LOWEST,EXCESS_MW\nmark,1,marked,0,0,,,\nadd,A-1,held,1,1,,,\nadd,A-2,held,2,1,,,\n"
+        "OPERATION,NAME,ANSWER,HELD,COUNTED,OVERLOADED,LOWEST_NUMBERED,EXCESS_MW\nmark,1,marked,0,0,,,\nadd,A-1,held,1,1,,,\nadd,A-2,held,2,1,,,\n"
         "mark,2,marked,2,1,,,\nmark,LT,marked,2,1,,,\nadd,A-3,refused 21,2,1,{over}\nadd,A-3,held,3,2,,,\nreturn,2,returned,2,1,,,\n"
         "add,A-3,held,3,2,,,\nreturn,3,refused 20,3,2,,,\n"
     )

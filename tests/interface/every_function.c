@@ -3,9 +3,11 @@
  * again, the grid and the book in both forms, a node retired, the market's view and a
  * holder's, the book settled, a contract from a hub added, the test, the flows, the
  * cuts, the released shares, the MCC, that of a hub, the hour, the two texts; the
- * calendar; a balance shared; load migrated; and a running test with a tier to come
- * back to. Also a C++ program.
+ * calendar; a balance shared; load migrated; a running test with a tier to come back
+ * to; the interface's number and a refusal's sentence. Each is called on a thread whose
+ * stack has what crr.h says is enough. Also a C++ program.
  */
+#include <pthread.h>
 #include <stdint.h>
 #include <stdio.h>
 #include <string.h>
@@ -48,6 +50,7 @@ static const uint64_t demands[] = {5, 3, 1}, no_demands[] = {0, 0};
 static int64_t shares[4];
 /* Ten customers of 1 MW each move from LSE 7, whose load is 40 MW, to LSE 8; case L's book after that, and the cell after it. */
 static const uint8_t classes[] = {1};
+static int64_t nets[CRR_MAX_LSES * CRR_MAX_LSES];
 static const uint64_t moved_customers[] = {10}, moved_rates[] = {1000}, old_lses[] = {7}, new_lses[] = {8}, no_loads[CRR_MAX_LSES] = {0};
 static const uint64_t loads[CRR_MAX_LSES] = {0, 0, 0, 0, 0, 0, 40000};
 static const uint8_t migrated[] = {0x01, 0x80, 0x40, 0x70, 0x00, 0x10, 0x27, 0x10, 0xc0, 0x80, 0x00, 0x20, 0x01, 0xf4, 0x40, 0x70, 0x00, 0x20, 0x00, 0x01,
@@ -56,6 +59,7 @@ static const uint8_t migrated[] = {0x01, 0x80, 0x40, 0x70, 0x00, 0x10, 0x27, 0x1
 static struct crr_running state, before;
 static const uint64_t full[] = {6000, 50000};
 static const uint64_t filling[] = {0, 1, 7, 0, 1, 10000}, beyond[] = {0, 1, 7, 0, 1, 1}, off_peak[] = {0, 0, 9, 0, 1, 1000000}, option[] = {1, 1, 8, 1, 0, 500};
+static size_t grid_len, book_len, price_len;
 static int passed, failed;
 
 static void expect(const char *what, int holds) {
@@ -78,10 +82,21 @@ static int starts_with(const char *line, size_t bytes) {
     return bytes >= strlen(line) && memcmp(text, line, strlen(line)) == 0;
 }
 
-int main(void) {
-    size_t grid_len = load("grid.bin", grid_file, sizeof grid_file);
-    size_t book_len = load("book.bin", book_file, sizeof book_file);
-    size_t price_len = load("prices.bin", price_file, sizeof price_file);
+/* The two texts. */
+static void *texts(void *nothing) {
+    size_t bytes = 0;
+
+    expect("crr_write_report", crr_write_report(grid_file, grid_len, book_file, book_len, text, sizeof text, &bytes) == CRR_OK
+                                   && starts_with("period,process,verdict,overloaded,lowest,excess,constraints\n", bytes));
+    expect("crr_write_statement", crr_write_statement(grid_file, grid_len, book_file, book_len, price_file, price_len, text, sizeof text, &bytes) == CRR_OK
+                                      && starts_with("contract,holder,kind,cents,priced\n0,7,OBL,900,2\n1,8,OPT,0,2\n", bytes));
+    expect("crr_write_statement, wide", crr_write_statement(wide_grid, 25, wide_book, 30, price_file, price_len, text, sizeof text, &bytes) == CRR_OK
+                                            && starts_with("contract,holder,kind,cents,priced\n0,7,OBL,900,2\n1,8,OPT,0,2\n", bytes));
+    return nothing;
+}
+
+/* Every other function. */
+static void *others(void *nothing) {
     size_t nodes = 0, constraints = 0, contracts = 0, bytes = 0, count = 7, lowest = 7, counted = 7, listed = 7;
     uint64_t form = 7, period = 7, set = 7, percent = 7, parts = 0, hours = 7, weekday = 0, year = 7, month = 7, day = 7, remainder = 7;
     int64_t excess = 7, sum = 0, whole = 0, quotient = 7;
@@ -188,6 +203,15 @@ int main(void) {
     expect("crr_share_balance, no demand", crr_share_balance(10, no_demands, 2, shares, 1) == CRR_NO_DEMAND);
     expect("crr_share_balance, too few cells", crr_share_balance(10, demands, 3, shares, 2) == CRR_SHORT_TABLE
                                                    && shares[0] == -6 && shares[1] == -3 && shares[2] == -1 && shares[3] == 7);
+    nets[64] = 7;
+    expect("crr_net_transfers", crr_net_transfers(8, classes, 1, moved_customers, 1, moved_rates, 1, old_lses, 1, new_lses, 1, nets, CRR_MAX_LSES * CRR_MAX_LSES) == CRR_OK
+                                    && nets[0] == 0 && nets[55] == 10000 && nets[62] == -10000 && nets[63] == 0 && nets[64] == 7);
+    nets[55] = 7;
+    expect("crr_net_transfers, too few cells", crr_net_transfers(8, classes, 1, moved_customers, 1, moved_rates, 1, old_lses, 1, new_lses, 1, nets, 63) == CRR_SHORT_TABLE
+                                                   && nets[55] == 7);
+    expect("crr_net_transfers, seven LSEs", crr_net_transfers(7, classes, 1, moved_customers, 1, moved_rates, 1, old_lses, 1, new_lses, 1, nets, 0) == CRR_MIGRATION_RANGE
+                                                && nets[55] == 7);
+    expect("crr_net_transfers, no rows", crr_net_transfers(1, classes, 0, moved_customers, 0, moved_rates, 0, old_lses, 0, new_lses, 0, nets, 1) == CRR_OK && nets[0] == 0);
     copy[38] = 7;
     expect("crr_migrate_load", crr_migrate_load(nodes, CRR_ON_PEAK, book_file, book_len, classes, 1, moved_customers, 1, moved_rates, 1, old_lses, 1, new_lses, 1,
                                                 loads, CRR_MAX_LSES, copy, sizeof copy, &bytes) == CRR_OK
@@ -231,12 +255,6 @@ int main(void) {
     expect("a running test's awards", crr_write_book(CRR_NARROW, nodes, (size_t)state.numbers[0], state.awards, CRR_RUNNING_AWARDS, copy, sizeof copy, &bytes) == CRR_OK && bytes == 14
                                           && crr_test_book(nodes, constraints, CRR_MONTHLY, CRR_ON_PEAK, full, 2, factors, nodes * constraints, copy, bytes, &set, &count, &lowest, &excess) == CRR_OK
                                           && set == 0);
-    expect("crr_write_report", crr_write_report(grid_file, grid_len, book_file, book_len, text, sizeof text, &bytes) == CRR_OK
-                                   && starts_with("period,process,verdict,overloaded,lowest,excess,constraints\n", bytes));
-    expect("crr_write_statement", crr_write_statement(grid_file, grid_len, book_file, book_len, price_file, price_len, text, sizeof text, &bytes) == CRR_OK
-                                      && starts_with("contract,holder,kind,cents,priced\n0,7,OBL,900,2\n1,8,OPT,0,2\n", bytes));
-    expect("crr_write_statement, wide", crr_write_statement(wide_grid, 25, wide_book, 30, price_file, price_len, text, sizeof text, &bytes) == CRR_OK
-                                            && starts_with("contract,holder,kind,cents,priced\n0,7,OBL,900,2\n1,8,OPT,0,2\n", bytes));
     expect("crr_month_hours", crr_month_hours(2024, 1, &hours) == CRR_OK && hours == 416);
     expect("crr_month_hours, month 13", crr_month_hours(2024, 13, &hours) == CRR_NO_SUCH_DATE && hours == 416);
     expect("crr_month_hours, before the first year", crr_month_hours(CRR_FIRST_YEAR - 1, 12, &hours) == CRR_NO_SUCH_DATE && hours == 416);
@@ -246,10 +264,34 @@ int main(void) {
     expect("crr_month_later, over the year's end", crr_month_later(2023, 12, 31, &year, &month, &day) == CRR_OK && year == 2024 && month == 1 && day == 31);
     expect("crr_month_later, beyond the last year", crr_month_later(CRR_LAST_YEAR, 12, 1, &year, &month, &day) == CRR_NO_SUCH_DATE
                                                         && year == 2024 && month == 1 && day == 31);
+    expect("crr_interface", crr_interface() == CRR_INTERFACE);
+    text[22] = 7;
+    expect("crr_refusal_text", crr_refusal_text(CRR_PRICE_RANGE, text, sizeof text, &bytes) == CRR_OK && bytes == 21 && starts_with("a price above 500,000", bytes) && text[22] == 7);
+    expect("crr_refusal_text, too few bytes", crr_refusal_text(CRR_NO_DEMAND, text, 37, &bytes) == CRR_SHORT_TABLE && bytes == 21 && starts_with("a price above 500,000", bytes));
+    expect("crr_refusal_text, no such refusal", crr_refusal_text(12, text, 0, &bytes) == CRR_OK && bytes == 0);
     /* A refusal is its number alone. */
     set = 7;
     expect("a refusal", crr_test_book(0, constraints, CRR_MONTHLY, period, limits, constraints, factors, nodes * constraints, book_file, book_len, &set, &count, &lowest, &excess) == CRR_NODE_COUNT
                             && set == 7);
+    return nothing;
+}
+
+static void on_thread(void *(*calls)(void *), size_t stack) {
+    pthread_attr_t attributes;
+    pthread_t thread;
+
+    if (pthread_attr_init(&attributes) != 0 || pthread_attr_setstacksize(&attributes, stack) != 0
+        || pthread_create(&thread, &attributes, calls, NULL) != 0 || pthread_join(thread, NULL) != 0) {
+        expect("a thread of so little stack", 0);
+    }
+}
+
+int main(void) {
+    grid_len = load("grid.bin", grid_file, sizeof grid_file);
+    book_len = load("book.bin", book_file, sizeof book_file);
+    price_len = load("prices.bin", price_file, sizeof price_file);
+    on_thread(others, CRR_STACK_BYTES);
+    on_thread(texts, CRR_TEXT_STACK_BYTES);
     printf("interface: %d passed, %d failed\n", passed, failed);
     return failed != 0;
 }

@@ -20,18 +20,22 @@ struct Made {
     count: usize,
 }
 
-fn check_lists(lists: &Lists) -> Result<(), Refusal> {
-    let &Lists { classes, customers, rates, olds, news, loads } = lists;
-    let (rows, lses) = (customers.len(), loads.len());
+fn check_rows(lists: &Lists, lses: usize) -> Result<(), Refusal> {
+    let &Lists { classes, customers, rates, olds, news, loads: _ } = lists;
+    let rows = customers.len();
     demand((1..=MAX_LSES).contains(&lses), MIGRATION_RANGE)?;
     demand(rows <= MAX_MIGRATION_ROWS && [classes.len(), rates.len(), olds.len(), news.len()] == [rows; 4], MIGRATION_RANGE)?;
-    demand(!loads.iter().fold(false, |bad, &load| bad | (load > 1_000_000_000_000)), MIGRATION_RANGE)?;
     let columns = customers.iter().zip(rates).zip(olds.iter().zip(news));
     let bad = |((&customers, &rate), (&old, &new)): ((&u64, &u64), (&u64, &u64))| {
         let no_lse = |number: u64| number.wrapping_sub(1) >= lses as u64;
         (customers > 1_000_000) | (rate > 10_000) | no_lse(old) | no_lse(new) | (old == new)
     };
     demand(!columns.fold(false, |found, row| found | bad(row)), MIGRATION_RANGE)
+}
+
+fn check_lists(lists: &Lists) -> Result<(), Refusal> {
+    check_rows(lists, lists.loads.len())?;
+    demand(!lists.loads.iter().fold(false, |bad, &load| bad | (load > 1_000_000_000_000)), MIGRATION_RANGE)
 }
 
 /// Rows that have been checked, netted.
@@ -101,4 +105,16 @@ pub fn migrate_load(nodes: usize, period: u64, book: &[u8], lists: &Lists, file:
         Form::Narrow => grow::<NARROW>(period, book, old, lists, file),
         Form::Wide => grow::<WIDE>(period, book, old, lists, file),
     }
+}
+
+/// The square of so many LSEs, line by line.
+#[inline(never)]
+pub fn net_transfers(lses: usize, lists: &Lists, cells: &mut [i64]) -> Result<(), Refusal> {
+    check_rows(lists, lses)?;
+    let cells = cells.get_mut(..lses * lses).ok_or(SHORT_TABLE)?;
+    let square = nets(lists);
+    for (line, nets) in cells.chunks_exact_mut(lses).zip(&square) {
+        line.copy_from_slice(&nets[..lses]);
+    }
+    Ok(())
 }

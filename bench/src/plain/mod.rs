@@ -21,7 +21,7 @@ pub use calendar::{month_hours, month_later, weekday};
 pub use cuts::find_cuts;
 pub use grid::{read_grid, write_grid, Header};
 pub use hubs::{add_hub_contract, find_hub_mcc, Order};
-pub use migration::{migrate_load, Lists};
+pub use migration::{migrate_load, net_transfers, Lists};
 pub use prices::{read_prices, write_prices};
 pub use running::{add_award, mark_tier, open_running, return_to_tier, RUNNING_AWARDS, RUNNING_FLOWS, RUNNING_NUMBERS};
 pub use settled::write_settled_book;

@@ -5,81 +5,12 @@ ghost use lib.ListN.{length};
 ghost use lib.IntN.{natAbs};
 ghost use Rattle.lists.specs.Lent.{before, after, overwrite};
 ghost use Rattle.tariff.specs.Units.{maxBalance};
-ghost use Rattle.tariff.specs.Checks.{coordinatorCount, balanceRange};
 ghost use Rattle.largest_remainders.specs.Ranks.{addTo};
 ghost use Rattle.largest_remainders.specs.Shares.{whole};
-ghost use Rattle.balancing_account.specs.ShareBalance.{shareCall, shareChecked, totalOf, demandOf, signedLike, shareOf, sharesOf, SharesBalance};
-ghost use Rattle.balancing_account.specs.Inner.{maxTotal, DemandsIn, Weighed, Rounded, Cut};
+ghost use Rattle.share_rules.specs.ShareBalance.{shareCall, demandOf, signedLike, shareOf, sharesOf, SharesBalance};
+ghost use Rattle.share_rules.specs.Inner.{maxTotal, Weighed, Rounded, Cut};
+use share_rules::ShareAnswer;
 use tariff::Checked;
-use tariff::MAX_BALANCE;
-use tariff::MAX_COORDINATORS;
-use tariff::MAX_DEMAND;
-use tariff::Refusal;
-
-// What sharing gives: nothing beside the cells.
-pub enum ShareAnswer {
-    Shared,
-    Refused(Refusal),
-}
-
-// The least balance.
-const MIN_BALANCE: i64 = -MAX_BALANCE;
-
-// 26, of the count: none, or too many.
-fn count_bad(count: usize) -> bool
-    ensures { λ r. ⌜ r ≡ coordinatorCount count .fails ⌝ }
-{
-    if count == 0 {
-        return true;
-    }
-    MAX_COORDINATORS < count
-}
-
-// 26, of the balance: the least i64 has no size in an i64, so it is compared first.
-fn balance_bad(balance: i64) -> bool
-    ensures { λ r. ⌜ r ≡ balanceRange balance .fails ⌝ }
-{
-    if balance < MIN_BALANCE {
-        return true;
-    }
-    MAX_BALANCE < balance
-}
-
-// The total of the demands.
-fn total_of(demands: &[u64]) -> u64
-    requires { ⌜ DemandsIn (now demands) ⌝ }
-    ensures { λ r. ⌜ (r ≡ totalOf (before demands)) × (r ≤ maxTotal) ⌝ }
-{
-    let mut sum = 0;
-    let mut i = 0;
-    while i < demands.len() {
-        sum += demands[i];
-        i += 1;
-    }
-    sum
-}
-
-// The checks: 26, 27, 9.
-fn check_share(balance: i64, demands: &[u64], place: &[i64]) -> Checked
-    ensures { λ r. ⌜ r ≡ shareChecked (shareCall balance (before demands) (before place)) ⌝ }
-{
-    if count_bad(demands.len()) {
-        return Checked::Refused(Refusal::ShareRange);
-    }
-    if balance_bad(balance) {
-        return Checked::Refused(Refusal::ShareRange);
-    }
-    if tables::cell_above(demands, demands.len(), MAX_DEMAND) {
-        return Checked::Refused(Refusal::ShareRange);
-    }
-    if total_of(demands) == 0 {
-        return Checked::Refused(Refusal::NoDemand);
-    }
-    if place.len() < demands.len() {
-        return Checked::Refused(Refusal::ShortTable);
-    }
-    Checked::Passed
-}
 
 // The size of a balance, whatever its sign.
 fn size_of(balance: i64) -> u64
@@ -167,12 +98,12 @@ fn fill_shares(
 pub fn share_balance(balance: i64, demands: &[u64], shares: &mut [i64]) -> ShareAnswer
     ensures { λ r. ⌜ SharesBalance (shareCall balance (before demands) (before shares)) r (after shares) ⌝ }
 {
-    let checked = check_share(balance, demands, shares);
+    let checked = share_checks::check_share(balance, demands, shares);
     if let Checked::Refused(refusal) = checked {
         return ShareAnswer::Refused(refusal);
     }
     let size = size_of(balance);
-    let sum = total_of(demands);
+    let sum = share_checks::total_of(demands);
     let mut wholes = [0u64; 256];
     let mut keys = [0u64; 256];
     let given = fill_wholes(size, sum, demands, &mut wholes, &mut keys);

@@ -8,10 +8,7 @@ use borrow.Author.Tests.{ltb-true, ltb-false}
 use lib.Dec.{ltb}
 use lib.ListN.{length, getD, List·getD-eq-default}
 use Rattle.bits.proofs.Numbers.{Below}
-
--- what a slice of u8 holds: each of its cells is below 256
-abbrev pub Bytes : List ℕ → Type 0
-Bytes s = (i : ℕ) → i < length s → getD s i 0 < 256
+use Rattle.bits.specs.Bits.{Bytes}
 
 pub bytes-below : (s : List ℕ) → Bytes s → Below 8 s
 bytes-below s h i = by (ltb i (length s)) refl

@@ -1,7 +1,7 @@
 -- A bit-packed file, the most significant bit first, as one number. Bytes are digits of 8 bits; a run of fields of w bits is a run of digits of w bits.
-use Prim.Native.Nat.{ℕ, zero, suc, _+_, _-_, _*_, _/_, _%_, _^_}
+use Prim.Native.Nat.{ℕ, zero, suc, _+_, _-_, _*_, _/_, _%_, _^_, _<_}
 use mathlib.Core.List.{List, [], _∷_}
-use lib.ListN.{length}
+use lib.ListN.{length, getD}
 
 -- the number whose digits of w bits are ds, the first the most significant
 abbrev pub number : ℕ → List ℕ → ℕ
@@ -20,3 +20,7 @@ field s offset width = number 8 s / 2 ^ (8 * length s - (offset + width)) % 2 ^ 
 -- n fields of `width` bits each, one after the other from bit `offset` on
 unfoldable pub fields : List ℕ → ℕ → ℕ → ℕ → List ℕ
 fields s offset width n = digits width n (number 8 s / 2 ^ (8 * length s - (offset + width * n)))
+
+-- what a slice of u8 holds: each of its cells is below 256
+abbrev pub Bytes : List ℕ → Type 0
+Bytes s = (i : ℕ) → i < length s → getD s i 0 < 256

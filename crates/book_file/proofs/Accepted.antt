@@ -16,8 +16,7 @@ use Rattle.tariff.proofs.Checks.{passed-cons, passed-append, nodes-few-of}
 use Rattle.layouts.specs.declared.forms.Form.{Form}
 use Rattle.layouts.specs.Forms.{endWidth, endsBelow}
 use Rattle.layouts.specs.BookFile.{bookBytes, contractCountIn}
-use Rattle.layouts.specs.BookTable.{contractCells, rowFrom, rowAt, rowsIn}
-use Rattle.layouts.specs.Inner.{ContractFits}
+use Rattle.layouts.specs.BookTable.{contractCells, rowFrom, rowAt, rowsIn, ContractFits}
 use Rattle.layouts.proofs.BookFile.{ends-fewer}
 use Rattle.books.specs.BookChecks.{checksTo, contractChecks, bookChecks}
 use Rattle.books.proofs.Checking.{checks-each}

@@ -37,7 +37,7 @@ unfolding cellsOf
 behind c cells j k e = ap (λ (x : ℕ). getD (cellsOf c ++ cells) x 0) e ∙ getD-append-add (cellsOf c) cells j 0
 
 -- cell j of contract i
-cell-at : (cs : List Contract) (i j : ℕ) (d : Contract) → i < length cs → j < contractCells → getD (flatMap cellsOf cs) (contractCells * i + j) 0 ≡ getD (cellsOf (getD cs i d)) j 0
+pub cell-at : (cs : List Contract) (i j : ℕ) (d : Contract) → i < length cs → j < contractCells → getD (flatMap cellsOf cs) (contractCells * i + j) 0 ≡ getD (cellsOf (getD cs i d)) j 0
 unfolding flatMap cellsOf
 cell-at [] i j d h b = absurd (omega arith)
 cell-at (c ∷ cs) zero j d h b = ap (λ (x : ℕ). getD (cellsOf c ++ flatMap cellsOf cs) x 0) {x = contractCells * 0 + j} {y = j} (omega arith) ∙ List·getD-append (cellsOf c) (flatMap cellsOf cs) 0 j b

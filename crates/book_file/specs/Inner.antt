@@ -4,8 +4,7 @@ use Prim.Native.Nat.{ℕ, _+_, _≤_}
 use lib.ListN.{getD}
 use Rattle.layouts.specs.declared.forms.Form.{Form}
 use Rattle.layouts.specs.Forms.{endWidth}
-use Rattle.layouts.specs.BookTable.{rowFrom}
-use Rattle.layouts.specs.Inner.{ContractFits}
+use Rattle.layouts.specs.BookTable.{rowFrom, ContractFits}
 
 -- the six cells from a on are a contract's, each within its field
 pub record RowFits (f : Form) (cells : List ℕ) (a : ℕ) : Type 0 where

@@ -10,7 +10,7 @@ use lib.ListN.{length}
 use Rattle.lists.specs.Lists.{Each}
 use Rattle.tariff.specs.declared.contracts.Contract.{Contract}
 use Rattle.tariff.specs.declared.refusals.Checked.the-variants.{Passed}
-use Rattle.tariff.specs.Inner.{InRange}
+use Rattle.tariff.specs.Contracts.{InRange}
 use Rattle.tariff.specs.Refusals.{first}
 use Rattle.tariff.specs.Checks.{nodeCount}
 use Rattle.tariff.specs.Units.{maxQuantity, maxContracts}

@@ -18,7 +18,7 @@ use Rattle.layouts.specs.declared.forms.Form.{Form}
 use Rattle.layouts.specs.declared.forms.Form.the-variants.{Narrow, Wide}
 use Rattle.layouts.specs.Forms.{endWidth, recordBytes, sparePattern}
 use Rattle.layouts.specs.BookFile.{contractBits, contractFields, packedBook, bookBytes, bookFile}
-use Rattle.layouts.specs.Inner.{ContractFits}
+use Rattle.layouts.specs.BookTable.{ContractFits}
 use Rattle.layouts.proofs.Records.{total-records, fit-records}
 use Rattle.layouts.proofs.BookFile.{total-contract, fit-contract, whole-bytes}
 use Rattle.books.specs.Inner.{headerBytes, contractBytes, bookFront, termsNumber, contractNumber, bitsBytes}

@@ -11,14 +11,14 @@ use Rattle.lists.specs.Lent.{overwrite}
 use Rattle.lists.proofs.Lists.{getD-listTo, each-at, flatMap-last}
 use Rattle.tariff.specs.declared.contracts.Contract.{Contract}
 use Rattle.tariff.specs.declared.refusals.Checked.the-variants.{Passed}
-use Rattle.tariff.specs.Inner.{InRange}
+use Rattle.tariff.specs.Contracts.{InRange}
 use Rattle.tariff.specs.Refusals.{first}
 use Rattle.tariff.specs.Units.{maxNodes, maxContracts, maxHolder}
 use Rattle.tariff.proofs.Checks.{first-passes, same}
 use Rattle.layouts.specs.declared.forms.Form.{Form}
 use Rattle.layouts.specs.Forms.{endWidth, recordBytes, sparePattern, endsBelow}
 use Rattle.layouts.specs.BookFile.{contract, bookBytes, bookFile, contractCountIn, bookSpareIn, bookFormIn, contractAt, bookIn}
-use Rattle.layouts.specs.Inner.{ContractFits}
+use Rattle.layouts.specs.BookTable.{ContractFits}
 use Rattle.layouts.proofs.BookFile.{Filed, book-written, book-bytes-least, end-fits}
 use Rattle.books.specs.BookChecks.{checksTo, contractChecks, bookChecks}
 use Rattle.books.specs.Inner.{headerBytes, contractBytes, bookFront}

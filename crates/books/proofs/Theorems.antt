@@ -17,10 +17,11 @@ use Rattle.tariff.specs.Refusals.{first, numberAfter}
 use Rattle.tariff.specs.Checks.{nodeCount}
 use Rattle.tariff.specs.Former.{byNumber, without, formerFirst}
 use Rattle.tariff.proofs.Checks.{first-passes}
-use Rattle.tariff.proofs.Former.{first-number, not-missed, unnumbered}
+use Rattle.tariff.proofs.Answers.{none-refused}
+use Rattle.tariff.proofs.Former.{first-number, not-missed}
 use Rattle.layouts.specs.declared.forms.Form.the-variants.{Narrow, Wide}
 use Rattle.layouts.specs.BookFile.{bookFile, contractCountIn, bookSpareIn, bookIn}
-use Rattle.layouts.specs.Inner.{ContractFits}
+use Rattle.layouts.specs.BookTable.{ContractFits}
 use Rattle.layouts.proofs.BookFile.{form-narrow, book-written, fits-wider}
 use Rattle.books.specs.BookChecks.{bookChecks}
 use Rattle.books.specs.Former.{formerBookChecks, formerReadingChecks, formerBookIn}
@@ -72,7 +73,7 @@ module _ (n : ℕ) (s : List ℕ) (narrow : bookSpareIn s ≢ 63) where
 pub read-before : (n : ℕ) (s : List ℕ) → 1 ≤ n → n ≤ 200 → formerFirst (formerReadingChecks n s) ≡ 0 → first (nodeCount n ∷ bookChecks n s) ≡ Passed
 read-before n s some few accepted =
     let narrow : bookSpareIn s ≢ 63 = λ wide. old-book-reader-refuses-wide n s wide accepted in
-    unnumbered (first (nodeCount n ∷ bookChecks n s)) (narrow-books-as-before n s narrow some few (λ e. omega arith) ∙ accepted)
+    none-refused (first (nodeCount n ∷ bookChecks n s)) (sym (narrow-books-as-before n s narrow some few (λ e. omega arith) ∙ accepted))
 
 -- ---- paper 9: "The same test and prices hold at both widths": one book in both forms is read and checked alike
 

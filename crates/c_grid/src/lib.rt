@@ -1,9 +1,9 @@
 // The grid's two operations for C: figures go into lent cells, and the answer is the refusal's number, 0 for none.
 ghost use Rattle.lists.specs.Lent.{before, after};
 ghost use Rattle.layouts.specs.Forms.{formOf};
-ghost use Rattle.grid_file.specs.ReadGrid.{readGridCall, ReadsGridForC};
-ghost use Rattle.grid_file.specs.WriteGrid.{writeGridCall, WritesGridForC};
-use grid_file::GridAnswer;
+ghost use Rattle.grid_rules.specs.ReadGrid.{readGridCall, ReadsGridForC};
+ghost use Rattle.grid_rules.specs.WriteGrid.{writeGridCall, WritesGridForC};
+use grid_rules::GridAnswer;
 use layouts::Form;
 
 // Reads a grid's file into the first cells of its tables, and gives its counts and its form's number.
@@ -47,6 +47,6 @@ pub extern "C" fn crr_write_grid(
     ensures { λ r. ⌜ WritesGridForC (writeGridCall (formOf form) nodes constraints (before limits) (before factors) (before file)) r (after file) bytes ⌝ }
 {
     let told = Form::from_number(form);
-    let answer = grid_file::write_grid(told, nodes, constraints, limits, factors, file);
+    let answer = grid_writing::write_grid(told, nodes, constraints, limits, factors, file);
     answer.into_cell(bytes)
 }

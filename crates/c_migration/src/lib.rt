@@ -1,6 +1,7 @@
 // Migrating load for C: the length goes into a lent cell, and the answer is the refusal's number, 0 for none.
 ghost use Rattle.lists.specs.Lent.{after};
-ghost use Rattle.load_migration.specs.MigrateLoad.{rowLists, migrateLoadCall, MigratesLoadForC};
+ghost use Rattle.migration_rules.specs.Transfers.{rowLists};
+ghost use Rattle.load_migration.specs.MigrateLoad.{migrateLoadCall, MigratesLoadForC};
 
 // Migrates the contracts of LSEs that lost load, in a book's file for a grid of `nodes` nodes, and gives the new file's length.
 #[no_mangle]

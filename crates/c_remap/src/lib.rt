@@ -1,6 +1,6 @@
 // Remapping a book for C: the length goes into a lent cell, and the answer is the refusal's number, 0 for none.
 ghost use Rattle.lists.specs.Lent.{before, after};
-ghost use Rattle.book_remap.specs.RemapBook.{remapBookCall, RemapsBookForC};
+ghost use Rattle.remap_rules.specs.RemapBook.{remapBookCall, RemapsBookForC};
 
 // Applies pairs of old and new node numbers, one after another, to a book's file for a grid of `nodes` nodes, and gives the new file's length.
 #[no_mangle]

@@ -1,6 +1,6 @@
 // Adding for C.
 ghost use Rattle.tier_rules.specs.Cells.{leftIn};
-ghost use Rattle.running_test.specs.AddAward.{addAwardCall, AddsAwardForC};
+ghost use Rattle.running_rules.specs.AddAward.{addAwardCall, AddsAwardForC};
 
 // Adds an award to a running test.
 #[no_mangle]

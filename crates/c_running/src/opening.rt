@@ -1,6 +1,6 @@
 // Opening for C.
 ghost use Rattle.lists.specs.Lent.{after};
-ghost use Rattle.running_test.specs.OpenRunning.{openRunningCall, OpensRunningForC};
+ghost use Rattle.running_rules.specs.OpenRunning.{openRunningCall, OpensRunningForC};
 
 // Opens a running test of a grid, a process and a period in three lent buffers.
 #[no_mangle]

@@ -1,7 +1,7 @@
 // Balancing Account shares, for C: the answer is the refusal's number, 0 for none.
 ghost use Rattle.lists.specs.Lent.{before, after};
-ghost use Rattle.balancing_account.specs.ShareBalance.{shareCall, SharesBalanceForC};
-use balancing_account::ShareAnswer;
+ghost use Rattle.share_rules.specs.ShareBalance.{shareCall, SharesBalanceForC};
+use share_rules::ShareAnswer;
 
 // Shares the balance among the coordinators by their demands, one cell each.
 #[no_mangle]

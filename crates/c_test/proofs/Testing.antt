@@ -60,6 +60,7 @@ module _ (g : Grid) (process : Process) (cs : List Contract) where
   pub pass-demand3 : (r : TestAnswer) → r ≡ Pass → Demand3 g process cs r → Demand3OfCells g process cs 0 0 (pos 0)
   pass-demand3 r told d = record {
     empty-is-worst-zero = (λ z. d .pass-is-worst-zero .0 told, λ w. refl);
+    named-is-of-the-grid = λ n. absurd (n refl);
     named-is-a-list = λ n. absurd (n refl);
     named-is-its-shortfall = λ n. absurd (n refl);
     named-is-above-zero = λ n. absurd (n refl);
@@ -71,6 +72,7 @@ module _ (g : Grid) (process : Process) (cs : List Contract) where
   pub fail-demand3 : (r : TestAnswer) (set count lowest : ℕ) (over : Flow) → r ≡ Fail set count lowest over → (set ≡ 0 → ⊥) → Demand3 g process cs r → Demand3OfCells g process cs set lowest (over .0)
   fail-demand3 r set count lowest over told some d = record {
     empty-is-worst-zero = (λ z. absurd (some z), λ w. absurd (not-pass set count lowest over (sym told ∙ d .pass-is-worst-zero .1 w)));
+    named-is-of-the-grid = λ n. d .fail-is-of-the-grid set count lowest over told;
     named-is-a-list = λ n. d .fail-is-a-list set count lowest over told;
     named-is-its-shortfall = λ n. d .fail-is-its-shortfall set count lowest over told;
     named-is-above-zero = λ n. d .fail-is-above-zero set count lowest over told;

@@ -1,6 +1,6 @@
 // The two texts for C: the length goes into a lent cell, and the answer is the refusal's number, 0 for none.
 ghost use Rattle.lists.specs.Lent.{before, after};
-ghost use Rattle.feasibility_report.specs.WriteReport.{reportCall, WritesReportForC};
+ghost use Rattle.report_rules.specs.WriteReport.{reportCall, WritesReportForC};
 ghost use Rattle.statement_text.specs.WriteStatement.{statementCall, WritesStatementForC};
 
 // Writes the feasibility report of a grid's file and a book's file into the first bytes of `text`, and gives its length.

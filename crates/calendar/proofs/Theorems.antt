@@ -10,47 +10,27 @@ use Rattle.lists.specs.Lists.{listTo}
 use Rattle.lists.specs.Sets.{countOf}
 use Rattle.calendar.specs.declared.dates.Date.{Date}
 use Rattle.calendar.specs.Dates.{leap, monthLength, lengthBefore, monthDays, dayNumber, weekdayOf, lastYear, monthExists, dateExists}
-use Rattle.calendar.specs.OnPeak.{between, holiday, observed, onPeakDay, hoursADay, onPeakHours}
+use Rattle.calendar.specs.OnPeak.{weekdaysTo, nth, last, holiday, observed, onPeakDay, hoursADay, onPeakHours}
 use Rattle.calendar.specs.MonthLater.{cutTo, laterYear, laterMonth, laterDay}
 use Rattle.calendar.proofs.Months.{MonthIn, month-in, month-of, date-in}
 use Rattle.calendar.proofs.AllMonths.{all-months}
+use Rattle.calendar.specs.Theorems.{daysWith, holidaysIn, sundays, shortHours, nextWeekday, Stepped}
 
 -- ---- the holidays of 001's exhibit A-1, 1 February 2008 to 31 January 2009
-
--- the days from 1 to n that f holds of
-unfoldable pub daysWith : ℕ → (ℕ → Bool) → List ℕ
-daysWith zero f = []
-daysWith (suc n) f = daysWith n f ++ cond (f (suc n)) (suc n ∷ []) []
-
-abbrev pub holidaysIn : ℕ → ℕ → List ℕ
-holidaysIn y m = daysWith (monthDays y m) (holiday y m)
 
 -- "5/26/2008 .. 7/4/2008 .. 9/1/2008 .. 11/27/2008 .. 12/25/2008 .. 1/1/2009", month by month from February
 pub exhibit-a-1 : listTo 12 (λ k. holidaysIn (2008 + (k + 1) / 12) ((k + 1) % 12 + 1))
     ≡ [] ∷ [] ∷ [] ∷ (26 ∷ []) ∷ [] ∷ (4 ∷ []) ∷ [] ∷ (1 ∷ []) ∷ [] ∷ (27 ∷ []) ∷ (25 ∷ []) ∷ (1 ∷ []) ∷ []
-unfolding listTo daysWith leap monthLength lengthBefore dayNumber weekdayOf between holiday
+unfolding listTo countOf daysWith leap monthLength lengthBefore dayNumber weekdayOf weekdaysTo nth last holiday
 exhibit-a-1 = refl
 
 -- ---- one day less in each month with a holiday
 
-unfoldable pub sundays : ℕ → ℕ → ℕ
-sundays y m = countOf (monthDays y m) (λ k. eqb (weekdayOf y m (suc k)) 7)
-
-abbrev pub holidayMonth : ℕ → Bool
-holidayMonth m = eqb m 1 || eqb m 5 || eqb m 7 || eqb m 9 || eqb m 11 || eqb m 12
-
--- moved or not, a holiday takes one day of its own month, and no other
-unfoldable pub shortHours : ℕ → ℕ → ℕ
-shortHours y m = hoursADay * (monthDays y m - sundays y m - cond (holidayMonth m) 1 0)
-
 pub one-day-less : (y m : ℕ) → monthExists y m ≡ true → onPeakHours y m ≡ shortHours y m
-unfolding countOf leap monthLength lengthBefore dayNumber weekdayOf between holiday observed onPeakDay onPeakHours sundays shortHours
+unfolding countOf leap monthLength lengthBefore dayNumber weekdayOf weekdaysTo nth last holiday observed onPeakDay onPeakHours sundays shortHours
 one-day-less y m e = eqb→eq (onPeakHours y m) (shortHours y m) (all-months (λ y m. eqb (onPeakHours y m) (shortHours y m)) tt y m (month-in y m e))
 
 -- ---- weekdays follow each other
-
-abbrev pub nextWeekday : ℕ → ℕ
-nextWeekday w = w % 7 + 1
 
 -- within a month, of any year
 pub next-day : (y m d : ℕ) → 1 ≤ d → weekdayOf y m (d + 1) ≡ nextWeekday (weekdayOf y m d)
@@ -83,12 +63,6 @@ cut last day a b = by (leb day last) refl
     by : (t : Bool) → leb day last ≡ t → (1 ≤ cond t day last) × (cond t day last ≤ last)
     by true e = (b, leb-true day last e)
     by false e = (a, omega arith)
-
--- it exists, is in the following month, and keeps the day where that month has it
-pub record Stepped (date : Date) : Type 0 where
-  pub exists : dateExists (laterYear date) (laterMonth date) (laterDay date) ≡ true
-  pub in-the-following-month : laterYear date * 12 + laterMonth date ≡ date .year * 12 + date .month + 1
-  pub keeps-the-day : date .day ≤ monthDays (laterYear date) (laterMonth date) → laterDay date ≡ date .day
 
 pub month-step : (date : Date) → dateExists (date .year) (date .month) (date .day) ≡ true → date .year * 12 + date .month < lastYear * 12 + 12 → Stepped date
 month-step date e h =

@@ -1,25 +1,33 @@
 -- Document 02, paper 1: "On-peak is hours ending 7 to 22, Monday to Saturday, except .."
 use mathlib.Core.Bool.{Bool, not, _&&_, _||_}
 use Prim.Native.Nat.{ℕ, suc, _+_, _-_, _*_, _/_, _%_}
-use lib.Dec.{leb, eqb}
+use lib.Dec.{eqb}
 use Rattle.lists.specs.Sets.{countOf}
 use Rattle.calendar.specs.Dates.{firstYear, monthDays, weekdayOf}
 
--- whether a date is weekday w and one of the days a to b of its month
-unfoldable pub between : ℕ → ℕ → ℕ → ℕ → ℕ → ℕ → Bool
-between w a b y m d = leb a d && leb d b && eqb (weekdayOf y m d) w
+-- how many of the days 1 to d of a month are weekday w
+unfoldable pub weekdaysTo : ℕ → ℕ → ℕ → ℕ → ℕ
+weekdaysTo w y m d = countOf d (λ k. eqb (weekdayOf y m (suc k)) w)
 
--- "May's last Monday": May has 31 days
+-- whether a date is the n-th weekday w of its month
+unfoldable pub nth : ℕ → ℕ → ℕ → ℕ → ℕ → Bool
+nth n w y m d = eqb (weekdayOf y m d) w && eqb (weekdaysTo w y m d) n
+
+-- whether it is the last one: as many come up to it as the month has
+unfoldable pub last : ℕ → ℕ → ℕ → ℕ → Bool
+last w y m = nth (weekdaysTo w y m (monthDays y m)) w y m
+
+-- "May's last Monday"
 abbrev pub lastMonday : ℕ → ℕ → ℕ → Bool
-lastMonday = between 1 25 31
+lastMonday = last 1
 
 -- "September's first Monday"
 abbrev pub firstMonday : ℕ → ℕ → ℕ → Bool
-firstMonday = between 1 1 7
+firstMonday = nth 1 1
 
 -- "November's fourth Thursday"
 abbrev pub fourthThursday : ℕ → ℕ → ℕ → Bool
-fourthThursday = between 4 22 28
+fourthThursday = nth 4 4
 
 -- "1 January, May's last Monday, 4 July, September's first Monday, November's fourth Thursday and 25 December"
 unfoldable pub holiday : ℕ → ℕ → ℕ → Bool

@@ -3,7 +3,8 @@ ghost use mathlib.Core.Path.{_≡_};
 ghost use mathlib.Core.Bool.{true};
 ghost use Prim.Native.Nat.{_*_, _≤_};
 ghost use Rattle.calendar.specs.Dates.{lastYear, monthExists};
-ghost use Rattle.calendar.specs.OnPeak.{between, holiday, onPeakDay, hoursADay, onPeakHours};
+ghost use Rattle.calendar.specs.OnPeak.{hoursADay, onPeakHours};
+ghost use Rattle.calendar.specs.Inner.{between, holidayByDays, onPeakByDays};
 use crate::dates::month_days;
 use crate::dates::weekday_number;
 
@@ -24,9 +25,10 @@ fn is_between(weekday: u64, from: u64, to: u64, year: u64, month: u64, day: u64)
     weekday_number(year, month, day) == weekday
 }
 
+// By the days of the month between which each holiday falls (proofs/Theorems.antt: these are the first, the fourth and the last).
 fn is_holiday(year: u64, month: u64, day: u64) -> bool
     requires { ⌜ (1 ≤ year) × (year ≤ lastYear) × (month ≤ 12) ⌝ }
-    ensures { λ r. ⌜ r ≡ holiday year month day ⌝ }
+    ensures { λ r. ⌜ r ≡ holidayByDays year month day ⌝ }
 {
     if month == 1 {
         return day == 1;
@@ -51,7 +53,7 @@ fn is_holiday(year: u64, month: u64, day: u64) -> bool
 
 fn on_peak_day(year: u64, month: u64, day: u64) -> bool
     requires { ⌜ (1 ≤ year) × (year ≤ lastYear) × (month ≤ 12) × (1 ≤ day) × (day ≤ 31) ⌝ }
-    ensures { λ r. ⌜ r ≡ onPeakDay year month day ⌝ }
+    ensures { λ r. ⌜ r ≡ onPeakByDays year month day ⌝ }
 {
     let weekday = weekday_number(year, month, day);
     if weekday == 7 {

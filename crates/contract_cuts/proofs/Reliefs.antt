@@ -17,9 +17,8 @@ use Rattle.integers.proofs.Machine.{back}
 use Rattle.integers.proofs.Linear.{⊖s, not-≤ℤ}
 use Rattle.tariff.specs.declared.contracts.Contract.{Contract}
 use Rattle.tariff.specs.declared.contracts.Kind.{Kind}
-use Rattle.tariff.specs.Units.{maxFactor, maxQuantity}
+use Rattle.tariff.specs.Units.{maxFactor, maxQuantity, maxFlow}
 use Rattle.tariff.specs.Contracts.{counted}
-use Rattle.tariff.specs.Inner.{maxFlow}
 use Rattle.flow_laws.proofs.Additive.{counted-product}
 use Rattle.cut_rules.specs.Inner.{needAt}
 use Rattle.cut_rules.proofs.Needs.{is-true}

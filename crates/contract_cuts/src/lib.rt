@@ -17,30 +17,37 @@ use tariff::Kind;
 use tariff::Quantity;
 
 // The cut that an overload needs: so many times the slope is at least the overload. 0 where the slope is not above 0, or where that is more than `most`.
-fn cut_needed(over: Flow, slope: Flow, most: u64) -> u64
+fn cut_needed(over: Flow, slope: Flow, most: Quantity) -> Quantity
     requires { ⌜ (pos 0 <ℤ over .0) × (natAbs (over .0) < 2 ^ 63) × (natAbs (slope .0) < 2 ^ 63) ⌝ }
-    ensures { λ r. ⌜ r ≡ cond (leb (needAt (over .0) (slope .0)) most) (needAt (over .0) (slope .0)) 0 ⌝ }
+    ensures { λ r. ⌜ r .0 ≡ cond (leb (needAt (over .0) (slope .0)) (most .0)) (needAt (over .0) (slope .0)) 0 ⌝ }
 {
     if slope.0 <= 0 {
-        return 0;
+        return Quantity(0);
     }
     let excess = over.0 as u64;
     let each = slope.0 as u64;
-    let cut = (excess + (each - 1)) / each;
-    if most < cut {
-        return 0;
+    let thousandths = (excess + (each - 1)) / each;
+    let cut = Quantity(thousandths);
+    if cut.exceeds(most) {
+        return Quantity(0);
     }
     cut
 }
 
 // The need raised to what an overload asks at two factors, and 0 where no cut up to `most` is enough. It divides only where the need is short.
-fn raised(over: Flow, kind: Kind, source: i64, sink: i64, most: u64, need: u64) -> u64
-    requires { ⌜ (natAbs source ≤ maxFactor) × (natAbs sink ≤ maxFactor) × (need ≤ most) × (most ≤ maxQuantity) ⌝ }
+fn raised(
+    over: Flow,
+    kind: Kind,
+    source: i64,
+    sink: i64,
+    most: Quantity,
+    need: Quantity,
+) -> Quantity
+    requires { ⌜ (natAbs source ≤ maxFactor) × (natAbs sink ≤ maxFactor) × (need .0 ≤ most .0) × (most .0 ≤ maxQuantity) ⌝ }
     requires { ⌜ (pos 0 <ℤ over .0) × (natAbs (over .0) < 2 ^ 63) ⌝ }
-    ensures { λ r. ⌜ r ≡ raisedTo (over .0) (counted kind (source -ℤ sink)) most need ⌝ }
+    ensures { λ r. ⌜ r .0 ≡ raisedTo (over .0) (counted kind (source -ℤ sink)) (most .0) (need .0) ⌝ }
 {
-    let cut = Quantity(need);
-    let relief = cut.counted_flow(kind, source, sink);
+    let relief = need.counted_flow(kind, source, sink);
     if over.exceeds(relief) {
         let thousandth = Quantity(1);
         let slope = thousandth.counted_flow(kind, source, sink);
@@ -58,17 +65,16 @@ fn least_need(
     excesses: &[i64],
     from: usize,
     upto: usize,
-) -> u64
+) -> Quantity
     requires { ⌜ Ends constraints (now factors) c × Excesses constraints (now excesses) × Overloads constraints from upto (now excesses) ⌝ }
-    ensures { λ r. ⌜ (r ≤ c .quantity .0) × (cutIn constraints (before factors) (before excesses) c
-        ≡ cond (enough constraints (cellAt (before excesses)) (slopeIn constraints (before factors) c) r) r 0) ⌝ }
+    ensures { λ r. ⌜ (r .0 ≤ c .quantity .0) × (cutIn constraints (before factors) (before excesses) c
+        ≡ cond (enough constraints (cellAt (before excesses)) (slopeIn constraints (before factors) c) (r .0)) (r .0) 0) ⌝ }
 {
     let source = c.source * constraints;
     let sink = c.sink * constraints;
     let kind = c.kind;
-    let quantity = c.quantity;
-    let most = quantity.cell();
-    let mut need = 0;
+    let most = c.quantity;
+    let mut need = Quantity(0);
     let mut k = from;
     while k < upto {
         let excess = excesses[k];
@@ -81,8 +87,8 @@ fn least_need(
                 most,
                 need,
             );
-            if need == 0 {
-                return 0;
+            if need.is_zero() {
+                return Quantity(0);
             }
         }
         k += 1;
@@ -91,17 +97,16 @@ fn least_need(
 }
 
 // Whether a cut of a contract is enough at every constraint: its counter-flow is taken away too.
-fn clears(c: Contract, constraints: usize, factors: &[i64], excesses: &[i64], cut: u64) -> bool
-    requires { ⌜ Ends constraints (now factors) c × Excesses constraints (now excesses) × (cut ≤ maxQuantity) ⌝ }
-    ensures { λ r. ⌜ r ≡ enough constraints (cellAt (before excesses)) (slopeIn constraints (before factors) c) cut ⌝ }
+fn clears(c: Contract, constraints: usize, factors: &[i64], excesses: &[i64], cut: Quantity) -> bool
+    requires { ⌜ Ends constraints (now factors) c × Excesses constraints (now excesses) × (cut .0 ≤ maxQuantity) ⌝ }
+    ensures { λ r. ⌜ r ≡ enough constraints (cellAt (before excesses)) (slopeIn constraints (before factors) c) (cut .0) ⌝ }
 {
     let source = c.source * constraints;
     let sink = c.sink * constraints;
     let kind = c.kind;
-    let quantity = Quantity(cut);
     let mut k = 0;
     while k < constraints {
-        let relief = quantity.counted_flow(kind, factors[source + k], factors[sink + k]);
+        let relief = cut.counted_flow(kind, factors[source + k], factors[sink + k]);
         let over = Flow(excesses[k]);
         if over.exceeds(relief) {
             return false;
@@ -151,17 +156,17 @@ pub fn least_cut(
     excesses: &[i64],
     from: usize,
     upto: usize,
-) -> u64
+) -> Quantity
     requires { ⌜ Ends constraints (now factors) c × Excesses constraints (now excesses) × Overloads constraints from upto (now excesses) ⌝ }
-    ensures { λ r. ⌜ (r ≡ cutIn constraints (before factors) (before excesses) c) × (r ≤ maxQuantity) ⌝ }
+    ensures { λ r. ⌜ (r .0 ≡ cutIn constraints (before factors) (before excesses) c) × (r .0 ≤ maxQuantity) ⌝ }
 {
     let need = least_need(c, constraints, factors, excesses, from, upto);
-    if need == 0 {
-        return 0;
+    if need.is_zero() {
+        return Quantity(0);
     }
     if clears(c, constraints, factors, excesses, need) {
         need
     } else {
-        0
+        Quantity(0)
     }
 }

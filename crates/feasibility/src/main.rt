@@ -1,5 +1,5 @@
 // Writes the feasibility report of grid.bin and book.bin, in the folder that it is started in, to standard output.
-// Where a file is there and can't be read, nothing is printed: `files` has told it on standard error.
+// A file is looked at only when those before it were taken. Where it is there and can't be read, nothing is printed: `files` has told it on standard error.
 use feasibility_report::REPORT_ROOM;
 use layouts::MAX_BOOK_BYTES;
 use layouts::PROGRAM_GRID_BYTES;
@@ -11,10 +11,11 @@ fn main() {
     let mut book = [0u8; MAX_BOOK_BYTES + 1];
     let mut text = [0u8; REPORT_ROOM];
     let grid_file = files::read_file(b"grid.bin", &mut grid);
-    let book_file = files::read_file(b"book.bin", &mut book);
+    let grid_bytes = grid_file.bytes;
+    let nodes = taken_files::nodes_taken(&grid[..grid_bytes]);
+    let book_file = files::read_behind(0 < nodes, b"book.bin", &mut book);
+    let book_bytes = book_file.bytes;
     if grid_file.readable && book_file.readable {
-        let grid_bytes = grid_file.bytes;
-        let book_bytes = book_file.bytes;
         let answer = feasibility_report::write_report(
             &grid[..grid_bytes],
             &book[..book_bytes],

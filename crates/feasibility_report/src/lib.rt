@@ -1,6 +1,4 @@
 // The feasibility report's text, rendered into a lent buffer. Each inner function puts a part of it at a place and gives the place behind it.
-mod figures;
-mod lines;
 
 ghost use Prim.Native.Nat.{_≤_};
 ghost use lib.ListN.{length};
@@ -9,13 +7,13 @@ ghost use Rattle.text.specs.Inner.{Put};
 ghost use Rattle.tariff.specs.Units.{gridOf, maxLimit};
 ghost use Rattle.tables.specs.Inner.{GoodFactors, GoodCells};
 ghost use Rattle.texts.specs.WithFiles.{withBook};
-ghost use Rattle.feasibility_report.specs.Report.{lines};
-ghost use Rattle.feasibility_report.specs.WriteReport.{report, reportRoom, reportCall, WritesReport};
-use grid_file::GridAnswer;
+ghost use Rattle.report_rules.specs.Report.{lines};
+ghost use Rattle.report_rules.specs.WriteReport.{report, reportRoom, reportCall, WritesReport};
+use grid_rules::GridAnswer;
 use layouts::PROGRAM_FACTORS;
 use layouts::PROGRAM_GRID_BYTES;
 use layouts::WriteAnswer;
-use lines::put_lines;
+use report_lines::put_lines;
 use tariff::Checked;
 use tariff::MAX_CONSTRAINTS;
 use tariff::Refusal;

@@ -9,7 +9,7 @@ use Rattle.tariff.specs.declared.refusals.Checked.{Checked}
 use Rattle.tariff.specs.declared.refusals.Checked.the-variants.{Passed, Refused}
 use Rattle.tariff.specs.declared.contracts.Contract.{Contract}
 use Rattle.tariff.specs.Refusals.{Check, first}
-use Rattle.tariff.specs.Inner.{InRange}
+use Rattle.tariff.specs.Contracts.{InRange}
 use Rattle.tariff.proofs.Checks.{first-append, passed-append}
 use Rattle.tables.specs.TableChecks.{gridTableChecks}
 use Rattle.tables.specs.Inner.{GoodFactors}

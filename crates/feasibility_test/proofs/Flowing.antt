@@ -21,9 +21,9 @@ use Rattle.tariff.specs.declared.contracts.Kind.{Kind}
 use Rattle.tariff.specs.declared.units.Quantity.{Quantity}
 use Rattle.tariff.specs.declared.contracts.Contract.{Contract}
 use Rattle.tariff.specs.declared.contracts.Period.{Period}
-use Rattle.tariff.specs.Units.{Factors, factorsOf, factor, maxConstraints, maxContracts, maxFactor, maxQuantity, maxLimit}
-use Rattle.tariff.specs.Inner.{FactorsInRange, InRange, maxFlow}
-use Rattle.tariff.specs.Contracts.{counted, samePeriod, ofPeriod}
+use Rattle.tariff.specs.Units.{Factors, factorsOf, factor, maxConstraints, maxContracts, maxFactor, maxQuantity, maxLimit, maxFlow}
+use Rattle.tariff.specs.Inner.{FactorsInRange}
+use Rattle.tariff.specs.Contracts.{InRange, counted, samePeriod, ofPeriod}
 use Rattle.tariff.specs.Feasibility.{flow, totalFlow}
 use Rattle.tariff.proofs.Periods.{sumOver-more, ofPeriod-same, ofPeriod-other}
 use Rattle.integers.specs.Sums.{sumOver}
@@ -36,7 +36,8 @@ use Rattle.tables.proofs.Factors.{place-in}
 use Rattle.books.specs.BookChecks.{bookChecks}
 use Rattle.books.proofs.Accepted.{book-accepted}
 use Rattle.feasibility_test.specs.declared.Flows.{Flows}
-use Rattle.feasibility_test.specs.Inner.{Carries, Adds, Ends, Judgeable}
+use Rattle.feasibility_test.specs.Inner.{Adds, Ends, Judgeable}
+use Rattle.feasibility_test.specs.Carried.{Carries}
 
 -- the flow on constraint j of a contract whose rows of factors begin at source and sink, as it counts
 unfoldable pub part : List ℤ → ℕ → ℕ → Quantity → Kind → ℕ → ℤ

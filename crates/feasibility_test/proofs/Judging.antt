@@ -17,7 +17,8 @@ use mir.Val.{toZ, ofZ}
 use Rattle.integers.proofs.Machine.{back}
 use Rattle.tariff.proofs.Sizes.{percent-sized}
 use Rattle.lists.proofs.Sets.{set-cong, set-lt, set-trailing, set-lowest}
-use Rattle.tariff.proofs.Theorems.{pass-is-worst-zero, excess-is-a-shortfall, pass-is-empty-set, fail-names-lowest, count-is-ones, lowest-is-trailing}
+use Rattle.tariff.proofs.Answers.{never-given}
+use Rattle.tariff.proofs.Theorems.{pass-is-worst-zero, pass-is-empty-set, fail-names-lowest, count-is-ones, lowest-is-trailing}
 use Rattle.tariff.specs.declared.contracts.Contract.{Contract}
 use Rattle.tariff.specs.declared.units.Flow.{Flow}
 use Rattle.tariff.specs.declared.contracts.Period.{Period}
@@ -26,14 +27,23 @@ use Rattle.tariff.specs.Processes.{percent}
 use Rattle.tariff.specs.Units.{Grid, factorsOf, gridOf, maxConstraints, maxLimit}
 use Rattle.tariff.specs.Inner.{maxReleased}
 use Rattle.tariff.specs.Contracts.{ofPeriod}
-use Rattle.tariff.specs.Refusals.{given}
+use Rattle.tariff.specs.Refusals.{Outcome, given}
 use Rattle.lists.specs.Sets.{setOf}
-use Rattle.tariff.specs.Feasibility.{released, excess, overloaded, overloadSet, overloadCount, lowestOverload}
-use Rattle.tariff.specs.Shortfall.{PriceList, shortfall, oneCent}
+use Rattle.tariff.specs.Feasibility.{released, Passes, excess, overloaded, overloadSet, overloadCount, lowestOverload}
 use Rattle.feasibility_test.specs.declared.Flows.{Flows}
-use Rattle.feasibility_test.specs.declared.TestAnswer.the-variants.{Pass, Fail}
-use Rattle.feasibility_test.specs.TestBook.{testValues}
-use Rattle.feasibility_test.specs.Inner.{Carries, Judges}
+use Rattle.feasibility_test.specs.declared.TestAnswer.{TestAnswer}
+use Rattle.feasibility_test.specs.declared.TestAnswer.the-variants.{Pass, Fail, Refused}
+use Rattle.feasibility_test.specs.TestBook.{testOutcome, testValues}
+use Rattle.feasibility_test.specs.Inner.{Judges}
+use Rattle.feasibility_test.specs.Carried.{Carries}
+
+-- no figures: a pass
+pub passed-told : (a : TestAnswer) → testOutcome a ≡ given [] → a ≡ Pass
+passed-told Pass e = refl
+passed-told (Fail set count lowest over) e =
+    let none : pos set ∷ pos count ∷ pos lowest ∷ over .0 ∷ [] ≡ [] = ap (λ (o : Outcome). o .values) e in
+    cc
+passed-told (Refused r) e = absurd (never-given r [] e)
 
 -- whether the flow in cell k exceeds the released limit k
 abbrev pub over : List ℕ → Process → List ℤ → ℕ → Bool
@@ -84,6 +94,7 @@ module _ (n k : ℕ) (ls : List ℕ) (fs : List ℤ) (process : Process) (t : Pe
         figures = rw e;
         demand3 = record {
           pass-is-worst-zero = (λ p. pass-is-worst-zero g process t cs .0 (pass-is-empty-set g process t cs .1 e), λ w. refl);
+          fail-is-of-the-grid = λ s' c' l' o' q. absurd (never q);
           fail-is-a-list = λ s' c' l' o' q. absurd (never q);
           fail-is-its-shortfall = λ s' c' l' o' q. absurd (never q);
           fail-is-above-zero = λ s' c' l' o' q. absurd (never q);
@@ -95,14 +106,14 @@ module _ (n k : ℕ) (ls : List ℕ) (fs : List ℤ) (process : Process) (t : Pe
 
   module _ (few : k ≤ maxConstraints) (some-bit : s ≡ 0 → ⊥) (o : Flow)
       (excess-is : o .0 ≡ getD (f .flows) (trailingZeros 64 s) (pos 0) -ℤ pos (getD ls (trailingZeros 64 s) 0 * percent process * 1000)) where
-    above : 0 < overloadSet g process tested
-    above = rw set-is at (pos-of-ne-zero {n = s} some-bit)
+    fails : Passes g process tested → ⊥
+    fails p = some-bit (set-is ∙ pass-is-empty-set g process t cs .0 p)
 
     count-is : ones s ≡ overloadCount g process tested
     count-is = ap ones set-is ∙ count-is-ones g process t cs
 
     lowest-is : trailingZeros 64 s ≡ lowestOverload g process tested
-    lowest-is = ap (trailingZeros 64) set-is ∙ lowest-is-trailing g process t cs few above
+    lowest-is = ap (trailingZeros 64) set-is ∙ lowest-is-trailing g process t cs few fails
 
     over-is-excess : o .0 ≡ excess g process tested (lowestOverload g process tested)
     unfolding excess released
@@ -121,17 +132,14 @@ module _ (n k : ℕ) (ls : List ℕ) (fs : List ℤ) (process : Process) (t : Pe
     fail-answer = record {
       figures = ap given values-are;
       demand3 = record {
-        pass-is-worst-zero = (λ q. absurd (never q), λ w. absurd (some-bit (set-is ∙ pass-is-empty-set g process t cs .0 (pass-is-worst-zero g process t cs .1 w))));
-        fail-is-a-list = λ s' c' l' o' q. rw (← same-lowest q) (list .0);
-        fail-is-its-shortfall = λ s' c' l' o' q. rw (← same-lowest q) (list .1 ∙ sym over-is-excess ∙ same-over q);
-        fail-is-above-zero = λ s' c' l' o' q. rw (← same-over q, over-is-excess) (fail-names-lowest g process t cs above .1);
+        pass-is-worst-zero = (λ q. absurd (never q), λ w. absurd (fails (pass-is-worst-zero g process t cs .1 w)));
+        fail-is-of-the-grid = λ s' c' l' o' q. rw (← same-lowest q) (fail-names-lowest g process t cs fails .0 .inside);
+        fail-is-a-list = λ s' c' l' o' q. rw (← same-lowest q) (fail-names-lowest g process t cs fails .1);
+        fail-is-its-shortfall = λ s' c' l' o' q. rw (← same-lowest q) (fail-names-lowest g process t cs fails .2 ∙ sym over-is-excess ∙ same-over q);
+        fail-is-above-zero = λ s' c' l' o' q. rw (← same-over q, over-is-excess) (fail-names-lowest g process t cs fails .3);
       };
     }
       where
-        list : PriceList k (oneCent k (lowestOverload g process tested))
-            × (shortfall g process tested (oneCent k (lowestOverload g process tested)) ≡ excess g process tested (lowestOverload g process tested))
-        list = excess-is-a-shortfall g process t cs (lowestOverload g process tested) (fail-names-lowest g process t cs above .0 .inside)
-
         never : Fail s (ones s) (trailingZeros 64 s) o ≡ Pass → ⊥
         never q = let z : _≡_ {A = ℕ} 0 1 = cc in omega arith
 

@@ -15,19 +15,19 @@ use Rattle.tariff.proofs.Checks.{first-append}
 use Rattle.layouts.specs.declared.forms.Form.{Form}
 use Rattle.layouts.specs.declared.forms.Form.the-variants.{Narrow, Wide}
 use Rattle.layouts.specs.BookFile.{bookFile, bookIn}
-use Rattle.layouts.specs.Inner.{ContractFits}
+use Rattle.layouts.specs.BookTable.{ContractFits}
 use Rattle.tables.specs.TableChecks.{gridTableChecks}
 use Rattle.books.specs.BookChecks.{bookChecks}
 use Rattle.books.proofs.Theorems.{both-forms-alike, both-forms-checked-alike}
 use Rattle.feasibility_test.specs.declared.TestAnswer.{TestAnswer}
 use Rattle.feasibility_test.specs.TestBook.{TestCall, testCall, testOutcome, testChecks, testChecked, testedGrid, testedProcess, testValues, TestsBook}
+use Rattle.feasibility_test.specs.Theorems.{testOf}
 
 module _ (n k process period : ℕ) (limits : List ℕ) (factors : List ℤ) (cs : List Contract) (few : length cs ≤ maxContracts) (fits : Each (ContractFits 8) cs) where
-  -- a call with the contracts' file in a form
-  abbrev pub testOf : Form → TestCall
-  testOf f = testCall n k process period limits factors (bookFile f cs)
+  abbrev tested : Form → TestCall
+  tested = testOf n k process period limits factors cs
 
-  checked-alike : testChecked (testOf Narrow) ≡ testChecked (testOf Wide)
+  checked-alike : testChecked (tested Narrow) ≡ testChecked (tested Wide)
   unfolding testChecks
   checked-alike =
       let tables = gridTableChecks n k process period limits factors in
@@ -38,8 +38,9 @@ module _ (n k process period : ℕ) (limits : List ℕ) (factors : List ℤ) (cs
   contracts-alike = both-forms-alike cs few fits .0 ∙ sym (both-forms-alike cs few fits .1)
 
   -- whatever the test answers on the two, its outcome is the same
-  pub tested-alike : (a b : TestAnswer) → TestsBook (testOf Narrow) a → TestsBook (testOf Wide) b → testOutcome a ≡ testOutcome b
+  pub tested-alike : (a b : TestAnswer) → TestsBook (testOf n k process period limits factors cs Narrow) a
+      → TestsBook (testOf n k process period limits factors cs Wide) b → testOutcome a ≡ testOutcome b
   tested-alike a b narrow wide =
       narrow .figures
-      ∙ (λ t. answered (checked-alike t) (testValues (testedGrid (testOf Narrow)) (testedProcess (testOf Narrow)) (ofPeriod (periodOf period) (contracts-alike t))))
+      ∙ (λ t. answered (checked-alike t) (testValues (testedGrid (tested Narrow)) (testedProcess (tested Narrow)) (ofPeriod (periodOf period) (contracts-alike t))))
       ∙ sym (wide .figures)

@@ -6,19 +6,14 @@ use lib.ListN.{length, getD}
 use lib.IntN.{ℤ, pos, natAbs, _+ℤ_}
 use Rattle.tariff.specs.declared.contracts.Contract.{Contract}
 use Rattle.tariff.specs.declared.processes.Process.{Process}
-use Rattle.tariff.specs.Units.{Factors, Grid, factorsOf, maxConstraints, maxContracts, maxFactor, maxQuantity, maxLimit}
+use Rattle.tariff.specs.Units.{Factors, Grid, factorsOf, maxConstraints, maxContracts, maxFactor, maxQuantity, maxLimit, maxFlow}
 use Rattle.tariff.specs.Refusals.{given}
 use Rattle.tariff.specs.Feasibility.{flow, totalFlow}
-use Rattle.tariff.specs.Inner.{InRange, maxFlow}
+use Rattle.tariff.specs.Contracts.{InRange}
 use Rattle.tables.specs.Inner.{GoodCells}
 use Rattle.feasibility_test.specs.declared.Flows.{Flows}
 use Rattle.feasibility_test.specs.declared.TestAnswer.{TestAnswer}
 use Rattle.feasibility_test.specs.TestBook.{testOutcome, testValues, Demand3}
-
--- "the flow on all constraints is carried together with the number of contracts counted": what the struct carries after the contracts cs
-pub record Carries (f : Factors) (cs : List Contract) (carried : Flows) : Type 0 where
-  pub flows-are : (k : ℕ) → k < f .constraints → getD (carried .flows) k (pos 0) ≡ totalFlow f cs k
-  pub count-is : carried .count ≡ length cs
 
 -- a contract whose rows of k factors each stand in a table, in range
 pub record Ends (k : ℕ) (table : List ℤ) (c : Contract) : Type 0 where

@@ -1,2 +1,4 @@
 pub mod TestBook
 pub mod Inner
+pub mod Carried
+pub mod Theorems

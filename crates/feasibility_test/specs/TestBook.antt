@@ -3,7 +3,7 @@ use mathlib.Core.Path.{_≡_}
 use mathlib.Core.Logic.{_↔_}
 use mathlib.Core.Bool.{cond}
 use mathlib.Core.List.{List, [], _∷_, _++_}
-use Prim.Native.Nat.{ℕ}
+use Prim.Native.Nat.{ℕ, _<_}
 use lib.Dec.{eqb}
 use lib.IntN.{ℤ, pos}
 use lib.Signed.{_<ℤ_}
@@ -74,9 +74,11 @@ module _ (g : Grid) (process : Process) (cs : List Contract) where
       ∷ excess g process cs (lowestOverload g process cs)
       ∷ [])
 
-  -- Demand 3: pass exactly when the worst shortfall is 0; on fail the list with one cent on the constraint named has as its shortfall the excess given, above 0
+  -- Demand 3: pass exactly when the worst shortfall is 0; on fail the constraint named is one of the grid's, and the list with one cent there has as its
+  -- shortfall the excess given, above 0
   pub record Demand3 (answer : TestAnswer) : Type 0 where
     pub pass-is-worst-zero : (answer ≡ is.Pass) ↔ IsWorst g process cs (pos 0)
+    pub fail-is-of-the-grid : (set count lowest : ℕ) (over : Flow) → answer ≡ is.Fail set count lowest over → lowest < g .factors .constraints
     pub fail-is-a-list : (set count lowest : ℕ) (over : Flow) → answer ≡ is.Fail set count lowest over
         → PriceList (g .factors .constraints) (oneCent (g .factors .constraints) lowest)
     pub fail-is-its-shortfall : (set count lowest : ℕ) (over : Flow) → answer ≡ is.Fail set count lowest over
@@ -115,6 +117,7 @@ module _ (g : Grid) (process : Process) (cs : List Contract) where
   -- Demand 3 of the cells: the set is empty exactly when the worst shortfall is 0; else as above
   pub record Demand3OfCells (set lowest : ℕ) (over : ℤ) : Type 0 where
     pub empty-is-worst-zero : (set ≡ 0) ↔ IsWorst g process cs (pos 0)
+    pub named-is-of-the-grid : (set ≡ 0 → ⊥) → lowest < g .factors .constraints
     pub named-is-a-list : (set ≡ 0 → ⊥) → PriceList (g .factors .constraints) (oneCent (g .factors .constraints) lowest)
     pub named-is-its-shortfall : (set ≡ 0 → ⊥) → shortfall g process cs (oneCent (g .factors .constraints) lowest) ≡ over
     pub named-is-above-zero : (set ≡ 0 → ⊥) → pos 0 <ℤ over

@@ -19,7 +19,8 @@ ghost use Rattle.layouts.specs.BookFile.{bookIn, contractCountIn, bookFormIn, c
 ghost use Rattle.tables.specs.Inner.{GoodFactors};
 ghost use Rattle.books.specs.BookChecks.{bookChecks};
 ghost use Rattle.feasibility_test.specs.TestBook.{testCall, testChecked, TestsBook};
-ghost use Rattle.feasibility_test.specs.Inner.{Carries, Adds, Ends, Room, Judgeable, Judges};
+ghost use Rattle.feasibility_test.specs.Inner.{Adds, Ends, Room, Judgeable, Judges};
+ghost use Rattle.feasibility_test.specs.Carried.{Carries};
 use layouts::Form;
 use tariff::Checked;
 use tariff::Contract;

@@ -3,7 +3,7 @@ ghost use Rattle.io.specs.Counts.{Counts};
 use libc::ENOENT;
 use libc::STDOUT_FILENO;
 
-// What a file gave: how many bytes, and whether it could be read at all.
+// What a file gave: how many bytes, and whether it could be read at all. Of one that could not no byte is given.
 pub struct Found {
     pub bytes: usize,
     pub readable: bool,
@@ -27,9 +27,27 @@ pub fn read_file(path: &[u8], buf: &mut [u8]) -> Found
     let found = read_all(file, buf);
     if !found.readable {
         os::fail(path);
+        libc::close(file);
+        return Found {
+            bytes: 0,
+            readable: false,
+        };
     }
     libc::close(file);
     found
+}
+
+// Reads a file behind one that was taken. Behind one that was not it is not looked at, and counts as empty.
+pub fn read_behind(taken: bool, path: &[u8], buf: &mut [u8]) -> Found
+    ensures { λ r. ⌜ Counts (r .bytes) (now (buf .exit)) ⌝ }
+{
+    if !taken {
+        return Found {
+            bytes: 0,
+            readable: true,
+        };
+    }
+    read_file(path, buf)
 }
 
 // Reads until `buf` is full, the file ends or a read fails. `io::read_full` does not tell the last two apart.

@@ -1,32 +1,30 @@
 -- The checks of finding the flows: the test's with process 0, which is never refused, then the place; and the cells of flows that are carried.
-use mathlib.Core.Path.{_≡_, refl, sym, _∙_}
+use mathlib.Core.Path.{_≡_, refl, sym, ap, _∙_}
 use mathlib.Core.List.{List, [], _∷_, _++_}
 use Prim.Native.Nat.{ℕ, _≤_, _<_}
 use borrow.Author.Tests.{ltb-false, lt-ltb, le-ltb}
 use lib.ListN.{length, getD}
-use lib.IntN.{pos}
+use lib.IntN.{ℤ, pos}
 use Rattle.lists.specs.Lists.{listTo}
-use Rattle.lists.proofs.Lists.{listTo-cong}
+use Rattle.lists.proofs.Lists.{length-listTo, getD-listTo, listTo-cong}
+use Rattle.lists.proofs.Fronts.{front-at}
 use Rattle.tariff.specs.declared.refusals.Refusal.{Refusal}
 use Rattle.tariff.specs.declared.refusals.Refusal.the-variants.{ShortTable}
 use Rattle.tariff.specs.declared.refusals.Checked.{Checked}
 use Rattle.tariff.specs.declared.refusals.Checked.the-variants.{Passed, Refused}
 use Rattle.tariff.specs.declared.contracts.Contract.{Contract}
-use Rattle.tariff.specs.Units.{Factors}
-use Rattle.tariff.specs.Refusals.{Check, first}
+use Rattle.tariff.specs.Units.{Factors, factorsOf}
+use Rattle.tariff.specs.Refusals.{Check, first, cellsAfter}
 use Rattle.tariff.specs.Checks.{shortTable}
 use Rattle.tariff.specs.Feasibility.{totalFlow}
 use Rattle.tariff.proofs.Checks.{append-refuses, append-passes, passed-append, passed-cons}
 use Rattle.tables.specs.TableChecks.{gridTableChecks}
 use Rattle.feasibility_test.specs.declared.Flows.{Flows}
-use Rattle.feasibility_test.specs.TestBook.{TestCall, testCall, testChecks, testChecked}
-use Rattle.feasibility_test.specs.Inner.{Carries}
+use Rattle.feasibility_test.specs.TestBook.{testChecks, testChecked}
+use Rattle.feasibility_test.specs.Carried.{Carries}
 use Rattle.feasibility_test.proofs.Checking.{Tested, tested}
-use Rattle.flows.specs.FindFlows.{FlowsCall, findFlowsChecks, findFlowsChecked}
-
--- the test of the same tables and book in a process
-abbrev pub testAs : ℕ → FlowsCall → TestCall
-testAs process q = testCall (q .nodes) (q .constraints) process (q .period) (q .limits) (q .factors) (q .book)
+use Rattle.flows.specs.FindFlows.{FlowsCall, findFlowsChecks, findFlowsChecked, countedContracts, flowCells}
+use Rattle.flows.specs.Theorems.{testAs}
 
 module _ (q : FlowsCall) where
   abbrev room : List Check
@@ -66,3 +64,12 @@ module _ (q : FlowsCall) where
 pub cells-are : (f : Factors) (cs : List Contract) (carried : Flows) → Carries f cs carried
     → listTo (f .constraints) (λ (k : ℕ). getD (carried .flows) k (pos 0)) ≡ listTo (f .constraints) (totalFlow f cs)
 cells-are f cs carried h = listTo-cong (f .constraints) (λ (k : ℕ). getD (carried .flows) k (pos 0)) (totalFlow f cs) (h .flows-are)
+
+-- cell k of a place that took the flows
+pub flow-is : (q : FlowsCall) (x : List ℤ) → findFlowsChecked q ≡ Passed → x ≡ cellsAfter (findFlowsChecked q) (flowCells q) (q .place)
+    → (k : ℕ) → k < q .constraints → getD x k (pos 0) ≡ totalFlow (factorsOf (q .nodes) (q .constraints) (q .factors)) (countedContracts q) k
+flow-is q x ok is k l =
+    let f = totalFlow (factorsOf (q .nodes) (q .constraints) (q .factors)) (countedContracts q) in
+    ap (λ (cells : List ℤ). getD cells k (pos 0)) (is ∙ ap (λ (c : Checked). cellsAfter c (flowCells q) (q .place)) ok)
+    ∙ front-at (flowCells q) (q .place) (q .constraints) (length-listTo (q .constraints) f) k (pos 0) l
+    ∙ getD-listTo (q .constraints) f k (pos 0) l

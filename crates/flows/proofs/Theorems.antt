@@ -6,20 +6,17 @@ use lib.ListN.{length, getD}
 use lib.IntN.{ℤ, pos, _-ℤ_}
 use lib.Signed.{ltZ}
 use Rattle.lists.specs.Sets.{setOf}
-use Rattle.lists.proofs.Lists.{length-listTo, getD-listTo}
-use Rattle.lists.proofs.Fronts.{front-at}
 use Rattle.lists.proofs.Sets.{set-cong}
-use Rattle.tariff.specs.declared.refusals.Checked.{Checked}
 use Rattle.tariff.specs.declared.refusals.Checked.the-variants.{Passed}
-use Rattle.tariff.specs.Refusals.{cellsAfter}
 use Rattle.tariff.specs.Checks.{processNumber}
 use Rattle.tariff.specs.Feasibility.{totalFlow, released, excess, overloaded, overloadSet}
 use Rattle.tariff.proofs.Checks.{first-passes, passed-cons}
 use Rattle.tables.specs.TableChecks.{gridTableChecks}
 use Rattle.feasibility_test.specs.TestBook.{TestCall, testChecks, testChecked, testedGrid, testedProcess, testedContracts}
 use Rattle.flows.specs.declared.FlowsAnswer.{FlowsAnswer}
-use Rattle.flows.specs.FindFlows.{FlowsCall, findFlowsChecked, flowCells, FindsFlows}
-use Rattle.flows.proofs.Passing.{testAs, all-fits}
+use Rattle.flows.specs.FindFlows.{FlowsCall, FindsFlows}
+use Rattle.flows.specs.Theorems.{testAs, releasedAt}
+use Rattle.flows.proofs.Passing.{all-fits, flow-is}
 
 module _ (q : FlowsCall) (answer : FlowsAnswer) (exit : List ℤ) (finds : FindsFlows q answer exit) (enough : q .constraints ≤ length (q .place))
     (process : ℕ) (accepted : testChecked (testAs process q) ≡ Passed) where
@@ -35,33 +32,21 @@ module _ (q : FlowsCall) (answer : FlowsAnswer) (exit : List ℤ) (finds : Finds
       let sixteen = passed-cons _ _ (three .1) in
       first-passes _ _ (two .0) ∙ first-passes _ _ (three .0) ∙ first-passes (processNumber 0) _ refl ∙ sixteen .1
 
-  cells-stand : exit ≡ cellsAfter Passed (flowCells q) (q .place)
-  cells-stand =
-      finds .flows-found
-      ∙ ap (λ (x : Checked). cellsAfter x (flowCells q) (q .place)) (sym (all-fits q (testChecked (testAs 0 q)) refl without-process enough))
-
   -- a cell is the flow that is tested
   pub cell-is-the-flow : (k : ℕ) → k < q .constraints → getD exit k (pos 0) ≡ totalFlow (testedGrid test .factors) (testedContracts test) k
-  cell-is-the-flow k h =
-      let f = totalFlow (testedGrid test .factors) (testedContracts test) in
-      ap (λ (cells : List ℤ). getD cells k (pos 0)) cells-stand
-      ∙ front-at (flowCells q) (q .place) (q .constraints) (length-listTo (q .constraints) f) k (pos 0) h
-      ∙ getD-listTo (q .constraints) f k (pos 0) h
+  cell-is-the-flow k h = flow-is q exit (sym (all-fits q (testChecked (testAs 0 q)) refl without-process enough)) (finds .flows-found) k h
 
-  -- the released limit of constraint k in the process, and the test by the cells alone
-  abbrev pub releasedAt : ℕ → ℤ
-  releasedAt k = pos (released (testedGrid test .limits) (testedProcess test) k)
-
-  pub overloaded-by-cell : (k : ℕ) → k < q .constraints → overloaded (testedGrid test) (testedProcess test) (testedContracts test) k ≡ ltZ (releasedAt k) (getD exit k (pos 0))
+  -- the test by the cells alone
+  pub overloaded-by-cell : (k : ℕ) → k < q .constraints → overloaded (testedGrid test) (testedProcess test) (testedContracts test) k ≡ ltZ (releasedAt test k) (getD exit k (pos 0))
   unfolding overloaded
-  overloaded-by-cell k h = ap (ltZ (releasedAt k)) (sym (cell-is-the-flow k h))
+  overloaded-by-cell k h = ap (ltZ (releasedAt test k)) (sym (cell-is-the-flow k h))
 
-  pub excess-by-cell : (k : ℕ) → k < q .constraints → excess (testedGrid test) (testedProcess test) (testedContracts test) k ≡ getD exit k (pos 0) -ℤ releasedAt k
+  pub excess-by-cell : (k : ℕ) → k < q .constraints → excess (testedGrid test) (testedProcess test) (testedContracts test) k ≡ getD exit k (pos 0) -ℤ releasedAt test k
   unfolding excess
-  excess-by-cell k h = ap (λ (x : ℤ). x -ℤ releasedAt k) (sym (cell-is-the-flow k h))
+  excess-by-cell k h = ap (λ (x : ℤ). x -ℤ releasedAt test k) (sym (cell-is-the-flow k h))
 
   -- the set that the test gives: the constraints whose cell exceeds the released limit
-  pub set-by-cells : overloadSet (testedGrid test) (testedProcess test) (testedContracts test) ≡ setOf (q .constraints) (λ (k : ℕ). ltZ (releasedAt k) (getD exit k (pos 0)))
+  pub set-by-cells : overloadSet (testedGrid test) (testedProcess test) (testedContracts test) ≡ setOf (q .constraints) (λ (k : ℕ). ltZ (releasedAt test k) (getD exit k (pos 0)))
   unfolding overloadSet
   set-by-cells =
-      set-cong (q .constraints) (overloaded (testedGrid test) (testedProcess test) (testedContracts test)) (λ (k : ℕ). ltZ (releasedAt k) (getD exit k (pos 0))) overloaded-by-cell
+      set-cong (q .constraints) (overloaded (testedGrid test) (testedProcess test) (testedContracts test)) (λ (k : ℕ). ltZ (releasedAt test k) (getD exit k (pos 0))) overloaded-by-cell

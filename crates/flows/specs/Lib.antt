@@ -1,2 +1,3 @@
 pub mod FindFlows
 pub mod ReleasedPercent
+pub mod Theorems

@@ -9,18 +9,14 @@ use Rattle.lists.specs.Lists.{listTo}
 use Rattle.lists.specs.Sets.{countOf}
 use Rattle.lists.proofs.Lists.{getD-listTo}
 use Rattle.calendar.specs.Dates.{leap, monthLength, lengthBefore, dayNumber, weekdayOf, firstYear, monthExists}
-use Rattle.calendar.specs.OnPeak.{between, holiday, observed, onPeakDay, onPeakHours, tableEntries, tableEntry}
+use Rattle.calendar.specs.OnPeak.{weekdaysTo, nth, last, holiday, observed, onPeakDay, onPeakHours, tableEntries, tableEntry}
 use Rattle.calendar.proofs.Months.{MonthIn, month-in}
-use Rattle.hours_table.specs.Inner.{cells}
+use Rattle.hours_table.specs.Table.{cells, place}
 
 -- the array as a list is the list of the rule's counts
 pub table-right : cells ≡ listTo tableEntries tableEntry
-unfolding listTo countOf leap monthLength lengthBefore dayNumber weekdayOf between holiday observed onPeakDay onPeakHours tableEntry
+unfolding listTo countOf leap monthLength lengthBefore dayNumber weekdayOf weekdaysTo nth last holiday observed onPeakDay onPeakHours tableEntry
 table-right = refl
-
--- the cell of a year and a month
-abbrev pub place : ℕ → ℕ → ℕ
-place y m = (y - firstYear) * 12 + (m - 1)
 
 entry-at : (y m : ℕ) → MonthIn y m → tableEntry (place y m) ≡ onPeakHours y m
 unfolding tableEntry

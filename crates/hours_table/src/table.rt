@@ -3,7 +3,7 @@ ghost use mathlib.Core.Path.{_≡_};
 ghost use Prim.Native.Nat.{_<_};
 ghost use lib.ListN.{getD};
 ghost use Rattle.calendar.specs.OnPeak.{tableEntries};
-ghost use Rattle.hours_table.specs.Inner.{cells};
+ghost use Rattle.hours_table.specs.Table.{cells};
 
 const HOURS: [u16; 336] = [
     400, // 2010

@@ -21,7 +21,7 @@ use Rattle.tariff.proofs.Checks.{first-passes, first-refuses, last-passes, appe
 use Rattle.layouts.specs.declared.forms.Form.{Form}
 use Rattle.layouts.specs.Forms.{endWidth}
 use Rattle.layouts.specs.BookFile.{bookBytes, contractCountIn, bookFormIn, contractAt, bookIn}
-use Rattle.layouts.specs.Inner.{ContractFits}
+use Rattle.layouts.specs.BookTable.{ContractFits}
 use Rattle.layouts.proofs.BookFile.{book-fits, length-bookIn, ends-fewer}
 use Rattle.books.specs.BookChecks.{contractChecks, ownChecks}
 use Rattle.books.specs.Inner.{bookFront}

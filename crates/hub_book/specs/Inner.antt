@@ -11,7 +11,7 @@ use Rattle.tariff.specs.Units.{maxContracts}
 use Rattle.layouts.specs.declared.forms.Form.{Form}
 use Rattle.layouts.specs.Forms.{endWidth, sparePattern, endsBelow}
 use Rattle.layouts.specs.BookFile.{bookBytes, contractCountIn, bookSpareIn, bookFormIn, bookIn}
-use Rattle.layouts.specs.Inner.{ContractFits}
+use Rattle.layouts.specs.BookTable.{ContractFits}
 use Rattle.books.specs.BookChecks.{ownChecks}
 use Rattle.books.specs.Inner.{bookFront}
 use Rattle.hub_rules.specs.Hubs.{hubNodeNumber, hubShape, hubTwice, hubContract}

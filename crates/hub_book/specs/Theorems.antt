@@ -13,7 +13,7 @@ use Rattle.tariff.specs.Settlement.{exactTotal}
 use Rattle.tariff.specs.Units.{Factors}
 use Rattle.layouts.specs.Forms.{endWidth}
 use Rattle.layouts.specs.BookFile.{bookFormIn, bookIn}
-use Rattle.layouts.specs.Inner.{ContractFits}
+use Rattle.layouts.specs.BookTable.{ContractFits}
 use Rattle.books.specs.BookChecks.{bookChecks}
 use Rattle.hub_rules.specs.Theorems.{quantities, HubRows}
 use Rattle.hub_book.specs.AddHubContract.{HubCall, contractsMade}

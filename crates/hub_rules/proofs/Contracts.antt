@@ -6,7 +6,7 @@ use native.Mathlib.Omega.{arith}
 use lib.Dec.{T, ltb, ltb→lt, lt→ltb}
 use lib.ListN.{length}
 use Rattle.tariff.specs.declared.contracts.Contract.{Contract}
-use Rattle.tariff.specs.Inner.{InRange}
+use Rattle.tariff.specs.Contracts.{InRange}
 use Rattle.largest_remainders.specs.Shares.{share}
 use Rattle.largest_remainders.proofs.Counting.{bit, bit-le, addTo-mono}
 use Rattle.largest_remainders.proofs.Theorems.{no-weight}

@@ -7,7 +7,7 @@ use lib.ListN.{length}
 use lib.IntN.{pos, _+ℤ_, _*ℤ_}
 use Rattle.lists.specs.Lists.{Each}
 use Rattle.tariff.specs.declared.contracts.Contract.{Contract}
-use Rattle.tariff.specs.Inner.{InRange}
+use Rattle.tariff.specs.Contracts.{InRange}
 use Rattle.tariff.specs.Units.{Factors, maxQuantity, maxHubNodes, hubWeight}
 use Rattle.hub_rules.specs.Hubs.{hubNodeNumber, hubShape, hubTwice, hubSum, hubQuotient, hubRemainder}
 use Rattle.hub_rules.specs.Hubs.{downShare, shareRest, leftOver, weightOf, shareOf}

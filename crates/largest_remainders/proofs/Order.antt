@@ -6,9 +6,9 @@ use Prim.Native.Nat.{ℕ, suc, _+_, _-_, _*_, _≤_, _<_}
 use native.Mathlib.Nat.{mul-le-mul-right}
 use native.Mathlib.Omega.{arith}
 use lib.Dec.{T, ltb, eqb, ltb→lt, lt→ltb, eqb→eq, eqb-refl, not-T}
-use Rattle.largest_remainders.specs.Ranks.{rankOf}
+use Rattle.largest_remainders.specs.Ranks.{rankOf, aboveBy, Different}
 use Rattle.largest_remainders.specs.Shares.{beforeBy}
-use Rattle.largest_remainders.specs.Inner.{aboveBy, Different, keyOf}
+use Rattle.largest_remainders.specs.Inner.{keyOf}
 use Rattle.largest_remainders.proofs.Counting.{bit-same, count-same}
 use Rattle.largest_remainders.proofs.Ranking.{Ordered, tri}
 

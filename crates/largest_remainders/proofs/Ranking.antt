@@ -7,8 +7,7 @@ use native.Mathlib.Nat.{eq-or-lt-of-le}
 use native.Mathlib.Omega.{arith}
 use lib.Dec.{T, ltb, eqb, ltb→lt, lt→ltb, eqb→eq, eqb-refl, not-T}
 use Rattle.lists.specs.Sets.{countOf}
-use Rattle.largest_remainders.specs.Ranks.{rankOf}
-use Rattle.largest_remainders.specs.Inner.{aboveBy, Different}
+use Rattle.largest_remainders.specs.Ranks.{rankOf, aboveBy, Different}
 use Rattle.largest_remainders.proofs.Counting.{bit, addTo-mono, addTo-plus, count-is-sum, count-mono, count-strict, count-all, count-none, count-one}
 
 -- ---- n different ranks below n: exactly l of them are below l

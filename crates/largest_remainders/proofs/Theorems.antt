@@ -9,9 +9,8 @@ use native.Mathlib.Omega.{arith}
 use borrow.Author.Tests.{lt-ltb, le-ltb}
 use lib.Dec.{T, leb, ltb, leb→le, le→leb, nleb→lt, ltb→lt, lt→ltb, nltb→le, not-T}
 use Rattle.lists.specs.Sets.{countOf}
-use Rattle.largest_remainders.specs.Ranks.{addTo, rankOf}
+use Rattle.largest_remainders.specs.Ranks.{addTo, rankOf, aboveBy, Different, keysFrom}
 use Rattle.largest_remainders.specs.Shares.{beforeBy, total, whole, rest, leftover, rank, given, share, positives}
-use Rattle.largest_remainders.specs.Inner.{aboveBy, Different, keysFrom}
 use Rattle.largest_remainders.proofs.Counting.{bit, addTo-plus, count-is-sum, count-mono, count-strict}
 use Rattle.largest_remainders.proofs.Ranking.{ranked, rank-first, keys-ordered}
 use Rattle.largest_remainders.proofs.Order.{rests-ordered}

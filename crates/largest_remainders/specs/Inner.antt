@@ -6,22 +6,11 @@ use lib.Dec.{leb, ltb}
 use lib.ListN.{length, getD}
 use mathlib.Core.List.{List}
 use Rattle.lists.specs.Sets.{countOf}
-
--- the greater key comes first
-abbrev pub aboveBy : (ℕ → ℕ) → ℕ → ℕ → Bool
-aboveBy key j i = ltb (key i) (key j)
-
--- the keys of n places differ from each other
-abbrev pub Different : ℕ → (ℕ → ℕ) → Type 0
-Different n key = (i j : ℕ) → i < n → j < n → key i ≡ key j → i ≡ j
+use Rattle.largest_remainders.specs.Ranks.{Different}
 
 -- remainder and place in one number, for w places at most: the greater number comes before
 abbrev pub keyOf : (ℕ → ℕ) → ℕ → ℕ → ℕ
 keyOf rest w i = rest i * w + (w - suc i)
-
--- how many of the first n keys are x or above
-abbrev pub keysFrom : ℕ → (ℕ → ℕ) → ℕ → ℕ
-keysFrom n key x = countOf n (λ j. leb x (key j))
 
 -- the key of place i in a table
 abbrev pub keyAt : List ℕ → ℕ → ℕ

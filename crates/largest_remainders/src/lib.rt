@@ -3,7 +3,8 @@ ghost use mathlib.Core.Path.{_≡_};
 ghost use Prim.Native.Nat.{ℕ, _+_, _≤_, _<_};
 ghost use lib.ListN.{length};
 ghost use Rattle.lists.specs.Lent.{before};
-ghost use Rattle.largest_remainders.specs.Inner.{keyLimit, keysFrom, keyAt, Searchable};
+ghost use Rattle.largest_remainders.specs.Inner.{keyLimit, keyAt, Searchable};
+ghost use Rattle.largest_remainders.specs.Ranks.{keysFrom};
 
 // Keys are below this.
 const KEY_LIMIT: u64 = 1 << 63;

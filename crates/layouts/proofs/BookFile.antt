@@ -22,7 +22,7 @@ use Rattle.layouts.specs.declared.forms.Form.the-variants.{Narrow, Wide}
 use Rattle.layouts.specs.Forms.{endWidth, recordBytes, sparePattern, endsBelow}
 use Rattle.layouts.specs.BookFile.{contract, contractBits, contractFields, packedBook, contractFrom}
 use Rattle.layouts.specs.BookFile.{bookBytes, bookFile, contractCountIn, bookSpareIn, bookFormIn, contractIn, contractAt, bookIn}
-use Rattle.layouts.specs.Inner.{ContractFits}
+use Rattle.layouts.specs.BookTable.{ContractFits}
 use Rattle.layouts.proofs.ContractBits.{kind-bit, period-bit, kind-lt, period-lt, contract-is}
 use Rattle.layouts.proofs.Records.{fit-records, total-records, record-stands, records-stand}
 

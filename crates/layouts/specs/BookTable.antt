@@ -1,6 +1,6 @@
 -- A book as a table: six cells a contract, in the file's order of fields.
 use mathlib.Core.List.{List, [], _∷_}
-use Prim.Native.Nat.{ℕ, _+_, _*_}
+use Prim.Native.Nat.{ℕ, _+_, _*_, _^_, _<_}
 use lib.ListN.{getD}
 use Rattle.lists.specs.Lists.{listTo}
 use Rattle.tariff.specs.declared.contracts.Contract.{Contract}
@@ -23,3 +23,10 @@ rowAt cells i = rowFrom cells (contractCells * i)
 -- the first m rows of a table
 abbrev pub rowsIn : ℕ → List ℕ → List Contract
 rowsIn m cells = listTo m (rowAt cells)
+
+-- what the fields of a contract can hold, with ends of w bits
+pub record ContractFits (w : ℕ) (c : Contract) : Type 0 where
+  pub holder-fits : c .holder < 2 ^ 10
+  pub source-fits : c .source < 2 ^ w
+  pub sink-fits : c .sink < 2 ^ w
+  pub quantity-fits : c .quantity .0 < 2 ^ 20

@@ -10,13 +10,6 @@ abbrev pub lengthAfter : WriteAnswer → ℕ → ℕ
 lengthAfter (Written n) entry = n
 lengthAfter (Refused r) entry = entry
 
--- what the fields of a contract can hold, with ends of w bits
-pub record ContractFits (w : ℕ) (c : Contract) : Type 0 where
-  pub holder-fits : c .holder < 2 ^ 10
-  pub source-fits : c .source < 2 ^ w
-  pub sink-fits : c .sink < 2 ^ w
-  pub quantity-fits : c .quantity .0 < 2 ^ 20
-
 -- the contract whose bits are v, with ends of w bits
 abbrev pub contractOf : ℕ → ℕ → Contract
 contractOf w v =

@@ -4,6 +4,7 @@ use mathlib.Core.List.{List, [], _∷_}
 use Prim.Native.Nat.{ℕ}
 use lib.ListN.{length}
 use lib.IntN.{pos}
+use Rattle.lists.specs.Lent.{overwrite}
 use Rattle.tariff.specs.declared.refusals.Checked.{Checked}
 use Rattle.tariff.specs.Refusals.{Outcome, given, refusedBy, answered, cellsAfter, cellAfter, numberAfter}
 use Rattle.layouts.specs.declared.WriteAnswer.{WriteAnswer}
@@ -24,3 +25,8 @@ pub record WritesForC (checked : Checked) (file place : List ℕ) (bytes : ℕ) 
   pub refusal-number : number ≡ numberAfter checked
   pub bytes-written : exit ≡ cellsAfter checked file place
   pub length-given : bytes-exit ≡ cellAfter checked (length file) bytes
+
+-- the file was written: its length is given, its bytes stand at the front of the place, and the others are as they were
+pub record IsWritten (file place : List ℕ) (answer : WriteAnswer) (exit : List ℕ) : Type 0 where
+  pub length-is : answer ≡ Written (length file)
+  pub bytes-are : exit ≡ overwrite file place

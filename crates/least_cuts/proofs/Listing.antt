@@ -21,8 +21,7 @@ use Rattle.tariff.specs.declared.contracts.Period.{Period}
 use Rattle.tariff.specs.declared.processes.Process.{Process}
 use Rattle.tariff.specs.declared.refusals.Checked.the-variants.{Passed}
 use Rattle.tariff.specs.Units.{Grid, factorsOf, gridOf, maxLimit}
-use Rattle.tariff.specs.Inner.{InRange}
-use Rattle.tariff.specs.Contracts.{counted, samePeriod, ofPeriod}
+use Rattle.tariff.specs.Contracts.{InRange, counted, samePeriod, ofPeriod}
 use Rattle.tariff.specs.Refusals.{first}
 use Rattle.tariff.specs.Feasibility.{released, excess, overloadSet}
 use Rattle.layouts.specs.BookFile.{bookIn, contractCountIn, contractAt}
@@ -30,7 +29,8 @@ use Rattle.tables.specs.Inner.{GoodCells, GoodFactors}
 use Rattle.books.specs.BookChecks.{bookChecks}
 use Rattle.books.proofs.Accepted.{book-accepted}
 use Rattle.feasibility_test.specs.declared.Flows.{Flows}
-use Rattle.feasibility_test.specs.Inner.{Carries, Judgeable}
+use Rattle.feasibility_test.specs.Inner.{Judgeable}
+use Rattle.feasibility_test.specs.Carried.{Carries}
 use Rattle.feasibility_test.proofs.Flowing.{part, own-flow, carried-judgeable}
 use Rattle.feasibility_test.proofs.Judging.{over, set-is}
 use Rattle.flow_laws.specs.Quantities.{withQuantity}

@@ -84,10 +84,11 @@ fn add_key(
     let own = c.period;
     if own.same(period) {
         let cut = contract_cuts::least_cut(c, constraints, factors, excesses, from, upto);
-        if 0 < cut {
-            keys[count] = cut * KEY_BASE + number as u64;
-            return count + 1;
+        if cut.is_zero() {
+            return count;
         }
+        keys[count] = cut.cell() * KEY_BASE + number as u64;
+        return count + 1;
     }
     count
 }

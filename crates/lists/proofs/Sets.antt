@@ -10,7 +10,7 @@ use mir.Val.{boolByte}
 use lib.Bits.{bitAnd, and-step}
 use lib.Pow.{pow-pos, pow-add, pow-mono, shr-shr}
 use lib.Count.{ones, ones-cat, trailingZeros}
-use Rattle.lists.specs.Sets.{setOf, countOf, lowestOf}
+use Rattle.lists.specs.Sets.{setOf, countOf, lowestOf, Lowest}
 
 bit : Bool → ℕ
 bit b = cond b 1 0
@@ -153,12 +153,6 @@ set-trailing (suc n) (suc w) f h s = rw (set-shift n f) (by (f 0) (rw (set-shift
     by false p rest =
         rw (digits-mod (setOf n (λ k. f (suc k))) {m = 2} {r = 0} (omega arith), digits-div (setOf n (λ k. f (suc k))) {m = 2} {r = 0} (omega arith))
         (ap suc (rest (omega arith)))
-
--- where the set is not empty, the lowest is in it and none below it is
-pub record Lowest (n : ℕ) (f : ℕ → Bool) (k : ℕ) : Type 0 where
-  pub inside : k < n
-  pub holds : f k ≡ true
-  pub least : (j : ℕ) → j < k → f j ≡ false
 
 pub set-lowest : (n : ℕ) (f : ℕ → Bool) → 0 < setOf n f → Lowest n f (lowestOf n f)
 unfolding setOf lowestOf bit

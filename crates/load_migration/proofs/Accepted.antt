@@ -6,12 +6,12 @@ use native.Mathlib.Nat.{le-trans}
 use native.Mathlib.Omega.{arith}
 use borrow.Author.Tests.{ltb-false, lt-leb, ne-eqb, le-ltb}
 use lib.ListN.{length, length-append}
-use lib.IntN.{ℤ}
 use Rattle.lists.specs.Lent.{overwrite}
 use Rattle.lists.specs.Lists.{Each}
 use Rattle.lists.proofs.Lists.{each-append, each-listTo, length-listTo}
 use Rattle.tariff.specs.declared.contracts.Contract.{Contract}
 use Rattle.tariff.specs.declared.contracts.Period.{Period}
+use Rattle.tariff.specs.declared.units.Transfer.{Transfer}
 use Rattle.tariff.specs.declared.refusals.Checked.the-variants.{Passed}
 use Rattle.tariff.specs.Refusals.{first}
 use Rattle.tariff.specs.Units.{maxEntities, maxContracts, maxQuantity}
@@ -19,7 +19,7 @@ use Rattle.tariff.proofs.Checks.{first-passes, last-passes, passed-cons}
 use Rattle.layouts.specs.declared.forms.Form.{Form}
 use Rattle.layouts.specs.Forms.{endWidth}
 use Rattle.layouts.specs.BookFile.{bookBytes, bookFile, contractIn}
-use Rattle.layouts.specs.Inner.{ContractFits}
+use Rattle.layouts.specs.BookTable.{ContractFits}
 use Rattle.layouts.proofs.BookFile.{book-written, contract-in-fits}
 use Rattle.books.specs.BookChecks.{contractChecks}
 use Rattle.books.specs.Inner.{headerBytes}
@@ -74,13 +74,13 @@ module _ (lost : ℕ → ℕ → ℕ) (loads : List ℕ) (few : length loads ≤
           )
 
 -- so many contracts, and their bytes
-pub grown-length : (f : Form) (book : List ℕ) (t : Period) (square : List (List ℤ)) (loads : List ℕ) (m : ℕ)
+pub grown-length : (f : Form) (book : List ℕ) (t : Period) (square : List (List Transfer)) (loads : List ℕ) (m : ℕ)
     → length (newBook (lostIn square) loads t (contractsTo f book m)) ≡ m + length (newTo f book t square loads m)
 unfolding newBook
 grown-length f book t square loads m =
     length-append (contractsTo f book m) (newTo f book t square loads m) ∙ ap (λ (n : ℕ). n + length (newTo f book t square loads m)) (length-listTo m (contractIn f book))
 
-pub book-fits : (f : Form) (book : List ℕ) (t : Period) (square : List (List ℤ)) (loads : List ℕ) (m : ℕ) → Ready square loads
+pub book-fits : (f : Form) (book : List ℕ) (t : Period) (square : List (List Transfer)) (loads : List ℕ) (m : ℕ) → Ready square loads
     → Each (ContractFits (endWidth f)) (newBook (lostIn square) loads t (contractsTo f book m))
 book-fits f book t square loads m ok =
     grown-fits (lostIn square) loads (ok .few) (ok .losses) t (endWidth f) (contractsTo f book m)

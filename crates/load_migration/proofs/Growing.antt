@@ -7,10 +7,10 @@ use native.Mathlib.Nat.{eq-or-lt-of-le, le-trans}
 use native.Mathlib.Numerals.{add-one}
 use native.Mathlib.Omega.{arith}
 use lib.ListN.{length, length-append}
-use lib.IntN.{ℤ}
 use Rattle.lists.specs.Lists.{listTo}
 use Rattle.lists.proofs.Lists.{flatMap-more}
 use Rattle.tariff.specs.declared.contracts.Period.{Period}
+use Rattle.tariff.specs.declared.units.Transfer.{Transfer}
 use Rattle.layouts.specs.declared.forms.Form.{Form}
 use Rattle.layouts.specs.Forms.{recordBytes}
 use Rattle.layouts.specs.BookFile.{bookBytes, contractIn}
@@ -23,7 +23,7 @@ use Rattle.load_migration.specs.Inner.{Readable, newTo}
 pub contract-there : (f : Form) (m : ℕ) (book : List ℕ) → Readable f m book → (i : ℕ) → i < m → (i < 1024) × (bookBytes f i + recordBytes f ≤ length book)
 contract-there f m book ok i h = (omega (arith, ok .few), record-room f i m (length book) h (ok .there))
 
-module _ (f : Form) (book : List ℕ) (t : Period) (square : List (List ℤ)) (loads : List ℕ) where
+module _ (f : Form) (book : List ℕ) (t : Period) (square : List (List Transfer)) (loads : List ℕ) where
   pub none-new : newTo f book t square loads 0 ≡ []
   unfolding listTo flatMap
   none-new = refl

@@ -1,31 +1,31 @@
 -- Migration's checks, one part after the other, and what is known of a call that they accept.
 use mathlib.Core.Path.{_≡_, refl, ap, _∙_}
-use mathlib.Core.Bool.{Bool, true, false, not}
+use mathlib.Core.Bool.{Bool, true, false}
 use mathlib.Core.List.{List, [], _∷_, _++_, append-assoc}
 use Prim.Native.Nat.{ℕ, zero, suc, _≤_, _<_}
 use native.Mathlib.Omega.{arith}
 use borrow.Author.Tests.{ltb-false}
-use lib.Dec.{ltb, eqb}
 use lib.ListN.{length, getD}
 use lib.IntN.{ℤ, natAbs}
 use Rattle.lists.specs.Lists.{listTo, some, above}
-use Rattle.lists.proofs.Search.{neither, none-bad, some-append}
+use Rattle.lists.proofs.Search.{none-bad, some-append}
 use Rattle.integers.specs.Sums.{max0}
 use Rattle.tariff.specs.declared.refusals.Refusal.{Refusal}
 use Rattle.tariff.specs.declared.refusals.Refusal.the-variants.{LoadExceeded}
 use Rattle.tariff.specs.declared.refusals.Checked.the-variants.{Passed, Refused}
 use Rattle.tariff.specs.Refusals.{Check, first}
-use Rattle.tariff.specs.Units.{maxEntities, maxRows, maxLoad}
-use Rattle.tariff.proofs.Checks.{first-passes, first-refuses, append-refuses, append-passes, passed-cons, passed-append, same-of}
+use Rattle.tariff.specs.Units.{maxEntities, maxLoad}
+use Rattle.tariff.proofs.Checks.{first-passes, first-refuses, append-refuses, append-passes, passed-cons, passed-append}
 use Rattle.layouts.specs.BookFile.{bookFormIn, contractCountIn}
 use Rattle.books.specs.BookChecks.{ownChecks}
 use Rattle.books.proofs.Accepted.{Accepted, own-accepted}
-use Rattle.migration_rules.specs.Transfers.{Row, row, loss, lossesTo, load, exceeded, rowBad, rangeChecks, loadExceeded, loadsExceeded}
+use Rattle.migration_rules.specs.Transfers.{Row, loss, lossesTo, load, exceeded, rowChecks, rangeChecks, loadExceeded, loadsExceeded}
 use Rattle.migration_rules.proofs.Nets.{losses-cong}
+use Rattle.tariff.specs.declared.units.Transfer.{Transfer}
 use Rattle.load_transfers.specs.Squares.{lostIn, Nets}
 use Rattle.load_transfers.specs.Inner.{RowsIn}
 use Rattle.load_transfers.proofs.Squares.{lost-at}
-use Rattle.load_transfers.proofs.Rows.{rows-many, rows-at, row-in}
+use Rattle.load_transfers.proofs.Rows.{rowed}
 use Rattle.load_migration.specs.MigrateLoad.{MigrateLoadCall, rowsGiven, contractsGrown, migrateLoadChecks, migrateLoadChecked}
 use Rattle.load_migration.specs.Inner.{inputChecks, roomChecks, Readable}
 
@@ -60,34 +60,15 @@ pub record Figures (q : MigrateLoadCall) : Type 0 where
   pub rows : RowsIn (q .lists .customers) (q .lists .rates) (q .lists .olds) (q .lists .news)
 
 module _ (q : MigrateLoadCall) where
-  figures : first (rangeChecks (q .lists .classes) (q .lists .customers) (q .lists .rates) (q .lists .olds) (q .lists .news) (q .loads)) ≡ Passed → Figures q
+  figures : first (rangeChecks (q .lists) (q .loads)) ≡ Passed → Figures q
   unfolding rangeChecks
   figures e =
-      let n = length (q .loads) in
-      let m = length (q .lists .customers) in
-      let a = passed-cons _ _ e in
-      let b = passed-cons _ _ (a .1) in
-      let c = passed-cons _ _ (b .1) in
-      let d = passed-cons _ _ (c .1) in
-      let f = passed-cons _ _ (d .1) in
-      let few = ltb-false maxEntities n (neither (eqb n 0) (ltb maxEntities n) (a .0) .1) in
-      let u = neither (not (eqb (length (q .lists .classes)) m)) _ (c .0) in
-      let v = neither (not (eqb (length (q .lists .rates)) m)) _ (u .1) in
-      let w = neither (not (eqb (length (q .lists .olds)) m)) (not (eqb (length (q .lists .news)) m)) (v .1) in
+      let p = passed-append (rowChecks (length (q .loads)) (q .lists)) _ e in
+      let r = rowed (length (q .loads)) (q .lists) (p .0) in
       record {
-        few = few;
-        most = λ i h. ltb-false maxLoad (getD (q .loads) i 0) (none-bad (above maxLoad) (q .loads) 0 (d .0) i h);
-        rows =
-            record {
-              few = ltb-false maxRows m (b .0);
-              rates-many = same-of (length (q .lists .rates)) m (v .0);
-              olds-many = same-of (length (q .lists .olds)) m (w .0);
-              news-many = same-of (length (q .lists .news)) m (w .1);
-              each = λ i h.
-                  let long = rows-many (q .lists .customers) (q .lists .rates) (q .lists .olds) (q .lists .news) in
-                  let at = rows-at (q .lists .customers) (q .lists .rates) (q .lists .olds) (q .lists .news) i (row 0 0 0 0) h in
-                  row-in n few _ (rw at at (none-bad (rowBad n) (rowsGiven q) (row 0 0 0 0) (f .0) i (omega (arith, long))));
-            };
+        few = r .few;
+        most = λ i h. ltb-false maxLoad (getD (q .loads) i 0) (none-bad (above maxLoad) (q .loads) 0 (passed-cons _ _ (p .1) .0) i h);
+        rows = r .rows;
       }
 
   pub input-figures : first (inputOf q) ≡ Passed → Figures q
@@ -107,7 +88,7 @@ accepted-readable n book a = record { few = a .few; there = omega (arith, a .siz
 
 -- ---- the losses that the square says
 
-pub square-losses : (rows : List Row) (square : List (List ℤ)) → Nets rows square → (i j : ℕ) → 0 < i → i ≤ maxEntities → 0 < j → j ≤ maxEntities → lostIn square i j ≡ loss rows i j
+pub square-losses : (rows : List Row) (square : List (List Transfer)) → Nets rows square → (i j : ℕ) → 0 < i → i ≤ maxEntities → 0 < j → j ≤ maxEntities → lostIn square i j ≡ loss rows i j
 unfolding loss
 square-losses rows square nets zero j a b c d = absurd (omega arith)
 square-losses rows square nets (suc i) zero a b c d = absurd (omega arith)

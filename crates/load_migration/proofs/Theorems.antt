@@ -3,7 +3,7 @@ use mathlib.Core.Path.{_≡_}
 use Prim.Native.Nat.{ℕ}
 use lib.IntN.{pos}
 use lib.Signed.{_≤ℤ_}
-use Rattle.bits.proofs.Bytes.{Bytes}
+use Rattle.bits.specs.Bits.{Bytes}
 use Rattle.tariff.specs.declared.refusals.Checked.the-variants.{Passed}
 use Rattle.tariff.specs.Refusals.{first}
 use Rattle.tariff.specs.Contracts.{periodOf}

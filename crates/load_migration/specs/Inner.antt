@@ -2,10 +2,10 @@
 use mathlib.Core.List.{List, [], _∷_, _++_, flatMap}
 use Prim.Native.Nat.{ℕ, _+_, _≤_, _<_}
 use lib.ListN.{length}
-use lib.IntN.{ℤ}
 use Rattle.lists.specs.Lists.{listTo}
 use Rattle.tariff.specs.declared.contracts.Contract.{Contract}
 use Rattle.tariff.specs.declared.contracts.Period.{Period}
+use Rattle.tariff.specs.declared.units.Transfer.{Transfer}
 use Rattle.tariff.specs.Refusals.{Check, first}
 use Rattle.tariff.specs.Checks.{periodNumber, contractCount, shortTable}
 use Rattle.tariff.specs.Units.{maxContracts, maxQuantity}
@@ -14,15 +14,14 @@ use Rattle.layouts.specs.declared.forms.Form.{Form}
 use Rattle.layouts.specs.BookFile.{bookBytes, bookFile, bookFormIn, contractIn}
 use Rattle.layouts.specs.Writing.{Writes}
 use Rattle.books.specs.BookChecks.{ownChecks}
-use Rattle.migration_rules.specs.Transfers.{rangeChecks}
+use Rattle.migration_rules.specs.Transfers.{RowLists, rangeChecks}
 use Rattle.migration_rules.specs.Contracts.{newFrom, newBook}
 use Rattle.load_transfers.specs.Squares.{lostIn}
-use Rattle.load_migration.specs.MigrateLoad.{RowLists}
 
 -- 17, the book's own, 22
 unfoldable pub inputChecks : ℕ → ℕ → List ℕ → RowLists → List ℕ → List Check
 inputChecks n t book lists loads =
-    periodNumber t ∷ ownChecks n book ++ rangeChecks (lists .classes) (lists .customers) (lists .rates) (lists .olds) (lists .news) loads
+    periodNumber t ∷ ownChecks n book ++ rangeChecks lists loads
 
 -- 10, 9
 abbrev pub roomChecks : Form → ℕ → ℕ → List Check
@@ -38,11 +37,11 @@ abbrev pub contractsTo : Form → List ℕ → ℕ → List Contract
 contractsTo f book m = listTo m (contractIn f book)
 
 -- what follows the first m contracts
-abbrev pub newTo : Form → List ℕ → Period → List (List ℤ) → List ℕ → ℕ → List Contract
+abbrev pub newTo : Form → List ℕ → Period → List (List Transfer) → List ℕ → ℕ → List Contract
 newTo f book t square loads m = flatMap (newFrom (lostIn square) loads t) (contractsTo f book m)
 
 -- the book grown by them
-abbrev pub grownTo : Form → List ℕ → Period → List (List ℤ) → List ℕ → ℕ → List Contract
+abbrev pub grownTo : Form → List ℕ → Period → List (List Transfer) → List ℕ → ℕ → List Contract
 grownTo f book t square loads m = newBook (lostIn square) loads t (contractsTo f book m)
 
 -- room for all of them

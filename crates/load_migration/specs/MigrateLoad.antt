@@ -12,20 +12,8 @@ use Rattle.layouts.specs.declared.WriteAnswer.{WriteAnswer}
 use Rattle.layouts.specs.BookFile.{bookBytes, bookFile, bookFormIn, bookIn}
 use Rattle.layouts.specs.Writing.{Writes, WritesForC}
 use Rattle.books.specs.BookChecks.{ownChecks}
-use Rattle.migration_rules.specs.Transfers.{Row, rowsOf, loss, rangeChecks, loadExceeded}
+use Rattle.migration_rules.specs.Transfers.{Row, RowLists, rowsIn, loss, rangeChecks, loadExceeded}
 use Rattle.migration_rules.specs.Contracts.{newBook}
-
--- the rows' five lists
-pub record RowLists : Type 0 where
-  pub classes : List ℕ
-  pub customers : List ℕ
-  pub rates : List ℕ
-  pub olds : List ℕ
-  pub news : List ℕ
-
-abbrev pub rowLists : Lent (List ℕ) → Lent (List ℕ) → Lent (List ℕ) → Lent (List ℕ) → Lent (List ℕ) → RowLists
-rowLists classes customers rates olds news =
-    record { classes = before classes; customers = before customers; rates = before rates; olds = before olds; news = before news }
 
 -- the node count, the period, the book's bytes, the rows' lists, the LSEs' loads, and the place for the new book's bytes as it is at entry
 pub record MigrateLoadCall : Type 0 where
@@ -41,7 +29,7 @@ migrateLoadCall n t book lists loads file = record { nodes = n; period = t; book
 
 module _ (q : MigrateLoadCall) where
   abbrev pub rowsGiven : List Row
-  rowsGiven = rowsOf (q .lists .customers) (q .lists .rates) (q .lists .olds) (q .lists .news)
+  rowsGiven = rowsIn (q .lists)
 
   -- the old contracts, then the new ones
   abbrev pub contractsGrown : List Contract
@@ -52,7 +40,7 @@ module _ (q : MigrateLoadCall) where
   migrateLoadChecks =
       periodNumber (q .period)
       ∷ ownChecks (q .nodes) (q .book)
-      ++ rangeChecks (q .lists .classes) (q .lists .customers) (q .lists .rates) (q .lists .olds) (q .lists .news) (q .loads)
+      ++ rangeChecks (q .lists) (q .loads)
       ++ loadExceeded (loss rowsGiven) (q .loads)
       ∷ contractCount (length contractsGrown)
       ∷ shortTable (length (q .place)) (bookBytes (bookFormIn (q .book)) (length contractsGrown))

@@ -5,10 +5,11 @@ ghost use lib.ListN.{length};
 ghost use Rattle.lists.specs.Lent.{before, after, overwrite};
 ghost use Rattle.tariff.specs.Refusals.{first};
 ghost use Rattle.layouts.specs.BookFile.{bookBytes, bookFile, contractCountIn, bookFormIn, bookIn};
+ghost use Rattle.migration_rules.specs.Transfers.{rowLists};
 ghost use Rattle.migration_rules.specs.Contracts.{newBook};
 ghost use Rattle.load_transfers.specs.Squares.{lostIn};
 ghost use Rattle.migrated_contracts.specs.Inner.{Ready, Appended};
-ghost use Rattle.load_migration.specs.MigrateLoad.{rowLists, migrateLoadCall, MigratesLoad};
+ghost use Rattle.load_migration.specs.MigrateLoad.{migrateLoadCall, MigratesLoad};
 ghost use Rattle.load_migration.specs.Inner.{inputChecks, roomChecks, Readable, contractsTo, newTo, grownTo, Roomy, Grows};
 use layouts::Form;
 use layouts::WriteAnswer;
@@ -47,21 +48,18 @@ fn grown_count(
     form: Form,
     count: usize,
     period: Period,
-    square: &Square,
+    square: Square,
     loads: &[u64],
 ) -> usize
-    requires { ⌜ Readable form count (now book) × Ready (now square) (now loads) ⌝ }
-    ensures { λ r. ⌜ r ≡ count + length (newTo form (before book) period (before square) (before loads) count) ⌝ }
+    requires { ⌜ Readable form count (now book) × Ready square (now loads) ⌝ }
+    ensures { λ r. ⌜ r ≡ count + length (newTo form (before book) period square (before loads) count) ⌝ }
 {
     let mut grown = count;
     let mut i = 0;
     while i < count {
-        grown += migrated_contracts::new_count(
-            books::contract_at(book, form, i),
-            period,
-            square,
-            loads,
-        );
+        let base = books::contract_at(book, form, i);
+        let row = square[load_transfers::row_of(base.holder)];
+        grown += migrated_contracts::new_count(base, period, row, loads);
         i += 1;
     }
     grown
@@ -99,18 +97,19 @@ fn store_grown(
     book: &[u8],
     count: usize,
     period: Period,
-    square: &Square,
+    square: Square,
     loads: &[u64],
 ) -> usize
-    requires { ⌜ Readable form count (now book) × Ready (now square) (now loads) ⌝ }
-    requires { ⌜ Roomy form (contractsTo form (now book) count) (newTo form (now book) period (now square) (now loads) count) (now file) ⌝ }
-    ensures { λ r. ⌜ Appended form count (newTo form (before book) period (before square) (before loads) count) (before file) (after file) r ⌝ }
+    requires { ⌜ Readable form count (now book) × Ready square (now loads) ⌝ }
+    requires { ⌜ Roomy form (contractsTo form (now book) count) (newTo form (now book) period square (now loads) count) (now file) ⌝ }
+    ensures { λ r. ⌜ Appended form count (newTo form (before book) period square (before loads) count) (before file) (after file) r ⌝ }
 {
     let mut place = count;
     let mut i = 0;
     while i < count {
         let base = books::contract_at(book, form, i);
-        place = migrated_contracts::store_new(file, form, place, base, period, square, loads);
+        let row = square[load_transfers::row_of(base.holder)];
+        place = migrated_contracts::store_new(file, form, place, base, period, row, loads);
         i += 1;
     }
     place
@@ -123,14 +122,14 @@ fn write_grown(
     count: usize,
     grown: usize,
     period: Period,
-    square: &Square,
+    square: Square,
     loads: &[u64],
     file: &mut [u8],
 )
-    requires { ⌜ Readable form count (now book) × Ready (now square) (now loads) ⌝ }
-    requires { ⌜ grown ≡ length (contractsTo form (now book) count) + length (newTo form (now book) period (now square) (now loads) count) ⌝ }
-    requires { ⌜ Roomy form (contractsTo form (now book) count) (newTo form (now book) period (now square) (now loads) count) (now file) ⌝ }
-    ensures { λ r. ⌜ after file ≡ overwrite (bookFile form (grownTo form (before book) period (before square) (before loads) count)) (before file) ⌝ }
+    requires { ⌜ Readable form count (now book) × Ready square (now loads) ⌝ }
+    requires { ⌜ grown ≡ length (contractsTo form (now book) count) + length (newTo form (now book) period square (now loads) count) ⌝ }
+    requires { ⌜ Roomy form (contractsTo form (now book) count) (newTo form (now book) period square (now loads) count) (now file) ⌝ }
+    ensures { λ r. ⌜ after file ≡ overwrite (bookFile form (grownTo form (before book) period square (before loads) count)) (before file) ⌝ }
 {
     books::store_header(file, form, grown);
     store_old(file, form, book, count);
@@ -141,12 +140,12 @@ fn write_grown(
 fn migrate_by(
     book: &[u8],
     period: Period,
-    square: &Square,
+    square: Square,
     loads: &[u64],
     file: &mut [u8],
 ) -> WriteAnswer
-    requires { ⌜ Readable (bookFormIn (now book)) (contractCountIn (now book)) (now book) × Ready (now square) (now loads) ⌝ }
-    ensures { λ r. ⌜ Grows (before book) (newBook (lostIn (before square)) (before loads) period (bookIn (before book))) (before file) r (after file) ⌝ }
+    requires { ⌜ Readable (bookFormIn (now book)) (contractCountIn (now book)) (now book) × Ready square (now loads) ⌝ }
+    ensures { λ r. ⌜ Grows (before book) (newBook (lostIn square) (before loads) period (bookIn (before book))) (before file) r (after file) ⌝ }
 {
     let form = books::book_form(book);
     let count = books::contract_count(book);
@@ -190,10 +189,9 @@ pub fn migrate_load(
     ) {
         return WriteAnswer::Refused(refusal);
     }
-    let none = load_transfers::no_transfers();
-    let square = load_transfers::net_square(none, customers, rates, olds, news);
-    if load_transfers::loads_exceeded(&square, loads) {
+    let square = load_transfers::net_square(customers, rates, olds, news);
+    if load_transfers::loads_exceeded(square, loads) {
         return WriteAnswer::Refused(Refusal::LoadExceeded);
     }
-    migrate_by(book, Period::from_number(period), &square, loads, file)
+    migrate_by(book, Period::from_number(period), square, loads, file)
 }

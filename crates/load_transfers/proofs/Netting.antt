@@ -9,48 +9,49 @@ use native.Mathlib.Omega.{arith}
 use borrow.Author.Tests.{eqb-true}
 use lib.Dec.{eqb}
 use lib.ListN.{length, getD}
-use lib.IntN.{ℤ, pos, natAbs}
+use lib.IntN.{pos, natAbs}
 use Rattle.lists.specs.Lists.{listTo}
 use Rattle.lists.proofs.Lists.{length-listTo, listTo-more, each-listTo}
 use Rattle.integers.proofs.Sizes.{zero-size}
+use Rattle.tariff.specs.declared.units.Transfer.{Transfer}
 use Rattle.tariff.specs.Units.{maxEntities}
 use Rattle.migration_rules.specs.Transfers.{rowsOf}
 use Rattle.migration_rules.proofs.Nets.{net-none, net-more}
 use Rattle.migration_rules.proofs.Books.{both}
-use Rattle.load_transfers.specs.Squares.{cellIn, Nets}
-use Rattle.load_transfers.specs.Inner.{maxNet, transferred, Shaped, NetSquare, RowIn, rowAt, RowsIn}
+use Rattle.load_transfers.specs.Squares.{noTransfer, cellIn, Nets}
+use Rattle.load_transfers.specs.Inner.{maxNet, transferred, Shaped, NetSquare, RowIn, rowAt, rowsTo, RowsIn}
 use Rattle.load_transfers.proofs.Squares.{shape-transferred, cell-transferred, net-sized}
 
 -- ---- a square of zeros, by a computed test
 
-abbrev pub blankRow : List ℤ → Bool
+abbrev pub blankRow : List Transfer → Bool
 blankRow [] = true
-blankRow (x ∷ xs) = eqb (natAbs x) 0 && blankRow xs
+blankRow (x ∷ xs) = eqb (natAbs (x .0)) 0 && blankRow xs
 
-abbrev pub blank : List (List ℤ) → Bool
+abbrev pub blank : List (List Transfer) → Bool
 blank [] = true
 blank (r ∷ rs) = (eqb (length r) maxEntities && blankRow r) && blank rs
 
-blank-at : (xs : List ℤ) → blankRow xs ≡ true → (j : ℕ) → getD xs j (pos 0) ≡ pos 0
+blank-at : (xs : List Transfer) → blankRow xs ≡ true → (j : ℕ) → getD xs j noTransfer .0 ≡ pos 0
 blank-at [] e j = refl
-blank-at (x ∷ xs) e zero = zero-size x (eqb-true (natAbs x) 0 (both (eqb (natAbs x) 0) (blankRow xs) e .0))
-blank-at (x ∷ xs) e (suc j) = blank-at xs (both (eqb (natAbs x) 0) (blankRow xs) e .1) j
+blank-at (x ∷ xs) e zero = zero-size (x .0) (eqb-true (natAbs (x .0)) 0 (both (eqb (natAbs (x .0)) 0) (blankRow xs) e .0))
+blank-at (x ∷ xs) e (suc j) = blank-at xs (both (eqb (natAbs (x .0)) 0) (blankRow xs) e .1) j
 
-pub blank-cell : (rows : List (List ℤ)) → blank rows ≡ true → (i j : ℕ) → cellIn rows i j ≡ pos 0
+pub blank-cell : (rows : List (List Transfer)) → blank rows ≡ true → (i j : ℕ) → cellIn rows i j ≡ pos 0
 blank-cell [] e i j = refl
 blank-cell (r ∷ rs) e zero j =
     let p = both (eqb (length r) maxEntities && blankRow r) (blank rs) e in
     blank-at r (both (eqb (length r) maxEntities) (blankRow r) (p .0) .1) j
 blank-cell (r ∷ rs) e (suc i) j = blank-cell rs (both (eqb (length r) maxEntities && blankRow r) (blank rs) e .1) i j
 
-blank-wide : (rows : List (List ℤ)) → blank rows ≡ true → (i : ℕ) → i < length rows → length (getD rows i []) ≡ maxEntities
+blank-wide : (rows : List (List Transfer)) → blank rows ≡ true → (i : ℕ) → i < length rows → length (getD rows i []) ≡ maxEntities
 blank-wide [] e i h = absurd (omega arith)
 blank-wide (r ∷ rs) e zero h =
     let p = both (eqb (length r) maxEntities && blankRow r) (blank rs) e in
     eqb-true (length r) maxEntities (both (eqb (length r) maxEntities) (blankRow r) (p .0) .0)
 blank-wide (r ∷ rs) e (suc i) h = blank-wide rs (both (eqb (length r) maxEntities && blankRow r) (blank rs) e .1) i (omega arith)
 
-pub blank-square : (rows : List (List ℤ)) → blank rows ≡ true → length rows ≡ maxEntities → NetSquare [] rows
+pub blank-square : (rows : List (List Transfer)) → blank rows ≡ true → length rows ≡ maxEntities → NetSquare [] rows
 blank-square rows e long =
     record {
       nets = record { cells = λ i j hi hj. blank-cell rows e i j ∙ sym (net-none (suc i) (suc j)) };
@@ -61,7 +62,7 @@ blank-square rows e long =
 -- ---- row i more
 
 module _ (customers rates olds news : List ℕ) (ok : RowsIn customers rates olds news) where
-  sized-to : (i : ℕ) → i ≤ length customers → (square : List (List ℤ)) → Nets (listTo i (rowAt customers rates olds news)) square
+  sized-to : (i : ℕ) → i ≤ length customers → (square : List (List Transfer)) → Nets (listTo i (rowAt customers rates olds news)) square
       → (k l : ℕ) → k < maxEntities → l < maxEntities → natAbs (cellIn square k l) ≤ maxNet
   sized-to i h square nets k l hk hl =
       let at = rowAt customers rates olds news in
@@ -86,7 +87,7 @@ module _ (customers rates olds news : List ℕ) (ok : RowsIn customers rates old
     pub load-sized : getD customers i 0 * getD rates i 0 ≤ maxNet
     load-sized = le-trans (mul-le-mul (ok .each i h .customers-most) (ok .each i h .rate-most)) (omega arith)
 
-    module _ (square : List (List ℤ)) (nets : Nets (listTo i (rowAt customers rates olds news)) square) where
+    module _ (square : List (List Transfer)) (nets : Nets (listTo i (rowAt customers rates olds news)) square) where
       pub cell-sized : (natAbs (cellIn square from to) ≤ maxNet) × (natAbs (cellIn square to from) ≤ maxNet)
       cell-sized = (sized-to i (omega arith) square nets from to from-below to-below, sized-to i (omega arith) square nets to from to-below from-below)
 
@@ -102,7 +103,17 @@ module _ (customers rates olds news : List ℕ) (ok : RowsIn customers rates old
       pub shape-more : Shaped square → Shaped (transferred square from to (pos (getD customers i 0 * getD rates i 0)))
       shape-more shape = shape-transferred square shape from to from-below to-below from-apart (pos (getD customers i 0 * getD rates i 0))
 
-  -- all rows
-  pub nets-end : (square : List (List ℤ)) → Nets (listTo (length customers) (rowAt customers rates olds news)) square → Shaped square → NetSquare (rowsOf customers rates olds news) square
-  unfolding rowsOf
-  nets-end square nets shape = record { nets = nets; shape = shape; size = record { sized = sized-to (length customers) (omega arith) square nets } }
+  -- the first m rows
+  pub nets-end : (m : ℕ) → m ≤ length customers → (square : List (List Transfer)) → Nets (rowsTo m customers rates olds news) square → Shaped square
+      → NetSquare (rowsTo m customers rates olds news) square
+  nets-end m h square nets shape = record { nets = nets; shape = shape; size = record { sized = sized-to m h square nets } }
+
+-- all of them
+pub all-rows : (customers rates olds news : List ℕ) → rowsTo (length customers) customers rates olds news ≡ rowsOf customers rates olds news
+unfolding rowsOf
+all-rows customers rates olds news = refl
+
+-- none yet
+pub no-rows : (customers rates olds news : List ℕ) → rowsTo 0 customers rates olds news ≡ []
+unfolding listTo
+no-rows customers rates olds news = refl

@@ -1,6 +1,6 @@
 -- Rows by index, and what is known of rows that 22 does not turn down.
 use mathlib.Core.Path.{_≡_}
-use mathlib.Core.Bool.{false}
+use mathlib.Core.Bool.{false, not}
 use mathlib.Core.List.{List}
 use Prim.Native.Nat.{ℕ, _≤_, _<_}
 use native.Mathlib.Nat.{le-trans}
@@ -11,10 +11,13 @@ use lib.ListN.{length}
 use Rattle.lists.specs.Lists.{listTo, some, above}
 use Rattle.lists.proofs.Lists.{length-listTo, getD-listTo}
 use lib.ListN.{getD}
-use Rattle.lists.proofs.Search.{neither}
-use Rattle.tariff.specs.Units.{maxEntities, maxCustomers, maxRate}
-use Rattle.migration_rules.specs.Transfers.{Row, row, rowsOf, entityBad, rowBad}
-use Rattle.load_transfers.specs.Inner.{RowIn, rowAt}
+use Rattle.lists.proofs.Search.{neither, none-bad}
+use Rattle.tariff.specs.declared.refusals.Checked.the-variants.{Passed}
+use Rattle.tariff.specs.Refusals.{first}
+use Rattle.tariff.specs.Units.{maxEntities, maxRows, maxCustomers, maxRate}
+use Rattle.tariff.proofs.Checks.{passed-cons, same-of}
+use Rattle.migration_rules.specs.Transfers.{Row, RowLists, row, rowsOf, rowsIn, entityBad, rowBad, rowChecks}
+use Rattle.load_transfers.specs.Inner.{RowIn, rowAt, RowsIn}
 
 module _ (customers rates olds news : List ℕ) where
   pub rows-many : length (rowsOf customers rates olds news) ≡ length customers
@@ -47,3 +50,37 @@ row-in n few r e =
       new-most = le-trans (new .1) few;
       apart = eqb-false (r .old) (r .new) (d .1);
     }
+
+-- ---- lists that 22 does not turn down
+
+pub record Rowed (n : ℕ) (lists : RowLists) : Type 0 where
+  pub few : n ≤ maxEntities
+  pub rows : RowsIn (lists .customers) (lists .rates) (lists .olds) (lists .news)
+
+module _ (n : ℕ) (lists : RowLists) where
+  pub rowed : first (rowChecks n lists) ≡ Passed → Rowed n lists
+  unfolding rowChecks
+  rowed e =
+      let m = length (lists .customers) in
+      let a = passed-cons _ _ e in
+      let b = passed-cons _ _ (a .1) in
+      let c = passed-cons _ _ (b .1) in
+      let d = passed-cons _ _ (c .1) in
+      let few = ltb-false maxEntities n (neither (eqb n 0) (ltb maxEntities n) (a .0) .1) in
+      let u = neither (not (eqb (length (lists .classes)) m)) _ (c .0) in
+      let v = neither (not (eqb (length (lists .rates)) m)) _ (u .1) in
+      let w = neither (not (eqb (length (lists .olds)) m)) (not (eqb (length (lists .news)) m)) (v .1) in
+      record {
+        few = few;
+        rows =
+            record {
+              few = ltb-false maxRows m (b .0);
+              rates-many = same-of (length (lists .rates)) m (v .0);
+              olds-many = same-of (length (lists .olds)) m (w .0);
+              news-many = same-of (length (lists .news)) m (w .1);
+              each = λ i h.
+                  let long = rows-many (lists .customers) (lists .rates) (lists .olds) (lists .news) in
+                  let at = rows-at (lists .customers) (lists .rates) (lists .olds) (lists .news) i (row 0 0 0 0) h in
+                  row-in n few _ (rw at at (none-bad (rowBad n) (rowsIn lists) (row 0 0 0 0) (d .0) i (omega (arith, long))));
+            };
+      }

@@ -3,7 +3,7 @@ use mathlib.Core.Path.{_≡_, refl, sym, ap, _∙_}
 use mathlib.Core.Logic.{_≢_}
 use mathlib.Core.Bool.{Bool, true, false, cond, _&&_}
 use mathlib.Core.List.{List, [], _∷_}
-use Prim.Native.Nat.{ℕ, suc, _-_, _*_, _≤_, _<_}
+use Prim.Native.Nat.{ℕ, zero, suc, _-_, _*_, _≤_, _<_}
 use native.Mathlib.Nat.{mul-le-mul, mul-le-mul-left, le-trans}
 use native.Mathlib.Omega.{arith}
 use borrow.Author.Tests.{eqb-true, eqb-false, eq-eqb, ne-eqb}
@@ -15,15 +15,16 @@ use Rattle.lists.specs.Lists.{Each}
 use Rattle.integers.specs.Sums.{max0, sumOver}
 use Rattle.integers.proofs.Sizes.{natAbs-sub, natAbs-sumOver}
 use Rattle.integers.proofs.Linear.{⊖of, ⊖s}
+use Rattle.tariff.specs.declared.units.Transfer.{Transfer}
 use Rattle.tariff.specs.Units.{maxEntities, maxRows, maxCustomers, maxRate}
-use Rattle.migration_rules.specs.Transfers.{Row, moved, net}
+use Rattle.migration_rules.specs.Transfers.{Row, moved, net, lossesTo}
 use Rattle.migration_rules.proofs.Books.{both}
-use Rattle.load_transfers.specs.Squares.{cellIn, lostIn}
-use Rattle.load_transfers.specs.Inner.{maxNet, stored, transferred, Shaped, RowIn}
+use Rattle.load_transfers.specs.Squares.{noTransfer, cellIn, rowLosses, lostIn}
+use Rattle.load_transfers.specs.Inner.{maxNet, stored, transferred, Shaped, SizedRow, Sized, RowIn}
 
 -- ---- one cell stored
 
-module _ (square : List (List ℤ)) (shape : Shaped square) (i j : ℕ) (hi : i < maxEntities) (hj : j < maxEntities) (x : ℤ) where
+module _ (square : List (List Transfer)) (shape : Shaped square) (i j : ℕ) (hi : i < maxEntities) (hj : j < maxEntities) (x : Transfer) where
   row-stored : getD (stored square i j x) i [] ≡ set (getD square i []) j x
   unfolding stored
   row-stored = getD-set-same square i (set (getD square i []) j x) [] (omega (arith, shape .long))
@@ -32,16 +33,16 @@ module _ (square : List (List ℤ)) (shape : Shaped square) (i j : ℕ) (hi : i 
   unfolding stored
   other-row k h = getD-set-other square i k (set (getD square i []) j x) [] h
 
-  pub cell-stored : (k l : ℕ) → cellIn (stored square i j x) k l ≡ cond (eqb i k && eqb j l) x (cellIn square k l)
+  pub cell-stored : (k l : ℕ) → cellIn (stored square i j x) k l ≡ cond (eqb i k && eqb j l) (x .0) (cellIn square k l)
   cell-stored k l = by (eqb i k) refl
     where
-      in-row : (b : Bool) → eqb j l ≡ b → getD (set (getD square i []) j x) l (pos 0) ≡ cond b x (cellIn square i l)
-      in-row true e = rw (← eqb-true j l e) (getD-set-same (getD square i []) j x (pos 0) (omega (arith, shape .wide i hi)))
-      in-row false e = getD-set-other (getD square i []) j l x (pos 0) (λ q. eqb-false j l e (sym q))
+      in-row : (b : Bool) → eqb j l ≡ b → getD (set (getD square i []) j x) l noTransfer .0 ≡ cond b (x .0) (cellIn square i l)
+      in-row true e = rw (← eqb-true j l e) (ap (λ (t : Transfer). t .0) (getD-set-same (getD square i []) j x noTransfer (omega (arith, shape .wide i hi))))
+      in-row false e = ap (λ (t : Transfer). t .0) (getD-set-other (getD square i []) j l x noTransfer (λ q. eqb-false j l e (sym q)))
 
-      by : (b : Bool) → eqb i k ≡ b → cellIn (stored square i j x) k l ≡ cond (b && eqb j l) x (cellIn square k l)
-      by true e = rw (← eqb-true i k e) (ap (λ (r : List ℤ). getD r l (pos 0)) row-stored ∙ in-row (eqb j l) refl)
-      by false e = ap (λ (r : List ℤ). getD r l (pos 0)) (other-row k (λ q. eqb-false i k e (sym q)))
+      by : (b : Bool) → eqb i k ≡ b → cellIn (stored square i j x) k l ≡ cond (b && eqb j l) (x .0) (cellIn square k l)
+      by true e = rw (← eqb-true i k e) (ap (λ (r : List Transfer). getD r l noTransfer .0) row-stored ∙ in-row (eqb j l) refl)
+      by false e = ap (λ (r : List Transfer). getD r l noTransfer .0) (other-row k (λ q. eqb-false i k e (sym q)))
 
   long-stored : length (stored square i j x) ≡ maxEntities
   unfolding stored
@@ -87,10 +88,10 @@ two-cells false false A B C n ha hb other = none C
     none : (c : ℤ) → c ≡ c +ℤ (pos 0 -ℤ pos 0)
     none c = rw (⊖of c) (simp ⊖s (omega arith))
 
-module _ (square : List (List ℤ)) (shape : Shaped square) (from to : ℕ) (hf : from < maxEntities) (ht : to < maxEntities) (apart : from ≢ to) where
+module _ (square : List (List Transfer)) (shape : Shaped square) (from to : ℕ) (hf : from < maxEntities) (ht : to < maxEntities) (apart : from ≢ to) where
   pub shape-transferred : (x : ℤ) → Shaped (transferred square from to x)
   unfolding transferred
-  shape-transferred x = shape-stored _ (shape-stored square shape from to hf ht (cellIn square from to +ℤ x)) to from ht hf _
+  shape-transferred x = shape-stored _ (shape-stored square shape from to hf ht (record { 0 = cellIn square from to +ℤ x })) to from ht hf _
 
   -- as a row of the lists moves it
   pub cell-transferred : (r : Row) → r .old ≡ suc from → r .new ≡ suc to → (k l : ℕ)
@@ -98,8 +99,8 @@ module _ (square : List (List ℤ)) (shape : Shaped square) (from to : ℕ) (hf 
   unfolding transferred moved
   cell-transferred r eo en k l =
       let n = r .customers * r .rate in
-      cell-stored _ (shape-stored square shape from to hf ht (cellIn square from to +ℤ pos n)) to from ht hf (cellIn square to from +ℤ negℤ (pos n)) k l
-      ∙ ap (λ (z : ℤ). cond (eqb to k && eqb from l) (cellIn square to from +ℤ negℤ (pos n)) z) (cell-stored square shape from to hf ht (cellIn square from to +ℤ pos n) k l)
+      cell-stored _ (shape-stored square shape from to hf ht (record { 0 = cellIn square from to +ℤ pos n })) to from ht hf (record { 0 = cellIn square to from +ℤ negℤ (pos n) }) k l
+      ∙ ap (λ (z : ℤ). cond (eqb to k && eqb from l) (cellIn square to from +ℤ negℤ (pos n)) z) (cell-stored square shape from to hf ht (record { 0 = cellIn square from to +ℤ pos n }) k l)
       ∙ two-cells (eqb from k && eqb to l) (eqb to k && eqb from l) (cellIn square from to) (cellIn square to from) (cellIn square k l) n
       (λ e. let p = both (eqb from k) (eqb to l) e in rw (eqb-true from k (p .0), eqb-true to l (p .1)))
       (λ e. let p = both (eqb to k) (eqb from l) e in rw (eqb-true to k (p .0), eqb-true from l (p .1)))
@@ -129,10 +130,21 @@ net-sized rows few ok i j =
     each (r ∷ rows) h =
         (omega (arith, natAbs-sub (pos (moved r i j)) (pos (moved r j i)), moved-sized r (h .0) i j, moved-sized r (h .0) j i), each rows (h .1))
 
--- ---- what is lost, by a cell
+-- ---- what is lost, by a row
 
-pub lost-at : (square : List (List ℤ)) (i j : ℕ) → lostIn square (suc i) (suc j) ≡ natAbs (max0 (cellIn square i j))
+-- LSE i + 1 has row i
+pub lost-at : (square : List (List Transfer)) (i j : ℕ) → lostIn square (suc i) (suc j) ≡ natAbs (max0 (cellIn square i j))
 lost-at square i j =
     let a : suc i - 1 ≡ i = omega arith in
     let b : suc j - 1 ≡ j = omega arith in
     rw (a, b)
+
+pub row-sized : (square : List (List Transfer)) → Sized square → (i : ℕ) → i < maxEntities → SizedRow (getD square i [])
+row-sized square size i h = record { sized = λ j b. size .sized i j h b }
+
+pub losses-by : (square : List (List Transfer)) (i m : ℕ) → lossesTo (rowLosses (getD square i [])) (suc i) m ≡ lossesTo (lostIn square) (suc i) m
+unfolding lossesTo
+losses-by square i zero = refl
+losses-by square i (suc m) =
+    let a : suc i - 1 ≡ i = omega arith in
+    rw (losses-by square i m, a)

@@ -5,9 +5,11 @@ use mathlib.Core.List.{List, []}
 use Prim.Native.Nat.{ℕ, _*_, _≤_, _<_}
 use lib.ListN.{length, getD, set}
 use lib.IntN.{ℤ, negℤ, natAbs, _+ℤ_}
+use Rattle.lists.specs.Lists.{listTo}
+use Rattle.tariff.specs.declared.units.Transfer.{Transfer}
 use Rattle.tariff.specs.Units.{maxEntities, maxRows, maxCustomers, maxRate}
 use Rattle.migration_rules.specs.Transfers.{Row, row}
-use Rattle.load_transfers.specs.Squares.{cellIn, Nets}
+use Rattle.load_transfers.specs.Squares.{noTransfer, cellIn, Nets}
 
 -- the loads of 1,000 rows, there and back
 abbrev pub maxNet : ℕ
@@ -15,22 +17,26 @@ maxNet = 2 * (maxCustomers * maxRate) * maxRows
 
 -- ---- squares
 
-unfoldable pub stored : List (List ℤ) → ℕ → ℕ → ℤ → List (List ℤ)
+unfoldable pub stored : List (List Transfer) → ℕ → ℕ → Transfer → List (List Transfer)
 stored square i j x = set square i (set (getD square i []) j x)
 
 -- so much more at a cell, and so much less at its mirror
-unfoldable pub transferred : List (List ℤ) → ℕ → ℕ → ℤ → List (List ℤ)
-transferred square from to x = stored (stored square from to (cellIn square from to +ℤ x)) to from (cellIn square to from +ℤ negℤ x)
+unfoldable pub transferred : List (List Transfer) → ℕ → ℕ → ℤ → List (List Transfer)
+transferred square from to x =
+    stored (stored square from to (record { 0 = cellIn square from to +ℤ x })) to from (record { 0 = cellIn square to from +ℤ negℤ x })
 
 -- 16 rows of 16 cells
-pub record Shaped (square : List (List ℤ)) : Type 0 where
+pub record Shaped (square : List (List Transfer)) : Type 0 where
   pub long : length square ≡ maxEntities
   pub wide : (i : ℕ) → i < maxEntities → length (getD square i []) ≡ maxEntities
 
-pub record Sized (square : List (List ℤ)) : Type 0 where
+pub record SizedRow (row : List Transfer) : Type 0 where
+  pub sized : (j : ℕ) → j < maxEntities → natAbs (getD row j noTransfer .0) ≤ maxNet
+
+pub record Sized (square : List (List Transfer)) : Type 0 where
   pub sized : (i j : ℕ) → i < maxEntities → j < maxEntities → natAbs (cellIn square i j) ≤ maxNet
 
-pub record NetSquare (rows : List Row) (square : List (List ℤ)) : Type 0 where
+pub record NetSquare (rows : List Row) (square : List (List Transfer)) : Type 0 where
   pub nets : Nets rows square
   pub shape : Shaped square
   pub size : Sized square
@@ -49,6 +55,10 @@ pub record RowIn (r : Row) : Type 0 where
 -- row i of the lists
 abbrev pub rowAt : List ℕ → List ℕ → List ℕ → List ℕ → ℕ → Row
 rowAt customers rates olds news i = row (getD customers i 0) (getD rates i 0) (getD olds i 0) (getD news i 0)
+
+-- the first m of them
+abbrev pub rowsTo : ℕ → List ℕ → List ℕ → List ℕ → List ℕ → List Row
+rowsTo m customers rates olds news = listTo m (rowAt customers rates olds news)
 
 pub record RowsIn (customers rates olds news : List ℕ) : Type 0 where
   pub few : length customers ≤ maxRows

@@ -1,27 +1,34 @@
 // The square of net transfers (document 02, paper 5): rows of moved customers checked and netted, and each LSE's losses held against its load.
 ghost use mathlib.Core.Path.{_≡_};
 ghost use mathlib.Core.List.{[]};
-ghost use Prim.Native.Nat.{suc, _+_, _≤_, _<_};
+ghost use Prim.Native.Nat.{ℕ, _-_, _≤_, _<_};
 ghost use lib.ListN.{length};
-ghost use lib.IntN.{natAbs, _+ℤ_};
 ghost use Rattle.lists.specs.Lists.{some};
 ghost use Rattle.lists.specs.Lent.{before};
 ghost use Rattle.tariff.specs.Refusals.{first};
 ghost use Rattle.tariff.specs.Units.{maxEntities};
-ghost use Rattle.migration_rules.specs.Transfers.{row, rowsOf, entityCount, entityBad, rowBad, unequalLists, rangeChecks, lossesTo, loadsExceeded};
-ghost use Rattle.load_transfers.specs.Squares.{lostIn};
-ghost use Rattle.load_transfers.specs.Inner.{maxNet, RowsIn, Sized, NetSquare};
+ghost use Rattle.migration_rules.specs.Transfers.{row, rowsOf, rowLists, entityCount, entityBad, rowBad, unequalLists};
+ghost use Rattle.migration_rules.specs.Transfers.{rowChecks, rangeChecks, lossesTo, loadsExceeded};
+ghost use Rattle.load_transfers.specs.Squares.{rowLosses, lostIn};
+ghost use Rattle.load_transfers.specs.Inner.{RowsIn, rowsTo, SizedRow, Sized, NetSquare};
 use tariff::Checked;
 use tariff::MAX_CUSTOMERS;
 use tariff::MAX_ENTITIES;
 use tariff::MAX_LOAD;
 use tariff::MAX_RATE;
 use tariff::MAX_ROWS;
+use tariff::Quantity;
 use tariff::Refusal;
 use tariff::Transfer;
 
-// Net transfers in thousandths of a MW, a row for each loser, a cell in it for each gainer.
-pub type Square = [[i64; MAX_ENTITIES]; MAX_ENTITIES];
+// Net transfers: a row for each loser, a cell in it for each gainer.
+pub type Square = [[Transfer; MAX_ENTITIES]; MAX_ENTITIES];
+
+// One loser's row of them.
+pub type Row = [Transfer; MAX_ENTITIES];
+
+// How many rows a step takes in: it copies the square in and out.
+const STEP: usize = 500;
 
 // Whether a number is no LSE's.
 fn entity_bad(entities: usize, number: u64) -> bool
@@ -94,17 +101,17 @@ fn lists_unequal(rows: usize, classes: usize, rates: usize, olds: usize, news: u
 }
 
 // 22: a count, a figure or an LSE number outside its range, unequal lists, or a row whose old and new LSE are one. Classes have no effect.
-pub fn check_figures(
+pub fn check_rows(
+    entities: usize,
     classes: &[u8],
     customers: &[u64],
     rates: &[u64],
     olds: &[u64],
     news: &[u64],
-    loads: &[u64],
 ) -> Checked
-    ensures { λ r. ⌜ r ≡ first (rangeChecks (before classes) (before customers) (before rates) (before olds) (before news) (before loads)) ⌝ }
+    ensures { λ r. ⌜ r ≡ first (rowChecks entities (rowLists classes customers rates olds news)) ⌝ }
 {
-    if entity_count_bad(loads.len()) {
+    if entity_count_bad(entities) {
         return Checked::Refused(Refusal::MigrationRange);
     }
     if MAX_ROWS < customers.len() {
@@ -119,87 +126,131 @@ pub fn check_figures(
     ) {
         return Checked::Refused(Refusal::MigrationRange);
     }
-    if tables::cell_above(loads, loads.len(), MAX_LOAD) {
-        return Checked::Refused(Refusal::MigrationRange);
-    }
-    if rows_bad(loads.len(), customers, rates, olds, news) {
+    if rows_bad(entities, customers, rates, olds, news) {
         return Checked::Refused(Refusal::MigrationRange);
     }
     Checked::Passed
 }
 
-// A cell of the square with so much load more.
-fn cell_with(cell: i64, load: Transfer) -> i64
-    requires { ⌜ (natAbs cell ≤ maxNet) × (natAbs (load .0) ≤ maxNet) ⌝ }
-    ensures { λ r. ⌜ (r ≡ cell +ℤ load .0) × (natAbs r ≤ maxNet + maxNet) ⌝ }
-{
-    Transfer(cell).plus(load).cell()
-}
-
-// The square of no rows.
-pub fn no_transfers() -> Square
-    ensures { λ r. ⌜ NetSquare [] r ⌝ }
-{
-    [[0i64; MAX_ENTITIES]; MAX_ENTITIES]
-}
-
-// Rows, all of them in range, put into the square of none: each is added in the cell of its loser and gainer, and taken off in the mirror of that cell.
-pub fn net_square(
-    none: Square,
+// The same with a load for each LSE, none of them out of range.
+pub fn check_figures(
+    classes: &[u8],
     customers: &[u64],
     rates: &[u64],
     olds: &[u64],
     news: &[u64],
+    loads: &[u64],
+) -> Checked
+    ensures { λ r. ⌜ r ≡ first (rangeChecks (rowLists classes customers rates olds news) (before loads)) ⌝ }
+{
+    let checked = check_rows(loads.len(), classes, customers, rates, olds, news);
+    if let Checked::Refused(refusal) = checked {
+        return Checked::Refused(refusal);
+    }
+    if tables::cell_above(loads, loads.len(), MAX_LOAD) {
+        return Checked::Refused(Refusal::MigrationRange);
+    }
+    Checked::Passed
+}
+
+// The square of no rows.
+fn no_transfers() -> Square
+    ensures { λ r. ⌜ NetSquare [] r ⌝ }
+{
+    [[Transfer(0); MAX_ENTITIES]; MAX_ENTITIES]
+}
+
+// One step: the square of the rows before `from`, with the rows from there on up to `upto`. Each is added in the cell of its loser and gainer, and taken off
+// in the mirror of that cell.
+fn net_rows(
+    square: Square,
+    customers: &[u64],
+    rates: &[u64],
+    olds: &[u64],
+    news: &[u64],
+    from: usize,
+    upto: usize,
 ) -> Square
-    requires { ⌜ RowsIn (now customers) (now rates) (now olds) (now news) × NetSquare [] none ⌝ }
+    requires { ⌜ RowsIn (now customers) (now rates) (now olds) (now news) × (from ≤ upto) × (upto ≤ length (now customers)) ⌝ }
+    requires { ⌜ NetSquare (rowsTo from (now customers) (now rates) (now olds) (now news)) square ⌝ }
+    ensures { λ r. ⌜ NetSquare (rowsTo upto (before customers) (before rates) (before olds) (before news)) r ⌝ }
+{
+    let mut netted = square;
+    let mut i = from;
+    while i < upto {
+        let load = Transfer::of_row(customers[i], rates[i]);
+        let loser = (olds[i] - 1) as usize;
+        let gainer = (news[i] - 1) as usize;
+        let lost = netted[loser][gainer].plus(load);
+        let back = load.negated();
+        let gained = netted[gainer][loser].plus(back);
+        netted[loser][gainer] = lost;
+        netted[gainer][loser] = gained;
+        i += 1;
+    }
+    netted
+}
+
+// Where the step from row i ends.
+fn step_end(i: usize, count: usize) -> usize
+    requires { ⌜ i < count ⌝ }
+    ensures { λ r. ⌜ (i < r) × (r ≤ count) ⌝ }
+{
+    if count - i < STEP { count } else { i + STEP }
+}
+
+// The square of rows that are all in range.
+pub fn net_square(customers: &[u64], rates: &[u64], olds: &[u64], news: &[u64]) -> Square
+    requires { ⌜ RowsIn (now customers) (now rates) (now olds) (now news) ⌝ }
     ensures { λ r. ⌜ NetSquare (rowsOf (before customers) (before rates) (before olds) (before news)) r ⌝ }
 {
-    let mut square = none;
+    let mut square = no_transfers();
     let mut i = 0;
     while i < customers.len() {
-        let load = Transfer::of_row(customers[i], rates[i]);
-        let from = (olds[i] - 1) as usize;
-        let to = (news[i] - 1) as usize;
-        let lost = cell_with(square[from][to], load);
-        let back = load.negated();
-        let gained = cell_with(square[to][from], back);
-        square[from][to] = lost;
-        square[to][from] = gained;
-        i += 1;
+        let end = step_end(i, customers.len());
+        let more = net_rows(square, customers, rates, olds, news, i, end);
+        square = more;
+        i = end;
     }
     square
 }
 
-// What LSE i + 1 loses to LSE j + 1.
-pub fn lost_to(square: &Square, i: usize, j: usize) -> u64
-    requires { ⌜ (i < maxEntities) × (j < maxEntities) × Sized (now square) ⌝ }
-    ensures { λ r. ⌜ (r ≡ lostIn (before square) (suc i) (suc j)) × (r ≤ maxNet) ⌝ }
+// The row of the LSE of this number in a square, and the first one where it is no LSE's.
+pub fn row_of(number: u64) -> usize
+    ensures { λ r. ⌜ (r < maxEntities) × (0 < number → number ≤ maxEntities → r ≡ number - 1) ⌝ }
 {
-    Transfer(square[i][j]).lost()
+    if number == 0 {
+        return 0;
+    }
+    if (MAX_ENTITIES as u64) < number {
+        return 0;
+    }
+    (number - 1) as usize
 }
 
-// What it loses to all of so many LSEs.
-fn lost_by(square: &Square, entities: usize, i: usize) -> u64
-    requires { ⌜ (i < maxEntities) × (entities ≤ maxEntities) × Sized (now square) ⌝ }
-    ensures { λ r. ⌜ r ≡ lossesTo (lostIn (before square)) (suc i) entities ⌝ }
+// What a loser's row says is lost to all of so many LSEs.
+fn lost_by(row: Row, entities: usize) -> Quantity
+    requires { ⌜ (entities ≤ maxEntities) × SizedRow row ⌝ }
+    ensures { λ r. ⌜ ((i : ℕ) → r .0 ≡ lossesTo (rowLosses row) i entities) ⌝ }
 {
-    let mut lost = 0;
+    let mut lost = Quantity(0);
     let mut j = 0;
     while j < entities {
-        lost += lost_to(square, i, j);
+        lost = lost.plus(row[j].lost());
         j += 1;
     }
     lost
 }
 
 // 23: a loser whose load is less than that, as a load of 0 is.
-pub fn loads_exceeded(square: &Square, loads: &[u64]) -> bool
-    requires { ⌜ (length (now loads) ≤ maxEntities) × Sized (now square) ⌝ }
-    ensures { λ r. ⌜ r ≡ loadsExceeded (lostIn (before square)) (before loads) ⌝ }
+pub fn loads_exceeded(square: Square, loads: &[u64]) -> bool
+    requires { ⌜ (length (now loads) ≤ maxEntities) × Sized square ⌝ }
+    ensures { λ r. ⌜ r ≡ loadsExceeded (lostIn square) (before loads) ⌝ }
 {
     let mut i = 0;
     while i < loads.len() {
-        if loads[i] < lost_by(square, loads.len(), i) {
+        let lost = lost_by(square[i], loads.len());
+        if lost.exceeds(Quantity(loads[i])) {
             return true;
         }
         i += 1;

@@ -2,26 +2,30 @@
 use mathlib.Core.Path.{_≡_, refl, ap, _∙_}
 use mathlib.Core.Bool.{Bool, true, false, cond}
 use mathlib.Core.List.{List, [], _∷_, _++_, append-assoc, append-nil}
-use Prim.Native.Nat.{ℕ, zero, suc, _+_, _*_, _≤_}
+use Prim.Native.Nat.{ℕ, zero, suc, _+_, _-_, _*_, _≤_, _<_}
 use native.Mathlib.Nat.{eq-or-lt-of-le, le-trans}
 use native.Mathlib.Omega.{arith}
 use mathlib.Core.Logic.{⊎-elim}
 use borrow.Author.Tests.{eq-eqb, ne-eqb}
 use lib.Dec.{eqb}
-use lib.ListN.{length, take, drop, length-append}
+use lib.ListN.{length, getD, take, drop, length-append}
+use lib.IntN.{ℤ}
 use Rattle.tariff.specs.declared.contracts.Contract.{Contract}
 use Rattle.tariff.specs.declared.contracts.Period.{Period}
-use Rattle.tariff.specs.Units.{maxQuantity}
+use Rattle.tariff.specs.declared.units.Transfer.{Transfer}
+use Rattle.tariff.specs.Units.{maxEntities, maxQuantity}
 use Rattle.layouts.specs.declared.forms.Form.{Form}
 use Rattle.layouts.specs.declared.forms.Form.the-variants.{Narrow, Wide}
 use Rattle.layouts.specs.Forms.{recordBytes}
 use Rattle.layouts.specs.BookFile.{bookBytes}
-use Rattle.layouts.specs.Inner.{ContractFits}
+use Rattle.layouts.specs.BookTable.{ContractFits}
 use Rattle.books.specs.Inner.{contractBytes}
 use Rattle.books.proofs.Making.{front-more}
 use Rattle.migration_rules.specs.Contracts.{gained, countered, migrates, share, pairFor, pairsTo, newFrom}
 use Rattle.migration_rules.proofs.Books.{base}
-use Rattle.migrated_contracts.specs.Inner.{Held, pairOf, Appended}
+use Rattle.load_transfers.specs.Squares.{noTransfer, ofNet, rowLosses, lostIn}
+use Rattle.load_transfers.proofs.Squares.{row-sized}
+use Rattle.migrated_contracts.specs.Inner.{Ready, RowReady, NetReady, Held, pairOf, Appended}
 
 -- ---- both contracts fit where the base does
 
@@ -116,3 +120,53 @@ module _ (lost : ℕ → ℕ → ℕ) (loads : List ℕ) (t : Period) (c : Contr
 
   pub base-held : migrates t (length loads) c ≡ true → c .quantity .0 ≤ maxQuantity → Held loads c
   base-held e most = let b = base t (length loads) c e in record { numbered = b .numbered; listed = b .listed; quantity-most = most }
+
+-- ---- by the holder's row of a square
+
+-- cell j of a row
+module _ (row : List Transfer) (loads : List ℕ) (c : Contract) (j : ℕ) where
+  abbrev cell : ℤ
+  cell = getD row j noTransfer .0
+
+  pub share-by-net : (q : ℕ) → q ≡ share (ofNet cell) loads c 1 → q ≡ share (rowLosses row) loads c (suc j)
+  unfolding share
+  share-by-net q e = let place : suc j - 1 ≡ j = omega arith in rw place e
+
+  pub net-ready : RowReady row loads c → Held loads c → j < length loads → NetReady cell loads c
+  net-ready ready held h =
+      let place : suc j - 1 ≡ j = omega arith in
+      record {
+        size = ready .size .sized j (omega (arith, ready .few));
+        most = ready .most (c .holder - 1) (omega (arith, held .numbered, held .listed));
+        losses = rw place at (ready .losses (held .numbered) (held .listed) (suc j) (omega arith) (omega arith));
+      }
+
+pub pairs-by-row : (square : List (List Transfer)) (loads : List ℕ) (c : Contract) (m : ℕ)
+    → pairsTo (rowLosses (getD square (c .holder - 1) [])) loads c m ≡ pairsTo (lostIn square) loads c m
+unfolding pairsTo pairFor share
+pairs-by-row square loads c zero = refl
+pairs-by-row square loads c (suc m) = rw (pairs-by-row square loads c m)
+
+-- place p is the holder's, where it is an LSE
+module _ (square : List (List Transfer)) (loads : List ℕ) (ready : Ready square loads) (c : Contract) (p : ℕ)
+    (own : 0 < c .holder → c .holder ≤ maxEntities → p ≡ c .holder - 1) where
+  same-place : 0 < c .holder → c .holder ≤ length loads → p ≡ c .holder - 1
+  same-place a b = own a (omega (arith, ready .few))
+
+  pub row-ready : p < maxEntities → RowReady (getD square p []) loads c
+  row-ready h =
+      record {
+        few = ready .few;
+        most = ready .most;
+        size = row-sized square (ready .size) p h;
+        losses = λ a b j d e. rw (same-place a b) (ready .losses .within (c .holder) j a b d e);
+      }
+
+  pub new-by-row : (t : Period) → newFrom (rowLosses (getD square p [])) loads t c ≡ newFrom (lostIn square) loads t c
+  unfolding newFrom
+  new-by-row t = by (migrates t (length loads) c) refl
+    where
+      by : (b : Bool) → migrates t (length loads) c ≡ b
+          → cond b (pairsTo (rowLosses (getD square p [])) loads c (length loads)) [] ≡ cond b (pairsTo (lostIn square) loads c (length loads)) []
+      by true e = let h = base t (length loads) c e in rw (same-place (h .numbered) (h .listed)) (pairs-by-row square loads c (length loads))
+      by false e = refl

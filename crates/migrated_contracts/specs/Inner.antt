@@ -5,28 +5,44 @@ use mathlib.Core.List.{List, [], _∷_, _++_}
 use Prim.Native.Nat.{ℕ, _+_, _≤_, _<_}
 use lib.Dec.{leb, ltb, eqb}
 use lib.ListN.{length, getD}
-use lib.IntN.{ℤ}
+use lib.IntN.{ℤ, natAbs}
 use Rattle.lists.specs.Lent.{overwrite}
+use Rattle.integers.specs.Sums.{max0}
 use Rattle.tariff.specs.declared.contracts.Contract.{Contract}
+use Rattle.tariff.specs.declared.units.Transfer.{Transfer}
 use Rattle.tariff.specs.Units.{maxEntities, maxLoad, maxQuantity, maxContracts}
 use Rattle.layouts.specs.declared.forms.Form.{Form}
 use Rattle.layouts.specs.Forms.{endWidth}
 use Rattle.layouts.specs.BookFile.{bookBytes}
-use Rattle.layouts.specs.Inner.{ContractFits}
+use Rattle.layouts.specs.BookTable.{ContractFits}
 use Rattle.books.specs.Inner.{bookFront}
+use Rattle.migration_rules.specs.Transfers.{load}
 use Rattle.migration_rules.specs.Contracts.{gained, countered}
 use Rattle.migration_rules.specs.Inner.{Within}
-use Rattle.load_transfers.specs.Squares.{lostIn}
-use Rattle.load_transfers.specs.Inner.{Sized}
+use Rattle.load_transfers.specs.Squares.{lostFrom, lostIn}
+use Rattle.load_transfers.specs.Inner.{maxNet, SizedRow, Sized}
 
 abbrev pub entityNumber : ℕ → ℕ → Bool
 entityNumber n holder = ltb 0 holder && leb holder n
 
-pub record Ready (square : List (List ℤ)) (loads : List ℕ) : Type 0 where
+pub record Ready (square : List (List Transfer)) (loads : List ℕ) : Type 0 where
   pub few : length loads ≤ maxEntities
   pub most : (i : ℕ) → i < length loads → getD loads i 0 ≤ maxLoad
   pub size : Sized square
   pub losses : Within (lostIn square) loads
+
+-- the same of one contract and its holder's row in the square, where the holder has one
+pub record RowReady (row : List Transfer) (loads : List ℕ) (c : Contract) : Type 0 where
+  pub few : length loads ≤ maxEntities
+  pub most : (i : ℕ) → i < length loads → getD loads i 0 ≤ maxLoad
+  pub size : SizedRow row
+  pub losses : 0 < c .holder → c .holder ≤ length loads → (j : ℕ) → 0 < j → j ≤ length loads → lostFrom row j ≤ load loads (c .holder)
+
+-- the same of one net
+pub record NetReady (net : ℤ) (loads : List ℕ) (c : Contract) : Type 0 where
+  pub size : natAbs net ≤ maxNet
+  pub most : load loads (c .holder) ≤ maxLoad
+  pub losses : natAbs (max0 net) ≤ load loads (c .holder)
 
 -- a base contract's holder and quantity
 pub record Held (loads : List ℕ) (c : Contract) : Type 0 where

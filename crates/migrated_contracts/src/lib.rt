@@ -1,23 +1,24 @@
 // The contracts that follow one base contract (document 02, paper 5): for each gainer its own and the loser's, counted, and stored behind a book's others.
 ghost use mathlib.Core.Path.{_≡_};
 ghost use mathlib.Core.Bool.{cond};
-ghost use Prim.Native.Nat.{suc, _+_, _≤_, _<_};
+ghost use Prim.Native.Nat.{_+_, _≤_};
 ghost use lib.Dec.{eqb};
 ghost use lib.ListN.{length};
 ghost use Rattle.lists.specs.Lent.{before, after};
 ghost use Rattle.tariff.specs.Units.{maxContracts, maxQuantity};
 ghost use Rattle.layouts.specs.Forms.{endWidth};
 ghost use Rattle.layouts.specs.BookFile.{bookBytes};
-ghost use Rattle.layouts.specs.Inner.{ContractFits};
+ghost use Rattle.layouts.specs.BookTable.{ContractFits};
 ghost use Rattle.migration_rules.specs.Contracts.{gained, countered, obliges, migrates as migratesBy, share, pairsTo, newFrom};
-ghost use Rattle.load_transfers.specs.Squares.{lostIn};
-ghost use Rattle.migrated_contracts.specs.Inner.{Ready, Held, Basis, entityNumber, pairOf, Appended};
+ghost use Rattle.load_transfers.specs.Squares.{ofNet, rowLosses};
+ghost use Rattle.migrated_contracts.specs.Inner.{RowReady, NetReady, Held, Basis, entityNumber, pairOf, Appended};
 use layouts::Form;
-use load_transfers::Square;
+use load_transfers::Row;
 use tariff::Contract;
 use tariff::Kind;
 use tariff::Period;
 use tariff::Quantity;
+use tariff::Transfer;
 
 fn obligation(kind: Kind) -> bool
     ensures { λ r. ⌜ r ≡ obliges kind ⌝ }
@@ -53,51 +54,51 @@ pub fn migrates(c: Contract, period: Period, entities: usize) -> bool
     is_entity(c.holder, entities)
 }
 
-// What LSE j + 1 receives of a base contract: its proportion by the loser's load, rounded down.
-fn share_of(c: Contract, square: &Square, loads: &[u64], j: usize) -> Quantity
-    requires { ⌜ Ready (now square) (now loads) × Held (now loads) c × (j < length (now loads)) ⌝ }
-    ensures { λ r. ⌜ (r .0 ≡ share (lostIn (before square)) (before loads) c (suc j)) × (r .0 ≤ c .quantity .0) ⌝ }
+// What a gainer receives of a base contract: its proportion by the loser's load, rounded down. The net is the loser's to it.
+fn share_of(c: Contract, net: Transfer, loads: &[u64]) -> Quantity
+    requires { ⌜ Held (now loads) c × NetReady (net .0) (now loads) c ⌝ }
+    ensures { λ r. ⌜ (r .0 ≡ share (ofNet (net .0)) (before loads) c 1) × (r .0 ≤ c .quantity .0) ⌝ }
 {
-    let loser = (c.holder - 1) as usize;
-    let lost = load_transfers::lost_to(square, loser, j);
-    if lost == 0 {
+    let lost = net.lost();
+    if lost.is_zero() {
         return Quantity(0);
     }
+    let loser = (c.holder - 1) as usize;
     let quantity = c.quantity;
-    quantity.proportion(lost, loads[loser])
+    quantity.moved(lost, Quantity(loads[loser]))
 }
 
 // How many contracts a share makes: nought makes none.
 fn pair_size(quantity: Quantity) -> usize
     ensures { λ r. ⌜ r ≡ cond (eqb (quantity .0) 0) 0 2 ⌝ }
 {
-    if quantity.cell() == 0 {
+    if quantity.is_zero() {
         return 0;
     }
     2
 }
 
 // How many contracts follow a base contract.
-fn pair_count(c: Contract, square: &Square, loads: &[u64]) -> usize
-    requires { ⌜ Ready (now square) (now loads) × Held (now loads) c ⌝ }
-    ensures { λ r. ⌜ (r ≡ length (pairsTo (lostIn (before square)) (before loads) c (length (before loads)))) × (r ≤ 32) ⌝ }
+fn pair_count(c: Contract, row: Row, loads: &[u64]) -> usize
+    requires { ⌜ RowReady row (now loads) c × Held (now loads) c ⌝ }
+    ensures { λ r. ⌜ (r ≡ length (pairsTo (rowLosses row) (before loads) c (length (before loads)))) × (r ≤ 32) ⌝ }
 {
     let mut count = 0;
     let mut j = 0;
     while j < loads.len() {
-        count += pair_size(share_of(c, square, loads, j));
+        count += pair_size(share_of(c, row[j], loads));
         j += 1;
     }
     count
 }
 
 // How many follow any contract: none where it is no base contract.
-pub fn new_count(c: Contract, period: Period, square: &Square, loads: &[u64]) -> usize
-    requires { ⌜ Ready (now square) (now loads) × (c .quantity .0 ≤ maxQuantity) ⌝ }
-    ensures { λ r. ⌜ (r ≡ length (newFrom (lostIn (before square)) (before loads) period c)) × (r ≤ 32) ⌝ }
+pub fn new_count(c: Contract, period: Period, row: Row, loads: &[u64]) -> usize
+    requires { ⌜ RowReady row (now loads) c × (c .quantity .0 ≤ maxQuantity) ⌝ }
+    ensures { λ r. ⌜ (r ≡ length (newFrom (rowLosses row) (before loads) period c)) × (r ≤ 32) ⌝ }
 {
     if migrates(c, period, loads.len()) {
-        return pair_count(c, square, loads);
+        return pair_count(c, row, loads);
     }
     0
 }
@@ -146,7 +147,7 @@ fn store_pair(
     requires { ⌜ ContractFits (endWidth form) c × (gainer ≤ 16) × (quantity .0 ≤ c .quantity .0) ⌝ }
     ensures { λ r. ⌜ Appended form at (pairOf c gainer (quantity .0)) (before file) (after file) r ⌝ }
 {
-    if quantity.cell() == 0 {
+    if quantity.is_zero() {
         return at;
     }
     let gained = gained_by(c, gainer, quantity);
@@ -162,17 +163,17 @@ fn store_pairs(
     form: Form,
     at: usize,
     c: Contract,
-    square: &Square,
+    row: Row,
     loads: &[u64],
 ) -> usize
-    requires { ⌜ Ready (now square) (now loads) × Held (now loads) c ⌝ }
-    requires { ⌜ Basis form (pairsTo (lostIn (now square)) (now loads) c (length (now loads))) at c (now file) ⌝ }
-    ensures { λ r. ⌜ Appended form at (pairsTo (lostIn (before square)) (before loads) c (length (before loads))) (before file) (after file) r ⌝ }
+    requires { ⌜ RowReady row (now loads) c × Held (now loads) c ⌝ }
+    requires { ⌜ Basis form (pairsTo (rowLosses row) (now loads) c (length (now loads))) at c (now file) ⌝ }
+    ensures { λ r. ⌜ Appended form at (pairsTo (rowLosses row) (before loads) c (length (before loads))) (before file) (after file) r ⌝ }
 {
     let mut place = at;
     let mut j = 0;
     while j < loads.len() {
-        let quantity = share_of(c, square, loads, j);
+        let quantity = share_of(c, row[j], loads);
         place = store_pair(file, form, place, c, (j + 1) as u64, quantity);
         j += 1;
     }
@@ -186,14 +187,14 @@ pub fn store_new(
     at: usize,
     c: Contract,
     period: Period,
-    square: &Square,
+    row: Row,
     loads: &[u64],
 ) -> usize
-    requires { ⌜ Ready (now square) (now loads) × Basis form (newFrom (lostIn (now square)) (now loads) period c) at c (now file) ⌝ }
-    ensures { λ r. ⌜ Appended form at (newFrom (lostIn (before square)) (before loads) period c) (before file) (after file) r ⌝ }
+    requires { ⌜ RowReady row (now loads) c × Basis form (newFrom (rowLosses row) (now loads) period c) at c (now file) ⌝ }
+    ensures { λ r. ⌜ Appended form at (newFrom (rowLosses row) (before loads) period c) (before file) (after file) r ⌝ }
 {
     if migrates(c, period, loads.len()) {
-        return store_pairs(file, form, at, c, square, loads);
+        return store_pairs(file, form, at, c, row, loads);
     }
     at
 }

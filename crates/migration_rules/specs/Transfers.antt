@@ -1,11 +1,12 @@
 -- Document 02, paper 5: rows of moved customers, net transfers, and what is turned down. Load-serving entities (LSEs) are numbered from 1; n is how many there
 -- are. Definitions only.
 use mathlib.Core.Bool.{Bool, cond, not, _||_, _&&_}
-use mathlib.Core.List.{List, [], _∷_}
+use mathlib.Core.List.{List, [], _∷_, _++_}
 use Prim.Native.Nat.{ℕ, zero, suc, _+_, _-_, _*_}
 use lib.Dec.{ltb, eqb}
 use lib.ListN.{length, getD}
 use lib.IntN.{ℤ, pos, natAbs, _-ℤ_}
+use Rattle.lists.specs.Lent.{Lent, before}
 use Rattle.lists.specs.Lists.{listTo, some, above}
 use Rattle.integers.specs.Sums.{max0, sumOver}
 use Rattle.tariff.specs.declared.refusals.Refusal.the-variants.{MigrationRange, LoadExceeded}
@@ -25,6 +26,21 @@ row customers rate old new = record { customers = customers; rate = rate; old = 
 -- the lists' rows, by position
 unfoldable pub rowsOf : List ℕ → List ℕ → List ℕ → List ℕ → List Row
 rowsOf customers rates olds news = listTo (length customers) (λ i. row (getD customers i 0) (getD rates i 0) (getD olds i 0) (getD news i 0))
+
+-- the rows' five lists
+pub record RowLists : Type 0 where
+  pub classes : List ℕ
+  pub customers : List ℕ
+  pub rates : List ℕ
+  pub olds : List ℕ
+  pub news : List ℕ
+
+abbrev pub rowLists : Lent (List ℕ) → Lent (List ℕ) → Lent (List ℕ) → Lent (List ℕ) → Lent (List ℕ) → RowLists
+rowLists classes customers rates olds news =
+    record { classes = before classes; customers = before customers; rates = before rates; olds = before olds; news = before news }
+
+abbrev pub rowsIn : RowLists → List Row
+rowsIn lists = rowsOf (lists .customers) (lists .rates) (lists .olds) (lists .news)
 
 -- ---- nets
 
@@ -81,14 +97,18 @@ rowBad n r = above maxCustomers (r .customers) || (above maxRate (r .rate) || (e
 abbrev pub rowRange : ℕ → List Row → Check
 rowRange n rows = outside (some (rowBad n) rows)
 
-unfoldable pub rangeChecks : List ℕ → List ℕ → List ℕ → List ℕ → List ℕ → List ℕ → List Check
-rangeChecks classes customers rates olds news loads =
-    entityCount (length loads)
-    ∷ rowCount (length customers)
-    ∷ unequalLists (length customers) (length classes) (length rates) (length olds) (length news)
-    ∷ loadRange loads
-    ∷ rowRange (length loads) (rowsOf customers rates olds news)
+-- of n LSEs and the rows
+unfoldable pub rowChecks : ℕ → RowLists → List Check
+rowChecks n lists =
+    entityCount n
+    ∷ rowCount (length (lists .customers))
+    ∷ unequalLists (length (lists .customers)) (length (lists .classes)) (length (lists .rates)) (length (lists .olds)) (length (lists .news))
+    ∷ rowRange n (rowsIn lists)
     ∷ []
+
+-- of the rows and a load for each LSE
+unfoldable pub rangeChecks : RowLists → List ℕ → List Check
+rangeChecks lists loads = rowChecks (length loads) lists ++ loadRange loads ∷ []
 
 -- ---- 23: "a loser whose load is 0 or less than its losses to all gainers"
 

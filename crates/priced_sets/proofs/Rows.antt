@@ -17,7 +17,7 @@ use Rattle.integers.specs.Sums.{nonzero}
 use Rattle.integers.proofs.Machine.{differ-is}
 use Rattle.tariff.specs.declared.contracts.Contract.{Contract}
 use Rattle.tariff.specs.Units.{factorsOf, maxFactor}
-use Rattle.tariff.specs.Inner.{InRange}
+use Rattle.tariff.specs.Contracts.{InRange}
 use Rattle.tariff.specs.Settlement.{pricedAt, pricedSet}
 use Rattle.tariff.proofs.Priced.{priced-both}
 use Rattle.tables.specs.Inner.{GoodFactors, Hour}

@@ -6,7 +6,7 @@ ghost use lib.ListN.{length, take};
 ghost use Rattle.lists.specs.Sets.{setOf};
 ghost use Rattle.lists.specs.Lent.{before};
 ghost use Rattle.tariff.specs.Units.{factorsOf, maxConstraints};
-ghost use Rattle.tariff.specs.Inner.{InRange};
+ghost use Rattle.tariff.specs.Contracts.{InRange};
 ghost use Rattle.tariff.specs.Settlement.{pricedSet};
 ghost use Rattle.tables.specs.Inner.{Hour};
 ghost use Rattle.priced_sets.specs.Inner.{Row, differAt, postedIn};
@@ -80,7 +80,7 @@ pub fn posted_set(constraints: usize, prices: &[u64]) -> u64
     let mut k = constraints;
     while 0 < k {
         k -= 1;
-        let bit = Price(prices[k]).posted() as u64;
+        let bit = Price(prices[k]).exceeds(Price(0)) as u64;
         set = set * 2 + bit;
     }
     set

@@ -1,6 +1,7 @@
 -- THE THEOREMS of reordering and relief (document 02, paper 14) by the tariff's rules; the statements are in specs/, the proofs in Perms, Figures and Reliefs.
 use Rattle.tariff.specs.Contracts.{ofPeriod}
 use Rattle.tariff.specs.Settlement.{amount, exactTotal}
+use Rattle.tariff.proofs.WorstNumber.{worst-by}
 use Rattle.reorder_rules.specs.Reordering.{Reordering}
 use Rattle.reorder_rules.specs.Relief.{Relief}
 use Rattle.reorder_rules.proofs.Perms.{ofPeriod-perm, period-sum-perm}
@@ -15,6 +16,7 @@ reordering =
       reorder-keeps-overloads = λ g process t cs ds h.
           overloads-by g process (ofPeriod t cs) (ofPeriod t ds) (flows-perm (g .factors) (ofPeriod t cs) (ofPeriod t ds) (ofPeriod-perm t cs ds h) .flows-same);
       reorder-keeps-exact-total = λ f p t cs ds h. period-sum-perm t (amount f p) cs ds h;
+      reorder-keeps-worst = λ g process t cs ds h. worst-by g process (ofPeriod t cs) (ofPeriod t ds) (λ p. period-sum-perm t (amount (g .factors) p) cs ds h);
     }
 
 pub relief : Relief

@@ -17,7 +17,7 @@ use Rattle.tariff.specs.Refusals.{first, decided}
 use Rattle.layouts.specs.declared.forms.Form.{Form}
 use Rattle.layouts.specs.Forms.{endWidth}
 use Rattle.layouts.specs.BookFile.{contractCountIn, bookFormIn, contractAt, bookIn}
-use Rattle.layouts.specs.Inner.{ContractFits}
+use Rattle.layouts.specs.BookTable.{ContractFits}
 use Rattle.layouts.proofs.BookFile.{length-bookIn, book-fits}
 use Rattle.books.specs.BookChecks.{contractChecks, bookChecks}
 use Rattle.books.proofs.Accepted.{contracts-pass, book-accepted}

@@ -15,7 +15,7 @@ use Rattle.tariff.specs.declared.refusals.Checked.the-variants.{Passed}
 use Rattle.tariff.specs.Units.{Factors, limit, factorsOf}
 use Rattle.tariff.specs.Contracts.{periodOf}
 use Rattle.tariff.specs.Refusals.{given, answered, cellsAfter}
-use Rattle.tariff.specs.Feasibility.{totalFlow, Passes}
+use Rattle.tariff.specs.Feasibility.{Passes}
 use Rattle.tariff.specs.Settlement.{wholeCents, parts}
 use Rattle.tariff.proofs.Theorems.{pass-is-worst-zero}
 use Rattle.layouts.specs.BookFile.{contractCountIn, contractAt, bookIn}
@@ -23,9 +23,10 @@ use Rattle.feasibility_test.specs.declared.Flows.{Flows}
 use Rattle.feasibility_test.specs.declared.TestAnswer.{TestAnswer}
 use Rattle.feasibility_test.specs.declared.TestAnswer.the-variants.{Pass}
 use Rattle.feasibility_test.specs.TestBook.{TestCall, testOutcome, testedGrid, testedProcess, testedContracts, testValues}
-use Rattle.feasibility_test.specs.Inner.{Carries}
+use Rattle.feasibility_test.specs.Carried.{Carries}
 use Rattle.flows.specs.declared.FlowsAnswer.{FlowsAnswer}
-use Rattle.flows.specs.FindFlows.{FlowsCall, flowsOutcome, findFlowsChecked, countedContracts, flowCells}
+use Rattle.flows.specs.FindFlows.{FlowsCall, flowsOutcome, countedContracts}
+use Rattle.flows.proofs.Passing.{flow-is}
 use Rattle.settlement.specs.declared.SettleAnswer.{SettleAnswer}
 use Rattle.settlement.specs.SettleHour.{HourCall, settleOutcome, settleChecked, hourFactors, hourPrices, hourPeriod, centsOf, pricedOf, centsCells, pricedCells, sumGiven, exactGiven}
 use Rattle.reorder_rules.specs.Reordering.{Reordered}
@@ -83,15 +84,6 @@ module _ (q : FlowsCall) (a : FlowsAnswer) (x : List ℤ) (h : Found q a x) wher
   counted-is : flowsOutcome a ≡ given (pos (length (countedContracts q)) ∷ [])
   counted-is = h .promised .counted-given ∙ ap (λ (c : Checked). answered c (pos (length (countedContracts q)) ∷ [])) (h .accepted)
 
--- cell k of a place that took the flows
-pub flow-is : (q : FlowsCall) (x : List ℤ) → findFlowsChecked q ≡ Passed → x ≡ cellsAfter (findFlowsChecked q) (flowCells q) (q .place)
-    → (k : ℕ) → k < q .constraints → getD x k (pos 0) ≡ totalFlow (factorsOf (q .nodes) (q .constraints) (q .factors)) (countedContracts q) k
-flow-is q x ok is k l =
-    let flow = totalFlow (factorsOf (q .nodes) (q .constraints) (q .factors)) (countedContracts q) in
-    ap (λ (cells : List ℤ). getD cells k (pos 0)) (is ∙ ap (λ (c : Checked). cellsAfter c (flowCells q) (q .place)) ok)
-    ∙ List·getD-append (flowCells q) _ (pos 0) k (rw (length-listTo (q .constraints) flow) l)
-    ∙ getD-listTo (q .constraints) flow k (pos 0) l
-
 pub flows-same : (q : FlowsCall) (s : List ℕ) (place : List ℤ) (a b : FlowsAnswer) (x y : List ℤ) → Found q a x → Found (flowsOn q s place) b y
     → Reordered (bookIn (q .book)) (bookIn s)
     → (flowsOutcome a ≡ flowsOutcome b) × ((k : ℕ) → k < q .constraints → getD x k (pos 0) ≡ getD y k (pos 0))
@@ -120,13 +112,13 @@ module _ (q : HourCall) (a : SettleAnswer) (cents : Lent (List ℤ)) (sets : Len
 
 -- the cells of two accepted calls, by what each promises of them
 module _ (q : HourCall) (cents : Lent (List ℤ)) (sets : Lent (List ℕ)) (ok : settleChecked q cents sets ≡ Passed) where
-  cents-is : after cents ≡ cellsAfter (settleChecked q cents sets) (centsCells q) (before cents)
+  pub cents-is : after cents ≡ cellsAfter (settleChecked q cents sets) (centsCells q) (before cents)
       → (i : ℕ) → i < contractCountIn (q .book) → getD (after cents) i (pos 0) ≡ centsOf (hourFactors q) (hourPrices q) (hourPeriod q) (contractAt (q .book) i)
   cents-is is =
       cell-of (q .book) (centsOf (hourFactors q) (hourPrices q) (hourPeriod q)) (before cents) (after cents) (pos 0)
       (is ∙ ap (λ (c : Checked). cellsAfter c (centsCells q) (before cents)) ok)
 
-  set-is : after sets ≡ cellsAfter (settleChecked q cents sets) (pricedCells q) (before sets)
+  pub set-is : after sets ≡ cellsAfter (settleChecked q cents sets) (pricedCells q) (before sets)
       → (i : ℕ) → i < contractCountIn (q .book) → getD (after sets) i 0 ≡ pricedOf (hourFactors q) (hourPrices q) (hourPeriod q) (contractAt (q .book) i)
   set-is is =
       cell-of (q .book) (pricedOf (hourFactors q) (hourPrices q) (hourPeriod q)) (before sets) (after sets) 0

@@ -8,17 +8,16 @@ use lib.IntN.{ℤ, pos}
 use Rattle.lists.specs.Lent.{Lent, before, after}
 use Rattle.tariff.specs.declared.contracts.Contract.{Contract}
 use Rattle.tariff.specs.declared.processes.Process.{Process}
-use Rattle.tariff.specs.declared.refusals.Checked.{Checked}
-use Rattle.tariff.specs.declared.refusals.Checked.the-variants.{Passed}
 use Rattle.tariff.specs.Units.{Grid, limit, factorsOf}
 use Rattle.tariff.specs.Contracts.{periodOf}
-use Rattle.tariff.specs.Refusals.{cellAfter}
 use Rattle.tariff.specs.Feasibility.{Passes, lowestOverload}
 use Rattle.tariff.specs.Settlement.{wholeCents, parts}
+use Rattle.tariff.proofs.Answers.{figure-is}
 use Rattle.tariff.proofs.Theorems.{pass-is-worst-zero}
 use Rattle.layouts.specs.BookFile.{contractCountIn, contractAt, bookIn}
 use Rattle.feasibility_test.specs.TestBook.{TestCall, testChecked, testedGrid, testedProcess, testedContracts, TestCells, testCells, testedCells}
 use Rattle.flows.specs.FindFlows.{FlowsCall, findFlowsChecked, countedContracts}
+use Rattle.flows.proofs.Passing.{flow-is}
 use Rattle.settlement.specs.SettleHour.{HourCall, settleChecked, hourFactors, hourPrices, hourPeriod, sumGiven, exactGiven}
 use Rattle.reorder_rules.specs.Reordering.{Reordered, SameOverloads}
 use Rattle.reorder_rules.specs.Relief.{OptionMore}
@@ -26,11 +25,7 @@ use Rattle.reorder_rules.proofs.Theorems.{reordering, relief}
 use Rattle.reordering.specs.Entries.{testOn, testUnder, hourOn, flowsOn, SameCells}
 use Rattle.reordering.specs.ForC.{TestFigures, SameFigures, HourFigures, SameTotalsGiven, TestedForC, FoundForC, SettledForC}
 use Rattle.reordering.proofs.Values.{totals-kept}
-use Rattle.reordering.proofs.Answers.{still-passes, flow-is, CellsGiven, cells-same}
-
--- a lent figure after a call that no check refuses
-figure-is : {A : Type 0} (c : Checked) → c ≡ Passed → (value entry exit : A) → exit ≡ cellAfter c value entry → exit ≡ value
-figure-is c ok value entry exit is = is ∙ ap (λ (k : Checked). cellAfter k value entry) ok
+use Rattle.reordering.proofs.Answers.{still-passes, CellsGiven, cells-same}
 
 -- ---- the test
 
@@ -104,7 +99,7 @@ module _ (q : HourCall) (n : ℕ) (c : HourFigures) (h : SettledForC q n c) wher
   parts-is : after (c .part) ≡ parts (exactGiven q)
   parts-is = figure-is (settleChecked q (c .cents) (c .sets)) (h .accepted) _ _ _ (h .promised .parts-given)
 
-  cells-given : CellsGiven q (c .cents) (c .sets)
+  pub cells-given : CellsGiven q (c .cents) (c .sets)
   cells-given = record { passed = h .accepted; cents-given = h .promised .cents-settled; sets-given = h .promised .sets-handed-on }
 
 module _ (q : HourCall) (s : List ℕ) (m n : ℕ) (c d : HourFigures) (h : SettledForC q m c) (l : SettledForC (hourOn q s) n d) where

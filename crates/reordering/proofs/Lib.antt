@@ -2,4 +2,5 @@ pub mod Values
 pub mod Answers
 pub mod ForC
 pub mod Acceptance
+pub mod Moving
 pub mod Theorems

@@ -14,13 +14,13 @@ use Rattle.tariff.specs.Refusals.{first}
 use Rattle.layouts.specs.declared.forms.Form.{Form}
 use Rattle.layouts.specs.Forms.{endWidth}
 use Rattle.layouts.specs.BookFile.{bookFile, contractCountIn, bookFormIn, contractAt, bookIn}
-use Rattle.layouts.specs.Inner.{ContractFits}
+use Rattle.layouts.specs.BookTable.{ContractFits}
 use Rattle.books.specs.BookChecks.{bookChecks}
 use Rattle.feasibility_test.specs.declared.Flows.{Flows}
 use Rattle.feasibility_test.specs.declared.TestAnswer.{TestAnswer}
 use Rattle.feasibility_test.specs.declared.TestAnswer.the-variants.{Pass}
 use Rattle.feasibility_test.specs.TestBook.{TestCall, testCall, testOutcome, testChecked, TestsBook}
-use Rattle.feasibility_test.specs.Inner.{Carries}
+use Rattle.feasibility_test.specs.Carried.{Carries}
 use Rattle.flows.specs.declared.FlowsAnswer.{FlowsAnswer}
 use Rattle.flows.specs.FindFlows.{FlowsCall, flowsCall, flowsOutcome, findFlowsChecked, FindsFlows}
 use Rattle.settlement.specs.declared.SettleAnswer.{SettleAnswer}

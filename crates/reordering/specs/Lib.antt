@@ -1,3 +1,4 @@
 pub mod Values
 pub mod Entries
 pub mod ForC
+pub mod Moving

@@ -4,7 +4,7 @@ use mathlib.Core.List.{List, [], _∷_, flatMap}
 use Prim.Native.Nat.{ℕ, _*_, _≤_}
 use lib.ListN.{length, take}
 use lib.IntN.{pos}
-use Rattle.bits.proofs.Bytes.{Bytes, bytes-below}
+use Rattle.bits.proofs.Bytes.{bytes-below}
 use Rattle.lists.specs.Lent.{overwrite}
 use Rattle.tariff.specs.declared.refusals.Checked.the-variants.{Passed}
 use Rattle.tariff.proofs.Answers.{never-given, given-told}
@@ -14,13 +14,16 @@ use Rattle.layouts.specs.declared.forms.Form.{Form}
 use Rattle.layouts.specs.Forms.{formNumber}
 use Rattle.layouts.specs.BookFile.{contractCountIn, bookFormIn, bookIn, bookFile}
 use Rattle.layouts.specs.BookTable.{contractCells, cellsOf, rowsIn}
+use Rattle.layouts.specs.Writing.{IsWritten}
+use Rattle.layouts.proofs.Writing.{writes-passed, writes-told}
 use Rattle.book_file.specs.declared.BookAnswer.{BookAnswer}
 use Rattle.book_file.specs.declared.BookAnswer.the-variants.{Read, Refused}
 use Rattle.book_file.specs.ReadBook.{readBookCall, readBookChecked, bookValues, bookOutcome, ReadsBook}
 use Rattle.book_file.specs.WriteBook.{writeBookCall, writeBookChecked, bookWritten, WritesBook}
 use Rattle.book_file.proofs.RoundTrip.{ReadBack, read-then-written, written-then-read}
 use Rattle.book_file.proofs.Taken.{rows-left, rows-accepted}
-use Rattle.round_trips.proofs.Exits.{IsWritten, writes-passed, writes-told}
+use Rattle.bits.specs.Bits.{Bytes}
+use Rattle.round_trips.specs.Trips.{BookIs}
 use Rattle.round_trips.proofs.Grids.{same-form}
 
 -- ---- read, then written
@@ -57,10 +60,6 @@ module _ (n : ℕ) (s entry : List ℕ) (bytes : Bytes s) (m : ℕ) (f : Form) (
       record { length-is = r .length-is ∙ ap (λ (l : List ℕ). Written (length l)) same-file; bytes-are = r .bytes-are ∙ ap (λ (l : List ℕ). overwrite l place) same-file }
 
 -- ---- written, then read
-
-pub record BookIs (f : Form) (m : ℕ) (rows entry : List ℕ) (answer : BookAnswer) (table : List ℕ) : Type 0 where
-  pub count-is : answer ≡ Read m f
-  pub rows-are : table ≡ overwrite (take (contractCells * m) rows) entry
 
 module _ (f : Form) (n m : ℕ) (rows place : List ℕ) (size : ℕ) (exit : List ℕ) (w : WritesBook (writeBookCall f n m rows place) (Written size) exit) (entry : List ℕ)
     (room : contractCells * m ≤ length entry) where

@@ -6,7 +6,7 @@ use native.Mathlib.Omega.{arith}
 use borrow.Author.Tests.{le-ltb}
 use lib.ListN.{length, take}
 use lib.IntN.{ℤ, pos}
-use Rattle.bits.proofs.Bytes.{Bytes, bytes-below}
+use Rattle.bits.proofs.Bytes.{bytes-below}
 use Rattle.lists.specs.Lent.{overwrite}
 use Rattle.lists.proofs.Fronts.{front-is, front-room}
 use Rattle.tariff.specs.declared.refusals.Checked.the-variants.{Passed}
@@ -17,16 +17,19 @@ use Rattle.layouts.specs.declared.WriteAnswer.the-variants.{Written}
 use Rattle.layouts.specs.declared.forms.Form.{Form}
 use Rattle.layouts.specs.Forms.{formNumber, formOf}
 use Rattle.layouts.specs.GridFile.{gridBytes, gridFile, gridFormIn, headerIn, nodesIn, constraintsIn, limitsIn, factorsIn, gridIn}
+use Rattle.layouts.specs.Writing.{IsWritten}
 use Rattle.layouts.proofs.FormLaws.{form-of-number}
 use Rattle.layouts.proofs.GridFile.{length-limits, length-factors}
-use Rattle.grid_file.specs.declared.GridAnswer.{GridAnswer}
-use Rattle.grid_file.specs.declared.GridAnswer.the-variants.{Read, Refused}
-use Rattle.grid_file.specs.ReadGrid.{readGridCall, gridSizeChecks, gridFigureChecks, gridFileChecks, readGridChecks, readGridChecked, gridOutcome, gridValues, ReadsGrid}
-use Rattle.grid_file.specs.WriteGrid.{writeGridCall, writeGridChecks, writeGridChecked, gridWritten, WritesGrid}
-use Rattle.grid_file.proofs.Passing.{readable}
-use Rattle.grid_file.proofs.Taken.{grid-taken}
-use Rattle.grid_file.proofs.RoundTrip.{ReadBack, read-then-written, written-then-read}
-use Rattle.round_trips.proofs.Exits.{IsWritten, writes-passed, writes-told}
+use Rattle.layouts.proofs.Writing.{writes-passed, writes-told}
+use Rattle.grid_rules.specs.declared.GridAnswer.{GridAnswer}
+use Rattle.grid_rules.specs.declared.GridAnswer.the-variants.{Read, Refused}
+use Rattle.grid_rules.specs.ReadGrid.{readGridCall, gridSizeChecks, gridFigureChecks, gridFileChecks, readGridChecks, readGridChecked, gridOutcome, gridValues, ReadsGrid}
+use Rattle.grid_rules.specs.WriteGrid.{writeGridCall, writeGridChecks, writeGridChecked, gridWritten, WritesGrid}
+use Rattle.grid_rules.proofs.Passing.{readable}
+use Rattle.grid_rules.proofs.Taken.{grid-taken}
+use Rattle.grid_rules.proofs.RoundTrip.{ReadBack, read-then-written, written-then-read}
+use Rattle.bits.specs.Bits.{Bytes}
+use Rattle.round_trips.specs.Trips.{GridIs}
 
 -- a form is told by its number
 pub same-form : (f g : Form) → formNumber f ≡ formNumber g → f ≡ g
@@ -91,11 +94,6 @@ module _ (s : List ℕ) (ls₀ : List ℕ) (fs₀ : List ℤ) (bytes : Bytes s) 
       record { length-is = r .length-is ∙ ap (λ (x : List ℕ). Written (length x)) same-file; bytes-are = r .bytes-are ∙ ap (λ (x : List ℕ). overwrite x place) same-file }
 
 -- ---- written, then read
-
-pub record GridIs (f : Form) (n k : ℕ) (limits : List ℕ) (factors : List ℤ) (ls₀ : List ℕ) (fs₀ : List ℤ) (answer : GridAnswer) (ls : List ℕ) (fs : List ℤ) : Type 0 where
-  pub counts-are : answer ≡ Read n k f
-  pub limits-are : ls ≡ overwrite (take k limits) ls₀
-  pub factors-are : fs ≡ overwrite (take (n * k) factors) fs₀
 
 module _ (f : Form) (n k : ℕ) (limits : List ℕ) (factors : List ℤ) (place : List ℕ) (size : ℕ) (exit : List ℕ)
     (w : WritesGrid (writeGridCall f n k limits factors place) (Written size) exit)

@@ -1,5 +1,5 @@
-pub mod Exits
-pub mod Prices
-pub mod Books
 pub mod Grids
+pub mod Books
+pub mod Prices
+pub mod ForC
 pub mod Theorems

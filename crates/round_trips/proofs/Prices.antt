@@ -7,7 +7,7 @@ use borrow.Author.Tests.{le-ltb}
 use lib.ListN.{length, take}
 use lib.IntN.{pos}
 use Rattle.bits.proofs.Fields.{field-lt}
-use Rattle.bits.proofs.Bytes.{Bytes, bytes-below}
+use Rattle.bits.proofs.Bytes.{bytes-below}
 use Rattle.lists.specs.Lent.{overwrite}
 use Rattle.tariff.specs.declared.refusals.Checked.the-variants.{Passed}
 use Rattle.tariff.proofs.Checks.{first-passes, last-passes, passed-cons}
@@ -15,6 +15,8 @@ use Rattle.tariff.proofs.Answers.{never-given, given-told}
 use Rattle.layouts.specs.declared.WriteAnswer.{WriteAnswer}
 use Rattle.layouts.specs.declared.WriteAnswer.the-variants.{Written}
 use Rattle.layouts.specs.PriceFile.{priceBytes, periodIn, pricesIn}
+use Rattle.layouts.specs.Writing.{IsWritten}
+use Rattle.layouts.proofs.Writing.{one-given, writes-passed, writes-told}
 use Rattle.price_file.specs.declared.PriceAnswer.{PriceAnswer}
 use Rattle.price_file.specs.declared.PriceAnswer.the-variants.{Read, Refused}
 use Rattle.price_file.specs.ReadPrices.{readPricesCall, priceFileChecks, readPricesChecks, readPricesChecked, priceOutcome, ReadsPrices}
@@ -22,7 +24,8 @@ use Rattle.price_file.specs.WritePrices.{writePricesCall, writePricesChecks, wr
 use Rattle.price_file.proofs.PriceLaws.{readable}
 use Rattle.price_file.proofs.Taken.{prices-taken}
 use Rattle.price_file.proofs.RoundTrip.{ReadBack, read-then-written, written-then-read}
-use Rattle.round_trips.proofs.Exits.{one-given, IsWritten, writes-passed, writes-told}
+use Rattle.bits.specs.Bits.{Bytes}
+use Rattle.round_trips.specs.Trips.{PricesAre}
 
 -- ---- read, then written
 
@@ -56,10 +59,6 @@ module _ (k : ℕ) (s entry : List ℕ) (bytes : Bytes s) (t : ℕ) (table : Lis
       record { length-is = r .length-is ∙ ap (λ (f : List ℕ). Written (length f)) same-file; bytes-are = r .bytes-are ∙ ap (λ (f : List ℕ). overwrite f place) same-file }
 
 -- ---- written, then read
-
-pub record PricesAre (t k : ℕ) (prices entry : List ℕ) (answer : PriceAnswer) (table : List ℕ) : Type 0 where
-  pub period-is : answer ≡ Read t
-  pub prices-are : table ≡ overwrite (take k prices) entry
 
 module _ (t k : ℕ) (prices place : List ℕ) (n : ℕ) (exit : List ℕ) (w : WritesPrices (writePricesCall t k prices place) (Written n) exit) (entry : List ℕ) (room : k ≤ length entry) where
   told : (writePricesChecked (writePricesCall t k prices place) ≡ Passed) × (take n exit ≡ pricesWritten (writePricesCall t k prices place))

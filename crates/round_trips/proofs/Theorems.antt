@@ -1,62 +1,21 @@
--- THE THEOREMS of demand 2's round trips, each over what the file's reader and writer promise: the answers, and the lent cells at exit. Statements only: the
--- proofs are in Grids.antt, Books.antt and Prices.antt. `entry` cells are those lent to the reader, `place` those lent to the writer.
-use mathlib.Core.List.{List}
-use Prim.Native.Nat.{ℕ, _*_, _≤_}
-use lib.ListN.{length, take}
-use lib.IntN.{ℤ}
-use Rattle.bits.proofs.Bytes.{Bytes}
-use Rattle.layouts.specs.declared.WriteAnswer.{WriteAnswer}
-use Rattle.layouts.specs.declared.forms.Form.{Form}
-use Rattle.layouts.specs.declared.WriteAnswer.the-variants.{Written}
-use Rattle.layouts.specs.BookTable.{contractCells}
-use Rattle.grid_file.specs.declared.GridAnswer.{GridAnswer}
-use Rattle.grid_file.specs.declared.GridAnswer.the-variants as grid
-use Rattle.grid_file.specs.ReadGrid.{readGridCall, ReadsGrid}
-use Rattle.grid_file.specs.WriteGrid.{writeGridCall, WritesGrid}
-use Rattle.book_file.specs.declared.BookAnswer.{BookAnswer}
-use Rattle.book_file.specs.declared.BookAnswer.the-variants as book
-use Rattle.book_file.specs.ReadBook.{readBookCall, ReadsBook}
-use Rattle.book_file.specs.WriteBook.{writeBookCall, WritesBook}
-use Rattle.price_file.specs.declared.PriceAnswer.{PriceAnswer}
-use Rattle.price_file.specs.declared.PriceAnswer.the-variants as prices
-use Rattle.price_file.specs.ReadPrices.{readPricesCall, ReadsPrices}
-use Rattle.price_file.specs.WritePrices.{writePricesCall, WritesPrices}
-use Rattle.round_trips.proofs.Exits.{IsWritten}
-use Rattle.round_trips.proofs.Grids.{GridIs, grid-rewritten, grid-reread}
-use Rattle.round_trips.proofs.Books.{BookIs, book-rewritten, book-reread}
-use Rattle.round_trips.proofs.Prices.{PricesAre, prices-rewritten, prices-reread}
+-- THE THEOREMS of demand 2's round trips; the statements are in specs/, the proofs in Grids, Books and Prices, and for C in ForC.
+use Rattle.round_trips.specs.Trips.{RoundTrips}
+use Rattle.round_trips.specs.ForC.{RoundTripsForC}
+use Rattle.round_trips.proofs.Grids.{grid-rewritten, grid-reread}
+use Rattle.round_trips.proofs.Books.{book-rewritten, book-reread}
+use Rattle.round_trips.proofs.Prices.{prices-rewritten, prices-reread}
+use Rattle.round_trips.proofs.ForC as C
 
--- ---- "an accepted file, read and then written, is the same bytes": the tables as the reader left them, written into any place that is long enough
+pub round-trips : RoundTrips
+round-trips =
+    record {
+      grid-read-then-written = grid-rewritten;
+      book-read-then-written = book-rewritten;
+      prices-read-then-written = prices-rewritten;
+      grid-written-then-read = grid-reread;
+      book-written-then-read = book-reread;
+      prices-written-then-read = prices-reread;
+    }
 
-pub grid-read-then-written : (s : List ℕ) (ls₀ : List ℕ) (fs₀ : List ℤ) → Bytes s
-    → (n k : ℕ) (f : Form) (ls : List ℕ) (fs : List ℤ) → ReadsGrid (readGridCall s ls₀ fs₀) (grid.Read n k f) ls fs → (place : List ℕ) → length s ≤ length place
-    → (answer : WriteAnswer) (exit : List ℕ) → WritesGrid (writeGridCall f n k ls fs place) answer exit → IsWritten s place answer exit
-grid-read-then-written = grid-rewritten
-
-pub book-read-then-written : (n : ℕ) (s entry : List ℕ) → Bytes s
-    → (m : ℕ) (f : Form) (table : List ℕ) → ReadsBook (readBookCall n s entry) (book.Read m f) table → (place : List ℕ) → length s ≤ length place
-    → (answer : WriteAnswer) (exit : List ℕ) → WritesBook (writeBookCall f n m table place) answer exit → IsWritten s place answer exit
-book-read-then-written = book-rewritten
-
-pub prices-read-then-written : (k : ℕ) (s entry : List ℕ) → Bytes s
-    → (t : ℕ) (table : List ℕ) → ReadsPrices (readPricesCall k s entry) (prices.Read t) table → (place : List ℕ) → length s ≤ length place
-    → (answer : WriteAnswer) (exit : List ℕ) → WritesPrices (writePricesCall t k table place) answer exit → IsWritten s place answer exit
-prices-read-then-written = prices-rewritten
-
--- ---- "a grid, book or price list written and then read is the same": the first bytes of the writer's place, as many as it gives, read into any tables that
--- are long enough
-
-pub grid-written-then-read : (f : Form) (n k : ℕ) (limits : List ℕ) (factors : List ℤ) (place : List ℕ) (size : ℕ) (exit : List ℕ)
-    → WritesGrid (writeGridCall f n k limits factors place) (Written size) exit → (ls₀ : List ℕ) (fs₀ : List ℤ) → k ≤ length ls₀ → n * k ≤ length fs₀
-    → (answer : GridAnswer) (ls : List ℕ) (fs : List ℤ) → ReadsGrid (readGridCall (take size exit) ls₀ fs₀) answer ls fs → GridIs f n k limits factors ls₀ fs₀ answer ls fs
-grid-written-then-read = grid-reread
-
-pub book-written-then-read : (f : Form) (n m : ℕ) (rows place : List ℕ) (size : ℕ) (exit : List ℕ)
-    → WritesBook (writeBookCall f n m rows place) (Written size) exit → (entry : List ℕ) → contractCells * m ≤ length entry
-    → (answer : BookAnswer) (table : List ℕ) → ReadsBook (readBookCall n (take size exit) entry) answer table → BookIs f m rows entry answer table
-book-written-then-read = book-reread
-
-pub prices-written-then-read : (t k : ℕ) (table place : List ℕ) (size : ℕ) (exit : List ℕ)
-    → WritesPrices (writePricesCall t k table place) (Written size) exit → (entry : List ℕ) → k ≤ length entry
-    → (answer : PriceAnswer) (cells : List ℕ) → ReadsPrices (readPricesCall k (take size exit) entry) answer cells → PricesAre t k table entry answer cells
-prices-written-then-read = prices-reread
+pub round-trips-for-c : RoundTripsForC
+round-trips-for-c = C.round-trips-for-c

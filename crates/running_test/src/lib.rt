@@ -1,6 +1,5 @@
 // A running test of one period's awards: it is opened, and awards are added that keep every flow within its released limit.
 mod adding;
-mod checks;
 mod opening;
 
 pub use adding::add_award;

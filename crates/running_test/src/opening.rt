@@ -4,8 +4,7 @@ ghost use Prim.Native.Nat.{_≤_};
 ghost use lib.ListN.{length};
 ghost use Rattle.lists.specs.Lent.{before, after};
 ghost use Rattle.tier_rules.specs.Cells.{stateNumbers, stateFlows, openedNumbers, openedFlows};
-ghost use Rattle.running_test.specs.OpenRunning.{openRunningCall, OpensRunning};
-use crate::checks;
+ghost use Rattle.running_rules.specs.OpenRunning.{openRunningCall, OpensRunning};
 use tariff::Checked;
 use tier_rules::FLOWS;
 use tier_rules::NUMBERS;
@@ -49,8 +48,16 @@ pub fn open_running(
 ) -> RunningAnswer
     ensures { λ r. ⌜ OpensRunning (openRunningCall nodes constraints process period limits factors awards numbers flows) r (after numbers) (after flows) ⌝ }
 {
-    let short = checks::state_short(awards.len(), numbers.len(), flows.len());
-    match checks::check_tables(nodes, constraints, process, period, limits, factors, short) {
+    let short = running_checks::state_short(awards.len(), numbers.len(), flows.len());
+    match running_checks::check_tables(
+        nodes,
+        constraints,
+        process,
+        period,
+        limits,
+        factors,
+        short,
+    ) {
         Checked::Refused(refusal) => RunningAnswer::Refused(refusal),
         Checked::Passed => {
             clear_numbers(numbers);

@@ -8,7 +8,8 @@ use Rattle.layouts.specs.declared.forms.Form.{Form}
 use Rattle.layouts.specs.declared.forms.Form.the-variants.{Narrow, Wide}
 use Rattle.layouts.specs.Forms.{endWidth}
 use Rattle.layouts.specs.BookFile.{kindBit, periodBit}
-use Rattle.layouts.specs.Inner.{ContractFits, contractOf}
+use Rattle.layouts.specs.Inner.{contractOf}
+use Rattle.layouts.specs.BookTable.{ContractFits}
 use Rattle.layouts.proofs.ContractBits.{kind-bit, period-bit, kind-lt, period-lt, contract-is}
 use Rattle.books.specs.Inner.{contractBytes, termsNumber, contractNumber, bitsBytes}
 use Rattle.books.proofs.Bytes.{contract-number}

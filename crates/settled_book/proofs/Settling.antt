@@ -19,7 +19,8 @@ use Rattle.tariff.proofs.Checks.{first-refuses, last-passes, append-refuses, ap
 use Rattle.layouts.specs.declared.forms.Form.{Form}
 use Rattle.layouts.specs.Forms.{endWidth}
 use Rattle.layouts.specs.BookFile.{bookBytes, contractCountIn, bookFormIn, contractIn, bookIn}
-use Rattle.layouts.specs.Inner.{ContractFits, contractOf}
+use Rattle.layouts.specs.Inner.{contractOf}
+use Rattle.layouts.specs.BookTable.{ContractFits}
 use Rattle.layouts.proofs.BookFile.{book-bytes-least}
 use Rattle.books.specs.BookChecks.{ownChecks}
 use Rattle.books.proofs.Accepted.{own-accepted}

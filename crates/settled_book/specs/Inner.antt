@@ -9,7 +9,8 @@ use Rattle.tariff.specs.Units.{maxQuantity, maxContracts}
 use Rattle.layouts.specs.declared.forms.Form.{Form}
 use Rattle.layouts.specs.Forms.{endWidth}
 use Rattle.layouts.specs.BookFile.{bookBytes, contractIn}
-use Rattle.layouts.specs.Inner.{ContractFits, contractOf}
+use Rattle.layouts.specs.Inner.{contractOf}
+use Rattle.layouts.specs.BookTable.{ContractFits}
 use Rattle.books.specs.Inner.{contractBytes}
 use Rattle.settled_rules.specs.Settled.{Filled}
 use Rattle.settled_rules.specs.Theorems.{FiveFits}

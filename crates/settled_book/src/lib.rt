@@ -5,12 +5,12 @@ ghost use Prim.Native.Nat.{ℕ, _+_, _≤_, _<_};
 ghost use lib.ListN.{length, getD, take, drop};
 ghost use Rattle.lists.specs.Lists.{Each, listTo};
 ghost use Rattle.lists.specs.Lent.{before, after, overwrite};
-ghost use Rattle.tariff.specs.Units.{maxContracts};
+ghost use Rattle.tariff.specs.Units.{maxContracts, maxQuantity};
 ghost use Rattle.layouts.specs.Forms.{recordBytes};
 ghost use Rattle.layouts.specs.BookFile.{bookBytes, bookFile, contractIn};
 ghost use Rattle.layouts.specs.Inner.{contractOf};
 ghost use Rattle.settled_rules.specs.Settled.{settled};
-ghost use Rattle.settled_rules.specs.Inner.{numberOf, walkNumbers};
+ghost use Rattle.settled_rules.specs.Inner.{numberOf, quantityIn, numberAt, walkNumbers};
 ghost use Rattle.settled_book.specs.SettledBook.{settledBookCall, WritesSettledBook};
 ghost use Rattle.settled_book.specs.Inner.{Sized, Steps, Countable, rowBytes, RowOf};
 use layouts::CONTRACT_BYTES;
@@ -20,6 +20,7 @@ use layouts::WriteAnswer;
 use tariff::Checked;
 use tariff::MAX_CONTRACTS;
 use tariff::MAX_QUANTITY;
+use tariff::Quantity;
 use tariff::Refusal;
 
 // One past the largest figure that a quantity's 20 bits hold: a row's number is its five times this, plus its quantity.
@@ -67,32 +68,47 @@ struct Step {
     pending: u64,
 }
 
+// The quantity of a row's number: its lowest 20 bits.
+fn quantity_in(row: u64) -> Quantity
+    ensures { λ r. ⌜ r .0 ≡ quantityIn row ⌝ }
+{
+    Quantity(row % FIVE)
+}
+
+// The number of the row of the same five with this quantity.
+fn row_with(row: u64, quantity: Quantity) -> u64
+    requires { ⌜ quantity .0 ≤ maxQuantity ⌝ }
+    ensures { λ r. ⌜ r ≡ numberAt (quantity .0) row ⌝ }
+{
+    row / FIVE * FIVE + quantity.cell()
+}
+
 // The pending row and the next one: of one five they are added, and a full row goes out where they are more; of two fives the pending row goes out.
 fn next_step(row: u64, next: u64) -> Step
     requires { ⌜ Sized row × Sized next ⌝ }
     ensures { λ r. ⌜ Steps row next r ⌝ }
 {
-    let five = row / FIVE;
-    if five != next / FIVE {
+    if row / FIVE != next / FIVE {
         return Step {
             goes: 1,
             out: row,
             pending: next,
         };
     }
-    let full = five * FIVE + MAX_QUANTITY;
-    let both = row % FIVE + next % FIVE;
-    if both <= MAX_QUANTITY {
+    let most = Quantity(MAX_QUANTITY);
+    let full = row_with(row, most);
+    let both = quantity_in(row).plus(quantity_in(next));
+    if both.exceeds(most) {
         return Step {
-            goes: 0,
+            goes: 1,
             out: full,
-            pending: five * FIVE + both,
+            pending: row_with(row, both.minus(most)),
         };
     }
     Step {
-        goes: 1,
+        goes: 0,
         out: full,
-        pending: five * FIVE + (both - MAX_QUANTITY),
+        pending: row_with(row, both),
     }
 }
 

@@ -24,7 +24,7 @@ use Rattle.layouts.specs.declared.forms.Form.{Form}
 use Rattle.layouts.specs.declared.forms.Form.the-variants.{Narrow, Wide}
 use Rattle.layouts.specs.Forms.{endWidth, recordBytes}
 use Rattle.layouts.specs.BookFile.{bookFile, contractCountIn, bookFormIn, contractAt, bookIn}
-use Rattle.layouts.specs.Inner.{ContractFits}
+use Rattle.layouts.specs.BookTable.{ContractFits}
 use Rattle.layouts.proofs.BookFile.{contract-in-fits, book-fits, length-bookIn}
 use Rattle.books.specs.BookChecks.{contractChecks}
 use Rattle.books.proofs.Accepted.{Accepted, contract-in-range, contracts-pass, own-parts, own-accepted, own-passes}

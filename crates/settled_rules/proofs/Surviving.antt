@@ -16,7 +16,8 @@ use Rattle.tariff.specs.Units.{Factors, Grid}
 use Rattle.tariff.specs.Contracts.{counted, samePeriod, ofPeriod}
 use Rattle.tariff.specs.Feasibility.{flow, totalFlow, released, excess, overloaded, overloadSet, overloadCount, lowestOverload}
 use Rattle.tariff.specs.Settlement.{mcc, amount, exactTotal}
-use Rattle.tariff.specs.Shortfall.{netPayment, rent, shortfall, IsWorst}
+use Rattle.tariff.specs.Shortfall.{netPayment}
+use Rattle.tariff.proofs.WorstNumber.{shortfall-by, worst-by}
 use Rattle.feasibility_test.specs.TestBook.{testValues}
 use Rattle.flow_laws.specs.Quantities.{withQuantity}
 use Rattle.flow_laws.proofs.Additive.{counted-product, counted-plus, flow-plus, flow-times}
@@ -88,20 +89,14 @@ module _ (g : Grid) (process : Process) where
   same-test xs ys e = record { flows = e; figures = values-of xs ∙ (λ i. valuesOf (λ k. e k i)) ∙ sym (values-of ys) }
 
   pub same-payments : (xs ys : List Contract) → ((p : List ℕ) → exactTotal (g .factors) p xs ≡ exactTotal (g .factors) p ys) → SamePayments g process xs ys
-  unfolding netPayment shortfall
+  unfolding netPayment
   same-payments xs ys e =
       record {
         exact-total = e;
         net-payment = net;
-        shortfalls = short xs ys e;
-        worst = λ w. (worst xs ys e w, worst ys xs (λ p. sym (e p)) w);
+        shortfalls = shortfall-by g process xs ys e;
+        worst = worst-by g process xs ys e;
       }
     where
       net : (p : List ℕ) → netPayment (g .factors) xs p ≡ netPayment (g .factors) ys p
       net p = e p
-
-      short : (us vs : List Contract) → ((p : List ℕ) → exactTotal (g .factors) p us ≡ exactTotal (g .factors) p vs) → (p : List ℕ) → shortfall g process us p ≡ shortfall g process vs p
-      short us vs d p = ap (λ (z : ℤ). z -ℤ rent g process p) (d p)
-
-      worst : (us vs : List Contract) → ((p : List ℕ) → exactTotal (g .factors) p us ≡ exactTotal (g .factors) p vs) → (w : ℤ) → IsWorst g process us w → IsWorst g process vs w
-      worst us vs d w x = record { prices = x .prices; is-list = x .is-list; reached = sym (short us vs d (x .prices)) ∙ x .reached; most = λ p l. rw (← short us vs d p) (x .most p l) }

@@ -22,9 +22,9 @@ use Rattle.tariff.specs.declared.contracts.Contract.{Contract}
 use Rattle.tariff.specs.declared.contracts.Period.{Period}
 use Rattle.tariff.specs.declared.refusals.Checked.the-variants.{Passed}
 use Rattle.tariff.specs.Units.{Factors, factorsOf, maxConstraints, perCent}
-use Rattle.tariff.specs.Contracts.{samePeriod, ofPeriod}
+use Rattle.tariff.specs.Contracts.{samePeriod, ofPeriod, InRange}
 use Rattle.tariff.specs.Refusals.{first}
-use Rattle.tariff.specs.Inner.{InRange, maxCents}
+use Rattle.tariff.specs.Inner.{maxCents}
 use Rattle.tariff.specs.Settlement.{amount, exactTotal, cents, wholeCents, parts}
 use Rattle.tariff.proofs.Periods.{ofPeriod-same, ofPeriod-other, sumOver-more}
 use Rattle.tariff.proofs.Sizes.{amount-sized, cents-sized}

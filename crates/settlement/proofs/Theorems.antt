@@ -16,23 +16,17 @@ use Rattle.tariff.proofs.Checks.{first-under, first-append}
 use Rattle.layouts.specs.declared.forms.Form.{Form}
 use Rattle.layouts.specs.declared.forms.Form.the-variants.{Narrow, Wide}
 use Rattle.layouts.specs.BookFile.{bookFile, contractCountIn, bookIn}
-use Rattle.layouts.specs.Inner.{ContractFits}
+use Rattle.layouts.specs.BookTable.{ContractFits}
 use Rattle.layouts.proofs.BookFile.{length-bookIn}
 use Rattle.books.specs.BookChecks.{bookChecks}
 use Rattle.books.proofs.Theorems.{both-forms-alike, both-forms-checked-alike}
 use Rattle.settlement.specs.declared.SettleAnswer.{SettleAnswer}
 use Rattle.settlement.specs.SettleHour.{HourCall, hourCall, settleOutcome, settleChecks, settleChecked, hourFactors, hourPrices, hourPeriod, centsOf, pricedOf, centsSum, hourTotal, SettlesHour}
-
--- two hours settled alike: the answer, the cents and the sets
-pub record SettledAlike (a b : SettleAnswer) (cents cents₂ : Lent (List ℤ)) (sets sets₂ : Lent (List ℕ)) : Type 0 where
-  pub outcome : settleOutcome a ≡ settleOutcome b
-  pub cents-alike : after cents ≡ after cents₂
-  pub sets-alike : after sets ≡ after sets₂
+use Rattle.settlement.specs.Theorems.{SettledAlike, hourOf}
 
 module _ (n k period : ℕ) (factors : List ℤ) (prices : List ℕ) (cs : List Contract) (few : length cs ≤ maxContracts) (fits : Each (ContractFits 8) cs) where
-  -- a call with the contracts' file in a form
-  abbrev pub hourOf : Form → HourCall
-  hourOf f = hourCall n k period factors prices (bookFile f cs)
+  abbrev hour : Form → HourCall
+  hour = hourOf n k period factors prices cs
 
   contracts-alike : bookIn (bookFile Narrow cs) ≡ bookIn (bookFile Wide cs)
   contracts-alike = both-forms-alike cs few fits .0 ∙ sym (both-forms-alike cs few fits .1)
@@ -50,7 +44,7 @@ module _ (n k period : ℕ) (factors : List ℤ) (prices : List ℕ) (cs : List 
   front-alike =
       first-under _ _ _ (first-under _ _ _ (first-under _ _ _ (first-under _ _ _ (first-under _ _ _ (first-under _ _ _ (first-under _ _ _ (both-forms-checked-alike cs few fits n)))))))
 
-  checked-alike : (x y : ℕ) → first (settleChecks (hourOf Narrow) x y) ≡ first (settleChecks (hourOf Wide) x y)
+  checked-alike : (x y : ℕ) → first (settleChecks (hour Narrow) x y) ≡ first (settleChecks (hour Wide) x y)
   unfolding settleChecks
   checked-alike x y =
       first-append (front Narrow) (room (contractCountIn (bookFile Narrow cs)))
@@ -62,11 +56,11 @@ module _ (n k period : ℕ) (factors : List ℤ) (prices : List ℕ) (cs : List 
 
   -- whatever settling answers on the two, into places that held the same, all that it gives is the same
   pub settled-alike : (a b : SettleAnswer) (cents cents₂ : Lent (List ℤ)) (sets sets₂ : Lent (List ℕ)) → before cents ≡ before cents₂ → before sets ≡ before sets₂
-      → SettlesHour (hourOf Narrow) a cents sets → SettlesHour (hourOf Wide) b cents₂ sets₂ → SettledAlike a b cents cents₂ sets sets₂
+      → SettlesHour (hourOf n k period factors prices cs Narrow) a cents sets → SettlesHour (hourOf n k period factors prices cs Wide) b cents₂ sets₂ → SettledAlike a b cents cents₂ sets sets₂
   settled-alike a b cents cents₂ sets sets₂ same-cents same-sets narrow wide =
-      let q = hourOf Narrow in
-      let checked : settleChecked q cents sets ≡ settleChecked (hourOf Wide) cents₂ sets₂
-      = checked-alike (length (before cents)) (length (before sets)) ∙ (λ t. first (settleChecks (hourOf Wide) (length (same-cents t)) (length (same-sets t)))) in
+      let q = hour Narrow in
+      let checked : settleChecked q cents sets ≡ settleChecked (hour Wide) cents₂ sets₂
+      = checked-alike (length (before cents)) (length (before sets)) ∙ (λ t. first (settleChecks (hour Wide) (length (same-cents t)) (length (same-sets t)))) in
       record {
         outcome = narrow .totals ∙ (λ t. answered (checked t) (figures (contracts-alike t))) ∙ sym (wide .totals);
         cents-alike =
@@ -79,6 +73,6 @@ module _ (n k period : ℕ) (factors : List ℤ) (prices : List ℕ) (cs : List 
     where
       figures : List Contract → List ℤ
       figures ds =
-          let q = hourOf Narrow in
+          let q = hour Narrow in
           let total = hourTotal (hourFactors q) (hourPrices q) (hourPeriod q) ds in
           centsSum (hourFactors q) (hourPrices q) (hourPeriod q) ds ∷ wholeCents total ∷ pos (parts total) ∷ []

@@ -1,2 +1,3 @@
 pub mod SettleHour
 pub mod Inner
+pub mod Theorems

@@ -6,7 +6,7 @@ ghost use Rattle.lists.specs.Lent.{before, after};
 ghost use Rattle.tariff.specs.declared.refusals.Checked.the-variants.{Passed};
 ghost use Rattle.tariff.specs.Units.{factorsOf, maxContracts};
 ghost use Rattle.tariff.specs.Refusals.{first};
-ghost use Rattle.tariff.specs.Inner.{InRange};
+ghost use Rattle.tariff.specs.Contracts.{InRange};
 ghost use Rattle.layouts.specs.BookFile.{bookBytes, contractCountIn, contractIn};
 ghost use Rattle.books.specs.BookChecks.{bookChecks};
 ghost use Rattle.tables.specs.Inner.{Hour};

@@ -1,5 +1,5 @@
 // Writes the hour statement of grid.bin, book.bin and prices.bin, in the folder that it is started in, to standard output.
-// Where a file is there and can't be read, nothing is printed: `files` has told it on standard error.
+// A file is looked at only when those before it were taken. Where it is there and can't be read, nothing is printed: `files` has told it on standard error.
 use layouts::MAX_BOOK_BYTES;
 use layouts::MAX_PRICE_BYTES;
 use layouts::PROGRAM_GRID_BYTES;
@@ -13,12 +13,14 @@ fn main() {
     let mut prices = [0u8; MAX_PRICE_BYTES + 1];
     let mut text = [0u8; LONGEST_STATEMENT];
     let grid_file = files::read_file(b"grid.bin", &mut grid);
-    let book_file = files::read_file(b"book.bin", &mut book);
-    let price_file = files::read_file(b"prices.bin", &mut prices);
+    let grid_bytes = grid_file.bytes;
+    let nodes = taken_files::nodes_taken(&grid[..grid_bytes]);
+    let book_file = files::read_behind(0 < nodes, b"book.bin", &mut book);
+    let book_bytes = book_file.bytes;
+    let taken = taken_files::book_taken(nodes, &book[..book_bytes]);
+    let price_file = files::read_behind(taken, b"prices.bin", &mut prices);
+    let price_bytes = price_file.bytes;
     if grid_file.readable && book_file.readable && price_file.readable {
-        let grid_bytes = grid_file.bytes;
-        let book_bytes = book_file.bytes;
-        let price_bytes = price_file.bytes;
         let answer = statement_text::write_statement(
             &grid[..grid_bytes],
             &book[..book_bytes],

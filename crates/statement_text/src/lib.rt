@@ -14,7 +14,7 @@ ghost use Rattle.tables.specs.Inner.{Hour};
 ghost use Rattle.statement_lines.specs.Lines.{lines, longestStatement};
 ghost use Rattle.statement_text.specs.WriteStatement.{statement, statementCall, WritesStatement};
 ghost use Rattle.statement_text.specs.Inner.{pricedText, bookedText};
-use grid_file::GridAnswer;
+use grid_rules::GridAnswer;
 use layouts::PROGRAM_FACTORS;
 use layouts::PROGRAM_GRID_BYTES;
 use layouts::WriteAnswer;

@@ -65,6 +65,19 @@ pub given-told : (checked : Checked) (vs ws : List ℤ) → given ws ≡ answere
 given-told Passed vs ws e = (refl, ap (λ (o : Outcome). o .values) e)
 given-told (Refused q) vs ws e = absurd (never-given q ws (sym e))
 
+-- the number alone is the checks', and 0 says that none refused
+pub number-of : (checked : Checked) (vs : List ℤ) → answered checked vs .number ≡ numberAfter checked
+number-of Passed vs = refl
+number-of (Refused r) vs = refl
+
+pub none-refused : (checked : Checked) → 0 ≡ numberAfter checked → checked ≡ Passed
+none-refused Passed e = refl
+none-refused (Refused r) e = absurd (numbered r (sym e))
+
+-- a lent figure after a call that no check refuses
+pub figure-is : {A : Type 0} (checked : Checked) → checked ≡ Passed → (value entry exit : A) → exit ≡ cellAfter checked value entry → exit ≡ value
+figure-is checked ok value entry exit is = is ∙ ap (λ (k : Checked). cellAfter k value entry) ok
+
 -- a refusal was given: its number is that of the first check that holds, and what hangs on the checks is the refusal's side
 pub refused-number : (checked : Checked) (vs : List ℤ) (r : Refusal) → refusedBy r ≡ answered checked vs → numberOf r ≡ decided checked numberOf 0
 refused-number Passed vs r e = absurd (never-given r vs e)

@@ -6,11 +6,9 @@ use mathlib.Core.List.{List, [], _∷_, _++_, map}
 use Prim.Native.Nat.{ℕ}
 use borrow.Author.Tests.{eqb-true}
 use lib.Dec.{eqb}
-use Rattle.tariff.specs.declared.refusals.Checked.{Checked}
-use Rattle.tariff.specs.declared.refusals.Checked.the-variants.{Passed, Refused}
+use Rattle.tariff.specs.declared.refusals.Checked.the-variants.{Refused}
 use Rattle.tariff.specs.Refusals.{Check, first, numberOf, numberAfter}
 use Rattle.tariff.specs.Former.{FormerCheck, formerFirst, byNumber, without}
-use Rattle.tariff.proofs.Answers.{numbered}
 
 pub without-append : (r : ℕ) (xs ys : List FormerCheck) → without r (xs ++ ys) ≡ without r xs ++ without r ys
 unfolding without
@@ -53,8 +51,3 @@ not-missed r (c ∷ cs) h = by (not-missed r cs) (eqb (c .number) r) refl
         → formerFirst (cond b (without r cs) (c ∷ without r cs)) ≡ formerFirst (c ∷ cs)
     by rest true e = dropped (c .fails) (eqb-true (c .number) r e) h rest
     by rest false e = kept (c .fails) h rest
-
--- no number: no refusal
-pub unnumbered : (checked : Checked) → numberAfter checked ≡ 0 → checked ≡ Passed
-unnumbered Passed e = refl
-unnumbered (Refused r) e = absurd (numbered r e)

@@ -4,6 +4,7 @@ use mathlib.Core.Logic.{_↔_}
 use mathlib.Core.Bool.{Bool, true, false}
 use mathlib.Core.List.{List}
 use Prim.Native.Nat.{_≤_, _<_}
+use native.Mathlib.Nat.{pos-of-ne-zero}
 use native.Mathlib.Omega.{arith}
 use lib.IntN.{ℤ, pos, _-ℤ_}
 use lib.Signed.{_≤ℤ_, _<ℤ_, ltZ, ltZ-yes, ltZ-no, clashℤ}
@@ -11,7 +12,8 @@ use Rattle.integers.proofs.Linear.{⊖of, ⊖s}
 use Rattle.tariff.specs.declared.contracts.Contract.{Contract}
 use Rattle.tariff.specs.declared.processes.Process.{Process}
 use Rattle.tariff.specs.Units.{Grid}
-use Rattle.lists.proofs.Sets.{Lowest, set-lowest, set-empty}
+use Rattle.lists.proofs.Sets.{set-lowest, set-empty}
+use Rattle.lists.specs.Sets.{Lowest}
 use Rattle.tariff.specs.Feasibility.{totalFlow, released, Passes, excess, overloaded, overloadSet, lowestOverload}
 
 -- ---- the test
@@ -38,11 +40,15 @@ module _ (g : Grid) (process : Process) (cs : List Contract) where
       less : (a b : ℤ) → a <ℤ b → pos 0 <ℤ (b -ℤ a)
       less a b = rw (⊖of a, ⊖of b) (simp ⊖s (omega arith))
 
-  -- where it fails, the lowest overloaded constraint is one of the grid's, and its excess is above 0
-  pub fails-lowest : 0 < overloadSet g process cs → Lowest (g .factors .constraints) (overloaded g process cs) (lowestOverload g process cs)
-  unfolding overloadSet lowestOverload
-  fails-lowest s = set-lowest (g .factors .constraints) (overloaded g process cs) s
+  -- where it does not pass the set has a member; the lowest is one of the grid's, and its excess is above 0
+  module _ (fails : Passes g process cs → ⊥) where
+    pub fails-some : 0 < overloadSet g process cs
+    fails-some = pos-of-ne-zero {n = overloadSet g process cs} (λ e. fails (passes-empty .1 e))
 
-  pub fails-excess : 0 < overloadSet g process cs → pos 0 <ℤ excess g process cs (lowestOverload g process cs)
-  unfolding excess overloaded
-  fails-excess s = over-excess (pos (released (g .limits) process (lowestOverload g process cs))) (totalFlow (g .factors) cs (lowestOverload g process cs)) (fails-lowest s .holds)
+    pub fails-lowest : Lowest (g .factors .constraints) (overloaded g process cs) (lowestOverload g process cs)
+    unfolding overloadSet lowestOverload
+    fails-lowest = set-lowest (g .factors .constraints) (overloaded g process cs) fails-some
+
+    pub fails-excess : pos 0 <ℤ excess g process cs (lowestOverload g process cs)
+    unfolding excess overloaded
+    fails-excess = over-excess (pos (released (g .limits) process (lowestOverload g process cs))) (totalFlow (g .factors) cs (lowestOverload g process cs)) (fails-lowest .holds)

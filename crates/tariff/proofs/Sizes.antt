@@ -15,9 +15,9 @@ use Rattle.tariff.specs.declared.contracts.Contract.{Contract}
 use Rattle.tariff.specs.declared.contracts.Period.{Period}
 use Rattle.tariff.specs.declared.processes.Process.{Process}
 use Rattle.tariff.specs.declared.processes.Process.the-variants.{Annual, TierLt, Monthly}
-use Rattle.tariff.specs.Units.{Factors, Grid, factor, price, maxFactor, maxPrice, maxConstraints, perCent}
-use Rattle.tariff.specs.Contracts.{counted, samePeriod, ofPeriod}
-use Rattle.tariff.specs.Inner.{FactorsInRange, LimitsInRange, PricesInRange, InRange, maxFlow, maxReleased, maxMcc, maxSpread, maxAmount}
+use Rattle.tariff.specs.Units.{Factors, Grid, factor, price, maxFactor, maxPrice, maxConstraints, perCent, maxFlow}
+use Rattle.tariff.specs.Contracts.{counted, samePeriod, ofPeriod, InRange}
+use Rattle.tariff.specs.Inner.{FactorsInRange, LimitsInRange, PricesInRange, maxReleased, maxMcc, maxSpread, maxAmount}
 use Rattle.tariff.specs.Processes.{percent}
 use Rattle.tariff.specs.Settlement.{congestion, mcc, amount, exactTotal, cents}
 use Rattle.tariff.proofs.Kept.{spread-small}

@@ -11,7 +11,8 @@ use lib.IntN.{ℤ, pos, negℤ, _+ℤ_, _*ℤ_}
 use lib.Signed.{_≤ℤ_, _<ℤ_}
 use Rattle.integers.specs.Sums.{sumTo}
 use Rattle.lists.specs.Lists.{Each}
-use Rattle.lists.proofs.Sets.{Lowest, set-ones, set-trailing}
+use Rattle.lists.proofs.Sets.{set-ones, set-trailing}
+use Rattle.lists.specs.Sets.{Lowest}
 use Rattle.tariff.specs.declared.contracts.Contract.{Contract}
 use Rattle.tariff.specs.declared.contracts.Kind.the-variants.{Option}
 use Rattle.tariff.specs.declared.contracts.Period.{Period}
@@ -50,19 +51,27 @@ module _ (g : Grid) (process : Process) (period : Period) (book : List Contract)
   pub pass-is-empty-set : Passes g process tested ↔ (overloadSet g process tested ≡ 0)
   pass-is-empty-set = O.passes-empty g process tested
 
-  -- when it fails, the constraint named is the lowest overloaded one, and its excess is above 0
-  pub fail-names-lowest : 0 < overloadSet g process tested
-      → Lowest (g .factors .constraints) (overloaded g process tested) (lowestOverload g process tested) × (pos 0 <ℤ excess g process tested (lowestOverload g process tested))
-  fail-names-lowest s = (O.fails-lowest g process tested s, O.fails-excess g process tested s)
+  -- Demand 3: where it does not pass, the constraint named is the lowest overloaded one of the grid's; the one-cent list there is a price list, and its shortfall is
+  -- the excess, which is above 0
+  pub fail-names-lowest : (Passes g process tested → ⊥)
+      → Lowest (g .factors .constraints) (overloaded g process tested) (lowestOverload g process tested)
+      × PriceList (g .factors .constraints) (oneCent (g .factors .constraints) (lowestOverload g process tested))
+      × (shortfall g process tested (oneCent (g .factors .constraints) (lowestOverload g process tested)) ≡ excess g process tested (lowestOverload g process tested))
+      × (pos 0 <ℤ excess g process tested (lowestOverload g process tested))
+  fail-names-lowest fails =
+      let lowest = O.fails-lowest g process tested fails in
+      let list = excess-is-a-shortfall (lowestOverload g process tested) (lowest .inside) in
+      (lowest, list .0, list .1, O.fails-excess g process tested fails)
 
   -- the count is the set's count of ones, and the lowest its trailing zeros
   pub count-is-ones : ones (overloadSet g process tested) ≡ overloadCount g process tested
   unfolding overloadSet overloadCount
   count-is-ones = set-ones (g .factors .constraints) (overloaded g process tested)
 
-  pub lowest-is-trailing : g .factors .constraints ≤ maxConstraints → 0 < overloadSet g process tested → trailingZeros 64 (overloadSet g process tested) ≡ lowestOverload g process tested
+  pub lowest-is-trailing : g .factors .constraints ≤ maxConstraints → (Passes g process tested → ⊥)
+      → trailingZeros 64 (overloadSet g process tested) ≡ lowestOverload g process tested
   unfolding overloadSet lowestOverload
-  lowest-is-trailing h s = set-trailing (g .factors .constraints) 64 (overloaded g process tested) h s
+  lowest-is-trailing h fails = set-trailing (g .factors .constraints) 64 (overloaded g process tested) h (O.fails-some g process tested fails)
 
   -- "this number exists": the worst shortfall is one number
   pub worst-is-one-number : (w : ℤ) × IsWorst g process tested w × ((v : ℤ) → IsWorst g process tested v → v ≡ w)

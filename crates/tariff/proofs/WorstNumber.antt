@@ -1,15 +1,17 @@
--- The worst shortfall is one number: it is unique, it exists, and it is above 0 where the test does not pass.
-use mathlib.Core.Path.{_≡_, refl, sym}
+-- The worst shortfall is one number: it is unique, it exists, it is above 0 where the test does not pass, and it is made of the payments.
+use mathlib.Core.Path.{_≡_, refl, sym, ap, _∙_}
+use mathlib.Core.Logic.{_↔_}
 use mathlib.Core.List.{List}
 use Prim.Native.Nat.{ℕ}
-use lib.IntN.{ℤ, pos}
+use lib.IntN.{ℤ, pos, _-ℤ_}
 use lib.Signed.{_≤ℤ_, _<ℤ_}
 use Rattle.integers.proofs.Linear.{≤ℤ-trans, ≤ℤ-antisym, ≤ℤ-of-≡, not-≤ℤ, minus≤0}
 use Rattle.tariff.specs.declared.contracts.Contract.{Contract}
 use Rattle.tariff.specs.declared.processes.Process.{Process}
 use Rattle.tariff.specs.Units.{Grid, maxPrice}
 use Rattle.tariff.specs.Feasibility.{Passes, excess}
-use Rattle.tariff.specs.Shortfall.{PriceList, shortfall, oneCent, IsWorst}
+use Rattle.tariff.specs.Settlement.{exactTotal}
+use Rattle.tariff.specs.Shortfall.{PriceList, netPayment, rent, shortfall, oneCent, IsWorst}
 use Rattle.tariff.proofs.Worst.{only-list, only-shortfall}
 use Rattle.tariff.proofs.Maximum.{Capped, Best, best}
 
@@ -49,3 +51,25 @@ module _ (g : Grid) (process : Process) (cs : List Contract) where
 
   pub fail-worst-above : (¬ Passes g process cs) → (w : ℤ) → IsWorst g process cs w → pos 0 <ℤ w
   fail-worst-above fails w h = not-≤ℤ .0 (λ le. fails (≤0→pass w h le))
+
+-- ---- contracts with equal payments at every price list
+
+module _ (g : Grid) (process : Process) where
+  abbrev pub SamePaid : List Contract → List Contract → Type 0
+  SamePaid us vs = (p : List ℕ) → exactTotal (g .factors) p us ≡ exactTotal (g .factors) p vs
+
+  pub shortfall-by : (us vs : List Contract) → SamePaid us vs → (p : List ℕ) → shortfall g process us p ≡ shortfall g process vs p
+  unfolding netPayment shortfall
+  shortfall-by us vs e p = ap (λ (z : ℤ). z -ℤ rent g process p) (e p)
+
+  worst-of : (us vs : List Contract) → SamePaid us vs → (w : ℤ) → IsWorst g process us w → IsWorst g process vs w
+  worst-of us vs e w x =
+      record {
+        prices = x .prices;
+        is-list = x .is-list;
+        reached = sym (shortfall-by us vs e (x .prices)) ∙ x .reached;
+        most = λ p l. rw (← shortfall-by us vs e p) (x .most p l);
+      }
+
+  pub worst-by : (us vs : List Contract) → SamePaid us vs → (w : ℤ) → IsWorst g process us w ↔ IsWorst g process vs w
+  worst-by us vs e w = (worst-of us vs e w, worst-of vs us (λ p. sym (e p)) w)

@@ -1,7 +1,7 @@
 -- Document 01, "The rules": what a contract's kind and period do.
 use mathlib.Core.Bool.{Bool, true, false, cond}
 use mathlib.Core.List.{List, [], _∷_}
-use Prim.Native.Nat.{ℕ, zero, suc}
+use Prim.Native.Nat.{ℕ, zero, suc, _≤_, _<_}
 use lib.IntN.{ℤ}
 use Rattle.integers.specs.Sums.{max0}
 use Rattle.tariff.specs.declared.contracts.Kind.{Kind}
@@ -9,6 +9,7 @@ use Rattle.tariff.specs.declared.contracts.Kind.the-variants.{Obligation
 use Rattle.tariff.specs.declared.contracts.Period.{Period}
 use Rattle.tariff.specs.declared.contracts.Period.the-variants.{OffPeak, OnPeak}
 use Rattle.tariff.specs.declared.contracts.Contract.{Contract}
+use Rattle.tariff.specs.Units.{maxQuantity}
 
 -- "kind 1 (0 obligation, 1 option)"
 abbrev pub kindOf : ℕ → Kind
@@ -35,3 +36,9 @@ samePeriod OnPeak OnPeak = true
 unfoldable pub ofPeriod : Period → List Contract → List Contract
 ofPeriod t [] = []
 ofPeriod t (c ∷ cs) = cond (samePeriod (c .period) t) (c ∷ ofPeriod t cs) (ofPeriod t cs)
+
+-- a contract whose ends are nodes and whose quantity is in range
+pub record InRange (nodes : ℕ) (c : Contract) : Type 0 where
+  pub source-below : c .source < nodes
+  pub sink-below : c .sink < nodes
+  pub quantity-sized : c .quantity .0 ≤ maxQuantity

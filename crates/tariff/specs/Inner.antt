@@ -15,16 +15,6 @@ pub record LimitsInRange (k : ℕ) (ls : List ℕ) : Type 0 where
 pub record PricesInRange (k : ℕ) (ps : List ℕ) : Type 0 where
   pub price-sized : (j : ℕ) → j < k → price ps j ≤ maxPrice
 
--- a contract whose ends are nodes and whose quantity is in range
-pub record InRange (nodes : ℕ) (c : Contract) : Type 0 where
-  pub source-below : c .source < nodes
-  pub sink-below : c .sink < nodes
-  pub quantity-sized : c .quantity .0 ≤ maxQuantity
-
--- a contract's flow on a constraint
-abbrev pub maxFlow : ℕ
-maxFlow = 2 * maxFactor * maxQuantity
-
 -- a released limit, of 100 percent
 abbrev pub maxReleased : ℕ
 maxReleased = maxLimit * 100 * 1000

@@ -102,3 +102,7 @@ limit ls k = getD ls k 0
 
 abbrev pub price : List ℕ → ℕ → ℕ
 price ps k = getD ps k 0
+
+-- a contract's flow on a constraint
+abbrev pub maxFlow : ℕ
+maxFlow = 2 * maxFactor * maxQuantity

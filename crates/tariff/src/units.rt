@@ -1,7 +1,8 @@
-// Units as tuple structs. Sums keep their unit: a quantity, a price or an MCC is opened only here: in its own sums, in the product rules, and to go into a cell.
+// Units as tuple structs. Sums and comparisons keep their unit. A quantity, a price or an MCC is opened only here: in the product rules, in the sums and
+// comparisons of its own unit, and to go into a cell.
 ghost use mathlib.Core.Path.{_≡_};
-ghost use Prim.Native.Nat.{_+_, _*_, _/_, _%_, _^_, _≤_, _<_};
-ghost use lib.Dec.{ltb};
+ghost use Prim.Native.Nat.{_+_, _-_, _*_, _/_, _%_, _^_, _≤_, _<_};
+ghost use lib.Dec.{eqb, ltb};
 ghost use lib.IntN.{pos, natAbs, negℤ, _+ℤ_, _-ℤ_, _*ℤ_};
 ghost use lib.Signed.{ltZ};
 ghost use Rattle.integers.specs.Sums.{max0};
@@ -19,6 +20,32 @@ use crate::floors;
 pub struct Quantity(pub u64);
 
 impl Quantity {
+    pub fn plus(self, other: Quantity) -> Quantity
+        requires { ⌜ self .0 + other .0 < 2 ^ 64 ⌝ }
+        ensures { λ r. ⌜ r .0 ≡ self .0 + other .0 ⌝ }
+    {
+        Quantity(self.0 + other.0)
+    }
+
+    pub fn minus(self, other: Quantity) -> Quantity
+        requires { ⌜ other .0 ≤ self .0 ⌝ }
+        ensures { λ r. ⌜ r .0 ≡ self .0 - other .0 ⌝ }
+    {
+        Quantity(self.0 - other.0)
+    }
+
+    pub fn exceeds(self, other: Quantity) -> bool
+        ensures { λ r. ⌜ r ≡ ltb (other .0) (self .0) ⌝ }
+    {
+        other.0 < self.0
+    }
+
+    pub fn is_zero(self) -> bool
+        ensures { λ r. ⌜ r ≡ eqb (self .0) 0 ⌝ }
+    {
+        self.0 == 0
+    }
+
     // As a cell of a table or a field of a file.
     pub fn cell(self) -> u64
         ensures { λ r. ⌜ r ≡ self .0 ⌝ }
@@ -60,11 +87,19 @@ impl Quantity {
     }
 
     // The product rule of shares (02, papers 5 and 7): quantity × part, over the whole, rounded down.
-    pub fn proportion(self, part: u64, whole: u64) -> Quantity
+    fn proportion(self, part: u64, whole: u64) -> Quantity
         requires { ⌜ (self .0 ≤ maxQuantity) × (part ≤ whole) × (0 < whole) × (whole ≤ maxLoad) ⌝ }
         ensures { λ r. ⌜ (r .0 ≡ self .0 * part / whole) × (r .0 ≤ self .0) ⌝ }
     {
         Quantity(self.0 * part / whole)
+    }
+
+    // What a gainer receives of this quantity: the load lost to it, over the loser's load.
+    pub fn moved(self, lost: Quantity, load: Quantity) -> Quantity
+        requires { ⌜ (self .0 ≤ maxQuantity) × (lost .0 ≤ load .0) × (0 < load .0) × (load .0 ≤ maxLoad) ⌝ }
+        ensures { λ r. ⌜ (r .0 ≡ self .0 * lost .0 / load .0) × (r .0 ≤ self .0) ⌝ }
+    {
+        self.proportion(lost.0, load.0)
     }
 
     // A hub's share: its weight, over the whole hub's weight.
@@ -88,11 +123,10 @@ impl Quantity {
 pub struct Price(pub u64);
 
 impl Price {
-    // Where the product rule of what priced a contract begins (02, paper 8): a product by a price of 0 is 0.
-    pub fn posted(self) -> bool
-        ensures { λ r. ⌜ r ≡ ltb 0 (self .0) ⌝ }
+    pub fn exceeds(self, other: Price) -> bool
+        ensures { λ r. ⌜ r ≡ ltb (other .0) (self .0) ⌝ }
     {
-        0 < self.0
+        other.0 < self.0
     }
 
     // The product rule of congestion (002 part C): shift factor × shadow price.
@@ -213,23 +247,15 @@ impl Transfer {
         Transfer(-self.0)
     }
 
-    // As a cell of a square.
-    pub fn cell(self) -> i64
-        requires { ⌜ natAbs (self .0) < 2 ^ 63 ⌝ }
-        ensures { λ r. ⌜ r ≡ self .0 ⌝ }
-    {
-        self.0
-    }
-
     // What is lost: nothing where the transfer is not above 0.
-    pub fn lost(self) -> u64
+    pub fn lost(self) -> Quantity
         requires { ⌜ natAbs (self .0) < 2 ^ 63 ⌝ }
-        ensures { λ r. ⌜ r ≡ natAbs (max0 (self .0)) ⌝ }
+        ensures { λ r. ⌜ r .0 ≡ natAbs (max0 (self .0)) ⌝ }
     {
         if self.0 < 0 {
-            return 0;
+            return Quantity(0);
         }
-        self.0 as u64
+        Quantity(self.0 as u64)
     }
 }
 

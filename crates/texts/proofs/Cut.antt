@@ -8,8 +8,8 @@ use borrow.Author.Tests.{ltb-true, ltb-false, lt-ltb, le-ltb}
 use lib.Dec.{ltb}
 use lib.ListN.{length, take}
 use lib.Seq.{take-all, length-take-le}
-use Rattle.bits.specs.Bits.{field}
-use Rattle.bits.proofs.Bytes.{Bytes, bytes-below}
+use Rattle.bits.specs.Bits.{field, Bytes}
+use Rattle.bits.proofs.Bytes.{bytes-below}
 use Rattle.bits.proofs.Fields.{field-window}
 use Rattle.tariff.specs.declared.contracts.Contract.{Contract}
 use Rattle.tariff.specs.declared.contracts.Period.{Period}
@@ -30,7 +30,7 @@ use Rattle.layouts.proofs.FormLaws.{header-most}
 use Rattle.layouts.specs.BookFile.{bookBytes, contractCountIn, bookSpareIn, bookFormIn}
 use Rattle.layouts.proofs.BookFile.{book-bytes-most}
 use Rattle.layouts.specs.PriceFile.{priceBytes, priceCount}
-use Rattle.grid_file.specs.ReadGrid.{gridSizeChecks, gridFigureChecks, cappedChecks, programBytes}
+use Rattle.grid_rules.specs.ReadGrid.{gridSizeChecks, gridFigureChecks, cappedChecks, programBytes}
 use Rattle.books.specs.BookChecks.{bookChecks}
 use Rattle.price_file.specs.ReadPrices.{priceFileChecks}
 use Rattle.text.specs.Ascii.{ascii}

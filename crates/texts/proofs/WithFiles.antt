@@ -12,9 +12,9 @@ use Rattle.tariff.specs.Units.{Grid, gridOf, maxConstraints}
 use Rattle.tariff.specs.Contracts.{periodOf}
 use Rattle.tariff.specs.Refusals.{first}
 use Rattle.layouts.specs.BookFile.{bookIn}
-use Rattle.grid_file.specs.declared.GridAnswer.the-variants.{Refused as NotRead}
-use Rattle.grid_file.specs.ReadGrid.{readGridCall, cappedChecks, ReadsWithin, programBytes, programFactors}
-use Rattle.grid_file.proofs.Taken.{GridTaken, program-room}
+use Rattle.grid_rules.specs.declared.GridAnswer.the-variants.{Refused as NotRead}
+use Rattle.grid_rules.specs.ReadGrid.{readGridCall, cappedChecks, ReadsWithin, programBytes, programFactors}
+use Rattle.grid_rules.proofs.Taken.{GridTaken, program-room}
 use Rattle.books.specs.BookChecks.{bookChecks}
 use Rattle.price_file.specs.declared.PriceAnswer.the-variants.{Refused as NotPriced}
 use Rattle.price_file.specs.ReadPrices.{readPricesCall, priceFileChecks, ReadsPrices}

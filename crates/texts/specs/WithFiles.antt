@@ -10,7 +10,7 @@ use Rattle.tariff.specs.Refusals.{first, decided}
 use Rattle.layouts.specs.GridFile.{gridIn}
 use Rattle.layouts.specs.BookFile.{bookIn}
 use Rattle.layouts.specs.PriceFile.{periodIn, pricesIn}
-use Rattle.grid_file.specs.ReadGrid.{cappedChecks, programBytes}
+use Rattle.grid_rules.specs.ReadGrid.{cappedChecks, programBytes}
 use Rattle.books.specs.BookChecks.{bookChecks}
 use Rattle.price_file.specs.ReadPrices.{priceFileChecks}
 use Rattle.text.specs.Ascii.{ascii}

@@ -15,7 +15,7 @@ use Rattle.layouts.specs.declared.forms.Form.{Form}
 use Rattle.layouts.specs.declared.forms.Form.the-variants.{Wide}
 use Rattle.layouts.specs.Forms.{endWidth}
 use Rattle.layouts.specs.BookFile.{bookFile}
-use Rattle.layouts.specs.Inner.{ContractFits}
+use Rattle.layouts.specs.BookTable.{ContractFits}
 use Rattle.tables.specs.TableChecks.{gridTableChecks}
 use Rattle.tables.proofs.Passing.{grid-tables}
 use Rattle.books.specs.BookChecks.{bookChecks}

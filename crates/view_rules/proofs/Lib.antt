@@ -6,3 +6,4 @@ pub mod Numbers
 pub mod Rows
 pub mod Splits
 pub mod Theorems
+pub mod ForC

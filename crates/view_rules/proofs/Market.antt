@@ -14,7 +14,7 @@ use Rattle.tariff.proofs.Checks.{first-append, passed-append}
 use Rattle.layouts.specs.declared.forms.Form.{Form}
 use Rattle.layouts.specs.Forms.{endWidth}
 use Rattle.layouts.specs.BookFile.{contract, bookBytes, bookFile, contractCountIn, bookFormIn, contractIn, contractAt, bookIn}
-use Rattle.layouts.specs.Inner.{ContractFits}
+use Rattle.layouts.specs.BookTable.{ContractFits}
 use Rattle.layouts.proofs.BookFile.{Filed, book-written, contract-in-fits}
 use Rattle.books.specs.BookChecks.{ownChecks}
 use Rattle.books.proofs.Accepted.{Accepted, own-accepted}

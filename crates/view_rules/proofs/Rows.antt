@@ -24,7 +24,7 @@ use Rattle.tariff.specs.Refusals.{first}
 use Rattle.layouts.specs.declared.forms.Form.{Form}
 use Rattle.layouts.specs.Forms.{endWidth, recordBytes}
 use Rattle.layouts.specs.BookFile.{contractBits, contractFields, contractFrom, bookBytes, contractCountIn, bookFormIn, contractIn, contractAt}
-use Rattle.layouts.specs.Inner.{ContractFits}
+use Rattle.layouts.specs.BookTable.{ContractFits}
 use Rattle.layouts.proofs.BookFile.{total-contract, fit-contract, whole-bytes, contract-holds, contract-in-fits}
 use Rattle.books.specs.BookChecks.{ownChecks}
 use Rattle.books.specs.Inner.{contractBytes}

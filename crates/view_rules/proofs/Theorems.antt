@@ -3,8 +3,8 @@ use mathlib.Core.Path.{_≡_}
 use mathlib.Core.List.{List, _++_}
 use Prim.Native.Nat.{ℕ, _<_}
 use lib.ListN.{length, take, drop}
-use Rattle.bits.specs.Bits.{digits}
-use Rattle.bits.proofs.Bytes.{Bytes, bytes-below}
+use Rattle.bits.specs.Bits.{digits, Bytes}
+use Rattle.bits.proofs.Bytes.{bytes-below}
 use Rattle.tariff.specs.declared.refusals.Checked.the-variants.{Passed}
 use Rattle.tariff.specs.Refusals.{first}
 use Rattle.layouts.specs.declared.WriteAnswer.{WriteAnswer}

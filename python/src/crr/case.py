@@ -7,10 +7,8 @@ from dataclasses import dataclass, field
 from typing import Dict, List, NamedTuple, Optional, Sequence
 
 from .files import Contract, Grid
+from .inputs import Input
 from .interface import HOLDER, MAX_CONSTRAINTS, MAX_CONTRACTS, MAX_NARROW_NODES, MAX_NODES, NARROW, WIDE
-
-TIMES_OF_USE = ("OFF", "ON")  # by the period's number
-HEDGE_TYPES = ("OBL", "OPT")  # by the kind's number
 
 
 class PricedHour(NamedTuple):
@@ -47,6 +45,7 @@ class Case:
     hours: List[PricedHour] = field(default_factory=list)
     grid_form: int = NARROW
     book_form: int = NARROW
+    inputs: List[Input] = field(default_factory=list, compare=False)  # the files that it was read from
 
     @property
     def grid(self) -> Grid:
@@ -59,6 +58,18 @@ class Case:
         names = self.names
         tables = len(names.nodes) <= MAX_NODES and len(names.constraints) <= MAX_CONSTRAINTS
         return tables and len(self.book) <= MAX_CONTRACTS and all(contract.holder <= HOLDER.high for contract in self.book)
+
+
+def check_lengths(case: Case) -> None:
+    """A ValueError where a case's tables and its names are of different lengths: writing would drop what has no partner."""
+    names = case.names
+    constraints = len(names.constraints)
+    pairs = [("limits", len(case.limits), constraints), ("factors", len(case.factors), constraints * len(names.nodes))]
+    pairs += [("contracts", len(case.book), len(names.contracts))]
+    pairs += [(f"prices of {hour.day} HE{hour.hour:02}", len(hour.prices), constraints) for hour in case.hours]
+    for what, count, expected in pairs:
+        if count != expected:
+            raise ValueError(f"case: {count:,} {what}, and names for {expected:,}")
 
 
 FORMS = ("narrow", "wide")  # by number

@@ -1,155 +1,109 @@
-"""What each command of `crr` does. A command gives an answer, as text for people and as data for scripts; faults are raised."""
+"""The commands on a case as a whole: check, pack, unpack, test, cuts, settle."""
 
 from __future__ import annotations
 
-from concurrent.futures import Executor
+import argparse
+import os
+from array import array
 from pathlib import Path
-from typing import Dict, Iterable, List, NamedTuple, Optional, Sequence, Tuple
+from typing import Dict, List, Optional, Sequence, Tuple, cast
 
-from .case import NARROW_ENDS, TIMES_OF_USE, Case, Names, holder_numbers, plain_number
-from .dates import HOURS_A_DAY, month_hours
-from .decimals import decimal, whole
-from .faults import Fault, Faults, raise_any
-from .feasibility import PROCESSES, Cut, Verdict, find_cuts, test_book
-from .files import Contract, add_hub_contract, read_book, read_book_form, read_grid, remap_book, write_book
-from .from_csv import BOOK, DEMANDS, Hub, HubContract, load, read_demands, read_hub_contracts, read_hubs
-from .hours import Progress, Settled, settle_hours
-from .interface import BALANCE, FLOW_PLACES, HOLDER, NARROW, QUANTITY, WIDE
-from .native import Refused
-from .packed import Packed, hour_name, packed, read_packed, unpacked, write_bin, write_packed
-from .results import HOLDERS, HOURS, Time, dollars, exact_dollars, holder_months, hour_rows, mcc_dollars, result_files
-from .settlement import find_hub_mcc
-from .shares import share_balance
-from .sheet import Sheet
-from .slices import settle_sliced
-from .to_csv import book_row, csv_text, write_csv, write_files
-from .views import read_holder_view, write_holder_view, write_market_view
-
-PASSES, FAILS, FAULTY = 0, 1, 2  # exit statuses
+from .bar import Bar
+from .case import Names
+from .command import ANY_PERIODS, ANY_PROCESSES, FAILS, FOLDER, FORCE, PASSES, ROUND_PRICES, Answer, argument, command, counted, objects, writes
+from .decimals import decimal
+from .faults import Fault, raise_any
+from .feasibility import Cut, Verdict, excesses, find_cuts, find_flows, released_percent, test_book, worst
+from .files import read_grid
+from .from_csv import load
+from .interface import FLOW_PLACES, QUANTITY
+from .notes import notes
+from .opening import Opened, counts, counts_told, files_of, is_csv, opened, rounded_told, settled
+from .packed import Packed, hour_name, read_packed, unpacked, write_packed
+from .results import HOLDERS, HOURS, dollars, exact_dollars, holder_months, hour_rows, is_result, result_files
+from .to_csv import csv_text, write_csv
+from .words import PROCESSES, TIMES_OF_USE, Period, Process
+from .writing import write_files
 
 
-class Answer(NamedTuple):
-    """A command's answer: the exit status, what a person reads, the same for a script, and a note beside the text, for standard error."""
-
-    status: int
-    text: str
-    data: Dict[str, object]
-    note: str = ""
-
-
-class Opened(NamedTuple):
-    """A folder's case: names, contracts, the day and hour of each hour; its files where the library takes them whole, its tables where it is CSV."""
-
-    names: Names
-    book: List[Contract]
-    times: List[Time]
-    files: Optional[Packed]
-    case: Optional[Case]
-    rounded: int
-
-
-def is_csv(folder: Path) -> bool:
-    """Whether a folder is taken as CSV files; the bin files that `pack` puts beside them are then left alone."""
-    if not folder.is_dir():
-        raise_any([Fault(str(folder), 0, "", "no such folder")])
-    if any((folder / name).exists() for name in ("constraints.csv", "factors.csv", "book.csv")):
-        return True
-    if not (folder / "grid.bin").exists():
-        raise_any([Fault(str(folder), 0, "", "neither CSV files (constraints.csv, factors.csv, book.csv) nor grid.bin")])
-    return False
-
-
-def opened(folder: Path, round_prices: bool = False, any_size: bool = False, prices: bool = True) -> Opened:
-    """The case of a folder in either form."""
-    if is_csv(folder):
-        case, rounded = load(folder, any_size, round_prices, prices)
-        times = [(hour.day, hour.hour) for hour in case.hours]
-        return Opened(case.names, case.book, times, packed(case) if case.fits else None, case, rounded)
-    files = read_packed(folder)
-    times = [(hour.day, hour.hour) for hour in files.hours]
-    return Opened(files.names, read_book(read_grid(files.grid).nodes, files.book), times, files, None, 0)
-
-
-def files_of(found: Opened) -> Packed:
-    """The files of a folder that was opened at the library's sizes: a larger one is a fault then."""
-    assert found.files is not None
-    return found.files
-
-
-def counted(number: int, what: str) -> str:
-    """A number of things in words."""
-    return f"{number:,} {what}{'' if number == 1 else 's'}"
-
-
-def _rounded(count: int) -> str:
-    return f"; {counted(count, 'price')} rounded to cents" if count else ""
-
-
-def pack(folder: Path, out: Path, round_prices: bool) -> Answer:
-    """CSV files to bin files, read back and compared."""
-    case, rounded = load(folder, round_prices=round_prices)
-    written = write_packed(case, out)
-    text = f"{out}: grid.bin, book.bin, names.csv and {counted(len(case.hours), 'hour')} of prices written and read back{_rounded(rounded)}\n"
-    return Answer(PASSES, text, {"out": str(out), "written": written, "rounded_prices": rounded})
-
-
-def unpack(folder: Path, out: Path, force: bool) -> Answer:
-    """Bin files to CSV files."""
-    files = read_packed(folder)
-    written = write_csv(unpacked(files), out, hour_name(files.hours), force)
-    return Answer(PASSES, f"{out}: {', '.join(sorted(written))} written\n", {"out": str(out), "written": written})
-
-
-def counts(found: Opened) -> Dict[str, int]:
-    """How many of what a case has."""
-    return {
-        "nodes": len(found.names.nodes),
-        "constraints": len(found.names.constraints),
-        "contracts": len(found.book),
-        "holders": len({contract.holder for contract in found.book}),
-        "hours": len(found.times),
-    }
-
-
-def counts_told(found: Opened) -> str:
-    """The counts in words."""
-    return ", ".join(counted(number, what[:-1]) for what, number in counts(found).items())
-
-
+@command("check", "read everything and list every fault", FOLDER, ROUND_PRICES)
 def check(folder: Path, round_prices: bool) -> Answer:
     """Reads everything; every fault is raised."""
     found = opened(folder, round_prices)
     if not found.case:
         unpacked(files_of(found))  # its price files too
     form = "CSV" if found.case else "bin"
-    text = f"{folder}: {counts_told(found)}; {form} files without a fault{_rounded(found.rounded)}\n"
-    return Answer(PASSES, text, {"folder": str(folder), "form": form, **counts(found), "rounded_prices": found.rounded})
+    text = f"{folder}: {counts_told(found)}; {form} files without a fault{rounded_told(found.rounded)}\n"
+    beside = notes(folder, form == "CSV")
+    data: Dict[str, object] = {"folder": str(folder), "form": form, **counts(found), "rounded_prices": found.rounded, "notes": beside}
+    return Answer(PASSES, text + "".join(f"{note}\n" for note in beside), data)
 
 
-VERDICTS = ("TIME_OF_USE", "PROCESS", "VERDICT", "OVERLOADED", "LOWEST", "EXCESS_MW", "CONSTRAINTS")
+_BESIDE = "a folder; without it, the same folder"
 
 
-def verdicts(files: Packed, periods: Sequence[int] = (0, 1), processes: Sequence[int] = (0, 1, 2)) -> Dict[Tuple[int, int], Verdict]:
+@command("pack", "CSV files to grid.bin, book.bin, names.csv and price files", FOLDER, ROUND_PRICES, writes(_BESIDE), FORCE)
+def pack(folder: Path, out: Optional[Path], round_prices: bool, force: bool) -> Answer:
+    """CSV files to bin files, read back and compared. Beside the CSV files, where no other folder is named, they replace those of before."""
+    target = out or folder
+    if not is_csv(folder):
+        raise_any([Fault(str(folder), 0, "", "packed already: grid.bin, and no CSV files; crr unpack makes CSV files of it")])
+    case, rounded = load(folder, round_prices=round_prices)
+    written = write_packed(case, target, force or target.resolve() == folder.resolve())
+    text = f"{target}: grid.bin, book.bin, names.csv and {counted(len(case.hours), 'hour')} of prices written and read back{rounded_told(rounded)}\n"
+    return Answer(PASSES, text, {"out": str(target), "written": written, "rounded_prices": rounded})
+
+
+@command("unpack", "bin files to CSV files", FOLDER, writes(_BESIDE), FORCE)
+def unpack(folder: Path, out: Optional[Path], force: bool) -> Answer:
+    """Bin files to CSV files, beside them where no other folder is named."""
+    target = out or folder
+    if is_csv(folder) and not os.path.lexists(folder / "grid.bin"):
+        raise_any([Fault(str(folder), 0, "", "CSV files already, and no grid.bin; crr pack makes bin files of them")])
+    files = read_packed(folder)
+    written = write_csv(unpacked(files), target, hour_name(files.hours), force)
+    return Answer(PASSES, f"{target}: {', '.join(sorted(written))} written\n", {"out": str(target), "written": written})
+
+
+VERDICTS = (
+    *("TIME_OF_USE", "PROCESS", "VERDICT", "OVERLOADED", "LOWEST_NUMBERED", "EXCESS_MW"),
+    *("WORST", "WORST_EXCESS_MW", "CONSTRAINTS"),
+)
+
+
+def verdicts(files: Packed, periods: Sequence[int] = tuple(Period), processes: Sequence[int] = tuple(Process)) -> Dict[Tuple[int, int], Verdict]:
     """The test's answers by period and process."""
     grid = read_grid(files.grid)
     return {(period, process): test_book(grid, files.book, process, period) for period in periods for process in processes}
 
 
-def _verdict_row(names: Names, period: int, process: int, verdict: Verdict) -> Tuple[str, str, str, int, str, str, List[str]]:
-    told = (TIMES_OF_USE[period], PROCESSES[process])
-    if verdict.passed:
-        return (*told, "pass", 0, "", "", [])
-    overloaded = [names.constraints[k] for k in verdict.overloaded]
-    return (*told, "fail", verdict.count, names.constraints[verdict.lowest], decimal(verdict.excess, FLOW_PLACES), overloaded)
+def _verdict_rows(found: Opened, answers: Dict[Tuple[int, int], Verdict]) -> List[Tuple[object, ...]]:
+    """A row for each period and process, as VERDICTS heads them; the constraints as a list."""
+    files, names = files_of(found), found.names.constraints
+    grid = read_grid(files.grid)
+    flows = {period: find_flows(grid, files.book, period).flows for period, _ in answers}
+    rows: List[Tuple[object, ...]] = []
+    for (period, process), verdict in answers.items():
+        told = (TIMES_OF_USE[period], PROCESSES[process])
+        if verdict.passed:
+            rows.append((*told, "pass", 0, "", "", "", "", []))
+            continue
+        over = excesses(cast("array[int]", grid.limits), flows[period], released_percent(process))
+        most = worst(verdict, over)
+        lowest = (names[verdict.lowest], decimal(verdict.excess, FLOW_PLACES))
+        overloaded = [names[k] for k in verdict.overloaded]
+        rows.append((*told, "fail", verdict.count, *lowest, names[most], decimal(over[most], FLOW_PLACES), overloaded))
+    return rows
 
 
+@command("test", "the simultaneous feasibility test", FOLDER, ANY_PERIODS, ANY_PROCESSES)
 def test(folder: Path, periods: Sequence[int], processes: Sequence[int]) -> Answer:
     """The simultaneous feasibility test; status 1 where the book fails in one of the periods and processes asked for."""
     found = opened(folder, prices=False)
     answers = verdicts(files_of(found), periods, processes)
-    rows = [_verdict_row(found.names, period, process, verdict) for (period, process), verdict in answers.items()]
+    rows = _verdict_rows(found, answers)
     status = PASSES if all(verdict.passed for verdict in answers.values()) else FAILS
-    text = csv_text(VERDICTS, ((*row[:-1], "; ".join(row[-1])) for row in rows))
+    text = csv_text(VERDICTS, ((*row[:-1], "; ".join(cast(List[str], row[-1]))) for row in rows))
     return Answer(status, text, {"passed": status == PASSES, "verdicts": objects(VERDICTS, rows)})
 
 
@@ -171,6 +125,13 @@ def _cut_row(found: Opened, cut: Cut) -> CutRow:
     return found.names.contracts[cut.contract], found.names.holder(contract.holder), quantity, cut_by, left
 
 
+@command(
+    "cuts",
+    "what clears a failing book: each contract whose quantity, lowered alone, lets it pass, and by how much",
+    FOLDER,
+    ANY_PERIODS,
+    ANY_PROCESSES,
+)
 def cuts(folder: Path, periods: Sequence[int], processes: Sequence[int]) -> Answer:
     """What clears a failing book; the status is the test's, since an empty list alone does not tell whether the book passes."""
     found = opened(folder, prices=False)
@@ -178,8 +139,8 @@ def cuts(folder: Path, periods: Sequence[int], processes: Sequence[int]) -> Answ
     listed = cut_rows(found, answers)
     status = FAILS if listed else PASSES
     text = csv_text(("TIME_OF_USE", "PROCESS", *CUTS), ((*_line(line), *row) for line, rows in listed.items() for row in rows))
-    told = objects(VERDICTS, [_verdict_row(found.names, *line, verdict) for line, verdict in answers.items()])
-    data = [{**verdict, "cuts": objects(CUTS, listed.get(line, []))} for line, verdict in zip(answers, told)]
+    told = objects(VERDICTS, _verdict_rows(found, answers))
+    data = [dict(verdict, cuts=objects(CUTS, listed.get(line, []))) for line, verdict in zip(answers, told)]
     return Answer(status, text, {"passed": status == PASSES, "verdicts": data}, _cuts_told(found.names, answers, listed))
 
 
@@ -205,33 +166,31 @@ def _cuts_told(names: Names, answers: Dict[Tuple[int, int], Verdict], listed: Di
     return "".join(said) + (f"{passing}: the book passes\n" if passing else "")
 
 
-def settled(found: Opened, jobs: int, progress: Progress) -> Settled:
-    """All hours of a folder."""
-    if jobs <= 1:
-        return _settled(found, None, progress)
-    from concurrent.futures import ProcessPoolExecutor  # a tenth of a second that other commands do without
-
-    with ProcessPoolExecutor(jobs) as pool:
-        return _settled(found, pool, progress)
+def _jobs(text: str) -> int:
+    """How many processes: at least one."""
+    if not (text.isascii() and text.isdigit() and len(text) < 5 and int(text)):
+        raise argparse.ArgumentTypeError(f"{text!r} is no number of processes, from 1 to 9999")
+    return int(text)
 
 
-def _settled(found: Opened, executor: Optional[Executor], progress: Progress) -> Settled:
-    """By slices where the library does not take the case whole."""
-    if found.files:
-        return settle_hours(found.files.grid, found.files.book, found.files.hours, executor, progress=progress)
-    assert found.case is not None
-    return settle_sliced(found.case, executor, progress=progress)
-
-
-def settle(folder: Path, out: Optional[Path], jobs: int, round_prices: bool, progress: Progress) -> Answer:
-    """Settles every hour; with `out` writes hours.csv, holders.csv and contracts.csv there."""
+@command(
+    "settle",
+    "settle every hour: holder by month, hour by hour, contract by contract",
+    FOLDER,
+    ROUND_PRICES,
+    writes("a folder for the result files"),
+    FORCE,
+    argument("-j", "--jobs", type=_jobs, default=1, metavar="N", help="how many processes, 1 to 9999; without it, 1"),
+)
+def settle(folder: Path, out: Optional[Path], jobs: int, round_prices: bool, force: bool) -> Answer:
+    """Settles every hour; with `out` writes hours.csv, holders.csv and contracts.csv there, over those of before."""
     found = opened(folder, round_prices, any_size=True)
-    result = settled(found, jobs, progress)
+    result = settled(found, jobs, Bar("settle"))
     if out:
         files = result_files(result, found.names, found.book, found.times)
-        write_files(out, {name: text.encode() for name, text in files.items()})
+        write_files(out, {name: text.encode() for name, text in files.items()}, force, is_result)
     rows = [(found.names.holder(holder), month, dollars(cents)) for (holder, month), cents in holder_months(result, found.book).items()]
-    told = f"{counted(len(result.hours), 'hour')}: sum {dollars(result.sum)}, exact total {exact_dollars(result.exact)}{_rounded(found.rounded)}\n"
+    told = f"{counted(len(result.hours), 'hour')}: sum {dollars(result.sum)}, exact total {exact_dollars(result.exact)}{rounded_told(found.rounded)}\n"
     data: Dict[str, object] = {
         "hours": len(result.hours),
         "sum": dollars(result.sum),
@@ -242,221 +201,3 @@ def settle(folder: Path, out: Optional[Path], jobs: int, round_prices: bool, pro
     }
     text = f"{out}: hours.csv, holders.csv and contracts.csv written\n" if out else csv_text(HOLDERS, rows)
     return Answer(PASSES, text, data, told)
-
-
-def objects(heading: Sequence[str], rows: Iterable[Sequence[object]]) -> List[Dict[str, object]]:
-    """Rows of a table as objects."""
-    return [{name.lower(): value for name, value in zip(heading, row)} for row in rows]
-
-
-def _pairs(path: Path, nodes: Sequence[str]) -> Tuple[List[int], List[int]]:
-    """Old and new node numbers of a file OLD_NODE,NEW_NODE."""
-    faults: List[Fault] = []
-    sheet = Sheet(path, ("OLD_NODE", "NEW_NODE"), faults)
-    numbers = {name: number for number, name in enumerate(nodes)}
-    lists: Dict[str, List[int]] = {ours: [] for ours in sheet.at}
-    for line, row in sheet.rows():
-        for ours, at in sheet.at.items():
-            if row[at] not in numbers:
-                sheet.fault(line, ours, f"no node {row[at]!r} in the grid", 11)
-            lists[ours].append(numbers.get(row[at], 0))
-    raise_any(faults)
-    return lists["OLD_NODE"], lists["NEW_NODE"]
-
-
-def remap(folder: Path, pairs: Path, out: Path, round_prices: bool) -> Answer:
-    """Moves the ends of a book's contracts, pair after pair, and writes the whole case to another folder in the form that it had."""
-    found = opened(folder, round_prices)
-    files = files_of(found)
-    nodes = read_grid(files.grid).nodes
-    old, new = _pairs(pairs, found.names.nodes)
-    moved = Packed(found.names, files.grid, remap_book(nodes, files.book, old, new), files.hours)
-    contracts = read_book(nodes, moved.book)
-    changed = sum(before != after for before, after in zip(found.book, contracts))
-    write_like(found, moved, out)
-    text = f"{out}: {counted(len(old), 'pair')} applied, {counted(changed, 'contract')} of {len(contracts):,} changed\n"
-    return Answer(PASSES, text, {"out": str(out), "pairs": len(old), "changed": changed, "contracts": len(contracts)})
-
-
-def write_like(found: Opened, files: Packed, out: Path) -> None:
-    """Writes files to a folder as CSV or bin files, whichever the folder that was opened has."""
-    if found.case:
-        write_csv(unpacked(files), out, hour_name(files.hours))
-    else:
-        write_bin(files, out)
-
-
-_CASE_FILES = ("grid.bin", "book.bin", "prices.bin", "names.csv", "constraints.csv", "factors.csv", "book.csv", "prices.csv")
-
-
-def _write_view(folder: Path, out: Path, view: bytes) -> None:
-    """Writes a view, over no file of the case that it is of."""
-    if out.name in _CASE_FILES and out.resolve().parent == folder.resolve():
-        raise_any([Fault(str(out), 0, "", "that is a file of the case itself: choose another")])
-    write_files(out.parent, {out.name: view})
-
-
-def market(folder: Path, out: Path) -> Answer:
-    """Writes the book as the market sees it."""
-    found = opened(folder, prices=False)
-    files = files_of(found)
-    view = write_market_view(read_grid(files.grid).nodes, files.book)
-    _write_view(folder, out, view)
-    many = counts(found)
-    text = f"{out}: {counted(many['contracts'], 'contract')} of {counted(many['holders'], 'holder')}, all as holder 0; {len(view):,} bytes written\n"
-    return Answer(PASSES, text, {"out": str(out), "contracts": many["contracts"], "bytes": len(view)})
-
-
-def _holder(asked: str, names: Names) -> int:
-    """The number of a holder that is asked for by name or by number."""
-    number = {name: number for number, name in names.holders.items()}.get(asked, plain_number(asked))
-    if number is None:
-        raise Faults([Fault("HOLDER", 0, "", f"{asked!r} is neither a holder's name nor a number from {HOLDER.low} to {HOLDER.high}")])
-    return number
-
-
-VIEW = ("NUMBER", *BOOK)
-
-
-def holder(folder: Path, asked: str, out: Optional[Path]) -> Answer:
-    """What a holder sees of the book, read from the view; with `out` writes the view itself there."""
-    found = opened(folder, prices=False)
-    files, number = files_of(found), _holder(asked, found.names)
-    nodes = read_grid(files.grid).nodes
-    view = write_holder_view(nodes, files.book, number)
-    held = read_holder_view(nodes, view, read_book_form(nodes, files.book))
-    rows = [(own.number, *book_row(found.names, found.names.contracts[own.number], own.contract)) for own in held]
-    told = f"{found.names.holder(number)}: {counted(len(rows), 'contract')} of {len(found.book):,}"
-    data: Dict[str, object] = {"holder": found.names.holder(number), "number": number, "contracts": objects(VIEW, rows), "bytes": len(view)}
-    if out:
-        _write_view(folder, out, view)
-        told, data["out"] = f"{told}; {out}: {counted(len(view), 'byte')} written", str(out)
-    return Answer(PASSES, csv_text(VIEW, rows), data, f"{told}\n")
-
-
-HUB_MCC = ("OPR_DT", "OPR_HR", "TIME_OF_USE", "HUB", "MCC")
-
-
-def hub_mcc(folder: Path, hubs: Path, round_prices: bool) -> Answer:
-    """The MCC of each hub of a file in each hour."""
-    found = opened(folder, round_prices)
-    faults: List[Fault] = []
-    of_file = read_hubs(hubs, found.names.nodes, faults)
-    raise_any(faults)
-    case = found.case or unpacked(files_of(found))
-    rows = [
-        (hour.day, hour.hour or "", TIMES_OF_USE[hour.period], name, mcc_dollars(find_hub_mcc(case.grid, hour.prices, hub.nodes, hub.weights)))
-        for hour in case.hours
-        for name, hub in of_file.items()
-    ]
-    told = f"{counted(len(of_file), 'hub')}, {counted(len(case.hours), 'hour')}{_rounded(found.rounded)}\n"
-    return Answer(PASSES, csv_text(HUB_MCC, rows), {"mcc": objects(HUB_MCC, rows), "rounded_prices": found.rounded}, told)
-
-
-def owner_numbers(found: Opened, sheet: Sheet, rows: Sequence[Tuple[int, str]]) -> Dict[str, int]:
-    """The number of each owner, of the book and of rows by line and owner. Those of the book stay as they are."""
-    names = found.names
-    for line, owner in rows:
-        if plain_number(owner) in names.holders:
-            sheet.fault(line, "OWNER", f"{owner} stands for holder {owner}, and that one is {names.holder(int(owner))} here")
-    owners = [names.holder(contract.holder) for contract in found.book] + [owner for _, owner in rows]
-    numbers = holder_numbers(owners, names.holders)
-    too_many = next((line for line, owner in rows if numbers[owner] > HOLDER.high), None)
-    if too_many:
-        sheet.fault(too_many, "OWNER", f"more than {HOLDER.high + 1} owners", 18)
-    return numbers
-
-
-def _form_for(found: Opened, rows: Sequence[HubContract], hubs: Dict[str, Hub]) -> bytes:
-    """The book's file, in the wide form where a node of a hub, or a sink, needs it."""
-    book, nodes = files_of(found).book, len(found.names.nodes)
-    far = any(max(row.sink, *hubs[row.hub].nodes) >= NARROW_ENDS for row in rows)
-    return write_book(nodes, found.book, WIDE) if far and read_book_form(nodes, book) == NARROW else book
-
-
-def _grown(found: Opened, sheet: Sheet, rows: Sequence[HubContract], hubs: Dict[str, Hub]) -> Packed:
-    """The files with every row's contracts behind those of the book. A contract is called by its row's name and its node's."""
-    owners, names, files = owner_numbers(found, sheet, [(row.line, row.owner) for row in rows]), found.names, files_of(found)
-    raise_any(sheet.faults)
-    book, nodes = _form_for(found, rows, hubs), len(names.nodes)
-    ids, taken = list(names.contracts), set(names.contracts)
-    for row in rows:
-        hub = hubs[row.hub]
-        try:
-            book = add_hub_contract(nodes, book, row.kind, row.period, owners[row.owner], hub.nodes, hub.weights, row.sink, row.quantity)
-        except Refused as refused:  # for too many contracts: all else was looked at
-            sheet.fault(row.line, "CRR_ID", refused.meaning, refused.number)
-            break
-        new = [f"{row.crr_id} {names.nodes[contract.source]}" for contract in read_book(nodes, book)[len(ids) :]]
-        for crr_id in (crr_id for crr_id in new if crr_id in taken):
-            sheet.fault(row.line, "CRR_ID", f"{crr_id} occurs twice")
-        ids += new
-        taken.update(new)
-    raise_any(sheet.faults)
-    holders = {**names.holders, **{number: name for name, number in owners.items() if name != str(number)}}
-    return Packed(Names(names.nodes, names.constraints, ids, holders), files.grid, book, files.hours)
-
-
-def hub_add(folder: Path, hubs: Path, contracts: Path, out: Path, round_prices: bool) -> Answer:
-    """Adds contracts from hubs to a book, as contracts from their nodes, and writes the whole case to another folder in the form that it had."""
-    found = opened(folder, round_prices)
-    faults: List[Fault] = []
-    of_file = read_hubs(hubs, found.names.nodes, faults)
-    sheet, rows = read_hub_contracts(contracts, of_file, found.names.nodes, faults)
-    raise_any(faults)
-    grown = _grown(found, sheet, rows, of_file)
-    write_like(found, grown, out)
-    book = read_book(len(found.names.nodes), grown.book)
-    added = [book_row(grown.names, grown.names.contracts[number], book[number]) for number in range(len(found.book), len(book))]
-    text = f"{out}: {counted(len(rows), 'hub contract')} added as {counted(len(added), 'contract')}, {counted(len(book), 'contract')} in all\n"
-    return Answer(PASSES, text, {"out": str(out), "hub_contracts": len(rows), "added": objects(BOOK, added), "contracts": len(book)})
-
-
-ON_PEAK = ("MONTH", "ON_PEAK_DAYS", "ON_PEAK_HOURS")
-Month = Tuple[int, int]  # the year, and 1 to 12
-
-
-def hours(first: Month, last: Month) -> Answer:
-    """The on-peak days and hours of each month, from the first to the last."""
-    for named in (first, last):
-        _on_peak(*named)  # refused as it was written, such as month 13
-    rows = [_on_peak(number // 12, number % 12 + 1) for number in range(12 * first[0] + first[1] - 1, 12 * last[0] + last[1])]
-    days, total = sum(row[1] for row in rows), sum(row[2] for row in rows)
-    told = f"{counted(len(rows), 'month')}: {counted(days, 'on-peak day')}, {counted(total, 'on-peak hour')}\n"
-    data: Dict[str, object] = {"months": objects(ON_PEAK, rows), "on_peak_days": days, "on_peak_hours": total}
-    return Answer(PASSES, csv_text(ON_PEAK, rows), data, told)
-
-
-def _on_peak(year: int, month: int) -> Tuple[str, int, int]:
-    name = f"{year:04}-{month:02}"
-    try:
-        found = month_hours(year, month)
-    except Refused as refused:
-        raise Refused(refused.number, refused.entry, name) from None
-    return name, found // HOURS_A_DAY, found
-
-
-def _balance(text: str, faults: List[Fault]) -> int:
-    """Dollars as cents; a fault is noted and gives 0."""
-    try:
-        cents = whole(text, BALANCE.places)
-    except ValueError as error:
-        faults.append(Fault("BALANCE", 0, "", str(error)))
-        return 0
-    if not BALANCE.low <= cents <= BALANCE.high:
-        faults.append(Fault("BALANCE", 0, "", f"{text} is outside {dollars(BALANCE.low)} to {dollars(BALANCE.high)}", BALANCE.refusal))
-    return cents
-
-
-SHARES = (*DEMANDS, "SHARE")
-
-
-def share(balance: str, demands: Path) -> Answer:
-    """Shares a balance of dollars among the coordinators of a file by their demands."""
-    faults: List[Fault] = []
-    cents, asked = _balance(balance, faults), read_demands(demands, faults)
-    raise_any(faults)
-    shares = share_balance(cents, asked.units)
-    rows = [(name, text, dollars(own)) for name, text, own in zip(asked.names, asked.texts, shares)]
-    told = f"{counted(len(rows), 'coordinator')}: sum {dollars(sum(shares))}\n"
-    return Answer(PASSES, csv_text(SHARES, rows), {"balance": dollars(cents), "shares": objects(SHARES, rows)}, told)

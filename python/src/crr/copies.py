@@ -9,13 +9,14 @@ import hashlib
 from pathlib import Path
 from typing import Dict, List, NamedTuple, Optional, Sequence, Tuple
 
-from .case import HEDGE_TYPES, TIMES_OF_USE
-from .commands import FAILS, PASSES, Answer, Opened, counted, files_of, objects, opened
+from .command import FAILS, FOLDER, FORCE, PASSES, Answer, a_path, argument, command, counted, objects, writes
 from .decimals import decimal
 from .faults import Fault, Faults, raise_any
 from .files import Contract, read_book, read_grid, write_book, write_settled_book
 from .interface import HOLDER, QUANTITY, WIDE
-from .to_csv import csv_text, write_files
+from .opening import Opened, files_of, opened, write_beside
+from .to_csv import csv_text
+from .words import HEDGE_TYPES, TIMES_OF_USE
 
 SETTLED = ("OWNER", "HEDGE_TYPE", "TIME_OF_USE", "SOURCE", "SINK", "MW")
 DIFFERENCES = (*SETTLED[:-1], "FIRST_MW", "SECOND_MW", "CHANGE_MW")
@@ -38,7 +39,14 @@ class Numbers(NamedTuple):
         return self.holders[holder], HEDGE_TYPES[kind], TIMES_OF_USE[period], self.nodes[source], self.nodes[sink]
 
 
-def settled(folder: Path, out: Optional[Path]) -> Answer:
+@command(
+    "settled",
+    "the settled form of a book: sorted, equal contracts added together; one for all copies with rows shuffled or split",
+    FOLDER,
+    writes("a file for the settled book, as the library reads it"),
+    FORCE,
+)
+def settled(folder: Path, out: Optional[Path], force: bool) -> Answer:
     """The settled form of a folder's book as a table; with `out` as the library's file."""
     found = opened(folder, prices=False)
     files = files_of(found)
@@ -51,7 +59,7 @@ def settled(folder: Path, out: Optional[Path]) -> Answer:
     data: Dict[str, object] = {"contracts": len(found.book), "rows": objects(SETTLED, rows), "sha256": hashlib.sha256(form).hexdigest()}
     if not out:
         return Answer(PASSES, csv_text(SETTLED, rows), data, told)
-    write_files(out.parent, {out.name: form})
+    write_beside(folder, out, form, force)
     return Answer(PASSES, f"{out}: {told}", {"out": str(out), **data})
 
 
@@ -114,6 +122,12 @@ def _both(folders: Sequence[Path]) -> List[Opened]:
     return found
 
 
+@command(
+    "same",
+    "whether two folders have the same book, rows shuffled or split or not, and the totals that differ",
+    argument("first", type=a_path, metavar="FOLDER", help=FOLDER.settings["help"]),
+    argument("second", type=a_path, metavar="FOLDER", help="another such folder"),
+)
 def same(first: Path, second: Path) -> Answer:
     """Whether two folders have the same book; status 1 where they have not, with every total that differs."""
     folders = _both((first, second))

@@ -4,14 +4,15 @@ from __future__ import annotations
 
 from ctypes import c_uint64
 from datetime import date
+from functools import lru_cache, reduce
+from math import gcd
 
+from .interface import FIRST_YEAR, LAST_YEAR
 from .native import Entry
 
 _month_hours = Entry("crr_month_hours")
 _weekday = Entry("crr_weekday")
 _month_later = Entry("crr_month_later")
-
-HOURS_A_DAY = 16  # hours ending 7 to 22, of a day that has any
 
 
 def month_hours(year: int, month: int) -> int:
@@ -19,6 +20,14 @@ def month_hours(year: int, month: int) -> int:
     hours = c_uint64()
     _month_hours(year, month, hours)
     return hours.value
+
+
+@lru_cache(maxsize=None)
+def hours_a_day() -> int:
+    """The on-peak hours of a day that has any. All such days have as many, so it is the largest number that
+    divides the hours of every month."""
+    months = ((year, month) for year in range(FIRST_YEAR, LAST_YEAR + 1) for month in range(1, 13))
+    return reduce(gcd, (month_hours(year, month) for year, month in months))
 
 
 def weekday(year: int, month: int, day: int) -> int:

@@ -5,6 +5,9 @@ from __future__ import annotations
 import re
 from functools import lru_cache
 
+from .faults import brief
+
+_MOST_DIGITS = 60
 _DECIMAL = re.compile(r"([+-]?)([0-9]*)(?:\.([0-9]*))?")  # not \d, which takes the digits of every script
 
 
@@ -17,10 +20,13 @@ def whole(text: str, places: int, rounded: bool = False) -> int:
         raise ValueError(_why_not(text, places))
     sign, units, parts = match[1], match[2], match[3] or ""
     kept, rest = parts[:places], parts[places:]
-    number = int(units + kept.ljust(places, "0") or "0")
+    digits = (units + kept.ljust(places, "0")).lstrip("0")
+    if len(digits) > _MOST_DIGITS:  # Python's own limit is a matter of its version
+        raise ValueError(f"{brief(text)}: a number of {len(digits) - places:,} digits before the point")
+    number = int(digits or "0")
     if rest.strip("0"):
         if not rounded:
-            raise ValueError(f"{text} has more than {places} decimals")
+            raise ValueError(f"{brief(text)} has more than {places} decimals")
         number += rest[0] >= "5"
     return -number if sign == "-" else number
 
@@ -29,10 +35,10 @@ def _why_not(text: str, places: int) -> str:
     if not text:
         return "empty"
     if "," in text:
-        return f"{text!r}: a decimal point and no thousands separators, please"
+        return f"{brief(text)!r}: a decimal point and no thousands separators, please"
     if re.fullmatch(r"[-+.0-9]+[eE][-+0-9]+", text):
-        return f"{text!r}: an exponent may have lost digits; format the column as a number with {places} decimals"
-    return f"{text!r} is not a decimal number"
+        return f"{brief(text)!r}: an exponent may have lost digits; format the column as a number with {places} decimals"
+    return f"{brief(text)!r} is not a decimal number"
 
 
 @lru_cache(maxsize=65536)

@@ -4,19 +4,18 @@ from __future__ import annotations
 
 from ctypes import c_int64, c_uint64
 from dataclasses import dataclass
-from typing import List, NamedTuple, Optional, Tuple
+from typing import List, NamedTuple, Optional, Sequence, Tuple
 
 from .files import Grid
-from .interface import MAX_CONTRACTS
-from .native import Bytes, Entry, Lent, lend_bytes, lend_cells, zeros
+from .interface import FLOW_PLACES, LIMIT, MAX_CONTRACTS
+from .native import Bytes, Entry, Lent, zeros
 
 _test_book = Entry("crr_test_book")
 _find_flows = Entry("crr_find_flows")
 _find_cuts = Entry("crr_find_cuts")
 _released_percent = Entry("crr_released_percent")
 
-PERIODS = ("off-peak", "on-peak")  # by number
-PROCESSES = ("annual", "Tier LT", "monthly")  # by number
+_PERCENT_IN_FLOWS: int = 10 ** (FLOW_PLACES - LIMIT.places - 2)  # a percent of a limit's unit
 
 
 @dataclass(frozen=True)
@@ -61,16 +60,14 @@ class Cut(NamedTuple):
 def test_book(grid: Grid, book: Bytes, process: int, period: int) -> Verdict:
     """Whether the contracts of a period are feasible on the grid in a process."""
     overloaded, count, lowest, excess = c_uint64(), c_uint64(), c_uint64(), c_int64()
-    limits, factors = lend_cells(grid.limits, "Q"), lend_cells(grid.factors, "q")
-    _test_book(grid.nodes, grid.constraints, process, period, limits, factors, lend_bytes(book), overloaded, count, lowest, excess)
+    _test_book(grid.nodes, grid.constraints, process, period, grid.limits, grid.factors, book, overloaded, count, lowest, excess)
     return Verdict(overloaded.value, count.value, lowest.value, excess.value)
 
 
 def find_flows(grid: Grid, book: Bytes, period: int) -> Flows:
     """The flow on each constraint, as the test sums it."""
     flows, counted = zeros("q", grid.constraints), c_uint64()
-    limits, factors = lend_cells(grid.limits, "Q"), lend_cells(grid.factors, "q")
-    _find_flows(grid.nodes, grid.constraints, period, limits, factors, lend_bytes(book), Lent(flows, "q", True), counted)
+    _find_flows(grid.nodes, grid.constraints, period, grid.limits, grid.factors, book, Lent(flows, "q", True), counted)
     return Flows(list(flows), counted.value)
 
 
@@ -79,9 +76,8 @@ def find_cuts(grid: Grid, book: Bytes, process: int, period: int) -> List[Cut]:
 
     Empty where the book passes, and also where no single contract's cut clears it: `test_book` tells these apart."""
     numbers, cuts, listed = zeros("Q", MAX_CONTRACTS), zeros("Q", MAX_CONTRACTS), c_uint64()
-    limits, factors = lend_cells(grid.limits, "Q"), lend_cells(grid.factors, "q")
     places = (Lent(numbers, "Q", True), Lent(cuts, "Q", True))
-    _find_cuts(grid.nodes, grid.constraints, process, period, limits, factors, lend_bytes(book), *places, listed)
+    _find_cuts(grid.nodes, grid.constraints, process, period, grid.limits, grid.factors, book, *places, listed)
     return list(map(Cut, numbers[: listed.value], cuts[: listed.value]))
 
 
@@ -90,3 +86,19 @@ def released_percent(process: int) -> int:
     percent = c_uint64()
     _released_percent(process, percent)
     return percent.value
+
+
+def released_limit(limit: int, percent: int) -> int:
+    """So many percent of a limit as a flow, in 10^-8 MW, with nothing lost. Worked out here."""
+    return limit * percent * _PERCENT_IN_FLOWS
+
+
+def excesses(limits: Sequence[int], flows: Sequence[int], percent: int) -> List[int]:
+    """By how much the flow on each constraint exceeds so many percent of its limit, in 10^-8 MW; negative where there is room. Worked
+    out here: the library's test gives the excess of the lowest-numbered overloaded constraint alone, and there the two are equal."""
+    return [flow - released_limit(limit, percent) for limit, flow in zip(limits, flows)]
+
+
+def worst(verdict: Verdict, over: Sequence[int]) -> int:
+    """The overloaded constraint of the largest excess, of equal ones the lowest-numbered."""
+    return max(verdict.overloaded, key=lambda k: (over[k], -k))

@@ -8,7 +8,7 @@ from dataclasses import dataclass
 from typing import Iterable, List, NamedTuple, Sequence, Tuple, Union, cast
 
 from .interface import MAX_BOOK_BYTES, MAX_CONSTRAINTS, MAX_CONTRACTS, MAX_GRID_BYTES, MAX_NODES, MAX_PRICE_BYTES, NARROW
-from .native import Bytes, Cells, Entry, Given, Lent, lend_bytes, lend_cells, zeros
+from .native import Bytes, Cells, Entry, Given, Lent, lend_cells, whole_numbers, zeros
 
 _read_grid = Entry("crr_read_grid")
 _write_grid = Entry("crr_write_grid")
@@ -65,20 +65,19 @@ def read_grid(file: Bytes, name: str = "") -> Grid:
     """The tables of a grid's file. `name` is what a refusal calls the file."""
     limits, factors = zeros("Q", MAX_CONSTRAINTS), zeros("q", MAX_NODES * MAX_CONSTRAINTS)
     nodes, constraints, form = c_uint64(), c_uint64(), c_uint64()
-    _read_grid(lend_bytes(file), Lent(limits, "Q", True), Lent(factors, "q", True), nodes, constraints, form, file=name)
+    _read_grid(file, Lent(limits, "Q", True), Lent(factors, "q", True), nodes, constraints, form, file=name)
     n, k = nodes.value, constraints.value
     return Grid(n, k, limits[:k], factors[: n * k], form.value)
 
 
 def write_grid(grid: Grid) -> bytes:
     """The grid's file."""
-    tables = (lend_cells(grid.limits, "Q"), lend_cells(grid.factors, "q"))
-    return written(_write_grid, MAX_GRID_BYTES, (grid.form, grid.nodes, grid.constraints, *tables))
+    return written(_write_grid, MAX_GRID_BYTES, (grid.form, grid.nodes, grid.constraints, grid.limits, grid.factors))
 
 
 def _read_cells(nodes: int, file: Bytes, name: str) -> Tuple["array[int]", int]:
     cells, contracts, form = zeros("Q", 6 * MAX_CONTRACTS), c_uint64(), c_uint64()
-    _read_book(nodes, lend_bytes(file), Lent(cells, "Q", True), contracts, form, file=name)
+    _read_book(nodes, file, Lent(cells, "Q", True), contracts, form, file=name)
     return cells[: 6 * contracts.value], form.value
 
 
@@ -98,47 +97,81 @@ def read_book(nodes: int, file: Bytes, name: str = "") -> List[Contract]:
     return list(map(Contract._make, zip(*[iter(cells)] * 6)))
 
 
-def book_cells(book: Book) -> Cells:
-    """A book as cells, six for each contract: a buffer as it is, else rows put one behind the other."""
-    if isinstance(book, array) or hasattr(book, "__array_interface__"):
-        return cast(Cells, book)
-    rows = cast(Iterable[Sequence[int]], book)
-    return array("Q", [value for row in rows for value in row])
+FIGURES = len(Contract._fields)
+
+
+def six_figures(row: Iterable[int], name: str) -> "array[int]":
+    """A contract's cells. A row of another length is a ValueError: what it lacks or has too much would go to its neighbours, or nowhere."""
+    if isinstance(row, (str, bytes)) or not hasattr(row, "__iter__"):
+        raise TypeError(f"{name}: {', '.join(Contract._fields)} are needed, not {type(row).__name__}")
+    figures = list(row)
+    if len(figures) != FIGURES:
+        raise ValueError(f"{name} has {len(figures)} figures and not {FIGURES}: {', '.join(Contract._fields)}")
+    return whole_numbers(figures, "Q", name)
+
+
+def _buffer_rows(book: Cells, name: str) -> Lent:
+    """A buffer of six cells for each contract, in one dimension or in rows of six."""
+    lent = lend_cells(book, "Q", name)
+    shape = memoryview(lent.owner).shape or (lent.cells,)
+    if len(shape) > 2:
+        raise ValueError(f"{name}: a table of {len(shape)} dimensions: row 0 is a table itself, and not {FIGURES} figures")
+    rows, left = divmod(lent.cells, FIGURES)
+    if len(shape) == 2 and shape[1] != FIGURES and lent.cells:
+        rows, left = 0, shape[1]
+    if left:
+        raise ValueError(f"row {rows} of {name} has {left} figures and not {FIGURES}: {', '.join(Contract._fields)}")
+    return lent
+
+
+def book_cells(book: Book, name: str = "book") -> Lent:
+    """A book as cells, six for each contract: a buffer as it is, else rows put one behind the other. Rows are numbered from 0 on."""
+    if hasattr(book, "columns"):
+        raise TypeError(f"{name}: a table with named columns: hand over its columns {', '.join(Contract._fields)}, in this order, by to_numpy()")
+    flat = isinstance(book, (list, tuple)) and len(book) > 0 and not hasattr(book[0], "__iter__")
+    if flat or isinstance(book, (array, memoryview)) or hasattr(book, "__array_interface__") or hasattr(book, "to_numpy"):
+        return _buffer_rows(cast(Cells, book), name)
+    if isinstance(book, (str, bytes, bytearray)) or not hasattr(book, "__iter__"):
+        raise TypeError(f"{name}: contracts, or six cells for each, are needed, not {type(book).__name__}")
+    cells = array("Q")
+    for number, row in enumerate(cast(Iterable[Sequence[int]], book)):
+        cells.extend(six_figures(row, f"row {number} of {name}"))
+    return Lent(cells, "Q")
 
 
 def write_book(nodes: int, book: Book, form: int = NARROW) -> bytes:
-    """The book's file, for a grid of so many nodes, from contracts or from a buffer of six cells for each."""
-    cells = lend_cells(book_cells(book), "Q")
-    return written(_write_book, MAX_BOOK_BYTES, (form, nodes, cells.cells // 6, cells))
+    """The book's file, for a grid of so many nodes, from contracts or from a buffer of six cells for each. A row that has not six figures is a
+    ValueError with its number."""
+    cells = book_cells(book)
+    return written(_write_book, MAX_BOOK_BYTES, (form, nodes, cells.cells // FIGURES, cells))
 
 
 def remap_book(nodes: int, book: Bytes, old_nodes: Cells, new_nodes: Cells) -> bytes:
     """The book's file with both ends of every contract moved, one pair of old and new node after another."""
-    return written(_remap_book, MAX_BOOK_BYTES, (nodes, lend_bytes(book), lend_cells(old_nodes, "Q"), lend_cells(new_nodes, "Q")))
+    return written(_remap_book, MAX_BOOK_BYTES, (nodes, book, old_nodes, new_nodes))
 
 
 def write_settled_book(nodes: int, book: Bytes) -> bytes:
     """The settled form of a book's file, which copies with rows shuffled or split have in common: sorted by kind, period, holder, source and sink, equal
     ones added together and cut into rows of 1,000,000."""
-    return written(_write_settled_book, MAX_BOOK_BYTES, (nodes, lend_bytes(book)))
+    return written(_write_settled_book, MAX_BOOK_BYTES, (nodes, book))
 
 
 def add_hub_contract(
     nodes: int, book: Bytes, kind: int, period: int, holder: int, hub_nodes: Cells, hub_weights: Cells, sink: int, quantity: int
 ) -> bytes:
     """The book's file with a contract from a hub behind its own, as contracts from the hub's nodes. Weights are hundred-thousandths."""
-    hub = (lend_cells(hub_nodes, "Q"), lend_cells(hub_weights, "Q"))
-    return written(_add_hub_contract, MAX_BOOK_BYTES, (nodes, lend_bytes(book), kind, period, holder, *hub, sink, quantity))
+    return written(_add_hub_contract, MAX_BOOK_BYTES, (nodes, book, kind, period, holder, hub_nodes, hub_weights, sink, quantity))
 
 
 def read_prices(constraints: int, file: Bytes, name: str = "") -> Prices:
     """The period and prices of a price file, for a grid of so many constraints."""
     prices, period = zeros("Q", MAX_CONSTRAINTS), c_uint64()
-    _read_prices(constraints, lend_bytes(file), Lent(prices, "Q", True), period, file=name)
+    _read_prices(constraints, file, Lent(prices, "Q", True), period, file=name)
     return Prices(period.value, prices[:constraints])
 
 
 def write_prices(period: int, prices: Cells) -> bytes:
     """The price file of an hour, with as many constraints as there are prices."""
-    cells = lend_cells(prices, "Q")
+    cells = lend_cells(prices, "Q", "prices")
     return written(_write_prices, MAX_PRICE_BYTES, (period, cells.cells, cells))

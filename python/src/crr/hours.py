@@ -142,6 +142,9 @@ def settle_hours(
     """Settles every hour over one book, in so many tasks. An engine that takes milliseconds for a task (dask) wants few; 24 suit a year.
 
     Every sum is of whole numbers, so the result is the same for every engine and every number of parts."""
+    for name, file in (("grid", grid), ("book", book)):
+        if not isinstance(file, bytes):  # they are handed to workers, and kept by their bytes
+            raise TypeError(f"{name}: the bytes of a file are needed, not {type(file).__name__}")
     _, _, lanes = _opened(grid, book)
     totals: List[HourTotal] = []
     months: Dict[str, int] = {}

@@ -8,6 +8,13 @@ from __future__ import annotations
 import re
 from typing import Dict, List, NamedTuple
 
+# The number of the interface that the declarations below are of: a library of another is not loaded.
+INTERFACE = 1
+
+# Stack that is enough, for the two texts and for any other function.
+TEXT_STACK_BYTES = 200000
+STACK_BYTES = 50000
+
 # Sizes: the most that is accepted, and the longest files and texts.
 MAX_NODES = 4000
 MAX_NARROW_NODES = 200
@@ -30,6 +37,7 @@ MAX_PRICE_BYTES = 153
 MAX_TEXT_GRID_BYTES = 32768
 STATEMENT_BYTES = 29085
 REPORT_BYTES = 2048
+REFUSAL_TEXT_BYTES = 128
 
 # The weights of a hub's nodes together.
 HUB_WEIGHT = 100000
@@ -96,7 +104,7 @@ MEANINGS: Dict[int, str] = {
     16: "process not 0 to 2",
     17: "a period not 0 or 1; writing a book, adding to one or adding an award, a kind or period not 0 or 1",
     18: "holder above 1,023",
-    19: "a date or month that does not exist or is outside 2010 to 2037, given or reached",
+    19: "a date or month that does not exist or is outside 2010 to 2037",
     20: "running test: a tier not 1 to 4, or returning to one that is not marked",
     21: "running test: with the award some flow would exceed its released limit",
     22: "load migration: a figure, count or LSE number outside its range, unequal lists, or a row whose old and new LSE are one",
@@ -107,8 +115,10 @@ MEANINGS: Dict[int, str] = {
     27: "sharing a balance: the demands total 0",
 }
 
-# Every function returns uint64_t, the number of the refusal or 0.
+# Every function returns uint64_t: the number of the refusal or 0, and crr_interface its own number.
 DECLARATIONS: Dict[str, str] = {
+    "crr_interface": "void",
+    "crr_refusal_text": "uint64_t number, uint8_t *text, size_t text_len, size_t *bytes",
     "crr_read_grid": "const uint8_t *file, size_t file_len, uint64_t *limits, size_t limits_len, "
     "int64_t *factors, size_t factors_len, size_t *nodes, size_t *constraints, uint64_t *form",
     "crr_write_grid": "uint64_t form, size_t nodes, size_t constraints, const uint64_t *limits, size_t limits_len, "
@@ -150,6 +160,8 @@ DECLARATIONS: Dict[str, str] = {
     "const uint64_t *prices, size_t prices_len, const uint8_t *book, size_t book_len, int64_t *cents, size_t cents_len, "
     "uint64_t *priced, size_t priced_len, int64_t *sum, int64_t *whole, uint64_t *parts",
     "crr_share_balance": "int64_t balance, const uint64_t *demands, size_t demands_len, int64_t *shares, size_t shares_len",
+    "crr_net_transfers": "size_t lses, const uint8_t *classes, size_t classes_len, const uint64_t *customers, size_t customers_len, "
+    "const uint64_t *rates, size_t rates_len, const uint64_t *olds, size_t olds_len, const uint64_t *news, size_t news_len, int64_t *nets, size_t nets_len",
     "crr_migrate_load": "size_t nodes, uint64_t period, const uint8_t *book, size_t book_len, const uint8_t *classes, size_t classes_len, "
     "const uint64_t *customers, size_t customers_len, const uint64_t *rates, size_t rates_len, const uint64_t *olds, size_t olds_len, "
     "const uint64_t *news, size_t news_len, const uint64_t *loads, size_t loads_len, uint8_t *file, size_t file_len, size_t *bytes",

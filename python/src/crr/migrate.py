@@ -6,18 +6,20 @@ from dataclasses import replace
 from pathlib import Path
 from typing import Dict, List, Optional, Tuple
 
+from .book_csv import BOOK
 from .case import Names
-from .commands import PASSES, Answer, Opened, files_of, objects, opened, write_like
+from .command import FOLDER, FORCE, PASSES, PERIOD, ROUND_PRICES, Answer, command, objects, reads, writes
 from .decimals import decimal
 from .faults import Fault, raise_any
-from .files import Contract, read_book
-from .from_csv import BOOK
-from .interface import LOAD
+from .files import Contract, read_book, write_book
+from .interface import LOAD, WIDE
 from .migration import migrate_load
 from .migration_csv import Migration, read_migration
 from .names_csv import read_names
+from .opening import Opened, files_of, opened, write_like
 from .packed import Packed
 from .to_csv import book_row, csv_text
+from .words import Period
 
 
 def _holders(folder: Path, found: Opened) -> Dict[int, str]:
@@ -29,14 +31,13 @@ def _holders(folder: Path, found: Opened) -> Dict[int, str]:
     return holders
 
 
-def _pairs(book: List[Contract], migration: Migration, period: int) -> List[Tuple[int, int]]:
-    """The base contract's number and the gainer of each pair of new contracts, in their order."""
-    nets = migration.nets
+def _pairs(nodes: int, period: int, book: List[Contract], migration: Migration) -> List[Tuple[int, int]]:
+    """The base contract's number and the gainer of each pair of new contracts, in their order. What follows
+    from a contract is what migration adds to a book of it alone: pairs, the gainer's first."""
     pairs: List[Tuple[int, int]] = []
     for number, contract in enumerate(book):
-        if contract.kind == 0 and contract.period == period and 1 <= contract.holder <= len(migration.loads):
-            load = migration.loads[contract.holder - 1]
-            pairs += [(number, gainer) for gainer, net in enumerate(nets[contract.holder - 1], 1) if net > 0 and contract.quantity * net >= load]
+        alone = migrate_load(nodes, period, write_book(nodes, [contract], WIDE), *migration[:-1])
+        pairs += [(number, gained.holder) for gained in read_book(nodes, alone)[1::2]]
     return pairs
 
 
@@ -62,7 +63,18 @@ def _net_rows(names: Names, migration: Migration) -> List[Tuple[str, ...]]:
     return [(names.holder(loser), *(decimal(nets[loser - 1][gainer - 1], LOAD.places) for gainer in migration.lses)) for loser in migration.lses]
 
 
-def migrate(folder: Path, period: int, rows: Path, loads: Path, out: Optional[Path], round_prices: bool) -> Answer:
+@command(
+    "migrate",
+    "the transfer of contracts between load-serving entities whose customers moved, for one period",
+    FOLDER,
+    ROUND_PRICES,
+    reads("rows", "a CSV file CUSTOMER_CLASS,CUSTOMERS,MW_PER_CUSTOMER,OLD_LSE,NEW_LSE"),
+    reads("loads", "a CSV file LSE,LOAD_MW"),
+    PERIOD.with_help("whose rates and loads these are"),
+    writes("a folder"),
+    FORCE,
+)
+def migrate(folder: Path, period: Period, rows: Path, loads: Path, out: Optional[Path], round_prices: bool, force: bool) -> Answer:
     """Migrates load in a book for one period: the nets, and the contracts that are added; with `out` the whole case is written there in the form that it
     had."""
     found = opened(folder, round_prices)
@@ -74,13 +86,12 @@ def migrate(folder: Path, period: int, rows: Path, loads: Path, out: Optional[Pa
     book = migrate_load(nodes, period, files.book, *migration[:-1])
     contracts = read_book(nodes, book)
     names = replace(found.names, holders=holders)
-    names.contracts = _ids(names, _pairs(found.book, migration, period))
-    assert len(names.contracts) == len(contracts)
+    names.contracts = _ids(names, _pairs(nodes, period, found.book, migration))
     if out:
-        write_like(found, Packed(names, files.grid, book, files.hours), out)
+        write_like(found, Packed(names, files.grid, book, files.hours), out, force)
     added = [book_row(names, names.contracts[number], contracts[number]) for number in range(len(found.book), len(contracts))]
     lses, nets = [names.holder(number) for number in migration.lses], _net_rows(names, migration)
     text = csv_text(("LSE", *lses), nets) + "\n" + csv_text(BOOK, added)
     told = f"{f'{out}: ' if out else ''}{len(added):,} of {len(contracts):,} contracts are new\n"
     data: Dict[str, object] = {"nets": {row[0]: dict(zip(lses, row[1:])) for row in nets}, "added": objects(BOOK, added), "contracts": len(contracts)}
-    return Answer(PASSES, text, {**data, "out": str(out) if out else ""}, told)
+    return Answer(PASSES, text, {**data, "out": str(out) if out else None}, told)

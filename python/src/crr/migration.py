@@ -2,29 +2,28 @@
 
 from __future__ import annotations
 
-from typing import List, Sequence
+from typing import List
 
 from .files import written
-from .interface import MAX_BOOK_BYTES
-from .native import Bytes, Cells, Entry, Given, lend_bytes, lend_cells
+from .interface import MAX_BOOK_BYTES, MAX_LSES
+from .native import Bytes, Cells, Entry, Lent, zeros
 
 _migrate_load = Entry("crr_migrate_load")
+_net_transfers = Entry("crr_net_transfers")
 
 
 def migrate_load(
     nodes: int, period: int, book: Bytes, classes: Bytes, customers: Cells, rates: Cells, olds: Cells, news: Cells, loads: Cells
 ) -> bytes:
     """The book's file with the contracts that one period's rows add, for a grid of so many nodes. LSE i is holder i, and loads[i - 1] is its load."""
-    lists = [lend_cells(cells, "Q") for cells in (customers, rates, olds, news, loads)]
-    given: List[Given] = [nodes, period, lend_bytes(book), lend_bytes(classes), *lists]
-    return written(_migrate_load, MAX_BOOK_BYTES, given)
+    return written(_migrate_load, MAX_BOOK_BYTES, (nodes, period, book, classes, customers, rates, olds, news, loads))
 
 
-def net_transfers(customers: Sequence[int], rates: Sequence[int], olds: Sequence[int], news: Sequence[int], lses: int) -> List[List[int]]:
-    """The net load from each LSE to each, in thousandths of a MW: that from LSE i to LSE j in row i - 1 and place j - 1. Lost load is positive, and each
-    is the opposite of its mirror."""
-    square = [[0] * lses for _ in range(lses)]
-    for moved, rate, old, new in zip(customers, rates, olds, news):
-        square[old - 1][new - 1] += moved * rate
-        square[new - 1][old - 1] -= moved * rate
-    return square
+def net_transfers(
+    lses: int, classes: Bytes, customers: Cells, rates: Cells, olds: Cells, news: Cells
+) -> List[List[int]]:
+    """The net load from each of so many LSEs to each, in thousandths of a MW: that from LSE i to LSE j in
+    row i - 1 and place j - 1. Lost load is positive, and each is the opposite of its mirror."""
+    nets = zeros("q", min(max(lses, 0), MAX_LSES) ** 2)
+    _net_transfers(lses, classes, customers, rates, olds, news, Lent(nets, "q", True))
+    return [nets[lses * row : lses * (row + 1)].tolist() for row in range(lses)]

@@ -37,7 +37,7 @@ class Migration(NamedTuple):
     @property
     def nets(self) -> List[List[int]]:
         """The net load from each LSE to each."""
-        return net_transfers(self.customers, self.rates, self.olds, self.news, len(self.loads))
+        return net_transfers(len(self.loads), self.classes, self.customers, self.rates, self.olds, self.news)
 
 
 class Lses:
@@ -115,8 +115,9 @@ def read_migration(rows: Path, loads: Path, holders: Dict[int, str], faults: Lis
     migration = _read_rows(Sheet(rows, ROWS, faults), lses, found)
     if faults:
         return migration
+    nets = migration.nets
     for number, line in lses.lines.items():
-        losses = sum(net for net in migration.nets[number - 1] if net > 0)
+        losses = sum(net for net in nets[number - 1] if net > 0)
         if losses > found[number - 1]:
             told, load = (decimal(megawatts, LOAD.places) for megawatts in (losses, found[number - 1]))
             load_sheet.fault(line, "LOAD_MW", f"{load} MW, and the LSE loses {told} MW to all gainers", _EXCEEDED)

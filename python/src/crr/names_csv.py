@@ -11,20 +11,21 @@ from typing import Dict, List, Sequence, Tuple
 
 from .case import FORMS, Names, plain_number
 from .faults import Fault
+from .inputs import Inputs
 from .interface import HOLDER
-from .sheet import Sheet
+from .sheet import Sheet, is_there
 
 Tables = Dict[str, Dict[int, str]]
 HEADING = ("TABLE", "NUMBER", "NAME")
 
 
-def read_names(folder: Path, faults: List[Fault]) -> Tables:
-    """Names by table and number; none where the folder has no names.csv."""
+def read_names(folder: Path, faults: List[Fault], inputs: Inputs = None) -> Tables:
+    """Names by table and number; none where the folder has no names.csv. What was read is noted in `inputs`."""
     tables: Tables = {table: {} for table in ("node", "constraint", "contract", "holder", "hour", "form")}
     path = folder / "names.csv"
-    if not path.exists():
+    if not is_there(path):
         return tables
-    sheet = Sheet(path, HEADING, faults)
+    sheet = Sheet(path, HEADING, faults, name=path.name, inputs=inputs)
     if len(sheet.at) < len(HEADING):
         return tables
     table_at, number_at, name_at = (sheet.at[ours] for ours in HEADING)

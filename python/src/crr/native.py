@@ -1,4 +1,4 @@
-"""The shared library by ctypes: where it is, how buffers are lent to it, how its answers become exceptions.
+"""The shared library by ctypes: how buffers are lent to it, how its answers become exceptions.
 
 Nothing but the standard library is needed. A buffer is lent, never copied: bytes, array, memoryview, numpy arrays, pandas columns.
 """
@@ -7,14 +7,13 @@ from __future__ import annotations
 
 import ctypes
 import operator
-import os
 import struct
 from array import array
 from functools import cached_property, lru_cache
-from pathlib import Path
 from typing import TYPE_CHECKING, Any, Callable, Dict, List, Optional, Sequence, Tuple, Type, Union
 
-from .interface import DECLARATIONS, MEANINGS, Parameter, parameters
+from .interface import DECLARATIONS, INTERFACE, MEANINGS, Parameter, parameters
+from .library import library_path
 
 if TYPE_CHECKING:
     from typing import Protocol
@@ -54,20 +53,21 @@ class Refused(ValueError):
         return (Refused, (self.number, self.entry, self.file))
 
 
-def library_path() -> Path:
-    """Where the shared library is: CRR_LIBRARY, else beside this module (installed), else in the clone that this module stands in."""
-    here = Path(__file__).resolve()
-    asked = os.environ.get("CRR_LIBRARY")
-    places = [Path(asked)] if asked else [here.with_name("libcrr.so"), here.parents[3] / "target" / "sharedlib" / "libcrr.so"]
-    for place in places:
-        if place.is_file():
-            return place
-    raise FileNotFoundError(f"no shared library at {' or '.join(map(str, places))}: ./library builds it, CRR_LIBRARY names another")
-
-
 @lru_cache(maxsize=1)
 def _library() -> ctypes.CDLL:
-    return ctypes.CDLL(str(library_path()))  # CDLL lets other threads run during a call
+    path = library_path()
+    library = ctypes.CDLL(str(path))  # CDLL lets other threads run during a call
+    try:
+        interface = library.crr_interface
+    except AttributeError:
+        why = "it is older than this package; ./library builds it anew"
+        raise OSError(f"{path} does not tell its interface: {why}") from None
+    interface.restype, interface.argtypes = ctypes.c_uint64, []
+    number = interface()
+    if number != INTERFACE:
+        why = "one of them is older than the other"
+        raise OSError(f"{path} has interface {number}, and this package is for {INTERFACE}: {why}")
+    return library
 
 
 class _PyBuffer(ctypes.Structure):
@@ -95,6 +95,11 @@ _release_buffer.argtypes, _release_buffer.restype = [ctypes.POINTER(_PyBuffer)],
 _WRITABLE, _FORMAT, _C_CONTIGUOUS = 0x0001, 0x0004, 0x0020 | 0x0010 | 0x0008
 _CELLS = {b"q": "q", b"l": "q", b"Q": "Q", b"L": "Q", b"B": "B", None: "B"}
 _NOTHING = (ctypes.c_uint64 * 1)()
+_NEEDED = {
+    "B": "the bytes of a file are",
+    "q": "whole numbers, or a buffer of them as array('q') and numpy's int64 have them, are",
+    "Q": "whole numbers, or a buffer of them as array('Q') and numpy's uint64 have them, are",
+}
 
 
 class Lent:
@@ -102,18 +107,23 @@ class Lent:
 
     __slots__ = ("_buffer", "address", "cells", "code", "writable", "owner")
 
-    def __init__(self, owner: Any, code: str, writable: bool = False) -> None:
+    def __init__(self, owner: Any, code: str, writable: bool = False, name: str = "buffer") -> None:
         view = _PyBuffer()
-        _get_buffer(owner, ctypes.byref(view), _C_CONTIGUOUS | _FORMAT | (_WRITABLE if writable else 0))
+        try:
+            _get_buffer(owner, ctypes.byref(view), _C_CONTIGUOUS | _FORMAT | (_WRITABLE if writable else 0))
+        except TypeError:
+            raise TypeError(f"{name}: {_NEEDED[code]} needed, not {type(owner).__name__}") from None
+        except (BufferError, ValueError) as error:
+            raise BufferError(f"{name}: {error}") from None
         self._buffer, self.owner, self.code, self.writable = view, owner, code, writable
         size = 1 if code == "B" else 8
         if _CELLS.get(view.format) != code or view.itemsize != size:
-            found = (view.format or b"B").decode()
-            raise TypeError(f"a buffer of cells {code!r} of {size} bytes is needed; this one has {found!r} of {view.itemsize}")
+            cells = (view.format or b"B").decode()
+            raise TypeError(f"{name}: a buffer of cells {code!r} of {size} bytes is needed; this one has {cells!r} of {view.itemsize}")
         # An empty buffer's own address may be null or odd (an array's is odd), which the header rules out: any aligned place stands for it.
         self.address: int = view.buf if view.len else ctypes.addressof(_NOTHING)
         if self.address % size:
-            raise TypeError("the buffer's cells are not aligned")
+            raise TypeError(f"{name}: the buffer's cells are not aligned")
         self.cells: int = view.len // size
 
     def __del__(self) -> None:
@@ -127,21 +137,42 @@ def zeros(code: str, cells: int) -> "array[int]":
     return array(code, bytes(8 * cells))
 
 
-def lend_cells(cells: Cells, code: str) -> Lent:
-    """Cells to be read: a buffer as it is, a pandas column by its numpy array, a list or tuple in a buffer of its own."""
+def whole_numbers(numbers: Sequence[Any], code: str, name: str) -> "array[int]":
+    """Whole numbers in a buffer of their own; one that is none, or too large, is told by its place."""
+    try:
+        return array(code, numbers)
+    except (TypeError, OverflowError):
+        for place, number in enumerate(numbers):
+            _whole_number(number, code, f"{name}[{place}]")
+        raise
+
+
+def _whole_number(value: Any, code: str, name: str) -> int:
+    try:
+        number = operator.index(value)
+    except TypeError:
+        raise TypeError(f"{name}: a whole number is needed, not {type(value).__name__}") from None
+    low, words = (0, "64 bits") if code == "Q" else (-(1 << 63), "64 bits with its sign")
+    if not low <= number < low + (1 << 64):
+        raise OverflowError(f"{name} is a number of {words}, not {number}")
+    return number
+
+
+def lend_cells(cells: Cells, code: str, name: str = "cells") -> Lent:
+    """Cells to be read: a buffer as it is, a pandas column by its numpy array, a list or tuple in a buffer of its own. Errors say the name."""
     owner: Any = cells
     if hasattr(owner, "to_numpy"):
         owner = owner.to_numpy()
-    return Lent(array(code, owner) if isinstance(owner, (list, tuple, range)) else owner, code)
+    return Lent(whole_numbers(owner, code, name) if isinstance(owner, (list, tuple, range)) else owner, code, name=name)
 
 
-def lend_bytes(file: Bytes) -> Lent:
-    """A file's bytes to be read."""
-    return Lent(file, "B")
+def lend_bytes(file: Bytes, name: str = "file") -> Lent:
+    """A file's bytes to be read. Errors say the name."""
+    return Lent(file, "B", name=name)
 
 
 Figure = Union[ctypes.c_uint64, ctypes.c_int64]
-Given = Union[Lent, Figure, int]
+Given = Union[Lent, Figure, int, Cells, Bytes]  # cells and bytes are lent for the call
 _FIGURES = {"Q": ctypes.c_uint64, "q": ctypes.c_int64}
 
 
@@ -174,7 +205,8 @@ class Entry:
 
     def __call__(self, *given: Given, file: str = "") -> None:
         """Calls the function; a refusal is raised."""
-        number = self.function(*self.arguments(*given))
+        lent = list(map(_lent, self.parameters, given)) if len(given) == len(self.parameters) else given
+        number = self.function(*self.arguments(*lent))
         if number:
             raise Refused(number, self.name, file)
 
@@ -185,7 +217,14 @@ def _argument_types(parameter: Parameter) -> List[Any]:
     return [ctypes.c_void_p, ctypes.c_size_t] if parameter.form == "buffer" else [ctypes.c_void_p]
 
 
-def _argument(entry: str, parameter: Parameter, value: Given) -> List[Any]:
+def _lent(parameter: Parameter, value: Any) -> Any:
+    """A value as an argument is made of it: cells and bytes are lent under the parameter's name."""
+    if parameter.form != "buffer" or parameter.writable or isinstance(value, Lent):
+        return value
+    return lend_bytes(value, parameter.name) if parameter.code == "B" else lend_cells(value, parameter.code, parameter.name)
+
+
+def _argument(entry: str, parameter: Parameter, value: Any) -> List[Any]:
     if isinstance(value, Lent):
         if parameter.form == "buffer" and value.code == parameter.code and value.writable >= parameter.writable:
             return [value.address, value.cells]
@@ -193,9 +232,5 @@ def _argument(entry: str, parameter: Parameter, value: Given) -> List[Any]:
         if parameter.form == "figure" and isinstance(value, _FIGURES[parameter.code]):
             return [ctypes.addressof(value)]
     elif parameter.form == "number":
-        number = operator.index(value)
-        low, words = (0, "64 bits") if parameter.code == "Q" else (-(1 << 63), "64 bits with its sign")
-        if not low <= number < low + (1 << 64):
-            raise OverflowError(f"{parameter.name} of {entry} is a number of {words}, not {number}")
-        return [number]
+        return [_whole_number(value, parameter.code, f"{parameter.name} of {entry}")]
     raise TypeError(f"{parameter.name} of {entry} is a {parameter.form} of {parameter.code!r}")

@@ -71,7 +71,11 @@ def factor(value: Number) -> int:
 
 
 def both_directions(matrix: Sequence[Sequence[Number]]) -> List[List[int]]:
-    """The factors of a grid whose constraints are the matrix's lines, forward and reverse in turn: a row for each node."""
+    """The factors of a grid whose constraints are the matrix's lines, forward and reverse in turn: a row for each node. Rows of different lengths
+    are a ValueError with the row's number."""
     forward = [[factor(value) for value in row] for row in matrix]
     nodes = len(forward[0]) if forward else 0
+    for number, row in enumerate(forward):
+        if len(row) != nodes:
+            raise ValueError(f"row {number} of the matrix has {len(row)} factors where row 0 has {nodes}")
     return [[sign * row[node] for row in forward for sign in (1, -1)] for node in range(nodes)]

@@ -1,6 +1,6 @@
 """The report as one HTML file: inline SVG, no script, nothing fetched, the same bytes for the same input.
 
-Bars are drawn in percent of the picture's width, so that text keeps its size on a phone. Every figure comes from the library; this module draws.
+What the figures are, and which of them are the library's, stands on the page itself; this module draws.
 """
 
 from __future__ import annotations
@@ -9,34 +9,49 @@ from html import escape
 from typing import Callable, Dict, List, Mapping, NamedTuple, Sequence, Tuple
 
 from .decimals import decimal
-from .feasibility import PERIODS, PROCESSES, Flows, Verdict
-from .interface import FLOW_PLACES, LIMIT, PART_PLACES
+from .drawing import (
+    HATCH,
+    bar,
+    broken,
+    exact_megawatts,
+    exact_money,
+    folded,
+    grouped,
+    limit_told,
+    line,
+    megawatts,
+    money,
+    row,
+    share,
+)
+from .feasibility import Flows, Verdict
+from .inputs import Input
+from .interface import FLOW_PLACES, LIMIT, MONTHLY, PART_PLACES
 from .results import dollars
 from .style import CSS
+from .words import PERIODS, PROCESSES
 
-MOST_LOADED = 15  # constraints shown at once; the others are folded
+MOST_LOADED = 15  # constraints shown at once, and all that are overloaded; the others are folded
 MOST_HOLDERS = 25
 MOST_CUTS = 5
-
-
-class Input(NamedTuple):
-    """A file that the report is on."""
-
-    name: str
-    bytes: int
-    sha256: str
+LONGEST = 1.5  # of a limit; a bar that is longer is broken
 
 
 class Month(NamedTuple):
-    """A month's hours, the sum of its rounded cents and its exact total, in dollars."""
+    """A month's days and hours, and in dollars its payments, rounded and exact, its congestion rent, and the
+    rent less the exact payments."""
 
     name: str
+    days: int
     hours: int
     sum: str
     exact: str
+    rent: str
+    left: str
 
 
 CutRow = Tuple[str, str, str, str, str]  # contract, holder, quantity, cut, and what is left, in MW
+Line = Tuple[int, int]  # a period and a process
 
 
 class Figures(NamedTuple):
@@ -44,41 +59,46 @@ class Figures(NamedTuple):
 
     title: str
     summary: str
+    covered: str  # the days of the prices
     constraints: Sequence[str]
     limits: Sequence[int]
     percents: Sequence[int]  # by process
-    verdicts: Dict[Tuple[int, int], Verdict]  # by period and process
-    cuts: Mapping[Tuple[int, int], Sequence[CutRow]]  # where the book fails
+    verdicts: Dict[Line, Verdict]
+    excesses: Mapping[Line, Sequence[int]]  # of each constraint; negative where there is room
+    worst: Dict[Line, int]  # the constraint of the largest excess, where the book fails
+    cuts: Mapping[Line, Sequence[CutRow]]  # where the book fails
     flows: Sequence[Flows]  # by period
     holders: Sequence[Tuple[str, int]]  # cents
     months: Sequence[Month]  # the last one: all of them
     inputs: Sequence[Input]
+    library: Input
 
 
-def megawatts(flow: int) -> str:
-    """A flow in MW to three decimals, a half away from zero."""
-    drop = 10 ** (FLOW_PLACES - 3)
-    size = (2 * abs(flow) + drop) // (2 * drop)
-    return decimal(-size if flow < 0 else size, 3)
-
-
-def money(amount: str) -> str:
-    """'-1250.00' is '-$1,250.00'."""
-    size, _, parts = amount.lstrip("-").partition(".")
-    return f"{'-' if amount.startswith('-') else ''}${int(size):,}.{parts}"
+def _where(figures: Figures, at: Line) -> str:
+    """Where a book fails: at the lowest-numbered constraint, and at the worst."""
+    verdict, worst = figures.verdicts[at], figures.worst[at]
+    lowest = f"{escape(figures.constraints[verdict.lowest])}, by {exact_megawatts(verdict.excess)} MW"
+    if verdict.count == 1:
+        return f"<p>1 constraint overloaded: {lowest}.</p>"
+    said = f"<p>{verdict.count:,} constraints overloaded.</p>"
+    if worst == verdict.lowest:
+        return f"{said}<p>Lowest numbered and worst: {lowest}.</p>"
+    most = f"{escape(figures.constraints[worst])}, by {exact_megawatts(figures.excesses[at][worst])} MW"
+    return f"{said}<p>Lowest numbered: {lowest}.</p><p>Worst: {most}.</p>"
 
 
 def _verdict_card(figures: Figures, period: int, process: int) -> str:
     verdict = figures.verdicts[period, process]
-    head = f"<h3>{PERIODS[period].capitalize()}, {PROCESSES[process]} <span class=faint>({figures.percents[process]}% released)</span></h3>"
+    percent = f"<span class=faint>({figures.percents[process]}% released)</span>"
+    head = f"<h3>{PERIODS[period].capitalize()}, {PROCESSES[process]} {percent}</h3>"
     if verdict.passed:
         return f"<li class=pass>{head}<b>\u2713 pass</b></li>"
-    name = escape(figures.constraints[verdict.lowest])
-    more = f" and {verdict.count - 1} more" if verdict.count > 1 else ""
-    owed = decimal(verdict.excess, 2 + PART_PLACES).rstrip("0")
+    owed = exact_money(decimal(verdict.excess, 2 + PART_PLACES))
+    where = "there" if verdict.count == 1 else f"at {escape(figures.constraints[verdict.lowest])}"
     return (
-        f"<li class=fail>{head}<b>\u2717 FAIL</b><p>{name}{more} overloaded; at {name} by {decimal(verdict.excess, FLOW_PLACES)} MW.</p>"
-        f"<p>At one cent per MWh there and 0 elsewhere, an hour pays ${owed} more than its congestion rent.</p>"
+        f"<li class=fail>{head}<b>\u2717 FAIL</b>{_where(figures, (period, process))}"
+        f"<p>At one cent per MWh {where} and 0 elsewhere, an hour pays {owed} more than its "
+        "congestion rent.</p>"
         f"{_cut_table(figures.cuts[period, process])}</li>"
     )
 
@@ -88,40 +108,29 @@ def _cut_table(rows: Sequence[CutRow]) -> str:
     if not rows:
         return "<p>No cut of a single contract clears it.</p>"
     drawn = [
-        f"<tr><th scope=row>{escape(contract)} <small>{escape(holder)}</small></th><td class=figure>{cut}</td><td class=figure>{left}</td></tr>"
+        f"<tr><th scope=row>{escape(contract)} <small>{escape(holder)}</small></th>"
+        f"<td class=figure>{grouped(cut)}</td><td class=figure>{grouped(left)}</td></tr>"
         for contract, holder, _, cut, left in rows
     ]
-    head = "<tr><th scope=col>contract</th><th scope=col class=figure>cut, MW</th><th scope=col class=figure>left, MW</th></tr>"
-    folded = drawn[MOST_CUTS:]
-    rest = f"<details><summary>{len(folded):,} more</summary><table class=cuts>{head}{''.join(folded)}</table></details>" if folded else ""
+    head = (
+        "<tr><th scope=col>contract</th><th scope=col class=figure>cut, MW</th>"
+        "<th scope=col class=figure>left, MW</th></tr>"
+    )
+    more = drawn[MOST_CUTS:]
+    rest = folded(f"{len(more):,} more", f"<table class=cuts>{head}{''.join(more)}</table>") if more else ""
     which = "Any one of these cuts" if len(rows) > 1 else "This cut"
     return f"<p>{which} clears it:</p><table class=cuts>{head}{''.join(drawn[:MOST_CUTS])}</table>{rest}"
 
 
 def _verdict_section(figures: Figures) -> str:
-    cards = "".join(_verdict_card(figures, period, process) for period in (1, 0) for process in range(len(PROCESSES)))
+    cards = "".join(
+        _verdict_card(figures, period, process) for period in (1, 0) for process in range(len(PROCESSES))
+    )
     return (
-        "<section><h2>Simultaneous feasibility test</h2><p>A book passes exactly when no list of shadow prices makes the holders' "
+        "<section><h2>Simultaneous feasibility test</h2><p>A book passes exactly when no list of shadow "
+        "prices makes the holders' "
         f"net payment exceed the congestion rent.</p><ul class=verdicts>{cards}</ul></section>"
     )
-
-
-def _row(name: str, bar: str, figure: str, more: str) -> str:
-    return f"<tr><th scope=row>{escape(name)}</th><td class=bar>{bar}</td><td class=figure>{figure} <small>{more}</small></td></tr>"
-
-
-def _bar(label: str, start: float, end: float, kind: str, marks: str) -> str:
-    """A bar from one percent of the width to another. What is over is hatched too."""
-    x, width = f"{start:.2f}%", f"{max(end - start, 0.15):.2f}%"
-    hatch = f'<rect x="{x}" y="4" width="{width}" height="14" fill="url(#hatch)"/>' if kind == "over" else ""
-    return (
-        f'<svg role="img"><title>{escape(label)}</title><rect class="track" y="4" width="100%" height="14"/>'
-        f'<rect class="{kind}" x="{x}" y="4" width="{width}" height="14"/>{hatch}{marks}</svg>'
-    )
-
-
-def _line(at: str, style: str) -> str:
-    return f'<line class="mark {style}" x1="{at}" x2="{at}" y1="0" y2="22"/>'
 
 
 class _Loading(NamedTuple):
@@ -133,111 +142,187 @@ class _Loading(NamedTuple):
 
 
 def _loadings(figures: Figures, period: int) -> List[_Loading]:
-    """Constraints by their share, the fullest first. Which are over is what the test said, not a comparison made here."""
+    """Constraints by their share, the fullest first. Which are over is what the test said, not a comparison
+    made here."""
     out = []
     for k, (limit, flow) in enumerate(zip(figures.limits, figures.flows[period].flows)):
-        over = [process for process in range(len(PROCESSES)) if figures.verdicts[period, process].set >> k & 1]
+        over = [
+            process for process in range(len(PROCESSES)) if figures.verdicts[period, process].set >> k & 1
+        ]
         scale = 10 ** (FLOW_PLACES - LIMIT.places)
         out.append(_Loading(k, over, flow / (limit * scale) if limit else float(flow > 0) * 1e9))
-    return sorted(out, key=lambda loading: -loading.share)
+    return sorted(out, key=lambda loading: (-loading.share, -figures.flows[period].flows[loading.k]))
+
+
+def _over_told(figures: Figures, period: int, loading: _Loading) -> List[str]:
+    """In which processes a constraint is over, and by how much."""
+    by = {process: exact_megawatts(figures.excesses[period, process][loading.k]) for process in loading.over}
+    return [f"over {PROCESSES[process]} by {excess} MW" for process, excess in by.items()] or ["within"]
 
 
 def _loading_row(figures: Figures, period: int, loading: _Loading, full: float) -> str:
-    k, name = loading.k, figures.constraints[loading.k]
-    flow, limit = figures.flows[period].flows[k], decimal(figures.limits[k], LIMIT.places)
-    share = f"{100 * loading.share:.1f}%" if figures.limits[k] else "of limit 0"
-    said = f"over: {', '.join(PROCESSES[process] for process in loading.over)}" if loading.over else "within"
+    k, name, limit = loading.k, figures.constraints[loading.k], figures.limits[loading.k]
+    flow = figures.flows[period].flows[k]
+    of_limit = share(flow, limit) if limit else "limit 0"
+    said = _over_told(figures, period, loading)
     kind = "within" if not loading.over else "over" if len(loading.over) == len(PROCESSES) else "some"
-    marks = "".join(_line(f"{percent / full:.2f}%", f"mark{process}") for process, percent in enumerate(figures.percents))
+    marks = "".join(
+        line(percent / full, f"mark{process}") for process, percent in enumerate(figures.percents)
+    )
     end = 100 * max(0.0, min(loading.share, full)) / full
-    label = f"{name}: {decimal(flow, FLOW_PLACES)} MW of {limit} MW, {share}, {said}"
-    return _row(name, _bar(label, 0, end, kind, marks), f"{megawatts(flow)} of {limit} MW", f"{share}, {said}")
+    if loading.share > full:
+        marks += broken(of_limit)
+    words = ", ".join([of_limit, *said])
+    label = f"{name}: {grouped(decimal(flow, FLOW_PLACES))} MW of {limit_told(limit)} MW, {words}"
+    more = [of_limit, *said] if loading.over else [f"{of_limit}, {said[0]}"]
+    return row(name, bar(label, 0, end, kind, marks), f"{megawatts(flow)} of {limit_told(limit)} MW", *more)
 
 
-def _legend(figures: Figures) -> str:
+def _legend(figures: Figures, beyond: bool) -> str:
     keys = [("within", "within in every process"), ("some", "over in some"), ("over", "over in all")]
-    boxes = "".join(f"<span>{_sample(_bar(text, 0, 100, kind, ''))}{text}</span>" for kind, text in keys)
+    boxes = "".join(f"<span>{_sample(bar(text, 0, 100, kind, ''))}{text}</span>" for kind, text in keys)
     lines = "".join(
-        f'<span><svg aria-hidden="true">{_line("50%", f"mark{process}")}</svg>{PROCESSES[process]} {percent}%</span>'
+        f'<span><svg aria-hidden="true">{line(50, f"mark{process}")}</svg>'
+        f"{PROCESSES[process]} {percent}%</span>"
         for percent, process in sorted((percent, process) for process, percent in enumerate(figures.percents))
     )
-    return f"<p class=legend>{boxes}</p><p class=legend>Released shares of the limit: {lines}</p>"
+    cut = (
+        f"<p class=legend>A bar of more than {100 * LONGEST:.0f}% is broken off; its figure stands behind "
+        "the break.</p>"
+        if beyond
+        else ""
+    )
+    return f"<p class=legend>{boxes}</p><p class=legend>Released shares of the limit: {lines}</p>{cut}"
 
 
-def _sample(bar: str) -> str:
-    return bar.replace('y="4"', 'y="0"')
+def _sample(picture: str) -> str:
+    return picture.replace('y="4"', 'y="0"')
 
 
 def _loading_section(figures: Figures, period: int) -> str:
     loadings = _loadings(figures, period)
-    largest = max([1.0] + [min(loading.share, 1.5) for loading in loadings])
-    rows = [_loading_row(figures, period, loading, 1.04 * largest) for loading in loadings]
-    shown, folded = rows[:MOST_LOADED], rows[MOST_LOADED:]
-    rest = f"<details><summary>{len(folded)} less loaded constraints</summary><table class=bars>{''.join(folded)}</table></details>" if folded else ""
-    body = f"{_legend(figures)}<table class=bars>{''.join(shown)}</table>{rest}" if rows else "<p>The grid has no constraints.</p>"
+    full = 1.04 * max([1.0] + [min(loading.share, LONGEST) for loading in loadings])
+    rows = [_loading_row(figures, period, loading, full) for loading in loadings]
+    shown = max(MOST_LOADED, sum(1 for loading in loadings if loading.over))
+    rest = f"<table class=bars>{''.join(rows[shown:])}</table>"
+    more = folded(f"{len(rows) - shown} less loaded constraints", rest) if rows[shown:] else ""
+    beyond = any(loading.share > full for loading in loadings)
+    table = f"{_legend(figures, beyond)}<table class=bars>{''.join(rows[:shown])}</table>{more}"
     counted = figures.flows[period].counted
     return (
-        f"<section class=loading><h2>Loading of constraints, {PERIODS[period]}</h2><p class=faint>Flow of {counted:,} "
-        f"contract{'' if counted == 1 else 's'} as a share of each limit, the fullest first.</p>{body}</section>"
+        f"<section class=loading><h2>Loading of constraints, {PERIODS[period]}</h2><p class=faint>Flow of "
+        f"{counted:,} contract{'' if counted == 1 else 's'} as a share of each limit, the fullest first; "
+        "where it is over, by how much it exceeds the released limit.</p>"
+        f"{table if rows else '<p>The grid has no constraints.</p>'}</section>"
     )
 
 
-def _payment_rows(holders: Sequence[Tuple[str, int]]) -> List[Tuple[str, int]]:
-    """The largest payments and charges, from most paid to most charged, and all others as one."""
-    by_size = sorted(holders, key=lambda holder: -abs(holder[1]))
-    shown, others = by_size[:MOST_HOLDERS], by_size[MOST_HOLDERS:]
-    if others:
-        shown.append((f"{len(others)} others", sum(cents for _, cents in others)))
-    return sorted(shown, key=lambda holder: -holder[1])
-
-
-def _payment_section(figures: Figures) -> str:
-    if not figures.months:
-        return ""
-    rows = _payment_rows(figures.holders)
-    low, high = min([0] + [cents for _, cents in rows]), max([1] + [cents for _, cents in rows])
+def _holder_section(figures: Figures) -> str:
+    """The largest payments and charges, from most paid to most charged; all others unfold."""
+    by_size = sorted(figures.holders, key=lambda holder: -abs(holder[1]))
+    amounts = [cents for _, cents in by_size]
+    low, high = min([0] + amounts), max([1] + amounts)
     place: Callable[[int], float] = lambda cents: 100 * (cents - low) / (high - low)
-    zero = _line(f"{place(0):.2f}%", "mark2")
-    drawn = []
-    for name, cents in rows:
-        said = "paid" if cents > 0 else "charged" if cents < 0 else ""
-        start, end = sorted((place(0), place(cents)))
-        bar = _bar(f"{name}: {money(dollars(cents))} {said}", start, end, "over" if cents < 0 else "within", zero)
-        drawn.append(_row(name, bar, money(dollars(cents)), said))
-    months = "".join(
-        f"<tr><td>{escape(month.name)}</td><td class=figure>{month.hours:,}</td><td class=figure>{money(month.sum)}</td>"
-        f"<td class=figure>{money(month.exact)}</td></tr>"
-        for month in figures.months
-    )
-    head = "<tr><th>month</th><th class=figure>hours</th><th class=figure>sum of rounded cents</th><th class=figure>exact total</th></tr>"
+
+    def table(holders: Sequence[Tuple[str, int]]) -> str:
+        drawn = []
+        for name, cents in sorted(holders, key=lambda holder: -holder[1]):
+            said = "paid" if cents > 0 else "charged" if cents < 0 else ""
+            start, end = sorted((place(0), place(cents)))
+            kind, amount = "over" if cents < 0 else "within", money(dollars(cents))
+            drawn.append(
+                row(
+                    name,
+                    bar(f"{name}: {amount} {said}", start, end, kind, line(place(0), "mark2")),
+                    amount,
+                    said,
+                )
+            )
+        return f"<table class=bars>{''.join(drawn)}</table>"
+
+    others = by_size[MOST_HOLDERS:]
+    together = money(dollars(sum(cents for _, cents in others)))
+    rest = folded(f"{len(others):,} others, together {together}", table(others)) if others else ""
+    return f"<section><h2>Payments by holder</h2>{table(by_size[:MOST_HOLDERS])}{rest}</section>"
+
+
+_MONTHS = (
+    "month",
+    "days",
+    "hours",
+    "payments, rounded cents",
+    "payments, exact",
+    "congestion rent",
+    "rent less exact payments",
+)
+
+
+def _month_section(figures: Figures) -> str:
+    rows = []
+    for month in figures.months:
+        told = (
+            f"{month.days:,}",
+            f"{month.hours:,}",
+            *map(exact_money, (month.sum, month.exact, month.rent, month.left)),
+        )
+        cells = "".join(
+            f'<td class=figure data-name="{name}">{figure}</td>' for name, figure in zip(_MONTHS[1:], told)
+        )
+        rows.append(f"<tr><th scope=row>{escape(month.name)}</th>{cells}</tr>")
+    heads = "".join(f"<th scope=col class=figure>{name}</th>" for name in _MONTHS[1:])
+    others = [
+        f"{percent}% ({PROCESSES[process]})"
+        for process, percent in enumerate(figures.percents)
+        if process != MONTHLY
+    ]
     return (
-        f"<section><h2>Payments by holder</h2><table class=bars>{''.join(drawn)}</table></section>"
-        f"<section><h2>Payments by month</h2><table class=plain>{head}{months}</table></section>"
+        '<section><h2>Payments and congestion rent by month</h2><table class="plain months">'
+        f"<tr class=heads><th scope=col>{_MONTHS[0]}</th>{heads}</tr>{''.join(rows)}</table>"
+        "<p class=faint>Congestion rent: each hour's shadow price of each constraint times the limit that "
+        f"the monthly process releases, {figures.percents[MONTHLY]}% of it, added up over constraints and "
+        f"hours. The other processes release {' and '.join(others)} of each limit, and so of this rent. "
+        "Where the book passes in the monthly process, no hour's exact payments exceed its rent.</p></section>"
     )
 
 
 def _input_section(figures: Figures) -> str:
     rows = "".join(
-        f"<tr><td>{escape(file.name)}</td><td class=figure>{file.bytes:,} bytes</td><td><code>{file.sha256}</code></td></tr>" for file in figures.inputs
+        f"<tr><td>{escape(file.name)}</td><td class=figure>{file.bytes:,} bytes</td>"
+        f"<td><code>{file.sha256}</code></td></tr>"
+        for file in (*figures.inputs, figures.library)
     )
-    return f'<section><h2>Files that this page is on</h2><table class="plain hashes">{rows}</table><p class=faint>SHA-256 of each.</p></section>'
+    return (
+        "<section><h2>Files that this page is on, and the library</h2>"
+        f'<table class="plain hashes">{rows}</table>'
+        "<p class=faint>SHA-256 of each, of the bytes as they were read.</p></section>"
+    )
 
 
-_HATCH = (
-    '<svg width="0" height="0" style="position:absolute" aria-hidden="true"><defs><pattern id="hatch" width="8" height="8" '
-    'patternUnits="userSpaceOnUse" patternTransform="rotate(45)"><line class="hatch" x1="0" x2="0" y1="0" y2="8"/></pattern></defs></svg>'
+_NOTE = (
+    "<p class=faint>The proved library's own figures: whether the book passes, which constraints are "
+    "overloaded, how many, the lowest numbered and its excess; the flows; the released shares; the cuts; "
+    "each hour's cents of each contract, their sum and the exact total. Worked out here from these, in whole "
+    "numbers: the excess at every other constraint (its flow less its released limit) and which is the "
+    "worst; the sums over hours, by holder and by month; the congestion rent; the shares in percent.</p>"
 )
+
+
+def is_page(name: str, found: bytes) -> bool:
+    """Whether a file is a page of these."""
+    return found.startswith(b"<!doctype html>\n") and b": congestion revenue rights</title>" in found[:4096]
 
 
 def page(figures: Figures) -> str:
     """The page."""
     title = escape(figures.title)
     head = (
-        '<!doctype html>\n<html lang="en"><head><meta charset="utf-8"><meta name="viewport" content="width=device-width, initial-scale=1">'
+        '<!doctype html>\n<html lang="en"><head><meta charset="utf-8">'
+        '<meta name="viewport" content="width=device-width, initial-scale=1">'
         f"<title>{title}: congestion revenue rights</title><style>{CSS}</style></head>\n"
     )
-    parts = [f"<header><h1>{title}</h1><p class=faint>{escape(figures.summary)}</p></header>", _verdict_section(figures)]
+    about = f"<p class=faint>{escape(figures.summary)}</p><p class=faint>{escape(figures.covered)}</p>"
+    parts = [f"<header><h1>{title}</h1>{about}</header>", _verdict_section(figures)]
     parts += [_loading_section(figures, period) for period in (1, 0)]
-    parts += [_payment_section(figures), _input_section(figures)]
-    note = "<p class=faint>Verdicts, flows, released shares, cents and exact totals are the proved library's; this page draws them.</p>"
-    return f"{head}<body>{_HATCH}<main>\n" + "\n".join(filter(None, parts)) + f"\n{note}</main></body></html>\n"
+    parts += [_holder_section(figures), _month_section(figures)] if figures.months else []
+    parts += [_input_section(figures), _NOTE]
+    return f"{head}<body>{HATCH}<main>\n" + "\n".join(parts) + "\n</main></body></html>\n"

@@ -5,13 +5,14 @@ from __future__ import annotations
 from fractions import Fraction
 from typing import Dict, List, Sequence, Tuple
 
-from .case import HEDGE_TYPES, TIMES_OF_USE, Names
+from .case import Names
 from .decimals import decimal
 from .files import Contract
 from .hours import Settled
 from .interface import HUB_PLACES, HUB_WEIGHT, MCC_PLACES, PART_PLACES
 from .settlement import HubMcc
 from .to_csv import csv_text
+from .words import HEDGE_TYPES, TIMES_OF_USE
 
 _CENTS = 2  # decimals of a dollar
 Time = Tuple[str, int]  # the day and the hour ending
@@ -60,6 +61,12 @@ def hour_rows(settled: Settled, times: Sequence[Time]) -> List[Tuple[str, object
 HOURS = ("OPR_DT", "OPR_HR", "TIME_OF_USE", "SUM", "EXACT_TOTAL")
 HOLDERS = ("OWNER", "MONTH", "AMOUNT")
 CONTRACTS = ("CRR_ID", "OWNER", "HEDGE_TYPE", "TIME_OF_USE", "AMOUNT")
+
+
+def is_result(name: str, found: bytes) -> bool:
+    """Whether a file has the heading of the result file of its name."""
+    heading = {"hours.csv": HOURS, "holders.csv": HOLDERS, "contracts.csv": CONTRACTS}.get(name, ())
+    return found.split(b"\n", 1)[0] == ",".join(heading).encode()
 
 
 def result_files(settled: Settled, names: Names, book: Sequence[Contract], times: Sequence[Time]) -> Dict[str, str]:

@@ -42,7 +42,7 @@ class Hour(NamedTuple):
 def find_mcc(grid: Grid, prices: Cells) -> "array[int]":
     """The MCC of each node, in 10^-5 cents per MWh."""
     mcc = zeros("q", grid.nodes)
-    _find_mcc(grid.nodes, grid.constraints, lend_cells(grid.factors, "q"), lend_cells(prices, "Q"), Lent(mcc, "q", True))
+    _find_mcc(grid.nodes, grid.constraints, grid.factors, prices, Lent(mcc, "q", True))
     return mcc
 
 
@@ -61,8 +61,7 @@ class HubMcc(NamedTuple):
 def find_hub_mcc(grid: Grid, prices: Cells, hub_nodes: Cells, hub_weights: Cells) -> HubMcc:
     """The MCC of a hub of nodes with weights in hundred-thousandths."""
     quotient, remainder = c_int64(), c_uint64()
-    tables = (lend_cells(grid.factors, "q"), lend_cells(prices, "Q"))
-    _find_hub_mcc(grid.nodes, grid.constraints, *tables, lend_cells(hub_nodes, "Q"), lend_cells(hub_weights, "Q"), quotient, remainder)
+    _find_hub_mcc(grid.nodes, grid.constraints, grid.factors, prices, hub_nodes, hub_weights, quotient, remainder)
     return HubMcc(quotient.value, remainder.value)
 
 
@@ -75,9 +74,9 @@ def settle_hour(grid: Grid, book: Bytes, period: int, prices: Cells) -> Hour:
         grid.nodes,
         grid.constraints,
         period,
-        lend_cells(grid.factors, "q"),
-        lend_cells(prices, "Q"),
-        lend_bytes(book),
+        grid.factors,
+        prices,
+        book,
         Lent(cents, "q", True),
         Lent(priced, "Q", True),
         total,
@@ -96,7 +95,7 @@ class Settler:
         self.cents, self.priced = zeros("q", contracts), zeros("Q", contracts)
         self._period, self._sum, self._whole, self._parts = c_uint64(), c_int64(), c_int64(), c_uint64()
         prices = Lent(zeros("Q", MAX_CONSTRAINTS), "Q", True)
-        factors, lent_book = lend_cells(grid.factors, "q"), lend_bytes(book)
+        factors, lent_book = lend_cells(grid.factors, "q", "factors"), lend_bytes(book, "book")
         cents, priced = Lent(self.cents, "q", True), Lent(self.priced, "Q", True)
         self._kept = (factors, prices, lent_book, cents, priced)  # the addresses below stay good as long as these are lent
         self._reading = _read_prices.arguments(grid.constraints, Lent(b"", "B"), prices, self._period)

@@ -7,11 +7,14 @@ from __future__ import annotations
 
 import csv
 import io
+import os
+from itertools import accumulate
 from pathlib import Path
 from typing import Dict, Iterator, List, Sequence, Tuple
 
 from .decimals import decimal, whole
-from .faults import Fault
+from .faults import Fault, brief
+from .inputs import Inputs, note
 from .interface import Unit
 
 # Our name of a column, and other names for it, in capitals with _ for a blank.
@@ -53,6 +56,8 @@ for _ours, _others in ALIASES.items():
     for _alias in (_ours, *_others):
         _OURS[_alias] = (*_OURS.get(_alias, ()), _ours)
 
+_LONG, _SENTENCE = 60, 240  # characters of a heading, and of a sentence, that are told
+
 Row = Tuple[int, List[str]]  # the line, and the fields in the file's order
 
 
@@ -65,24 +70,29 @@ def our_name(heading: str, need: Sequence[str]) -> str:
 
 class Sheet:
     """A CSV file. Faults go to the list that it is given; `at` says where each column that is needed stands. With `first` the one that is needed
-    is the first column, whatever the others are called."""
+    is the first column, whatever the others are called. Faults call it by its path as it was given, or by its name in a folder. What was read is noted
+    in `inputs`."""
 
-    def __init__(self, path: Path, need: Sequence[str], faults: List[Fault], first: bool = False) -> None:
-        self.name, self.faults = path.name, faults
+    def __init__(
+        self, path: Path, need: Sequence[str], faults: List[Fault], first: bool = False, name: str = "", inputs: Inputs = None
+    ) -> None:
+        self.name, self.faults = name or str(path), faults
         self.heading: List[str] = []
         self.at: Dict[str, int] = {}
-        self._text, self._doubtful = self._decoded(path, need)
+        self._text, self._doubtful = self._decoded(path, need, inputs)
         self._delimiter = _delimiter(self._text)
         self._reader = csv.reader(_lines(self._text), delimiter=self._delimiter, strict=True)
+        self._starts: List[int] = []  # of lines, found when a fault needs them
         if self._text:
             self._read_heading(need, first)
 
-    def _decoded(self, path: Path, need: Sequence[str]) -> Tuple[str, bool]:
+    def _decoded(self, path: Path, need: Sequence[str], inputs: Inputs) -> Tuple[str, bool]:
         try:
             data = path.read_bytes()
         except OSError as error:
-            self.faults.append(Fault(self.name, 0, "", f"{error.strerror}: {path}"))
+            self.faults.append(Fault(self.name, 0, "", unread(path, error, self.name)))
             return "", False
+        note(inputs, self.name, data)
         if data[:2] in (b"\xff\xfe", b"\xfe\xff"):
             self.faults.append(Fault(self.name, 1, need[0], "UTF-16, as some spreadsheets save it; save as CSV UTF-8"))
             return "", False
@@ -98,16 +108,16 @@ class Sheet:
         try:
             self.heading = [field.strip() for field in next(self._reader, [])]
         except csv.Error as error:
-            self.faults.append(Fault(self.name, 1, need[0], f"the heading can't be read: {error}"))
+            self._note(1, need[0], f"the heading can't be read: {_reason(error)}")
             return
         self._readable(1, self.heading)
         names = [our_name(heading, need) for heading in self.heading[: 1 if first else None]]
         for ours in need:
             if ours not in names:
-                self.faults.append(Fault(self.name, 1, ours, "the first column must be this one" if first else "the column is missing"))
+                self._note(1, ours, "the first column must be this one" if first else "the column is missing")
             elif names.count(ours) > 1:
                 found = ", ".join(h for h, name in zip(self.heading, names) if name == ours)
-                self.faults.append(Fault(self.name, 1, ours, f"more than one column has this meaning: {found}"))
+                self._note(1, ours, f"more than one column has this meaning: {found}")
             else:
                 self.at[ours] = names.index(ours)
 
@@ -128,27 +138,30 @@ class Sheet:
                 return
             except csv.Error as error:
                 first, line = line + 1, self._reader.line_num
-                self.faults.append(Fault(self.name, first, self._quoted_column(first), f"quotes: {error}"))
+                self._note(first, self._broken_column(first), _reason(error))
 
     def column(self, at: int) -> str:
         """A column's heading as it stands in the file, or its place where that can't be printed."""
         heading = self.heading[at] if at < len(self.heading) else ""
-        return heading if heading and heading.isprintable() else f"column {at + 1}"
+        return heading if heading.isprintable() and 0 < len(heading) <= _LONG else f"column {at + 1}"
 
     def fault(self, line: int, ours: str, text: str, refusal: int = 0) -> None:
         """Notes a fault in a column that is one of ours."""
-        self.faults.append(Fault(self.name, line, self.column(self.at[ours]) if ours in self.at else ours, text, refusal))
+        self._note(line, self.column(self.at[ours]) if ours in self.at else ours, text, refusal)
+
+    def _note(self, line: int, column: str, text: str, refusal: int = 0) -> None:
+        self.faults.append(Fault(self.name, line, column, brief(text, _SENTENCE), refusal))
 
     def figure(self, line: int, at: int, text: str, unit: Unit, rounded: bool = False) -> int:
         """A decimal as a whole number in its unit and range. A fault is noted and gives 0."""
         try:
             number = whole(text, unit.places, rounded)
         except ValueError as error:
-            self.faults.append(Fault(self.name, line, self.column(at), str(error)))
+            self._note(line, self.column(at), str(error))
             return 0
         if not unit.low <= number <= unit.high:
             low, high = decimal(unit.low, unit.places), decimal(unit.high, unit.places)
-            self.faults.append(Fault(self.name, line, self.column(at), f"{text} is outside {low} to {high}", unit.refusal))
+            self._note(line, self.column(at), f"{text} is outside {low} to {high}", unit.refusal)
             return 0
         return number
 
@@ -162,32 +175,95 @@ class Sheet:
             return True
         return False
 
+    def new_name(self, line: int, ours: str, name: str, known: Dict[str, int]) -> bool:
+        """Whether a name can be taken as a new one, which then has the next number; a fault is noted otherwise."""
+        if not self.name_in(line, ours, name):
+            return False
+        if name in known:
+            self.fault(line, ours, f"{name} occurs twice")
+            return False
+        known[name] = len(known)
+        return True
+
     def _readable(self, line: int, fields: Sequence[str]) -> bool:
         bad = [at for at, field in enumerate(fields) if any("\udc80" <= c <= "\udcff" for c in field)]
         for at in bad:
             byte = next(ord(c) - 0xDC00 for c in fields[at] if "\udc80" <= c <= "\udcff")
-            self.faults.append(Fault(self.name, line, self.column(at), f"not UTF-8: the byte {byte:#04x}; save as CSV UTF-8"))
+            self._note(line, self.column(at), f"not UTF-8: the byte {byte:#04x}; save as CSV UTF-8")
         return not bad
 
     def _wrong_width(self, line: int, fields: int) -> None:
         text = f"{fields} fields where the heading has {len(self.heading)}"
-        self.faults.append(Fault(self.name, line, self.column(min(fields, len(self.heading))), text))
+        self._note(line, self.column(min(fields, len(self.heading))), text)
 
-    def _quoted_column(self, line: int) -> str:
-        """The column of the first quote that is not closed, or not followed by a separator, in the lines from this one on."""
-        text = "".join(list(_lines(self._text))[line - 1 :])
-        at, column = 0, 0
+    @property
+    def unused(self) -> List[str]:
+        """The columns that nobody asked for."""
+        return [self.column(at) for at in range(len(self.heading)) if at not in self.at.values()]
+
+    def _broken_column(self, line: int) -> str:
+        """The column of the first field, in the lines from this one on, that is too long, or whose quote is not closed or not followed by a separator."""
+        if not self._starts:
+            self._starts = [0, *accumulate(map(len, _lines(self._text)))]
+        text, at, column = self._text, self._starts[line - 1], 0
         while at < len(text) and text[at] not in "\r\n":
+            start = at
             if text[at] == '"':
                 at = _behind_quotes(text, at)
                 if not at or text[at : at + 1] not in (self._delimiter, "\r", "\n", ""):
                     break
             else:
-                while at < len(text) and text[at] not in (self._delimiter, "\r", "\n"):
-                    at += 1
+                at = _behind_field(text, at, self._delimiter)
+            if at - start > csv.field_size_limit():
+                break
             if text[at : at + 1] == self._delimiter:
                 at, column = at + 1, column + 1
         return self.column(column)
+
+
+def _reason(error: csv.Error) -> str:
+    """What is wrong with a row that can't be taken apart."""
+    if "field limit" in str(error):
+        return f"a field of more than {csv.field_size_limit():,} characters; is a quote left open?"
+    return f"quotes: {error}"
+
+
+def unread(path: Path, error: OSError, name: str = "") -> str:
+    """Why a file can't be read: a link that leads nowhere and a file under a name much like it are told, and its
+    path where that is not the name that it is told by."""
+    if isinstance(error, FileNotFoundError):
+        if path.is_symlink():
+            return f"a symbolic link to {os.readlink(path)}, which is not there"
+        others = alike(path)
+        if others:
+            return f"not there, and {', '.join(others)} is: it is read under the name {path.name} alone"
+    return str(error.strerror) if name == str(path) else f"{error.strerror}: {path}"
+
+
+_EXTENSIONS = ("csv", "txt", "tsv", "xls", "xlsx", "ods", "bin")
+
+
+def _plain(name: str) -> str:
+    """A file's name without what is easily changed about it: capitals, an extension, the s of a plural."""
+    stem = name.lower()
+    while stem.rpartition(".")[2] in _EXTENSIONS and "." in stem:
+        stem = stem.rpartition(".")[0]
+    return stem[:-1] if stem.endswith("s") else stem
+
+
+def alike(path: Path) -> List[str]:
+    """The names in a file's folder that are much like its own: Prices.CSV, price.csv, prices.csv.txt. A bin file is like a bin file alone."""
+    try:
+        names = sorted(os.listdir(path.parent))
+    except OSError:
+        return []
+    is_bin = path.suffix == ".bin"
+    return [name for name in names if name != path.name and _plain(name) == _plain(path.name) and name.lower().endswith(".bin") == is_bin and "." in name]
+
+
+def is_there(path: Path) -> bool:
+    """Whether a file that may be missing is to be read: it is there, or a link to it, or one that is much like it, which is a fault."""
+    return os.path.lexists(path) or bool(alike(path))
 
 
 def _lines(text: str) -> io.StringIO:
@@ -198,6 +274,13 @@ def _lines(text: str) -> io.StringIO:
 def _delimiter(text: str) -> str:
     heading = text.split("\n", 1)[0]
     return max(",;\t", key=heading.count)
+
+
+def _behind_field(text: str, at: int, delimiter: str) -> int:
+    """The place behind a field without quotes."""
+    while at < len(text) and text[at] not in (delimiter, "\r", "\n"):
+        at += 1
+    return at
 
 
 def _behind_quotes(text: str, at: int) -> int:

@@ -30,10 +30,12 @@ th, td { padding: 4px 12px 4px 0; vertical-align: middle; }
 td.figure, th.figure { text-align: right; white-space: nowrap; padding-right: 0; padding-left: 12px; }
 .plain { width: auto; } .plain th, .plain td, .plain .figure { border-bottom: 1px solid var(--rule); padding: 4px 20px 4px 0; }
 .plain th { white-space: normal; vertical-align: bottom; } .plain tr > :last-child { padding-right: 0; }
-.bars th { font-weight: 400; width: 20%; overflow-wrap: anywhere; }
-.bars td.bar { width: 54%; padding: 2px 0; }
-.bars td.figure small { display: block; color: var(--faint); }
-.bars svg { display: block; width: 100%; height: 22px; }
+.months th[scope=row] { font-weight: 400; white-space: nowrap; }
+.bars { table-layout: fixed; } .bars th { font-weight: 400; width: 20%; overflow-wrap: anywhere; }
+.bars td.bar { width: 52%; padding: 2px 0; }
+.bars td.figure small { display: block; color: var(--faint); white-space: normal; }
+.bars svg { display: block; width: 100%; height: 22px; } .bars svg.broken { overflow: visible; }
+.gap { fill: var(--page); } path.mark { fill: none; } .broken text { fill: var(--text); font-size: 13px; }
 .track { fill: var(--track); } .within { fill: var(--within); } .some { fill: var(--some); } .over { fill: var(--over); }
 .hatch { stroke: var(--page); stroke-width: 3; } .mark { stroke: var(--text); stroke-width: 1.5; }
 .mark0 { stroke-dasharray: 5 3; } .mark1 { stroke-dasharray: 1.5 2.5; }
@@ -46,6 +48,8 @@ code { font: .85em/1.4 ui-monospace, monospace; overflow-wrap: anywhere; }
   .bars tr { display: grid; grid-template-columns: minmax(0, 1fr) auto; gap: 0 10px; padding: 6px 0; border-bottom: 1px solid var(--rule); }
   .bars th, .bars td, .bars td.bar, .bars td.figure { width: auto; padding: 0; } .bars td.bar { grid-column: 1 / -1; grid-row: 2; }
   .plain { width: 100%; } .plain th, .plain td, .plain .figure { font-size: .85em; padding-right: 8px; } td:first-child { white-space: nowrap; }
+  .months .heads { display: none; } .months tr { display: block; padding-bottom: 8px; } .months tr > * { display: flex; justify-content: space-between; }
+  .plain.months td, .plain.months .figure { border: 0; padding: 1px 0; } .months td::before { content: attr(data-name); color: var(--faint); }
   .hashes tr { display: block; padding-bottom: 8px; } .plain.hashes td, .plain.hashes .figure { display: block; border: 0; text-align: left; padding: 0; }
 }
 @media print {
@@ -53,5 +57,6 @@ code { font: .85em/1.4 ui-monospace, monospace; overflow-wrap: anywhere; }
     --pass: #00634a; --fail: #a63c00; }
   body { font-size: 11px; print-color-adjust: exact; -webkit-print-color-adjust: exact; } main { max-width: none; padding: 0; }
   section, tr, li { break-inside: avoid; } .loading { break-inside: auto; } h2 { break-after: avoid; }
+  details::details-content { content-visibility: visible; block-size: auto; }
 }
 """

@@ -6,22 +6,24 @@ from dataclasses import replace
 from pathlib import Path
 from typing import Dict, List, NamedTuple, Optional, Sequence, Tuple
 
-from .case import TIMES_OF_USE, Names, book_form
-from .commands import FAILS, PASSES, Answer, Opened, counted, files_of, objects, opened, owner_numbers, write_like
+from .book_csv import BOOK
+from .case import Names, book_form
+from .command import FAILS, FOLDER, FORCE, PASSES, PERIOD, PROCESS, ROUND_PRICES, Answer, command, counted, objects, reads, writes
 from .decimals import decimal
 from .faults import Fault, raise_any
-from .feasibility import PROCESSES, Verdict, test_book
+from .feasibility import Verdict, test_book
 from .files import Contract, Grid, read_book_form, read_grid, write_book
-from .from_csv import BOOK
 from .interface import FLOW_PLACES, WIDE
 from .native import Refused
+from .opening import Opened, files_of, opened, owner_numbers, write_like
 from .packed import Packed
 from .running import TIERS, RunningTest
 from .sheet import Sheet
 from .tiers_csv import ADD, MARK, Operation, read_operations
 from .to_csv import book_row, csv_text
+from .words import PROCESSES, TIMES_OF_USE, Period, Process
 
-PLAYED = ("OPERATION", "NAME", "ANSWER", "HELD", "COUNTED", "OVERLOADED", "LOWEST", "EXCESS_MW")
+PLAYED = ("OPERATION", "NAME", "ANSWER", "HELD", "COUNTED", "OVERLOADED", "LOWEST_NUMBERED", "EXCESS_MW")
 _DONE = {"add": "held", "mark": "marked", "return": "returned"}
 
 
@@ -91,16 +93,32 @@ def _play(grid: Grid, names: Names, running: RunningTest, operations: Sequence[O
     return Played(running, rows, refusals, ids)
 
 
-def tiers(folder: Path, period: int, process: int, operations: Optional[Path], out: Optional[Path], round_prices: bool) -> Answer:
+_AWARDS = "a CSV file OPERATION,TIER and the columns of book.csv: add, mark, return; without it the book's contracts are added in their order"
+
+
+@command(
+    "tiers",
+    "awards tried one after another on the grid, with tiers to mark and to come back to, for one period and process",
+    FOLDER,
+    ROUND_PRICES,
+    reads("awards", _AWARDS, nargs="?"),
+    PERIOD,
+    PROCESS,
+    writes("a folder for the case with the awards held for its book"),
+    FORCE,
+)
+def tiers(
+    folder: Path, period: Period, process: Process, awards: Optional[Path], out: Optional[Path], round_prices: bool, force: bool
+) -> Answer:
     """Plays operations on a running test on the grid of a folder, or the contracts of its book as awards; with `out` writes the whole case there, with the
     awards held for its book, in the form that it had."""
     found = opened(folder, round_prices, prices=out is not None)
     files, names = files_of(found), found.names
     grid, wanted = read_grid(files.grid), _of_book(found)
     sheet: Optional[Sheet] = None
-    if operations:
+    if awards:
         faults: List[Fault] = []
-        sheet, wanted = read_operations(operations, names.nodes, faults)
+        sheet, wanted = read_operations(awards, names.nodes, faults)
         wanted, holders = _numbered(found, sheet, wanted)
         raise_any(faults)
         names = replace(names, holders=holders)
@@ -109,7 +127,7 @@ def tiers(folder: Path, period: int, process: int, operations: Optional[Path], o
     names = replace(names, contracts=played.ids)
     if out:
         form = max(read_book_form(grid.nodes, files.book), book_form(held))
-        write_like(found, Packed(names, files.grid, running.book(form), files.hours), out)
+        write_like(found, Packed(names, files.grid, running.book(form), files.hours), out, force)
     told = f"{f'{out}: ' if out else ''}{counted(len(held), 'award')} held, {running.counted:,} of them {TIMES_OF_USE[period]}; "
     told += f"{counted(played.refused, 'operation')} of {len(played.rows):,} refused\n"
     data: Dict[str, object] = {"process": PROCESSES[process], "time_of_use": TIMES_OF_USE[period], "operations": objects(PLAYED, played.rows)}
@@ -117,4 +135,4 @@ def tiers(folder: Path, period: int, process: int, operations: Optional[Path], o
     data["marks"] = {TIERS[tier]: count for tier, count in running.marks.items()}
     data["flows_mw"] = {name: decimal(flow, FLOW_PLACES) for name, flow in zip(names.constraints, running.flows)}
     status = FAILS if played.refused else PASSES
-    return Answer(status, csv_text(PLAYED, played.rows), {**data, "out": str(out) if out else ""}, told)
+    return Answer(status, csv_text(PLAYED, played.rows), {**data, "out": str(out) if out else None}, told)

@@ -10,9 +10,9 @@ from __future__ import annotations
 from pathlib import Path
 from typing import Dict, List, NamedTuple, Sequence, Tuple
 
+from .book_csv import BOOK, read_award
 from .faults import Fault
 from .files import Contract
-from .from_csv import BOOK, read_terms
 from .interface import MARK_LT
 from .running import TIERS
 from .sheet import Sheet
@@ -34,20 +34,12 @@ class Operation(NamedTuple):
     award: Contract = _NOTHING
 
 
-def _award(sheet: Sheet, line: int, row: List[str], numbers: Dict[str, int]) -> Operation:
-    crr_id, owner = row[sheet.at["CRR_ID"]], row[sheet.at["OWNER"]]
-    sheet.name_in(line, "CRR_ID", crr_id)
-    sheet.name_in(line, "OWNER", owner)
+def _award(sheet: Sheet, line: int, row: List[str], nodes: Dict[str, int]) -> Operation:
+    sheet.name_in(line, "CRR_ID", row[sheet.at["CRR_ID"]])
+    award = read_award(sheet, line, row, nodes)
     if row[sheet.at["TIER"]]:
         sheet.fault(line, "TIER", "an award has no tier: a row of its own marks the tier")
-    ends = []
-    for ours in ("SOURCE", "SINK"):
-        name = row[sheet.at[ours]]
-        if name not in numbers:
-            sheet.fault(line, ours, f"no node {name!r} in the grid", 11)
-        ends.append(numbers.get(name, 0))
-    kind, period, quantity = read_terms(sheet, line, row)
-    return Operation(line, ADD, 0, crr_id, owner, Contract(kind, period, 0, ends[0], ends[1], quantity))
+    return Operation(line, ADD, 0, award.crr_id, award.owner, award.contract)
 
 
 def _tier(sheet: Sheet, line: int, row: List[str], what: str) -> Operation:

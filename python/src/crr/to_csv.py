@@ -4,17 +4,18 @@ from __future__ import annotations
 
 import csv
 import io
-import os
 from pathlib import Path
-from typing import Dict, Iterable, List, Sequence, Tuple
+from typing import Dict, Iterable, List, Sequence, Tuple, Union
 
-from .case import HEDGE_TYPES, TIMES_OF_USE, Case, Names, PricedHour
+from .book_csv import BOOK
+from .case import Case, Names, PricedHour, check_lengths
 from .decimals import decimal
-from .faults import Fault, raise_any
 from .files import Contract
-from .from_csv import BOOK, PRICES
+from .from_csv import PRICES
 from .interface import LIMIT, QUANTITY, SHADOW_PRICE, SHIFT_FACTOR
 from .names_csv import HEADING, name_rows
+from .words import HEDGE_TYPES, TIMES_OF_USE
+from .writing import write_files
 
 
 def csv_text(heading: Sequence[str], rows: Iterable[Sequence[object]]) -> str:
@@ -42,6 +43,7 @@ def book_row(names: Names, crr_id: str, contract: Contract) -> Tuple[str, ...]:
 
 def csv_files(case: Case, hour_name: str = "") -> Dict[str, str]:
     """The text of each CSV file of a case."""
+    check_lengths(case)
     names, count = case.names, len(case.names.constraints)
     limits = [decimal(limit, LIMIT.places) for limit in case.limits]
     factors = [decimal(factor, SHIFT_FACTOR.places) for factor in case.factors]
@@ -59,26 +61,8 @@ def csv_files(case: Case, hour_name: str = "") -> Dict[str, str]:
     return files
 
 
-def write_files(folder: Path, files: Dict[str, bytes]) -> None:
-    """Writes files below a folder, each whole or not at all."""
-    for below in {os.path.dirname(os.path.join(folder, name)) for name in files}:
-        os.makedirs(below, exist_ok=True)
-    for name, data in files.items():
-        path = os.path.join(folder, name)
-        try:
-            with open(f"{path}.new", "wb") as file:
-                file.write(data)
-            os.replace(f"{path}.new", path)
-        finally:
-            if os.path.exists(f"{path}.new"):
-                os.remove(f"{path}.new")
-
-
-def write_csv(case: Case, folder: Path, hour_name: str = "", force: bool = False) -> List[str]:
-    """Writes a case's CSV files and gives their names. A file that is there and says something else is a fault, unless forced: it may be someone's work."""
+def write_csv(case: Case, folder: Union[str, Path], hour_name: str = "", force: bool = False) -> List[str]:
+    """Writes a case's CSV files and gives their names. A file that is there and says something else is a fault, unless forced."""
     files = {name: text.encode() for name, text in csv_files(case, hour_name).items()}
-    other = [name for name, data in files.items() if (folder / name).exists() and (folder / name).read_bytes() != data]
-    if other and not force:
-        raise_any([Fault(name, 0, "", f"{folder / name} is there and differs: choose another folder (-o), or --force") for name in other])
-    write_files(folder, files)
+    write_files(Path(folder), files, force)
     return list(files)

@@ -1,9 +1,11 @@
 //! Compares each public entry of the proved library with a second implementation of the scope document and the change requests: every answer and every
 //! lent cell.
 //!
-//! `differential [SEED [ENTRY ROUND]]`: another seed than the usual one; one round of one entry, to see a failure again.
+//! `differential [SEED [ENTRY ROUND]]`: another seed than the usual one; one round of one entry, to see a failure again. `differential vectors`: the
+//! conformance vectors alone.
 
 mod draw;
+mod guarded;
 mod lent;
 mod library;
 mod rounds;
@@ -14,8 +16,8 @@ mod vectors;
 
 use draw::{Draw, EXTREMES};
 use rounds::{
-    calendar, cuts, demand, forms, headers, hub_book, hub_mcc, hubs, migration, priced, reordering, running, settled, shares, text,
-    view_pairs, views,
+    calendar, cuts, demand, forms, headers, hub_book, hub_mcc, hubs, migration, priced, refusals, reordering, running, settled, shares,
+    text, view_pairs, views,
 };
 use std::env;
 use std::process::ExitCode;
@@ -39,7 +41,7 @@ const fn plain(name: &'static str, refusals: &'static [u64], cases: &'static [&'
 }
 
 /// Each entry, with the refusals that the papers list for it, each to be drawn and no other, and the cases that the change requests name.
-const ENTRIES: [Entry; 34] = [
+const ENTRIES: [Entry; 36] = [
     plain("read_grid", &[1, 2, 3, 4, 5, 6, 7, 8, 9], &[&forms::GRIDS_READ], rounds::grid::read),
     Entry { rounds: headers::FIRST_BYTES, ..plain("grid_headers", &[1, 2, 3, 4, 5, 6, 7, 8, 9], &[], headers::grid) },
     plain("write_grid", &[2, 3, 6, 7, 9], &[&forms::GRIDS_WRITTEN], rounds::grid::write),
@@ -78,12 +80,15 @@ const ENTRIES: [Entry; 34] = [
     // paper 14's laws, over test_book, find_flows and settle_hour
     plain("reordering", &[6, 10, 11, 13], &[&reordering::CASES], reordering::round),
     plain("running_orders", &[21], &[&running::orders::CASES], running::orders::round),
+    plain("net_transfers", &[9, 22], &[&migration::nets::CASES], migration::nets::round),
     plain("migrate_load", &[1, 2, 4, 5, 9, 10, 11, 13, 17, 22, 23], &[&migration::CASES], migration::round),
     Entry { files: &[("grid", GRID), ("book", BOOK)], ..plain("write_report", &[9], &[&text::CASES], text::report) },
     Entry {
         files: &[("grid", GRID), ("book", BOOK), ("prices", PRICES)],
         ..plain("write_statement", &[9], &[&priced::CASES, &text::CASES], text::statement)
     },
+    // beyond the papers: what a refusal's number means
+    Entry { rounds: refusals::FIRST_ROUNDS, ..plain("refusal_text", &[9], &[&refusals::CASES], refusals::round) },
     Entry { rounds: calendar::YEARS, ..plain("month_hours", &[19], &[&calendar::HOURS], calendar::hours) },
     Entry { rounds: calendar::MONTHS, ..plain("weekday", &[19], &[&calendar::WEEKDAYS], calendar::weekdays) },
     Entry { rounds: calendar::MONTHS, ..plain("month_later", &[19], &[&calendar::LATER], calendar::later) },
@@ -134,7 +139,7 @@ fn all(seed: u64) -> ExitCode {
         calls += tally.calls;
         failed += tally.failed;
     }
-    let wrong = demand_3(seed) + vectors::check() as u64;
+    let wrong = demand_3(seed) + (second::own::check() + vectors::check()) as u64;
     println!("{} passed, {failed} failed", calls - failed);
     if failed == 0 && !lacking && wrong == 0 {
         ExitCode::SUCCESS
@@ -155,13 +160,17 @@ fn one(seed: u64, name: &str, number: u64) -> ExitCode {
 }
 
 fn main() -> ExitCode {
+    crr::check_interface();
     let words: Vec<String> = env::args().skip(1).collect();
     let number = |i: usize, usual: u64| words.get(i).map_or(usual, |word| word.parse().expect("a number"));
+    if words == ["vectors"] {
+        return ExitCode::from(u8::from(vectors::check() > 0));
+    }
     match words.len() {
         0 | 1 => all(number(0, SEED)),
         3 => one(number(0, SEED), &words[1], number(2, 0)),
         _ => {
-            eprintln!("usage: differential [SEED [ENTRY ROUND]]");
+            eprintln!("usage: differential [SEED [ENTRY ROUND] | vectors]");
             ExitCode::from(2)
         }
     }

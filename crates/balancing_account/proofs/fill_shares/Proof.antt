@@ -11,8 +11,8 @@ use Rattle.lists.specs.Lists.{listTo}
 use Rattle.lists.specs.Lent.{overwrite}
 use Rattle.lists.proofs.Fill.{fill-turn, rest-turn, fill-front}
 use Rattle.lists.proofs.Lists.{length-listTo, getD-listTo}
-use Rattle.balancing_account.specs.ShareBalance.{shareOf, sharesOf}
-use Rattle.balancing_account.specs.Inner.{Cut}
+use Rattle.share_rules.specs.ShareBalance.{shareOf, sharesOf}
+use Rattle.share_rules.specs.Inner.{Cut}
 use borrow.Author.Needs.{needs}
 use Rattle.balancing_account.proofs.fill_shares.Statement.{statement}
 use Rattle.balancing_account.proofs.fill_shares.Tie as tie

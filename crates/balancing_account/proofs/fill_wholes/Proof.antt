@@ -8,8 +8,8 @@ use Rattle.largest_remainders.specs.Ranks.{addTo}
 use Rattle.largest_remainders.specs.Shares.{whole, rest}
 use Rattle.largest_remainders.specs.Inner.{keyOf}
 use Rattle.largest_remainders.proofs.Counting.{addTo-more, addTo-none}
-use Rattle.balancing_account.specs.ShareBalance.{demandOf}
-use Rattle.balancing_account.proofs.Sharing.{product-small, whole-is, wholes-fit, rest-small, key-is, cell-turn}
+use Rattle.share_rules.specs.ShareBalance.{demandOf}
+use Rattle.share_rules.proofs.Sharing.{product-small, whole-is, wholes-fit, rest-small, key-is, cell-turn}
 use Rattle.balancing_account.proofs.fill_wholes.Statement.{statement}
 use Rattle.balancing_account.proofs.fill_wholes.Tie as tie
 

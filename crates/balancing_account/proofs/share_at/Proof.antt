@@ -9,9 +9,9 @@ use mir.Val.{toZ, ofZ}
 use mir.ValLaws.{toZ-ofZ}
 use Rattle.integers.proofs.Machine.{back}
 use Rattle.tariff.specs.Units.{maxBalance}
-use Rattle.balancing_account.specs.ShareBalance.{signedLike}
-use Rattle.balancing_account.specs.Inner.{maxTotal}
-use Rattle.balancing_account.proofs.Sharing.{cell-small, share-more, share-kept}
+use Rattle.share_rules.specs.ShareBalance.{signedLike}
+use Rattle.share_rules.specs.Inner.{maxTotal}
+use Rattle.share_rules.proofs.Sharing.{cell-small, share-more, share-kept}
 use borrow.Author.Needs.{needs}
 use Rattle.balancing_account.proofs.share_at.Statement.{statement}
 use Rattle.balancing_account.proofs.share_at.Tie as tie

@@ -11,11 +11,11 @@ use Rattle.lists.specs.Lent.{overwrite}
 use Rattle.tariff.proofs.Answers.{answer-refused, cells-refused, answer-passed, cells-passed}
 use Rattle.largest_remainders.specs.Shares.{leftover}
 use Rattle.largest_remainders.proofs.Sharing.{wholes-le}
-use Rattle.balancing_account.specs.ShareBalance.{ShareCall, shareCall, shareChecked, demandOf, sharesOf, Fair}
-use Rattle.balancing_account.specs.Inner.{Weighed, leftoverOf}
-use Rattle.balancing_account.proofs.Passing.{refused-not, Ready, share-ready}
-use Rattle.balancing_account.proofs.Sharing.{searchable, cut}
-use Rattle.balancing_account.proofs.Theorems.{shares-are-fair}
+use Rattle.share_rules.specs.ShareBalance.{ShareCall, shareCall, shareChecked, demandOf, sharesOf, Fair}
+use Rattle.share_rules.specs.Inner.{Weighed, leftoverOf}
+use Rattle.share_rules.proofs.Passing.{refused-not, Ready, share-ready}
+use Rattle.share_rules.proofs.Sharing.{searchable, cut}
+use Rattle.share_rules.proofs.Theorems.{shares-are-fair}
 use borrow.Author.Needs.{needs}
 use Rattle.balancing_account.proofs.share_balance.Statement.{statement}
 use Rattle.balancing_account.proofs.share_balance.Tie as tie

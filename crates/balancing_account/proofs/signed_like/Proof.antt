@@ -9,7 +9,7 @@ use mir.Syntax.{w64}
 use mir.ValLaws.{toZ-ofZ}
 use Rattle.integers.proofs.Machine.{cast-back}
 use Rattle.tariff.proofs.Rounding.{cast-minus-fits, cast-minus-is}
-use Rattle.balancing_account.proofs.Signs.{signed-negative, signed-positive, signed-sized}
+use Rattle.share_rules.proofs.Signs.{signed-negative, signed-positive, signed-sized}
 use Rattle.balancing_account.proofs.signed_like.Statement.{statement}
 use Rattle.balancing_account.proofs.signed_like.Tie as tie
 

@@ -9,8 +9,7 @@ use Rattle.lists.specs.Lent.{overwrite}
 use Rattle.lists.proofs.Lists.{length-listTo, listTo-more, each-listTo}
 use Rattle.layouts.specs.Forms.{endWidth}
 use Rattle.layouts.proofs.BookFile.{record-room}
-use Rattle.layouts.specs.Inner.{ContractFits}
-use Rattle.layouts.specs.BookTable.{rowAt, rowsIn}
+use Rattle.layouts.specs.BookTable.{ContractFits, rowAt, rowsIn}
 use Rattle.books.specs.Inner.{headerBytes, bookFront}
 use Rattle.books.proofs.Making.{front-begins, front-more, front-ends}
 use borrow.Author.Needs.{needs}

@@ -2,7 +2,7 @@
 use mathlib.Core.Path.{ap, _∙_}
 use lib.ListN.{getD}
 use Rattle.tariff.specs.declared.contracts.Contract.{Contract}
-use Rattle.book_remap.specs.Inner.{movedBy}
+use Rattle.remap_rules.specs.Inner.{movedBy}
 use borrow.Author.Needs.{needs}
 use Rattle.book_remap.proofs.moved_contract.Statement.{statement}
 use Rattle.book_remap.proofs.moved_contract.Tie as tie

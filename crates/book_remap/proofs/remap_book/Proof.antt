@@ -8,8 +8,8 @@ use Rattle.tariff.proofs.Answers.{answer-refused, cells-refused, answer-passed,
 use Rattle.layouts.specs.BookFile.{bookFormIn, contractCountIn}
 use Rattle.layouts.proofs.BookFile.{book-bytes-least}
 use Rattle.books.proofs.Accepted.{book-accepted}
-use Rattle.book_remap.specs.RemapBook.{RemapBookCall, remapBookCall, bookRemapped}
-use Rattle.book_remap.proofs.Accepted.{Remappable, remappable, movable, looked-up-list, length-remade}
+use Rattle.remap_rules.specs.RemapBook.{RemapBookCall, remapBookCall, bookRemapped}
+use Rattle.remap_rules.proofs.Accepted.{Remappable, remappable, movable, looked-up-list, length-remade}
 use borrow.Author.Needs.{needs}
 use Rattle.book_remap.proofs.remap_book.Statement.{statement}
 use Rattle.book_remap.proofs.remap_book.Tie as tie

@@ -3,7 +3,7 @@ use mathlib.Core.Path.{sym, ap, _∙_}
 use Rattle.tariff.proofs.Answers.{refused-answers, refused-keeps, given-answers, given-count}
 use Rattle.layouts.specs.Forms.{formNumber}
 use Rattle.layouts.specs.GridFile.{gridFormIn, nodesIn, constraintsIn}
-use Rattle.grid_file.specs.ReadGrid.{readGridCall, readGridChecked, gridOutcome}
+use Rattle.grid_rules.specs.ReadGrid.{readGridCall, readGridChecked, gridOutcome}
 use borrow.Author.Needs.{needs}
 use Rattle.c_grid.proofs.crr_read_grid.Statement.{statement}
 use Rattle.c_grid.proofs.crr_read_grid.Tie as tie

@@ -6,7 +6,7 @@ use lib.IntN.{ℤ}
 use Rattle.layouts.specs.declared.WriteAnswer.{WriteAnswer}
 use Rattle.layouts.specs.declared.forms.Form.{Form}
 use Rattle.layouts.proofs.Writing.{writes-for-c}
-use Rattle.grid_file.specs.WriteGrid.{writeGridCall, WritesGrid}
+use Rattle.grid_rules.specs.WriteGrid.{writeGridCall, WritesGrid}
 use borrow.Author.Needs.{needs}
 use Rattle.c_grid.proofs.crr_write_grid.Statement.{statement}
 use Rattle.c_grid.proofs.crr_write_grid.Tie as tie

@@ -5,7 +5,7 @@ use lib.IntN.{ℤ}
 use mir.Syntax.{w64}
 use mir.ValLaws.{toZ-ofZ}
 use Rattle.tariff.proofs.Answers.{refused-answers, given-answers}
-use Rattle.balancing_account.specs.ShareBalance.{ShareCall, shareCall, shareChecked, shareOutcome, SharesBalance}
+use Rattle.share_rules.specs.ShareBalance.{ShareCall, shareCall, shareChecked, shareOutcome, SharesBalance}
 use borrow.Author.Needs.{needs}
 use Rattle.c_shares.proofs.crr_share_balance.Statement.{statement}
 use Rattle.c_shares.proofs.crr_share_balance.Tie as tie

@@ -1,5 +1,5 @@
 -- `crr_mark_tier`.
-use Rattle.tier_marks.specs.MarkTier.{markTierCall, markTierChecked}
+use Rattle.mark_rules.specs.MarkTier.{markTierCall, markTierChecked}
 use Rattle.tier_rules.proofs.Going.{number-given}
 use borrow.Author.Needs.{needs}
 use Rattle.c_tiers.proofs.crr_mark_tier.Statement.{statement}

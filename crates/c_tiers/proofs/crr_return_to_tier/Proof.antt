@@ -1,5 +1,5 @@
 -- `crr_return_to_tier`.
-use Rattle.tier_marks.specs.ReturnToTier.{returnToTierCall, returnToTierChecked}
+use Rattle.mark_rules.specs.ReturnToTier.{returnToTierCall, returnToTierChecked}
 use Rattle.tier_rules.proofs.Going.{number-given}
 use borrow.Author.Needs.{needs}
 use Rattle.c_tiers.proofs.crr_return_to_tier.Statement.{statement}

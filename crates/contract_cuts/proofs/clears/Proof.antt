@@ -14,11 +14,11 @@ use Rattle.contract_cuts.proofs.clears.Statement.{statement}
 use Rattle.contract_cuts.proofs.clears.Tie as tie
 
 abbrev Inv-loop : tie.InvT-loop
-Inv-loop constraints factors excesses cut source sink kind quantity k₀ k =
-    (k ≤ constraints) × (enough k (cellAt excesses) (slopeFrom factors source sink kind) cut ≡ true)
+Inv-loop constraints factors excesses cut source sink kind k₀ k =
+    (k ≤ constraints) × (enough k (cellAt excesses) (slopeFrom factors source sink kind) (cut .0) ≡ true)
 
 abbrev μ-loop : tie.MeasureT-loop
-μ-loop constraints factors excesses cut source sink kind quantity k₀ k = constraints - k
+μ-loop constraints factors excesses cut source sink kind k₀ k = constraints - k
 
 mul-source : tie.Need-mul-source Inv-loop μ-loop
 mul-source c = search needs
@@ -58,18 +58,18 @@ counted-flow-requires c κs =
 near : (c : tie.After-counted-flow Inv-loop μ-loop) → c .before .before .before .before .loop .k < c .before .before .before .before .before .before .before .args .constraints
 near c = c .before .before .before .loop-test .taken
 
-mul-t14 : tie.Need-mul-t14 Inv-loop μ-loop
-mul-t14 c = search needs
+mul-t13 : tie.Need-mul-t13 Inv-loop μ-loop
+mul-t13 c = search needs
 
-shared-slice-copy-out-t21 : tie.Need-shared-slice-copy-out-t21 Inv-loop μ-loop
-shared-slice-copy-out-t21 c = let s = c .before .before .before .before .before .before .before in omega (arith, near c, s .pre .1 .long)
+shared-slice-copy-out-t20 : tie.Need-shared-slice-copy-out-t20 Inv-loop μ-loop
+shared-slice-copy-out-t20 c = let s = c .before .before .before .before .before .before .before in omega (arith, near c, s .pre .1 .long)
 
 exceeds-requires : tie.Need-exceeds-requires Inv-loop μ-loop
 exceeds-requires c κs =
     let s = c .before .before .before .before .before .before .before .before in
     let k = c .before .before .before .before .before .loop .k in
     let h = near (c .before) in
-    let relief = relief-small (s .args .constraints) (s .args .factors .now) (s .args .c) (s .pre .0) k h _ (s .args .cut) (s .pre .2) (c .before .counted-flow .ensures) in
+    let relief = relief-small (s .args .constraints) (s .args .factors .now) (s .args .c) (s .pre .0) k h _ (s .args .cut .0) (s .pre .2) (c .before .counted-flow .ensures) in
     (rw (back (cellAt (s .args .excesses .now) k) (s .pre .1 .sized k h)) (s .pre .1 .sized k h), omega (arith, relief))
 
 -- the cut's flow, and what the comparison says of the excess
@@ -80,8 +80,8 @@ module _ (c : tie.After-exceeds Inv-loop μ-loop) where
   abbrev k : ℕ
   k = c .before .before .before .before .before .before .loop .k
 
-  relief : c .before .before .counted-flow .result .0 ≡ slopeIn (s .args .constraints) (s .args .factors .now) (s .args .c) k *ℤ pos (s .args .cut)
-  relief = relief-is (s .args .constraints) (s .args .factors .now) (s .args .c) (s .pre .0) k (near (c .before .before)) _ (s .args .cut) (c .before .before .counted-flow .ensures)
+  relief : c .before .before .counted-flow .result .0 ≡ slopeIn (s .args .constraints) (s .args .factors .now) (s .args .c) k *ℤ pos (s .args .cut .0)
+  relief = relief-is (s .args .constraints) (s .args .factors .now) (s .args .c) (s .pre .0) k (near (c .before .before)) _ (s .args .cut .0) (c .before .before .counted-flow .ensures)
 
   excess-small : natAbs (cellAt (s .args .excesses .now) k) < 2 ^ 63
   excess-small = s .pre .1 .sized k (near (c .before .before))
@@ -91,7 +91,7 @@ returns c =
     let x = c .before in
     let e = cellAt (s x .args .excesses .now) in
     let over = over-so (e (k x)) _ _ _ (back (e (k x)) (excess-small x)) (relief x) (x .exceeds .result) (x .exceeds .ensures) (c .if1 .taken) in
-    enough-fails e (slopeIn (s x .args .constraints) (s x .args .factors .now) (s x .args .c)) (s x .args .constraints) (k x) (s x .args .cut) (near (x .before .before)) over
+    enough-fails e (slopeIn (s x .args .constraints) (s x .args .factors .now) (s x .args .c)) (s x .args .constraints) (k x) (s x .args .cut .0) (near (x .before .before)) over
 
 add-k : tie.Need-add-k Inv-loop μ-loop
 add-k c = search needs
@@ -105,16 +105,16 @@ loop-again c =
     let e = cellAt (s x .args .excesses .now) in
     let within = within-so (e (k x)) _ _ _ (back (e (k x)) (excess-small x)) (relief x) (x .exceeds .result) (x .exceeds .ensures) (c .if1 .left) in
     let so-far = x .before .before .before .before .before .before .loop .inv .1 in
-    (omega arith, enough-turn e (slopeIn (s x .args .constraints) (s x .args .factors .now) (s x .args .c)) (k x) (s x .args .cut) so-far within)
+    (omega arith, enough-turn e (slopeIn (s x .args .constraints) (s x .args .factors .now) (s x .args .c)) (k x) (s x .args .cut .0) so-far within)
 
 returns-2 : tie.Need-returns-2 Inv-loop μ-loop
 returns-2 c =
     let s = c .before .before .before .before in
     let l = c .before .loop in
-    enough-end (cellAt (s .args .excesses .now)) (slopeIn (s .args .constraints) (s .args .factors .now) (s .args .c)) (s .args .constraints) (l .k) (s .args .cut) (omega arith) (l .inv .1)
+    enough-end (cellAt (s .args .excesses .now)) (slopeIn (s .args .constraints) (s .args .factors .now) (s .args .c)) (s .args .constraints) (l .k) (s .args .cut .0) (omega arith) (l .inv .1)
 
 pub clears-spec : {M : Type 1} → statement M
 clears-spec =
     tie.close (tie.spec
     Inv-loop μ-loop mul-source mul-sink loop-holds add-counted-flow mul-counted-flow shared-slice-copy-out-counted-flow add-counted-flow-2 mul-counted-flow-2 shared-slice-copy-out-counted-flow-2
-    counted-flow-requires mul-t14 shared-slice-copy-out-t21 exceeds-requires returns add-k loop-less loop-again returns-2)
+    counted-flow-requires mul-t13 shared-slice-copy-out-t20 exceeds-requires returns add-k loop-less loop-again returns-2)

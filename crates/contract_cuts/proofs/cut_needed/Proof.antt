@@ -1,7 +1,9 @@
 -- `cut_needed`.
-use mathlib.Core.Path.{_≡_}
+use mathlib.Core.Path.{_≡_, sym, _∙_}
 use Prim.Native.Nat.{_-_, _<_}
 use native.Mathlib.Omega.{arith}
+use borrow.Author.Needs.{needs}
+use borrow.Author.Tests.{ltb-true, ltb-false}
 use lib.Dec.{leb}
 use lib.IntN.{pos}
 use lib.Signed.{_<ℤ_}
@@ -23,7 +25,7 @@ rises : (c : tie.Else1) → pos 0 <ℤ c .before .before .before .args .slope .0
 rises c = let s = c .before .before .before in is-steep (s .args .slope .0) (rw (slope-kept s) at (c .if1 .left))
 
 returns : tie.Need-returns
-returns c = let s = c .before .before .before in rw (flat (s .args .over .0) (s .args .slope .0) (is-flat (s .args .slope .0) (rw (slope-kept s) at (c .if1 .taken)))) (nothing (leb 0 (s .args .most)))
+returns c = let s = c .before .before .before in rw (flat (s .args .over .0) (s .args .slope .0) (is-flat (s .args .slope .0) (rw (slope-kept s) at (c .if1 .taken)))) (nothing (leb 0 (s .args .most .0)))
 
 cast-excess : tie.Need-cast-excess
 cast-excess c =
@@ -35,26 +37,28 @@ cast-each c =
     let s = c .before .before .before .before .before .before .before in
     rw (slope-kept s) (not-negative (s .args .slope .0) (rises (c .before .before .before .before)), record { fits = omega (arith, s .pre .2) })
 
-sub-cut : tie.Need-sub-cut
-sub-cut c = let s = c .before .before .before .before .before .before .before in rw (slope-kept s) (some-size (s .args .slope .0) (rises (c .before .before .before .before)))
+sub-thousandths : tie.Need-sub-thousandths
+sub-thousandths c = let s = c .before .before .before .before .before .before .before in rw (slope-kept s) (some-size (s .args .slope .0) (rises (c .before .before .before .before)))
 
-add-cut : tie.Need-add-cut
-add-cut c =
+add-thousandths : tie.Need-add-thousandths
+add-thousandths c =
     let s = c .before .before .before .before .before .before .before in
     rw (over-kept s, slope-kept s) (record { fits = omega (arith, s .pre .1, s .pre .2) })
 
-div-cut : tie.Need-div-cut
-div-cut c = sub-cut c
+div-thousandths : tie.Need-div-thousandths
+div-thousandths c = sub-thousandths c
 
 returns-2 : tie.Need-returns-2
 returns-2 c =
-    let s = c .before .before .before .before .before .before .before .before in
-    too-much (s .args .over .0) (s .args .slope .0) (s .pre .0) (rises (c .before .before .before .before .before)) (over-kept s) (slope-kept s) (s .args .most) (omega arith)
+    let s = c .before .before .before .before .before .before .before .before .before in
+    too-much (s .args .over .0) (s .args .slope .0) (s .pre .0) (rises (c .before .before .before .before .before .before)) (over-kept s) (slope-kept s) (s .args .most .0)
+    (ltb-true _ _ (sym (c .before .exceeds .ensures) ∙ c .if2 .taken))
 
 returns-3 : tie.Need-returns-3
 returns-3 c =
-    let s = c .before .before .before .before .before .before .before .before in
-    no-more (s .args .over .0) (s .args .slope .0) (s .pre .0) (rises (c .before .before .before .before .before)) (over-kept s) (slope-kept s) (s .args .most) (omega arith)
+    let s = c .before .before .before .before .before .before .before .before .before in
+    no-more (s .args .over .0) (s .args .slope .0) (s .pre .0) (rises (c .before .before .before .before .before .before)) (over-kept s) (slope-kept s) (s .args .most .0)
+    (ltb-false _ _ (sym (c .before .exceeds .ensures) ∙ c .if2 .left))
 
 pub cut-needed-spec : {M : Type 1} → statement M
-cut-needed-spec = tie.close (tie.spec returns cast-excess cast-each sub-cut add-cut div-cut returns-2 returns-3)
+cut-needed-spec = tie.close (tie.spec returns cast-excess cast-each sub-thousandths add-thousandths div-thousandths (λ c κs. search needs) returns-2 returns-3)

@@ -1,13 +1,14 @@
 -- `least_need`: the need of the constraints below k.
-use mathlib.Core.Path.{_≡_, _∙_}
+use mathlib.Core.Path.{_≡_, sym, ap, _∙_}
 use mathlib.Core.Logic.{⊎-elim}
 use Prim.Native.Nat.{ℕ, _+_, _-_, _≤_, _<_}
 use native.Mathlib.Omega.{arith}
 use lib.IntN.{ℤ, pos}
 use lib.Signed.{_<ℤ_, ltZ-yes, ltZ-no}
 use Rattle.integers.proofs.Machine.{back}
-use Rattle.tariff.specs.Units.{maxQuantity}
+use Rattle.tariff.specs.declared.units.Quantity.{Quantity}
 use borrow.Author.Needs.{needs}
+use borrow.Author.Tests.{eqb-true, eqb-false}
 use Rattle.cut_rules.specs.Inner.{need, raisedTo, enough}
 use Rattle.cut_rules.proofs.Turns.{need-before, need-behind, need-kept, need-raised, need-none, need-end}
 use Rattle.contract_cuts.specs.Inner.{cellAt, slopeFrom, slopeIn, cutIn}
@@ -17,7 +18,7 @@ use Rattle.contract_cuts.proofs.least_need.Tie as tie
 
 abbrev Inv-loop : tie.InvT-loop
 Inv-loop constraints factors excesses from upto source sink kind most need₀ k₀ n k =
-    (k ≤ constraints) × (n ≤ most) × (n ≡ need k (cellAt excesses) (slopeFrom factors source sink kind))
+    (k ≤ constraints) × (n .0 ≤ most .0) × (n .0 ≡ need k (cellAt excesses) (slopeFrom factors source sink kind))
 
 abbrev μ-loop : tie.MeasureT-loop
 μ-loop constraints factors excesses from upto source sink kind most need₀ k₀ n k = upto - k
@@ -28,12 +29,9 @@ mul-source c = search needs
 mul-sink : tie.Need-mul-sink Inv-loop μ-loop
 mul-sink c = search needs
 
-cell-requires : tie.Need-cell-requires Inv-loop μ-loop
-cell-requires c κs = search needs
-
 loop-holds : tie.Need-loop-holds Inv-loop μ-loop
 loop-holds c =
-    let s = c .before .before .before .before in
+    let s = c .before .before .before in
     let o = s .pre .2 in
     (o .from-below, omega arith, need-before (cellAt (s .args .excesses .now)) (slopeIn (s .args .constraints) (s .args .factors .now) (s .args .c)) (s .args .from) (o .none-before))
 
@@ -41,7 +39,7 @@ mul-excess : tie.Need-mul-excess Inv-loop μ-loop
 mul-excess c = search needs
 
 shared-slice-copy-out-excess : tie.Need-shared-slice-copy-out-excess Inv-loop μ-loop
-shared-slice-copy-out-excess c = let s = c .before .before .before .before .before .before in omega (arith, s .pre .1 .long, s .pre .2 .upto-below)
+shared-slice-copy-out-excess c = let s = c .before .before .before .before .before in omega (arith, s .pre .1 .long, s .pre .2 .upto-below)
 
 add-raised : tie.Need-add-raised Inv-loop μ-loop
 add-raised c = search needs
@@ -63,19 +61,18 @@ shared-slice-copy-out-raised-2 c = search needs
 
 raised-requires : tie.Need-raised-requires Inv-loop μ-loop
 raised-requires c κs =
-    let s = c .before .before .before .before .before .before .before .before .before .before in
+    let s = c .before .before .before .before .before .before .before .before .before in
     let l = c .before .before .before .before .before .loop in
     let h : l .k < s .args .constraints = omega (arith, c .before .before .before .before .loop-test .taken, s .pre .2 .upto-below) in
-    let r = factors-kept (s .args .constraints) (s .args .factors .now) (s .args .c) (s .pre .0) (l .k) h in
-    let most : c .before .before .before .before .before .before .cell .result ≤ maxQuantity = rw (c .before .before .before .before .before .before .cell .ensures) (s .pre .0 .quantity-sized) in (
-      (omega (arith, r), omega (arith, r), l .inv .1, most),
+    let r = factors-kept (s .args .constraints) (s .args .factors .now) (s .args .c) (s .pre .0) (l .k) h in (
+      (omega (arith, r), omega (arith, r), l .inv .1, s .pre .0 .quantity-sized),
       (ltZ-yes (rw (c .before .before .if1 .taken) tt), rw (back (cellAt (s .args .excesses .now) (l .k)) (s .pre .1 .sized (l .k) h)) (s .pre .1 .sized (l .k) h)),
     )
 
 -- an overloaded constraint: what `raised` gives, over the contract's slope and quantity
 module _ (c : tie.After-raised Inv-loop μ-loop) where
   abbrev s : tie.Start Inv-loop μ-loop
-  s = c .before .before .before .before .before .before .before .before .before .before .before
+  s = c .before .before .before .before .before .before .before .before .before .before
 
   abbrev k : ℕ
   k = c .before .before .before .before .before .before .loop .k
@@ -95,19 +92,19 @@ module _ (c : tie.After-raised Inv-loop μ-loop) where
   overloaded : pos 0 <ℤ e k
   overloaded = rw same at (ltZ-yes {a = pos 0} {b = kept (e k)} (rw (c .before .before .before .if1 .taken) tt))
 
-  raised-is : c .raised .result ≡ raisedTo (e k) (w k) (s .args .c .quantity .0) (c .before .before .before .before .before .before .loop .need)
+  raised-is : c .raised .result .0 ≡ raisedTo (e k) (w k) (s .args .c .quantity .0) (c .before .before .before .before .before .before .loop .need .0)
   raised-is =
       let slope = slope-is (s .args .constraints) (s .args .factors .now) (s .args .c) (s .pre .0) k near in
-      let most = c .before .before .before .before .before .before .before .cell .ensures in
-      c .raised .ensures ∙ (λ i. raisedTo (same i) (slope i) (most i) (c .before .before .before .before .before .before .loop .need))
+      c .raised .ensures ∙ (λ i. raisedTo (same i) (slope i) (s .args .c .quantity .0) (c .before .before .before .before .before .before .loop .need .0))
 
 returns : tie.Need-returns Inv-loop μ-loop
 unfolding cutIn
 returns c =
-    let x = c .before in
+    let x = c .before .before in
     let q = s x .args .c .quantity .0 in
-    let n = x .before .before .before .before .before .before .loop .need in
-    let none = need-none (e x) (w x) (k x) n q (x .raised .result) (raised-is x) (s x .args .constraints) (near x) (overloaded x) (c .if2 .taken) in
+    let n = x .before .before .before .before .before .before .loop .need .0 in
+    let found = eqb-true (x .raised .result .0) 0 (sym (c .before .is-zero .ensures) ∙ c .if2 .taken) in
+    let none = need-none (e x) (w x) (k x) n q (x .raised .result .0) (raised-is x) (s x .args .constraints) (near x) (overloaded x) found in
     (omega arith, none ∙ nothing (enough (s x .args .constraints) (e x) (w x) 0))
 
 add-k : tie.Need-add-k Inv-loop μ-loop
@@ -118,38 +115,37 @@ loop-less c = search needs
 
 loop-again : tie.Need-loop-again Inv-loop μ-loop
 loop-again c =
-    let s = c .before .before .before .before .before .before .before .before in
+    let s = c .before .before .before .before .before .before .before in
     let l = c .before .before .before .loop in
     let h : l .k < s .args .constraints = omega (arith, c .before .before .loop-test .taken, s .pre .2 .upto-below) in
     let q = s .args .c .quantity .0 in
     let e = cellAt (s .args .excesses .now) in
     let w = slopeIn (s .args .constraints) (s .args .factors .now) (s .args .c) in
-    let is = c .before .before .before .before .cell .ensures in
-    let most : l .need ≤ q = rw is at (l .inv .1) in
-    let next : (c .if1 .need ≤ q) × (c .if1 .need ≡ need (l .k + 1) e w) =
+    let most : l .need .0 ≤ q = l .inv .1 in
+    let next : (c .if1 .need .0 ≤ q) × (c .if1 .need .0 ≡ need (l .k + 1) e w) =
     ⊎-elim
     (λ v.
     let x : tie.After-raised Inv-loop μ-loop =
     record { before = record { before = record { before = record { before = c .before; if1 = v .0 }; raised-arg = v .1 }; raised-arg2 = v .2 }; raised = v .3 } in
-    let r = need-raised e w (l .k) (l .need) q (v .3 .result) (raised-is x) (l .inv .2) most (v .4 .left) in
-    (rw (v .5) (r .1), v .5 ∙ r .0))
-    (λ v. (rw (v .1) most, v .1 ∙ need-kept e w (l .k) (l .need) (l .inv .2) (rw (back (e (l .k)) (s .pre .1 .sized (l .k) h)) at (ltZ-no {a = pos 0} {b = kept (e (l .k))} (rw (v .0 .left) tt)))))
+    let some = eqb-false (v .3 .result .0) 0 (sym (v .4 .ensures) ∙ v .5 .left) in
+    let r = need-raised e w (l .k) (l .need .0) q (v .3 .result .0) (raised-is x) (l .inv .2) most some in
+    (rw (v .6) (r .1), ap (λ (z : Quantity). z .0) (v .6) ∙ r .0))
+    (λ v. (rw (v .1) most, ap (λ (z : Quantity). z .0) (v .1) ∙ need-kept e w (l .k) (l .need .0) (l .inv .2) (rw (back (e (l .k)) (s .pre .1 .sized (l .k) h)) at (ltZ-no {a = pos 0} {b = kept (e (l .k))} (rw (v .0 .left) tt)))))
     (c .if1 .came) in
-    (omega arith, rw is (next .0), next .1)
+    (omega arith, next .0, next .1)
 
 returns-2 : tie.Need-returns-2 Inv-loop μ-loop
 unfolding cutIn
 returns-2 c =
-    let s = c .before .before .before .before .before .before in
+    let s = c .before .before .before .before .before in
     let l = c .before .loop in
     let e = cellAt (s .args .excesses .now) in
     let w = slopeIn (s .args .constraints) (s .args .factors .now) (s .args .c) in
-    let most : l .need ≤ s .args .c .quantity .0 = rw (c .before .before .cell .ensures) at (l .inv .1) in
     let all = need-behind e w (l .k) (s .args .constraints) (l .inv .0) (λ j a b. s .pre .2 .none-behind j (omega arith) b) in
-    (most, need-end e w (s .args .constraints) (l .need) (s .args .c .quantity .0) (l .inv .2 ∙ all) most)
+    (l .inv .1, need-end e w (s .args .constraints) (l .need .0) (s .args .c .quantity .0) (l .inv .2 ∙ all) (l .inv .1))
 
 pub least-need-spec : {M : Type 1} → statement M
 least-need-spec =
     tie.close (tie.spec
-    Inv-loop μ-loop mul-source mul-sink cell-requires loop-holds mul-excess shared-slice-copy-out-excess add-raised mul-raised shared-slice-copy-out-raised add-raised-2 mul-raised-2
-    shared-slice-copy-out-raised-2 raised-requires returns add-k loop-less loop-again returns-2)
+    Inv-loop μ-loop mul-source mul-sink loop-holds mul-excess shared-slice-copy-out-excess add-raised mul-raised shared-slice-copy-out-raised add-raised-2 mul-raised-2
+    shared-slice-copy-out-raised-2 raised-requires (λ c κs. search needs) returns add-k loop-less loop-again returns-2)

@@ -8,10 +8,10 @@ use lib.IntN.{ℤ, pos}
 use Rattle.text.proofs.Putting.{put-same}
 use Rattle.tariff.specs.Units.{maxConstraints}
 use Rattle.texts.proofs.WithFiles.{grid-refused, grid-text}
-use Rattle.grid_file.specs.ReadGrid.{cappedChecks, programBytes, programFactors}
-use Rattle.grid_file.proofs.Taken.{GridTaken, within-taken}
+use Rattle.grid_rules.specs.ReadGrid.{cappedChecks, programBytes, programFactors}
+use Rattle.grid_rules.proofs.Taken.{GridTaken, within-taken}
 use borrow.Author.Needs.{needs}
-use Rattle.feasibility_report.specs.WriteReport.{report}
+use Rattle.report_rules.specs.WriteReport.{report}
 use Rattle.feasibility_report.proofs.put_report.Statement.{statement}
 use Rattle.feasibility_report.proofs.put_report.Tie as tie
 

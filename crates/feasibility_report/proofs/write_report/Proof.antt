@@ -5,7 +5,7 @@ use borrow.Author.Tests.{lt-ltb, le-ltb}
 use Rattle.text.proofs.Putting.{put-front}
 use Rattle.tariff.specs.Checks.{shortTable}
 use Rattle.tariff.proofs.Checks.{first-refuses, last-passes}
-use Rattle.feasibility_report.specs.WriteReport.{reportRoom, reportChecks}
+use Rattle.report_rules.specs.WriteReport.{reportRoom, reportChecks}
 use borrow.Author.Needs.{needs}
 use Rattle.feasibility_report.proofs.write_report.Statement.{statement}
 use Rattle.feasibility_report.proofs.write_report.Tie as tie

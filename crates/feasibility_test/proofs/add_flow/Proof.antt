@@ -6,8 +6,7 @@ use lib.ListN.{length, getD, length-set}
 use lib.Dec.{lit<}
 use borrow.Author.Needs.{needs}
 use lib.IntN.{ℤ, pos, natAbs, _+ℤ_}
-use Rattle.tariff.specs.Units.{maxConstraints, maxContracts}
-use Rattle.tariff.specs.Inner.{maxFlow}
+use Rattle.tariff.specs.Units.{maxConstraints, maxContracts, maxFlow}
 use Rattle.feasibility_test.proofs.Flowing.{part, cell-done, cell-rest, kept-sized, rows-kept, part-is, part-small, sum-is, added}
 use Rattle.feasibility_test.proofs.add_flow.Statement.{statement}
 use Rattle.feasibility_test.proofs.add_flow.Tie as tie

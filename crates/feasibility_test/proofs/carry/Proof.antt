@@ -8,7 +8,7 @@ use Rattle.tariff.specs.Units.{factorsOf}
 use Rattle.tariff.specs.Contracts.{ofPeriod}
 use Rattle.layouts.specs.BookFile.{contractCountIn, contractAt}
 use Rattle.books.proofs.Accepted.{book-accepted}
-use Rattle.feasibility_test.specs.Inner.{Carries}
+use Rattle.feasibility_test.specs.Carried.{Carries}
 use Rattle.feasibility_test.proofs.carry.Statement.{statement}
 use Rattle.feasibility_test.proofs.carry.Tie as tie
 

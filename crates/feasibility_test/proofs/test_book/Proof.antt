@@ -7,7 +7,8 @@ use Rattle.tariff.specs.Contracts.{periodOf, ofPeriod}
 use Rattle.layouts.specs.BookFile.{bookIn}
 use Rattle.tariff.proofs.Answers.{answer-refused, answer-passed}
 use Rattle.feasibility_test.specs.TestBook.{TestCall, testCall, testedGrid, testedContracts}
-use Rattle.feasibility_test.specs.Inner.{Carries, Judges}
+use Rattle.feasibility_test.specs.Inner.{Judges}
+use Rattle.feasibility_test.specs.Carried.{Carries}
 use Rattle.feasibility_test.proofs.Checking.{Tested, tested, refused-passed}
 use Rattle.feasibility_test.proofs.Flowing.{carried-judgeable}
 use borrow.Author.Needs.{needs}

@@ -10,7 +10,7 @@ use Rattle.tariff.specs.Units.{factorsOf}
 use Rattle.tariff.specs.Refusals.{given}
 use Rattle.tariff.proofs.Answers.{answer-refused, cells-refused, answer-passed, cells-passed}
 use Rattle.layouts.specs.BookFile.{bookIn}
-use Rattle.feasibility_test.specs.Inner.{Carries}
+use Rattle.feasibility_test.specs.Carried.{Carries}
 use Rattle.feasibility_test.proofs.Flowing.{carried-judgeable}
 use Rattle.flows.specs.FindFlows.{FlowsCall, flowsCall, findFlowsChecked, countedContracts, flowCells}
 use Rattle.flows.proofs.Passing.{Ready, ready, cells-are}

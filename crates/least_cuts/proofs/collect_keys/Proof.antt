@@ -12,7 +12,7 @@ use Rattle.tariff.specs.Units.{maxContracts}
 use Rattle.layouts.specs.declared.forms.Form.{Form}
 use Rattle.layouts.specs.BookFile.{contractCountIn, contractIn, contractAt}
 use Rattle.books.proofs.Accepted.{Accepted, book-accepted, accepted-room}
-use Rattle.tariff.specs.Inner.{InRange}
+use Rattle.tariff.specs.Contracts.{InRange}
 use Rattle.feasibility_test.proofs.Checking.{ends-of}
 use Rattle.cut_rules.specs.Inner.{keyOf, keysTo}
 use Rattle.least_cuts.specs.Inner.{periodCut}

@@ -29,14 +29,14 @@ grown-count-requires c κs =
     (rw (b .book-form .ensures, c .contract-count .ensures .0) (s .pre .0), s .pre .1)
 
 abbrev grownBook : (c : tie.Start) → List Contract
-grownBook c = let a = c .args in newBook (lostIn (a .square .now)) (a .loads .now) (a .period) (bookIn (a .book .now))
+grownBook c = let a = c .args in newBook (lostIn (a .square)) (a .loads .now) (a .period) (bookIn (a .book .now))
 
 grown-is : (c : tie.After-grown-count) → c .grown-count .result ≡ length (grownBook (c .before .before .before .before .before .before))
 grown-is c =
     let k = c .before in
     let b = k .before in
     let a = b .before .before .before .before .args in
-    rw (grown-length (bookFormIn (a .book .now)) (a .book .now) (a .period) (a .square .now) (a .loads .now) (contractCountIn (a .book .now)))
+    rw (grown-length (bookFormIn (a .book .now)) (a .book .now) (a .period) (a .square) (a .loads .now) (contractCountIn (a .book .now)))
     (rw (b .book-form .ensures, k .contract-count .ensures .0) at (c .grown-count .ensures))
 
 -- what 10 and 9 found, by the grown book
@@ -94,7 +94,7 @@ returns-2 c =
     let told = t .enum-told .given .1 in
     let stored = rw (b .book-form .ensures, k .contract-count .ensures .0) at (w .write-grown .ensures) in
     let few : length (grownBook s) ≤ maxContracts = rw (← grown-is g) (parts t .0) in
-    let long = file-size f (grownBook s) few (book-fits f (a .book .now) (a .period) (a .square .now) (a .loads .now) m (s .pre .1)) in
+    let long = file-size f (grownBook s) few (book-fits f (a .book .now) (a .period) (a .square) (a .loads .now) m (s .pre .1)) in
     let bytes : c .book-bytes .result ≡ length (bookFile f (grownBook s)) = rw (long, ← grown-is g, ← b .book-form .ensures) (c .book-bytes .ensures) in
     record {
       length-given = rw bytes (answer-passed _ _ (found r) told _);

@@ -39,36 +39,36 @@ passed : (c : tie.After-enum-told) → let q = call (c .before .before) in
 passed c = sym (c .before .before .check-input .ensures) ∙ c .enum-told .given .1
 
 net-square-requires : tie.Need-net-square-requires
-net-square-requires c κs = let t = c .before in (input-figures (call (t .before .before)) (passed t) .rows, c .no-transfers .ensures)
+net-square-requires c κs = input-figures (call (c .before .before)) (passed c) .rows
 
 loads-exceeded-requires : tie.Need-loads-exceeded-requires
-loads-exceeded-requires c κs = let n = c .before in let t = n .before .before in (input-figures (call (t .before .before)) (passed t) .few, n .net-square .ensures .size)
+loads-exceeded-requires c κs = let t = c .before in (input-figures (call (t .before .before)) (passed t) .few, c .net-square .ensures .size)
 
 -- of two of the LSEs the square says what the rows do
-same-losses : (c : tie.After-net-square) → let q = call (c .before .before .before .before) in
+same-losses : (c : tie.After-net-square) → let q = call (c .before .before .before) in
     (i j : ℕ) → 0 < i → i ≤ length (q .loads) → 0 < j → j ≤ length (q .loads) → lostIn (c .net-square .result) i j ≡ loss (rowsGiven q) i j
 same-losses c i j a b d e =
-    let t = c .before .before in
+    let t = c .before in
     let few = input-figures (call (t .before .before)) (passed t) .few in
     square-losses _ _ (c .net-square .ensures .nets) i j a (le-trans b few) d (le-trans e few)
 
 -- 23, by the rows
-load-told : (c : tie.After-loads-exceeded) → let q = call (c .before .before .before .before .before .before) in loadsExceeded (loss (rowsGiven q)) (q .loads) ≡ c .loads-exceeded .result
+load-told : (c : tie.After-loads-exceeded) → let q = call (c .before .before .before .before) in loadsExceeded (loss (rowsGiven q)) (q .loads) ≡ c .loads-exceeded .result
 load-told c =
-    let n = c .before .before in
-    sym (c .loads-exceeded .ensures ∙ exceeded-alike (lostIn (n .net-square .result)) (loss (rowsGiven (call (n .before .before .before .before)))) (call (n .before .before .before .before) .loads) (same-losses n))
+    let n = c .before in
+    sym (c .loads-exceeded .ensures ∙ exceeded-alike (lostIn (n .net-square .result)) (loss (rowsGiven (call (n .before .before .before)))) (call (n .before .before .before) .loads) (same-losses n))
 
 returns-2 : tie.Need-returns-2
 returns-2 c =
-    let t = c .before .before .before .before .before in
+    let t = c .before .before .before in
     let e = load-refuses (call (t .before .before)) (passed t) (load-told (c .before) ∙ c .if1 .taken) in
     record { length-given = rw e; bytes-written = rw e }
 
 migrate-by-requires : tie.Need-migrate-by-requires
 migrate-by-requires c κs =
-    let x = c .before .before .before in
-    let n = x .before .before .before in
-    let t = n .before .before in
+    let x = c .before .before in
+    let n = x .before .before in
+    let t = n .before in
     let q = call (t .before .before) in
     let f = input-figures q (passed t) in (
       accepted-readable (q .nodes) (q .book) (input-accepted q (passed t)),
@@ -83,10 +83,10 @@ migrate-by-requires c κs =
 returns-3 : tie.Need-returns-3
 returns-3 c =
     let m = c .before .before in
-    let p = m .before .before .before in
+    let p = m .before .before in
     let x = p .before in
-    let n = x .before .before .before in
-    let t = n .before .before in
+    let n = x .before .before in
+    let t = n .before in
     let q = call (t .before .before) in
     rw (
       room-next q (passed t) (load-told (x .before) ∙ x .if1 .left),
@@ -97,5 +97,5 @@ returns-3 c =
 pub migrate-load-spec : {M : Type 1} → statement M
 migrate-load-spec =
     tie.close (tie.spec
-    (λ c κs. search needs) (λ c. search needs) returns (λ c. search needs) (λ c κs. search needs) net-square-requires loads-exceeded-requires returns-2 (λ c κs. search needs) migrate-by-requires
+    (λ c κs. search needs) (λ c. search needs) returns (λ c. search needs) net-square-requires loads-exceeded-requires returns-2 (λ c κs. search needs) migrate-by-requires
     (λ c. search needs) returns-3)

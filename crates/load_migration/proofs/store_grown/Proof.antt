@@ -11,23 +11,23 @@ use Rattle.layouts.proofs.BookFile.{contract-in-fits}
 use Rattle.migration_rules.specs.Contracts.{newFrom}
 use Rattle.load_transfers.specs.Squares.{lostIn}
 use Rattle.migrated_contracts.specs.Inner.{Appended}
-use Rattle.migrated_contracts.proofs.Pairs.{none-appended, more-appended, room-fewer}
+use Rattle.migrated_contracts.proofs.Pairs.{none-appended, more-appended, room-fewer, row-ready, new-by-row}
 use Rattle.load_migration.specs.Inner.{newTo}
 use Rattle.load_migration.proofs.Growing.{contract-there, none-new, new-more, length-more, new-grow}
 use Rattle.load_migration.proofs.store_grown.Statement.{statement}
 use Rattle.load_migration.proofs.store_grown.Tie as tie
 
 abbrev Inv-loop : tie.InvT-loop
-Inv-loop file₀ form book count period square loads place₀ i₀ file place i =
+Inv-loop file₀ form book count period loads square place₀ i₀ file place i =
     (i ≤ count) × (length file ≡ length file₀) × Appended form count (newTo form book period square loads i) file₀ file place
 
 abbrev μ-loop : tie.MeasureT-loop
-μ-loop file₀ form book count period square loads place₀ i₀ file place i = count - i
+μ-loop file₀ form book count period loads square place₀ i₀ file place i = count - i
 
 loop-holds : tie.Need-loop-holds Inv-loop μ-loop
 loop-holds c =
     let a = c .before .before .before .args in
-    (omega arith, refl, rw (none-new (a .form) (a .book .now) (a .period) (a .square .now) (a .loads .now)) (none-appended (a .form) (a .count) (a .file .now)))
+    (omega arith, refl, rw (none-new (a .form) (a .book .now) (a .period) (a .t6) (a .loads .now)) (none-appended (a .form) (a .count) (a .file .now)))
 
 contract-at-requires : tie.Need-contract-at-requires Inv-loop μ-loop
 contract-at-requires c κs =
@@ -35,27 +35,29 @@ contract-at-requires c κs =
     contract-there (s .args .form) (s .args .count) (s .args .book .now) (s .pre .0 .0) (c .before .loop .i) (omega arith)
 
 -- room for what follows this contract
-room : (c : tie.After-store-new-arg Inv-loop μ-loop) → let a = c .before .before .before .before .before .before .before .args in let l = c .before .before .before .loop in
-    l .place + length (newFrom (lostIn (a .square .now)) (a .loads .now) (a .period) (contractIn (a .form) (a .book .now) (l .i)))
-    ≤ a .count + length (newTo (a .form) (a .book .now) (a .period) (a .square .now) (a .loads .now) (a .count))
+room : (c : tie.After-store-new-arg Inv-loop μ-loop) → let a = c .before .before .before .before .before .before .before .before .before .args in let l = c .before .before .before .before .before .loop in
+    l .place + length (newFrom (lostIn (a .t6)) (a .loads .now) (a .period) (contractIn (a .form) (a .book .now) (l .i)))
+    ≤ a .count + length (newTo (a .form) (a .book .now) (a .period) (a .t6) (a .loads .now) (a .count))
 room c =
-    let a = c .before .before .before .before .before .before .before .args in
-    let l = c .before .before .before .loop in
+    let a = c .before .before .before .before .before .before .before .before .before .args in
+    let l = c .before .before .before .before .before .loop in
     omega (
       arith,
-      length-more (a .form) (a .book .now) (a .period) (a .square .now) (a .loads .now) (l .i),
+      length-more (a .form) (a .book .now) (a .period) (a .t6) (a .loads .now) (l .i),
       l .inv .2 .place,
-      new-grow (a .form) (a .book .now) (a .period) (a .square .now) (a .loads .now) (l .i + 1) (a .count) (omega arith),
+      new-grow (a .form) (a .book .now) (a .period) (a .t6) (a .loads .now) (l .i + 1) (a .count) (omega arith),
     )
 
 store-new-requires : tie.Need-store-new-requires Inv-loop μ-loop
 store-new-requires c κs =
-    let l = c .before .before .before .loop in
-    let s = c .before .before .before .before .before .before .before in
+    let l = c .before .before .before .before .before .loop in
+    let s = c .before .before .before .before .before .before .before .before .before in
     let a = s .args in
+    let p = c .before .before .row-of in
+    let k = c .before .before .before .contract-at in
     let old = length-listTo (a .count) (contractIn (a .form) (a .book .now)) in (
-      s .pre .0 .1,
-      rw (c .before .contract-at .ensures) (record {
+      row-ready (a .t6) (a .loads .now) (s .pre .0 .1) (k .result) (p .result) (p .ensures .1) (p .ensures .0),
+      rw (new-by-row (a .t6) (a .loads .now) (s .pre .0 .1) (k .result) (p .result) (p .ensures .1) (a .period), k .ensures) (record {
         quantity-most = s .pre .0 .0 .quantities (l .i) (omega arith);
         fits = contract-in-fits (a .form) (a .book .now) (l .i);
         few = le-trans (room c) (rw old at (s .pre .1 .few));
@@ -66,14 +68,17 @@ store-new-requires c κs =
 loop-again : tie.Need-loop-again Inv-loop μ-loop
 loop-again c =
     let w = c .before .before in
-    let k = w .before .before in
+    let p = w .before .before .before .row-of in
+    let k = w .before .before .before .before in
     let l = k .before .before .loop in
-    let a = k .before .before .before .before .before .before .args in (
+    let s = k .before .before .before .before .before .before in
+    let a = s .args in
+    let same = new-by-row (a .t6) (a .loads .now) (s .pre .0 .1) (k .contract-at .result) (p .result) (p .ensures .1) (a .period) in (
       omega arith,
       w .store-new .kept .0 ∙ l .inv .1,
-      rw (new-more (a .form) (a .book .now) (a .period) (a .square .now) (a .loads .now) (l .i))
-          (more-appended (a .form) (a .count) (newTo (a .form) (a .book .now) (a .period) (a .square .now) (a .loads .now) (l .i)) (a .file .now) (l .file) (l .place) (l .inv .2) _ _ _
-          (rw (k .contract-at .ensures) at (w .store-new .ensures))),
+      rw (new-more (a .form) (a .book .now) (a .period) (a .t6) (a .loads .now) (l .i))
+          (more-appended (a .form) (a .count) (newTo (a .form) (a .book .now) (a .period) (a .t6) (a .loads .now) (l .i)) (a .file .now) (l .file) (l .place) (l .inv .2) _ _ _
+          (rw (same, k .contract-at .ensures) at (w .store-new .ensures))),
     )
 
 same-length : tie.Need-same-length Inv-loop μ-loop
@@ -87,4 +92,4 @@ returns c =
 
 pub store-grown-spec : {M : Type 1} → statement M
 store-grown-spec =
-    tie.close (tie.spec Inv-loop μ-loop loop-holds contract-at-requires store-new-requires (λ c. search needs) (λ c. search needs) loop-again same-length returns)
+    tie.close (tie.spec Inv-loop μ-loop loop-holds contract-at-requires (λ c κs. search needs) (λ c. search needs) (λ c. search needs) store-new-requires (λ c. search needs) (λ c. search needs) loop-again same-length returns)

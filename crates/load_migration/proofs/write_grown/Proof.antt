@@ -24,7 +24,7 @@ store-old-requires c κs =
     let s = w .before .before .before .before .before in
     let a = s .args in
     let old = length-listTo (a .count) (contractIn (a .form) (a .book .now)) in
-    let new = length (newTo (a .form) (a .book .now) (a .period) (a .square .now) (a .loads .now) (a .count)) in
+    let new = length (newTo (a .form) (a .book .now) (a .period) (a .square) (a .loads .now) (a .count)) in
     (s .pre .0 .0, room-fewer (a .form) (a .count) (length (contractsTo (a .form) (a .book .now) (a .count)) + new) _ (omega (arith, old)) (rw (w .store-header .kept .0) (s .pre .1 .1 .room)))
 
 store-grown-requires : tie.Need-store-grown-requires
@@ -48,9 +48,9 @@ returns c =
     let w = o .before .before .before .before in
     let s = w .before .before .before .before .before in
     let a = s .args in
-    grown-written (a .form) (a .grown) (a .count) _ (contractsTo (a .form) (a .book .now) (a .count)) (newTo (a .form) (a .book .now) (a .period) (a .square .now) (a .loads .now) (a .count))
+    grown-written (a .form) (a .grown) (a .count) _ (contractsTo (a .form) (a .book .now) (a .count)) (newTo (a .form) (a .book .now) (a .period) (a .square) (a .loads .now) (a .count))
     (a .file .now)
-    _ _ _ (length-listTo (a .count) (contractIn (a .form) (a .book .now))) (s .pre .1 .0) (book-fits (a .form) (a .book .now) (a .period) (a .square .now) (a .loads .now) (a .count) (s .pre .0 .1))
+    _ _ _ (length-listTo (a .count) (contractIn (a .form) (a .book .now))) (s .pre .1 .0) (book-fits (a .form) (a .book .now) (a .period) (a .square) (a .loads .now) (a .count) (s .pre .0 .1))
     (w .store-header .ensures) (o .store-old .ensures) (n .store-grown .ensures)
 
 pub write-grown-spec : {M : Type 1} → statement M

@@ -12,7 +12,7 @@ use Rattle.layouts.specs.declared.forms.Form.{Form}
 use Rattle.layouts.specs.Forms.{endWidth}
 use Rattle.layouts.specs.BookFile.{contractIn}
 use Rattle.layouts.proofs.BookFile.{record-room, contract-in-fits}
-use Rattle.layouts.specs.Inner.{ContractFits}
+use Rattle.layouts.specs.BookTable.{ContractFits}
 use Rattle.books.specs.Inner.{headerBytes, contractBytes, bookFront, bitsBytes}
 use Rattle.books.proofs.Making.{front-begins, front-more, front-ends}
 use Rattle.view_rules.specs.Views.{anonymous}

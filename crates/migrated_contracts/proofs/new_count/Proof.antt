@@ -5,7 +5,7 @@ use native.Mathlib.Omega.{arith}
 use borrow.Author.Needs.{needs}
 use lib.ListN.{length}
 use Rattle.migration_rules.specs.Contracts.{migrates}
-use Rattle.load_transfers.specs.Squares.{lostIn}
+use Rattle.load_transfers.specs.Squares.{rowLosses}
 use Rattle.migrated_contracts.proofs.Pairs.{new-some, new-none, base-held}
 use Rattle.migrated_contracts.proofs.new_count.Statement.{statement}
 use Rattle.migrated_contracts.proofs.new_count.Tie as tie
@@ -16,18 +16,18 @@ told c = sym (c .before .migrates .ensures) ∙ c .if1 .taken
 pair-count-requires : tie.Need-pair-count-requires
 pair-count-requires c κs =
     let s = c .before .before .before in
-    (s .pre .0, base-held (lostIn (s .args .square .now)) (s .args .loads .now) (s .args .period) (s .args .c) (told c) (s .pre .1))
+    (s .pre .0, base-held (rowLosses (s .args .row)) (s .args .loads .now) (s .args .period) (s .args .c) (told c) (s .pre .1))
 
 returns : tie.Need-returns
 returns c =
     let b = c .before in
     let a = b .before .before .before .args in
-    (c .pair-count .ensures .0 ∙ sym (ap length (new-some (lostIn (a .square .now)) (a .loads .now) (a .period) (a .c) (told b))), c .pair-count .ensures .1)
+    (c .pair-count .ensures .0 ∙ sym (ap length (new-some (rowLosses (a .row)) (a .loads .now) (a .period) (a .c) (told b))), c .pair-count .ensures .1)
 
 returns-2 : tie.Need-returns-2
 returns-2 c =
     let a = c .before .before .before .args in
-    (sym (ap length (new-none (lostIn (a .square .now)) (a .loads .now) (a .period) (a .c) (sym (c .before .migrates .ensures) ∙ c .if1 .left))), omega arith)
+    (sym (ap length (new-none (rowLosses (a .row)) (a .loads .now) (a .period) (a .c) (sym (c .before .migrates .ensures) ∙ c .if1 .left))), omega arith)
 
 pub new-count-spec : {M : Type 1} → statement M
 new-count-spec = tie.close (tie.spec (λ c κs. search needs) pair-count-requires returns returns-2)

@@ -1,15 +1,14 @@
 -- `pair_size`.
 use mathlib.Core.Path.{sym, _∙_}
 use borrow.Author.Needs.{needs}
-use borrow.Author.Tests.{eq-eqb, ne-eqb}
 use Rattle.migrated_contracts.proofs.pair_size.Statement.{statement}
 use Rattle.migrated_contracts.proofs.pair_size.Tie as tie
 
 returns : tie.Need-returns
-returns c = rw (eq-eqb (c .before .before .args .quantity .0) 0 (sym (c .before .cell .ensures) ∙ c .if1 .taken))
+returns c = rw (sym (c .before .is-zero .ensures) ∙ c .if1 .taken)
 
 returns-2 : tie.Need-returns-2
-returns-2 c = rw (ne-eqb (c .before .before .args .quantity .0) 0 (λ e. c .if1 .left (c .before .cell .ensures ∙ e)))
+returns-2 c = rw (sym (c .before .is-zero .ensures) ∙ c .if1 .left)
 
 pub pair-size-spec : {M : Type 1} → statement M
 pair-size-spec = tie.close (tie.spec (λ c κs. search needs) returns returns-2)

@@ -4,9 +4,10 @@ use mathlib.Core.List.{[], _∷_}
 use Prim.Native.Nat.{_+_}
 use native.Mathlib.Omega.{arith}
 use borrow.Author.Needs.{needs}
+use borrow.Author.Tests.{eqb-true, eqb-false}
 use lib.ListN.{length}
 use Rattle.layouts.specs.Forms.{endWidth}
-use Rattle.layouts.specs.Inner.{ContractFits}
+use Rattle.layouts.specs.BookTable.{ContractFits}
 use Rattle.layouts.proofs.BookFile.{record-room}
 use Rattle.migrated_contracts.specs.Inner.{pairOf}
 use Rattle.migrated_contracts.proofs.Pairs.{fits-gained, fits-countered, none-appended, one-appended, more-appended, pair-none, pair-some}
@@ -16,13 +17,13 @@ use Rattle.migrated_contracts.proofs.store_pair.Tie as tie
 returns : tie.Need-returns
 returns c =
     let a = c .before .before .before .args in
-    rw (pair-none (a .c) (a .gainer) (a .quantity .0) (sym (c .before .cell .ensures) ∙ c .if1 .taken)) (none-appended (a .form) (a .at) (a .file .now))
+    rw (pair-none (a .c) (a .gainer) (a .quantity .0) (eqb-true (a .quantity .0) 0 (sym (c .before .is-zero .ensures) ∙ c .if1 .taken))) (none-appended (a .form) (a .at) (a .file .now))
 
 -- two contracts, and room for both
 two-long : (c : tie.Else1) → let a = c .before .before .before .args in length (pairOf (a .c) (a .gainer) (a .quantity .0)) ≡ 2
 two-long c =
     let a = c .before .before .before .args in
-    ap length (pair-some (a .c) (a .gainer) (a .quantity .0) (λ e. c .if1 .left (c .before .cell .ensures ∙ e)))
+    ap length (pair-some (a .c) (a .gainer) (a .quantity .0) (eqb-false (a .quantity .0) 0 (sym (c .before .is-zero .ensures) ∙ c .if1 .left)))
 
 -- each of them fits
 gained-fits : (c : tie.After-gained-by) → ContractFits (endWidth (c .before .before .before .before .args .form)) (c .gained-by .result)
@@ -71,7 +72,7 @@ returns-2 c =
     let e = g .before in
     let a = e .before .before .before .args in
     let two-more : a .at + 2 ≡ a .at + 1 + 1 = omega arith in
-    rw (pair-some (a .c) (a .gainer) (a .quantity .0) (λ z. e .if1 .left (e .before .cell .ensures ∙ z)), ← g .gained-by .ensures, ← k .countered-by .ensures)
+    rw (pair-some (a .c) (a .gainer) (a .quantity .0) (eqb-false (a .quantity .0) 0 (sym (e .before .is-zero .ensures) ∙ e .if1 .left)), ← g .gained-by .ensures, ← k .countered-by .ensures)
     (more-appended (a .form) (a .at) (g .gained-by .result ∷ []) (a .file .now) _ (a .at + 1) (one-appended (a .form) (a .at) (g .gained-by .result) (a .file .now) _ (w .store-contract .ensures))
     (k .countered-by .result ∷ []) _ (a .at + 2) (rw two-more (one-appended (a .form) (a .at + 1) (k .countered-by .result) _ _ (w2 .store-contract2 .ensures))))
 

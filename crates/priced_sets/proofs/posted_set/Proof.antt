@@ -27,15 +27,15 @@ loop-holds : tie.Need-loop-holds Inv-loop μ-loop
 loop-holds c = let a = c .before .args in (omega arith, set-start (a .constraints) (posted (a .prices .now)))
 
 -- bit k − 1 is the one found
-bit-is : (c : tie.After-posted Inv-loop μ-loop)
-    → boolByte (c .posted .result) ≡ setOf 1 (λ (j : ℕ). posted (c .before .before .before .before .before .args .prices .now) (c .before .before .before .loop .k - 1 + j))
-bit-is c = set-one (c .posted .result) (posted (c .before .before .before .before .before .args .prices .now)) (c .before .before .before .loop .k - 1) (c .posted .ensures)
+bit-is : (c : tie.After-exceeds Inv-loop μ-loop)
+    → boolByte (c .exceeds .result) ≡ setOf 1 (λ (j : ℕ). posted (c .before .before .before .before .before .args .prices .now) (c .before .before .before .loop .k - 1 + j))
+bit-is c = set-one (c .exceeds .result) (posted (c .before .before .before .before .before .args .prices .now)) (c .before .before .before .loop .k - 1) (c .exceeds .ensures)
 
-fits : (c : tie.After-posted Inv-loop μ-loop) → c .before .before .before .loop .set * 2 + boolByte (c .posted .result) < 2 ^ 64
+fits : (c : tie.After-exceeds Inv-loop μ-loop) → c .before .before .before .loop .set * 2 + boolByte (c .exceeds .result) < 2 ^ 64
 fits c =
     let s = c .before .before .before .before .before in
     let l = c .before .before .before .loop in
-    set-fits 1 (s .args .constraints) (l .k) (l .k - 1) (posted (s .args .prices .now)) (l .set) (boolByte (c .posted .result)) (omega arith) (l .inv .0) (l .inv .1) (bit-is c) (s .pre .0)
+    set-fits 1 (s .args .constraints) (l .k) (l .k - 1) (posted (s .args .prices .now)) (l .set) (boolByte (c .exceeds .result)) (omega arith) (l .inv .0) (l .inv .1) (bit-is c) (s .pre .0)
 
 mul-set-2 : tie.Need-mul-set-2 Inv-loop μ-loop
 mul-set-2 c = omega (arith, fits c)
@@ -48,7 +48,7 @@ loop-again c =
     let a = c .before .before .before .before .before .args in
     let l = c .before .before .before .loop in (
       omega arith,
-      set-turn 1 (a .constraints) (l .k) (l .k - 1) (posted (a .prices .now)) (l .set) (boolByte (c .posted .result)) (omega arith) (l .inv .0) (l .inv .1) (bit-is c),
+      set-turn 1 (a .constraints) (l .k) (l .k - 1) (posted (a .prices .now)) (l .set) (boolByte (c .exceeds .result)) (omega arith) (l .inv .0) (l .inv .1) (bit-is c),
     )
 
 returns : tie.Need-returns Inv-loop μ-loop

@@ -9,7 +9,8 @@ use Rattle.lists.specs.Lent.{overwrite}
 use Rattle.lists.proofs.Lists.{length-listTo, listTo-more, each-listTo}
 use Rattle.tariff.specs.declared.contracts.Contract.{Contract}
 use Rattle.layouts.specs.Forms.{endWidth}
-use Rattle.layouts.specs.Inner.{ContractFits, contractOf}
+use Rattle.layouts.specs.Inner.{contractOf}
+use Rattle.layouts.specs.BookTable.{ContractFits}
 use Rattle.layouts.proofs.BookFile.{record-room}
 use Rattle.books.specs.Inner.{headerBytes, bookFront}
 use Rattle.books.proofs.Making.{front-begins, front-more, front-ends}

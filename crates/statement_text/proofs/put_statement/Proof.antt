@@ -5,8 +5,8 @@ use lib.IntN.{ℤ, pos}
 use lib.ListN.{length-replicate}
 use Rattle.text.proofs.Putting.{put-same}
 use Rattle.tariff.specs.Units.{maxConstraints}
-use Rattle.grid_file.specs.ReadGrid.{programBytes, programFactors}
-use Rattle.grid_file.proofs.Taken.{within-taken}
+use Rattle.grid_rules.specs.ReadGrid.{programBytes, programFactors}
+use Rattle.grid_rules.proofs.Taken.{within-taken}
 use Rattle.texts.proofs.WithFiles.{grid-refused, grid-text}
 use Rattle.statement_text.specs.WriteStatement.{statement as statementOf}
 use borrow.Author.Needs.{needs}

@@ -8,8 +8,8 @@ use Rattle.tariff.specs.declared.refusals.Checked.the-variants.{Passed}
 use Rattle.tariff.proofs.Answers.{answer-refused, answer-passed}
 use Rattle.tier_rules.specs.Cells.{markedNumbers, markedFlows}
 use Rattle.tier_rules.proofs.Going.{buffer-refused, buffer-passed}
-use Rattle.tier_marks.specs.MarkTier.{MarkTierCall, markTierCall, markTierChecked}
-use Rattle.tier_marks.proofs.Marks.{AtTier, at-tier, marks-tier}
+use Rattle.mark_rules.specs.MarkTier.{MarkTierCall, markTierCall, markTierChecked}
+use Rattle.mark_rules.proofs.Marks.{AtTier, at-tier, marks-tier}
 use Rattle.tier_marks.proofs.mark_tier.Statement.{statement}
 use Rattle.tier_marks.proofs.mark_tier.Tie as tie
 

@@ -10,9 +10,9 @@ use lib.Dec.{eqb}
 use lib.ListN.{getD}
 use Rattle.tier_rules.specs.Cells.{flagCell, returnedNumbers, returnedFlows}
 use Rattle.tier_rules.proofs.Going.{buffer-refused, buffer-passed}
-use Rattle.tier_marks.specs.MarkTier.{markTierCall}
-use Rattle.tier_marks.specs.ReturnToTier.{ReturnToTierCall, returnToTierCall, returnToTierChecked}
-use Rattle.tier_marks.proofs.Marks.{AtTier, at-tier, return-parts, returns-to-tier}
+use Rattle.mark_rules.specs.MarkTier.{markTierCall}
+use Rattle.mark_rules.specs.ReturnToTier.{ReturnToTierCall, returnToTierCall, returnToTierChecked}
+use Rattle.mark_rules.proofs.Marks.{AtTier, at-tier, return-parts, returns-to-tier}
 use Rattle.tier_marks.proofs.return_to_tier.Statement.{statement}
 use Rattle.tier_marks.proofs.return_to_tier.Tie as tie
 

@@ -1,6 +1,7 @@
 //! Load migration: rows, loads and books of both forms; every fault alone, each with every later one, and some together; what the transfer keeps.
 
 mod cases;
+pub mod nets;
 
 use super::*;
 use crate::draw::{self, Size};

@@ -14,6 +14,7 @@ pub mod hubs;
 pub mod migration;
 pub mod priced;
 pub mod prices;
+pub mod refusals;
 pub mod remap;
 pub mod reordering;
 pub mod running;

@@ -80,21 +80,24 @@ pub fn given(base: &Contract, square: &Square, loads: &[i128]) -> Vec<Contract> 
     made
 }
 
-/// 22: a figure, count or LSE number outside its range, unequal lists, or a row whose old and new LSE are one.
-fn range_fails(lists: &Migration) -> bool {
-    let Migration { classes, customers, rates, olds, news, loads } = lists;
+/// 22 by so many LSEs and the rows: a figure, count or LSE number outside its range, unequal lists, or a row whose old and new LSE are one.
+fn rows_fail(lists: &Migration, lses: u64) -> bool {
+    let Migration { classes, customers, rates, olds, news, loads: _ } = lists;
     let rows = classes.len();
     let unequal = [customers, rates, olds, news].iter().any(|list| list.len() != rows);
-    let lses = loads.len() as u64;
     let no_lse = |number: &u64| *number < 1 || *number > lses;
     unequal
         || rows > 1000
         || !(1..=16).contains(&lses)
         || customers.iter().any(|&customers| customers > 1_000_000)
         || rates.iter().any(|&rate| rate > 10_000)
-        || loads.iter().any(|&load| load > 1_000_000_000_000)
         || olds.iter().chain(news).any(no_lse)
         || olds.iter().zip(news).any(|(old, new)| old == new)
+}
+
+/// 22 by a load for each LSE too.
+fn range_fails(lists: &Migration) -> bool {
+    rows_fail(lists, lists.loads.len() as u64) || lists.loads.iter().any(|&load| load > 1_000_000_000_000)
 }
 
 /// The rows of lists of equal length.
@@ -135,4 +138,11 @@ pub fn migrate(nodes: usize, period: u64, file: &[u8], lists: &Migration, room: 
     let file = file_of(form, &new);
     first(&[(room < file.len(), 9)])?;
     Ok(file)
+}
+
+/// The square by itself, a line for each loser, one behind the other: 22 by the LSEs and the rows, then 9.
+pub fn net_transfers(lses: usize, lists: &Migration, room: usize) -> Answer<Vec<i128>> {
+    first(&[(rows_fail(lists, lses as u64), 22)])?;
+    first(&[(room < lses * lses, 9)])?;
+    Ok(Square::new(&rows_of(lists), lses as i128).0.concat())
 }

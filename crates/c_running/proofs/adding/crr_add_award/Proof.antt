@@ -1,5 +1,5 @@
 -- `crr_add_award`.
-use Rattle.running_test.specs.AddAward.{addAwardOn, addAwardChecked}
+use Rattle.running_rules.specs.AddAward.{addAwardOn, addAwardChecked}
 use Rattle.tier_rules.proofs.Going.{number-given}
 use borrow.Author.Needs.{needs}
 use Rattle.c_running.proofs.adding.crr_add_award.Statement.{statement}

@@ -1,5 +1,5 @@
 -- `crr_open_running`.
-use Rattle.running_test.specs.OpenRunning.{openRunningOn, openRunningChecked}
+use Rattle.running_rules.specs.OpenRunning.{openRunningOn, openRunningChecked}
 use Rattle.tier_rules.proofs.Going.{number-given}
 use borrow.Author.Needs.{needs}
 use Rattle.c_running.proofs.opening.crr_open_running.Statement.{statement}

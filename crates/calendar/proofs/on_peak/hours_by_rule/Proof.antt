@@ -5,15 +5,16 @@ use Prim.Native.Nat.{suc, _-_, _≤_}
 use native.Mathlib.Omega.{arith}
 use Rattle.lists.specs.Sets.{countOf}
 use Rattle.calendar.specs.Dates.{monthDays}
-use Rattle.calendar.specs.OnPeak.{onPeakDay}
+use Rattle.calendar.specs.Inner.{onPeakByDays}
 use Rattle.calendar.proofs.Months.{month-in}
 use Rattle.calendar.proofs.Rule.{count-none, count-on, count-off, count-done}
+use Rattle.calendar.proofs.ByDays.{hours-by-days}
 use Rattle.calendar.proofs.on_peak.hours_by_rule.Statement.{statement}
 use Rattle.calendar.proofs.on_peak.hours_by_rule.Tie as tie
 
 abbrev Inv-loop : tie.InvT-loop
 Inv-loop year month days count₀ day₀ count day =
-    (day ≤ days) × (count ≤ day) × (count ≡ countOf day (λ k. onPeakDay year month (suc k)))
+    (day ≤ days) × (count ≤ day) × (count ≡ countOf day (λ k. onPeakByDays year month (suc k)))
 
 abbrev μ-loop : tie.MeasureT-loop
 μ-loop year month days count₀ day₀ count day = days - day
@@ -22,7 +23,7 @@ month-days-requires : tie.Need-month-days-requires Inv-loop μ-loop
 month-days-requires c κs = month-in (c .args .year) (c .args .month) (c .pre) .month-high
 
 loop-holds : tie.Need-loop-holds Inv-loop μ-loop
-loop-holds c = let a = c .before .args in (omega arith, omega arith, count-none (λ k. onPeakDay (a .year) (a .month) (suc k)))
+loop-holds c = let a = c .before .args in (omega arith, omega arith, count-none (λ k. onPeakByDays (a .year) (a .month) (suc k)))
 
 add-on-peak-day : tie.Need-add-on-peak-day Inv-loop μ-loop
 add-on-peak-day c = omega (arith, c .before .before .month-days .ensures)
@@ -57,7 +58,7 @@ returns c =
     let s = c .before in
     let a = s .before .before .args in
     let all : s .loop .day ≡ monthDays (a .year) (a .month) = omega (arith, s .before .month-days .ensures) in
-    (count-done (a .year) (a .month) (s .loop .day) (s .loop .count) (s .loop .inv .2) all, omega (arith, s .before .month-days .ensures))
+    (count-done (a .year) (a .month) (s .loop .day) (s .loop .count) (s .loop .inv .2) all ∙ hours-by-days (a .year) (a .month) (s .before .before .pre), omega (arith, s .before .month-days .ensures))
 
 pub hours-by-rule-spec : {M : Type 1} → statement M
 hours-by-rule-spec =

@@ -1,6 +1,6 @@
 -- `is_between`: the day, then the weekday.
 use borrow.Author.Tests.{le-leb, lt-leb}
-use Rattle.calendar.specs.OnPeak.{between}
+use Rattle.calendar.specs.Inner.{between}
 use borrow.Author.Needs.{needs}
 use Rattle.calendar.proofs.on_peak.is_between.Statement.{statement}
 use Rattle.calendar.proofs.on_peak.is_between.Tie as tie

@@ -8,14 +8,13 @@ use lib.ListN.{length, getD, length-map}
 use lib.IntN.{ℤ, pos, natAbs}
 use borrow.Author.Needs.{needs, zero≤}
 use Rattle.lists.specs.Lists.{listTo}
-use Rattle.tariff.specs.Units.{factorsOf, maxConstraints, maxContracts}
-use Rattle.tariff.specs.Contracts.{ofPeriod}
-use Rattle.tariff.specs.Inner.{InRange, maxFlow}
+use Rattle.tariff.specs.Units.{factorsOf, maxConstraints, maxContracts, maxFlow}
+use Rattle.tariff.specs.Contracts.{ofPeriod, InRange}
 use Rattle.layouts.specs.declared.forms.Form.{Form}
 use Rattle.layouts.specs.BookFile.{contractIn, contractAt}
 use Rattle.books.proofs.Accepted.{Accepted, book-accepted, accepted-room}
 use Rattle.feasibility_test.specs.declared.Flows.{Flows}
-use Rattle.feasibility_test.specs.Inner.{Carries}
+use Rattle.feasibility_test.specs.Carried.{Carries}
 use Rattle.feasibility_test.proofs.Checking.{ends-of}
 use Rattle.feasibility_test.proofs.Flowing.{count-most, flow-most, carry-same, carry-other}
 use Rattle.feasibility_test.proofs.Flows.step.Statement.{statement}

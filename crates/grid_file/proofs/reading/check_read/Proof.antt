@@ -5,9 +5,9 @@ use borrow.Author.Needs.{needs}
 use Rattle.tariff.specs.declared.refusals.Checked.the-variants.{Passed}
 use Rattle.layouts.specs.GridFile.{gridFormIn}
 use Rattle.layouts.proofs.FormLaws.{header-least}
-use Rattle.grid_file.specs.ReadGrid.{ReadGridCall, readGridCall}
-use Rattle.grid_file.proofs.Passing.{Sized, sized, counted-by}
-use Rattle.grid_file.proofs.Sizing.{read-checks}
+use Rattle.grid_rules.specs.ReadGrid.{ReadGridCall, readGridCall}
+use Rattle.grid_rules.proofs.Passing.{Sized, sized, counted-by}
+use Rattle.grid_rules.proofs.Sizing.{read-checks}
 use Rattle.grid_file.proofs.reading.check_read.Statement.{statement}
 use Rattle.grid_file.proofs.reading.check_read.Tie as tie
 

@@ -9,8 +9,8 @@ use mir.Facts.{toZ-ofZ}
 use Rattle.bits.specs.Signed.{toInt}
 use Rattle.lists.proofs.Fill.{fill-turn, rest-turn, fill-front}
 use Rattle.layouts.specs.GridFile.{factorWidth}
-use Rattle.grid_file.specs.Inner.{factorsAt}
-use Rattle.grid_file.proofs.Factors.{length-run, factor-at}
+use Rattle.grid_rules.specs.Inner.{factorsAt}
+use Rattle.grid_rules.proofs.Factors.{length-run, factor-at}
 use Rattle.grid_file.proofs.reading.read_factors.Statement.{statement}
 use Rattle.grid_file.proofs.reading.read_factors.Tie as tie
 

@@ -5,8 +5,8 @@ use borrow.Author.Needs.{needs}
 use Rattle.tariff.proofs.Answers.{answer-refused, cells-refused, answer-passed, cells-passed}
 use Rattle.layouts.specs.GridFile.{gridFormIn, limitsIn, factorsIn}
 use Rattle.layouts.proofs.FormLaws.{header-least}
-use Rattle.grid_file.specs.ReadGrid.{ReadGridCall, readGridCall}
-use Rattle.grid_file.proofs.Passing.{Readable, readable, counted-by}
+use Rattle.grid_rules.specs.ReadGrid.{ReadGridCall, readGridCall}
+use Rattle.grid_rules.proofs.Passing.{Readable, readable, counted-by}
 use Rattle.grid_file.proofs.reading.read_grid.Statement.{statement}
 use Rattle.grid_file.proofs.reading.read_grid.Tie as tie
 

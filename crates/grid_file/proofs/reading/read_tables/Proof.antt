@@ -1,7 +1,7 @@
 -- `read_tables`: what is read, by the file's own counts.
 use native.Mathlib.Omega.{arith}
 use borrow.Author.Needs.{needs}
-use Rattle.grid_file.proofs.Passing.{limits-are, late-factors, run-is}
+use Rattle.grid_rules.proofs.Passing.{limits-are, late-factors, run-is}
 use Rattle.grid_file.proofs.reading.read_tables.Statement.{statement}
 use Rattle.grid_file.proofs.reading.read_tables.Tie as tie
 

@@ -4,8 +4,8 @@ use borrow.Author.Needs.{needs}
 use borrow.Author.Tests.{lt-ltb}
 use Rattle.tariff.specs.declared.refusals.Checked.the-variants.{Passed}
 use Rattle.tariff.proofs.Checks.{first-refuses}
-use Rattle.grid_file.specs.ReadGrid.{ReadGridCall, readGridCall}
-use Rattle.grid_file.proofs.Sizing.{within-checks, within-passes, reads-alike, reads-refused}
+use Rattle.grid_rules.specs.ReadGrid.{ReadGridCall, readGridCall}
+use Rattle.grid_rules.proofs.Sizing.{within-checks, within-passes, reads-alike, reads-refused}
 use Rattle.grid_file.proofs.within.read_within.Statement.{statement}
 use Rattle.grid_file.proofs.within.read_within.Tie as tie
 

@@ -13,11 +13,11 @@ use Rattle.layouts.specs.BookTable.{rowAt}
 use Rattle.books.proofs.Accepted.{contract-in-range}
 use Rattle.tier_rules.specs.Cells.{heldIn, countedIn, withAwardRow, withAwardFlows}
 use Rattle.tier_rules.proofs.Runs.{row-award}
-use Rattle.running_test.specs.AddAward.{AddAwardCall, addAwardOn, addProcess, addFactors, awarded, ownPeriod}
-use Rattle.running_test.specs.Inner.{AddsFlows}
-use Rattle.running_test.proofs.Checking.{Fields, fields}
-use Rattle.running_test.proofs.Overs.{adds-as, counts-kept}
-use Rattle.running_test.proofs.Promises.{field-refuses, over-refuses, held-passes, adds-refused, adds-21, adds-passed}
+use Rattle.running_rules.specs.AddAward.{AddAwardCall, addAwardOn, addProcess, addFactors, awarded, ownPeriod}
+use Rattle.running_rules.specs.Inner.{AddsFlows}
+use Rattle.running_rules.proofs.Checking.{Fields, fields}
+use Rattle.running_rules.proofs.Overs.{adds-as, counts-kept}
+use Rattle.running_rules.proofs.Promises.{field-refuses, over-refuses, held-passes, adds-refused, adds-21, adds-passed}
 use Rattle.running_test.proofs.adding.add_award.Statement.{statement}
 use Rattle.running_test.proofs.adding.add_award.Tie as tie
 

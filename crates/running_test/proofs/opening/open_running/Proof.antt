@@ -8,10 +8,10 @@ use Rattle.tariff.proofs.Answers.{answer-refused, answer-passed}
 use Rattle.tier_rules.specs.Checks.{runningChecks}
 use Rattle.tier_rules.specs.Cells.{openedNumbers, openedFlows}
 use Rattle.tier_rules.proofs.Going.{buffer-refused, buffer-passed}
-use Rattle.running_test.specs.OpenRunning.{OpenRunningCall, openRunningOn, openRunningChecked}
-use Rattle.running_test.specs.Inner.{shortIf}
-use Rattle.running_test.proofs.Checking.{open-is, Openable, openable}
-use Rattle.running_test.proofs.Promises.{opens-running}
+use Rattle.running_rules.specs.OpenRunning.{OpenRunningCall, openRunningOn, openRunningChecked}
+use Rattle.running_rules.specs.Inner.{shortIf}
+use Rattle.running_rules.proofs.Checking.{open-is, Openable, openable}
+use Rattle.running_rules.proofs.Promises.{opens-running}
 use Rattle.running_test.proofs.opening.open_running.Statement.{statement}
 use Rattle.running_test.proofs.opening.open_running.Tie as tie
 

@@ -14,7 +14,7 @@ use mathlib.Core.List.{List}
 use Rattle.integers.specs.Sums.{sumTo}
 use Rattle.tariff.specs.declared.contracts.Period.{Period}
 use Rattle.tariff.specs.Units.{factorsOf, maxNodes, maxContracts}
-use Rattle.tariff.specs.Inner.{InRange}
+use Rattle.tariff.specs.Contracts.{InRange}
 use Rattle.tariff.specs.Settlement.{cents as centsOf}
 use Rattle.layouts.specs.declared.forms.Form.{Form}
 use Rattle.layouts.specs.BookFile.{contractIn}

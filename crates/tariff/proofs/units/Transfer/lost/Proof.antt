@@ -21,8 +21,8 @@ returns c = let s = c .before .before .before in ap natAbs (option-negative (s .
 from-zero : (c : tie.After-struct-told2) → ltZ (c .before .before .before .before .before .args .self .0) (pos 0) ≡ false
 from-zero c = rw (same (c .before .before .before .before .before)) at (c .before .before .if1 .left)
 
-cast-result : tie.Need-cast-result
-cast-result c =
+cast-t3 : tie.Need-cast-t3
+cast-t3 c =
     let s = c .before .before .before .before .before in
     rw (same s ∙ positive-size (s .args .self .0) (from-zero c)) (tt, record { fits = omega (arith, s .pre) })
 
@@ -30,4 +30,4 @@ returns-2 : tie.Need-returns-2
 returns-2 c = let s = c .before .before .before .before .before in ap natAbs (same s ∙ option-positive (s .args .self .0) (from-zero c))
 
 pub lost-spec : {M : Type 1} → statement M
-lost-spec = tie.close (tie.spec returns cast-result returns-2)
+lost-spec = tie.close (tie.spec returns cast-t3 returns-2)

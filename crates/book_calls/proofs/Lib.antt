@@ -1,0 +1,7 @@
+pub mod Alike
+pub mod Settled
+pub mod Migration
+pub mod Market
+pub mod SquareCells
+pub mod Square
+pub mod Theorems

@@ -1,0 +1,5 @@
+pub mod Alike
+pub mod Settled
+pub mod Migration
+pub mod Market
+pub mod Square

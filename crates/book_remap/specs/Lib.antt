@@ -1,2 +1,0 @@
-pub mod RemapBook
-pub mod Inner

@@ -1,0 +1,1 @@
+// What marking a tier and returning to one promise, and the laws of both.

@@ -1,0 +1,4 @@
+pub mod Sentences
+pub mod RefusalText
+pub mod Theorems
+pub mod Inner

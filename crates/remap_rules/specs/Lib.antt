@@ -1,0 +1,3 @@
+pub mod RemapBook
+pub mod Inner
+pub mod Theorems

@@ -1,0 +1,1 @@
+// What remapping a book promises, and the laws of it.

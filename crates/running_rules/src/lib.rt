@@ -1,0 +1,1 @@
+// What a running test promises, and the laws of it.

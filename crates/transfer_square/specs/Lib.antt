@@ -1,0 +1,2 @@
+pub mod NetTransfers
+pub mod Inner

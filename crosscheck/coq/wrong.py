@@ -1,0 +1,62 @@
+#!/usr/bin/env python3
+"""Puts wrong definitions into a copy of Terms.v, one at a time: a proof or a computed value must then fail.
+
+Prints where each was refused; exit status 1 where one was not, or where its text is no longer in Terms.v.
+"""
+
+import shutil
+import subprocess
+import sys
+import tempfile
+from pathlib import Path
+
+HERE = Path(__file__).resolve().parent
+FILES = ["Terms", "Lemmas", "Demand3", "Checked", "Differential"]
+NEAREST = "Z.sgn a * ((2 * Z.abs a + perCent) / (2 * perCent))"
+FLOW = "Definition flow (f : Factors) (c : Contract) (k : nat) : Z :=\n  "
+WRONG = [
+    ("amount by source minus sink", "(mcc f p (sink c) - mcc f p (source c))", "(mcc f p (source c) - mcc f p (sink c))"),
+    ("an option's flow relieves", FLOW + "counted (kind c)", FLOW + "id"),
+    ("an option is charged", "Z :=\n  counted (kind c) ((mcc", "Z :=\n  id ((mcc"),
+    ("annual releases 75", "Annual => 65", "Annual => 75"),
+    ("released limit times 100", "percent process * 1000", "percent process * 100"),
+    ("factors constraint by constraint", "n * constraints f + k", "k * nodes f + n"),
+    ("overloaded at the limit", "released (limits g) process k <? totalFlow", "released (limits g) process k <=? totalFlow"),
+    ("passes strictly below", "cs k <= released (limits g) process k.", "cs k < released (limits g) process k."),
+    ("cents cut towards zero", NEAREST, "Z.quot a perCent"),
+    ("a half upwards", NEAREST, "(2 * a + perCent) / (2 * perCent)"),
+    ("whole cents towards zero", "Z := a / perCent", "Z := Z.quot a perCent"),
+    ("both periods as one", "samePeriod (period c) t", "true"),
+    ("the worst may be exceeded", "-> shortfall g process cs p <= w)", "-> shortfall g process cs p <= w + 1)"),
+    ("prices to 600,000", "maxPrice : N := 500000", "maxPrice : N := 600000"),
+    ("MCC not negated", "Z := - congestion", "Z := congestion"),
+    ("rent left out", "netPayment (factors g) cs p - rent g process p", "netPayment (factors g) cs p"),
+    ("priced whatever the price", "negb (price p k * (factor", "negb ((factor"),
+    ("two cents for one", "then 1%N else 0%N).", "then 2%N else 0%N)."),
+]
+
+
+def refused(folder):
+    """The first file that fails in the folder, or None."""
+    for name in FILES:
+        if subprocess.run(["coqc", f"{name}.v"], cwd=folder, capture_output=True, timeout=120).returncode:
+            return name
+    return None
+
+
+def main():
+    right = (HERE / "Terms.v").read_text()
+    failed = 0
+    for what, old, new in WRONG:
+        with tempfile.TemporaryDirectory() as folder:
+            for name in FILES:
+                shutil.copy(HERE / f"{name}.v", folder)
+            (Path(folder) / "Terms.v").write_text(right.replace(old, new))
+            where = refused(folder) if old in right else None
+        failed += where is None
+        print(f"{what}: {'refused in ' + where if where else 'NOT REFUSED'}", flush=True)
+    print(f"wrong definitions: {len(WRONG) - failed} refused, {failed} not")
+    return 1 if failed else 0
+
+
+sys.exit(main())
