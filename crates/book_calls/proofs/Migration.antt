@@ -9,7 +9,7 @@ use Rattle.tariff.specs.Refusals.{first}
 use Rattle.tariff.proofs.Checks.{passed-append}
 use Rattle.layouts.specs.declared.WriteAnswer.the-variants.{Written}
 use Rattle.layouts.proofs.Writing.{writes-told, written-by}
-use Rattle.books.specs.BookChecks.{ownChecks}
+use Rattle.book_rules.specs.BookChecks.{ownChecks}
 use Rattle.load_migration.specs.MigrateLoad.{MigrateLoadCall, migrateLoadChecked, bookMigrated, MigratesLoad}
 use Rattle.load_migration.proofs.Passing.{inputOf, split, input-own}
 use Rattle.load_migration.proofs.Theorems.{new-book-accepted, new-book-keeps}

@@ -17,12 +17,12 @@ use Rattle.layouts.specs.declared.WriteAnswer.{WriteAnswer}
 use Rattle.layouts.specs.declared.WriteAnswer.the-variants.{Written}
 use Rattle.layouts.specs.BookFile.{bookFormIn, bookIn}
 use Rattle.layouts.proofs.Writing.{writes-passed, writes-told, size-told, writes-by, written-by}
-use Rattle.books.specs.BookChecks.{ownChecks}
+use Rattle.book_rules.specs.BookChecks.{ownChecks}
 use Rattle.settled_rules.specs.Settled.{SettledOf, settledFile}
 use Rattle.settled_rules.specs.Theorems.{AcceptedFor}
 use Rattle.settled_rules.proofs.Books.{book-five}
 use Rattle.settled_rules.proofs.Theorems as T
-use Rattle.settled_book.specs.SettledBook.{settledBookCall, settledBookChecks, settledBookChecked, WritesSettledBook, WritesSettledBookForC}
+use Rattle.settled_rules.specs.SettledBook.{settledBookCall, settledBookChecks, settledBookChecked, WritesSettledBook, WritesSettledBookForC}
 use Rattle.book_calls.specs.Alike.{AnsweredAlike}
 use Rattle.book_calls.specs.Settled.{TotalsAgree, SettledCalls}
 use Rattle.book_calls.proofs.Alike.{answered-alike}
@@ -51,7 +51,7 @@ module _ (n : ℕ) (s e : List ℕ) (m : ℕ) (x : List ℕ) (w : WritesSettledB
       (record {
         accepted = made;
         accepted-too = ok;
-        flows-same = λ f u k. rw (told .1) (T.verdicts-survive n s ok (record { factors = f; limits = [] }) Monthly u .flows k);
+        flows-same = λ f u k. rw (told .1) (T.verdicts-survive n s ok (record { factors = f; limits = [] }) Monthly u .flows-same k);
         totals-same = λ f p u. rw (told .1) (T.totals-survive n s ok (record { factors = f; limits = [] }) Monthly u .exact-total p);
       })
 

@@ -13,11 +13,11 @@ use Rattle.tariff.specs.declared.refusals.Checked.{Checked}
 use Rattle.tariff.specs.declared.refusals.Checked.the-variants.{Passed}
 use Rattle.tariff.specs.Contracts.{periodOf}
 use Rattle.tariff.specs.Refusals.{first, given, answered}
-use Rattle.tariff.proofs.Answers.{given-told, some-refuses, none-refused}
+use Rattle.tariff.proofs.Answers.{given-told, some-refuses, none-refused, number-told}
 use Rattle.tariff.proofs.Checks.{append-passes, last-passes, passed-append, passed-cons}
 use Rattle.layouts.specs.declared.WriteAnswer.the-variants.{Written}
 use Rattle.layouts.specs.BookFile.{bookFile, bookFormIn, bookIn}
-use Rattle.books.specs.BookChecks.{ownChecks}
+use Rattle.book_rules.specs.BookChecks.{ownChecks}
 use Rattle.migration_rules.specs.Transfers.{Row, RowLists, rowsIn, net, loss, rowChecks, rangeChecks}
 use Rattle.migration_rules.proofs.Alike.{book-alike}
 use Rattle.transfer_square.specs.declared.NetsAnswer.{NetsAnswer}
@@ -88,8 +88,8 @@ by-square q s m x y same w t =
 by-square-for-c : (q : MigrateLoadCall) (s : NetTransfersCall) (x : List ℕ) (u : Lent ℕ) (y : List ℤ) → SameRows q s → MigratesLoadForC q 0 x u → NetsTransfersForC s 0 y
     → take (after u) x ≡ bookBy q y
 by-square-for-c q s x u y same w t =
-    let pass = none-refused (netTransfersChecked s) (t .refusal-number) in
-    followed q s (after u) x y same (written-by (migrateLoadChecked q) (bookMigrated q) (q .place) (before u) x (after u) w) (rw pass at (t .nets-given))
+    let pass = none-refused (netTransfersChecked s) (number-told (netTransfersChecked s) [] _ (t .promised .nothing-else) 0 (t .refusal-number)) in
+    followed q s (after u) x y same (written-by (migrateLoadChecked q) (bookMigrated q) (q .place) (before u) x (after u) w) (rw pass at (t .promised .nets-given))
 
 pub square-calls : SquareCalls
 square-calls = record { migrated-netted = taken; migrated-by-square = by-square; crr-migrated-by-square = by-square-for-c }

@@ -11,7 +11,7 @@ use Rattle.layouts.specs.declared.WriteAnswer.{WriteAnswer}
 use Rattle.layouts.specs.declared.WriteAnswer.the-variants.{Written}
 use Rattle.layouts.specs.BookFile.{bookFormIn, bookIn}
 use Rattle.settled_rules.specs.Settled.{totalOf, SettledOf}
-use Rattle.settled_book.specs.SettledBook.{settledBookCall, WritesSettledBook, WritesSettledBookForC}
+use Rattle.settled_rules.specs.SettledBook.{settledBookCall, WritesSettledBook, WritesSettledBookForC}
 use Rattle.book_calls.specs.Alike.{AnsweredAlike}
 
 -- "for each such five, total quantity agrees"

@@ -28,7 +28,7 @@ fn moved_contract(book: &[u8], form: Form, i: usize, ends: &[u16]) -> Contract
     requires { ⌜ Movable form (now ends) (contractIn form (now book) i) ⌝ }
     ensures { λ r. ⌜ r ≡ movedBy (before ends) (contractIn form (before book) i) ⌝ }
 {
-    let c = books::contract_at(book, form, i);
+    let c = book_bits::contract_at(book, form, i);
     let kind = c.kind;
     let period = c.period;
     let from = end_at(ends, c.source);
@@ -50,10 +50,10 @@ fn write_moved(book: &[u8], form: Form, count: usize, ends: &[u16], file: &mut [
     requires { ⌜ ((i : ℕ) → i < count → Movable form (now ends) (contractIn form (now book) i)) ⌝ }
     ensures { λ r. ⌜ after file ≡ overwrite (bookFile form (listTo count (λ i. movedBy (before ends) (contractIn form (before book) i)))) (before file) ⌝ }
 {
-    books::store_header(file, form, count);
+    book_bits::store_header(file, form, count);
     let mut i = 0;
     while i < count {
-        books::store_contract(file, form, i, moved_contract(book, form, i, ends));
+        book_bits::store_contract(file, form, i, moved_contract(book, form, i, ends));
         i += 1;
     }
 }
@@ -72,8 +72,8 @@ pub fn remap_book(
         Checked::Refused(refusal) => WriteAnswer::Refused(refusal),
         Checked::Passed => {
             let ends = remap_ends::moved_ends(nodes, old, new);
-            let form = books::book_form(book);
-            write_moved(book, form, books::contract_count(book), &ends, file);
+            let form = book_bits::book_form(book);
+            write_moved(book, form, book_bits::contract_count(book), &ends, file);
             WriteAnswer::Written { bytes: book.len() }
         }
     }

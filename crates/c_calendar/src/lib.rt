@@ -1,12 +1,12 @@
 // Dates and on-peak hours, for C: figures go into lent cells, and the answer is the refusal's number, 0 for none.
-ghost use Rattle.calendar.specs.Dates.{dateOf};
-ghost use Rattle.calendar.specs.Weekday.{TellsWeekdayForC};
-ghost use Rattle.calendar.specs.MonthLater.{ReachesMonthLaterForC};
-ghost use Rattle.hours_table.specs.MonthHours.{TellsHoursForC};
-use calendar::Date;
-use calendar::DateAnswer;
-use calendar::WeekdayAnswer;
-use hours_table::HoursAnswer;
+ghost use Rattle.dates.specs.Date.{dateOf};
+ghost use Rattle.dates.specs.Weekday.{TellsWeekdayForC};
+ghost use Rattle.dates.specs.MonthLater.{ReachesMonthLaterForC};
+ghost use Rattle.date_hours.specs.MonthHours.{TellsHoursForC};
+use date_hours::HoursAnswer;
+use dates::Date;
+use dates::DateAnswer;
+use dates::WeekdayAnswer;
 
 // Gives a date's weekday, 1, Monday, to 7.
 #[no_mangle]
@@ -52,7 +52,7 @@ pub extern "C" fn crr_month_later(
 pub extern "C" fn crr_month_hours(year: u64, month: u64, hours: &mut u64) -> u64
     ensures { λ r. ⌜ TellsHoursForC year month r hours ⌝ }
 {
-    match hours_table::month_hours(year, month) {
+    match date_hours::month_hours(year, month) {
         HoursAnswer::Refused(refusal) => refusal.number(),
         HoursAnswer::Found(found) => {
             *hours = found;

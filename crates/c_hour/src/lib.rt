@@ -1,9 +1,9 @@
 // Finding the MCC and settling an hour for C: figures go into lent cells, and the answer is the refusal's number, 0 for none.
 ghost use Rattle.lists.specs.Lent.{before, after};
 ghost use Rattle.congestion.specs.FindMcc.{findMccCall, FindsMccForC};
-ghost use Rattle.settlement.specs.SettleHour.{hourCall, SettlesForC};
+ghost use Rattle.hour_rules.specs.SettleHour.{hourCall, SettlesForC};
 use congestion::MccAnswer;
-use settlement::SettleAnswer;
+use hour_rules::SettleAnswer;
 
 // Finds the MCC of all nodes, one cell each.
 #[no_mangle]
@@ -40,7 +40,7 @@ pub extern "C" fn crr_settle_hour(
 ) -> u64
     ensures { λ r. ⌜ SettlesForC (hourCall nodes constraints period (before factors) (before prices) (before book)) r cents priced sum whole part ⌝ }
 {
-    match settlement::settle_hour(
+    match hour_settlement::settle_hour(
         nodes,
         constraints,
         period,

@@ -1,6 +1,6 @@
 // The settled form of a book for C: the length goes into a lent cell, and the answer is the refusal's number, 0 for none.
 ghost use Rattle.lists.specs.Lent.{before, after};
-ghost use Rattle.settled_book.specs.SettledBook.{settledBookCall, WritesSettledBookForC};
+ghost use Rattle.settled_rules.specs.SettledBook.{settledBookCall, WritesSettledBookForC};
 
 // Writes the settled form of a book's file for a grid of `nodes` nodes, and gives its length.
 #[no_mangle]
@@ -12,6 +12,6 @@ pub extern "C" fn crr_write_settled_book(
 ) -> u64
     ensures { λ r. ⌜ WritesSettledBookForC (settledBookCall nodes (before book) (before file)) r (after file) bytes ⌝ }
 {
-    let answer = settled_book::write_settled_book(nodes, book, file);
+    let answer = canonical_book::write_settled_book(nodes, book, file);
     answer.into_cell(bytes)
 }

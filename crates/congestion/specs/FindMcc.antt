@@ -1,14 +1,15 @@
 -- Finding the MCC of all nodes (document 01, "The rules" and "When input is turned down").
 use mathlib.Core.Path.{_≡_}
 use mathlib.Core.List.{List, [], _∷_}
-use Prim.Native.Nat.{ℕ, _*_}
+use Prim.Native.Nat.{ℕ}
 use lib.ListN.{length, take}
 use lib.IntN.{ℤ}
+use Rattle.tables.specs.TableChecks.{hourTablesWith}
 use Rattle.lists.specs.Lists.{listTo}
 use Rattle.tariff.specs.declared.refusals.Checked.{Checked}
 use Rattle.tariff.specs.Units.{factorsOf}
-use Rattle.tariff.specs.Refusals.{Check, first, Outcome, given, refusedBy, answered, cellsAfter, numberAfter}
-use Rattle.tariff.specs.Checks.{nodeCount, constraintCount, shortTable, factorRange, priceRange}
+use Rattle.tariff.specs.Refusals.{Check, first, Outcome, given, refusedBy, answered, cellsAfter, ForC}
+use Rattle.tariff.specs.Checks.{shortTable}
 use Rattle.tariff.specs.Settlement.{mcc}
 use Rattle.congestion.specs.declared.MccAnswer.{MccAnswer}
 use Rattle.congestion.specs.declared.MccAnswer.the-variants.{Found, Refused}
@@ -32,15 +33,7 @@ mccOutcome (Refused r) = refusedBy r
 module _ (q : FindMccCall) where
   -- "2, 3, 9 (tables or the place for the answer), 7, 15"
   unfoldable pub findMccChecks : List Check
-  findMccChecks =
-      nodeCount (q .nodes)
-      ∷ constraintCount (q .constraints)
-      ∷ shortTable (length (q .factors)) (q .nodes * q .constraints)
-      ∷ shortTable (length (q .prices)) (q .constraints)
-      ∷ shortTable (length (q .place)) (q .nodes)
-      ∷ factorRange (take (q .nodes * q .constraints) (q .factors))
-      ∷ priceRange (take (q .constraints) (q .prices))
-      ∷ []
+  findMccChecks = hourTablesWith [] (shortTable (length (q .place)) (q .nodes) ∷ []) (q .nodes) (q .constraints) (q .factors) (q .prices)
 
   abbrev pub findMccChecked : Checked
   findMccChecked = first findMccChecks
@@ -55,6 +48,5 @@ pub record FindsMcc (q : FindMccCall) (answer : MccAnswer) (exit : List ℤ) : T
   pub mccs-found : exit ≡ cellsAfter (findMccChecked q) (mccCells q) (q .place)
 
 -- the same for C
-pub record FindsMccForC (q : FindMccCall) (number : ℕ) (exit : List ℤ) : Type 0 where
-  pub refusal-number : number ≡ numberAfter (findMccChecked q)
-  pub mccs-found : exit ≡ cellsAfter (findMccChecked q) (mccCells q) (q .place)
+abbrev pub FindsMccForC : FindMccCall → ℕ → List ℤ → Type 0
+FindsMccForC q number exit = ForC MccAnswer mccOutcome (λ answer. FindsMcc q answer exit) number

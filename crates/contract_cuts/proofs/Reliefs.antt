@@ -23,8 +23,8 @@ use Rattle.flow_laws.proofs.Additive.{counted-product}
 use Rattle.cut_rules.specs.Inner.{needAt}
 use Rattle.cut_rules.proofs.Needs.{is-true}
 use Rattle.cut_rules.proofs.Turns.{need-sizes}
-use Rattle.feasibility_test.specs.Inner.{Ends}
-use Rattle.feasibility_test.proofs.Flowing.{rows-kept, part-small}
+use Rattle.test_rules.specs.Inner.{Ends}
+use Rattle.test_rules.proofs.Flowing.{rows-kept, part-small}
 use Rattle.contract_cuts.specs.Inner.{slopeFrom, slopeIn}
 
 -- what a cell of an i64 gives back

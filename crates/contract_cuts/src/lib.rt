@@ -8,7 +8,7 @@ ghost use lib.Signed.{_<ℤ_, _≤ℤ_};
 ghost use Rattle.lists.specs.Lent.{before};
 ghost use Rattle.tariff.specs.Units.{maxFactor, maxQuantity};
 ghost use Rattle.tariff.specs.Contracts.{counted};
-ghost use Rattle.feasibility_test.specs.Inner.{Ends};
+ghost use Rattle.test_rules.specs.Inner.{Ends};
 ghost use Rattle.cut_rules.specs.Inner.{needAt, raisedTo, enough};
 ghost use Rattle.contract_cuts.specs.Inner.{Excesses, Overloads, cellAt, slopeIn, cutIn};
 use tariff::Contract;

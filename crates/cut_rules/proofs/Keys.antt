@@ -3,7 +3,7 @@ use mathlib.Core.Path.{_≡_, refl, sym, ap, ap₂, _∙_}
 use mathlib.Core.Logic.{⊎-elim}
 use mathlib.Core.Bool.{Bool, true, false, cond, _&&_, true≢false}
 use mathlib.Core.List.{List, [], _∷_, _++_, map, map-append}
-use Prim.Native.Nat.{ℕ, zero, suc, _+_, _/_, _%_, _<_, _≤_}
+use Prim.Native.Nat.{ℕ, zero, suc, _/_, _%_, _<_, _≤_}
 use native.Mathlib.Omega.{arith}
 use borrow.Author.Tests.{leb-true, lt-ltb, le-leb, lt-leb}
 use lib.Arith.{digits-div, digits-mod}
@@ -11,6 +11,7 @@ use lib.Dec.{ltb, leb}
 use lib.ListN.{length}
 use lib.IntN.{ℤ}
 use Rattle.lists.specs.Lists.{Each}
+use Rattle.lists.proofs.Search.{both}
 use Rattle.sorting.specs.Sorted.{insert, merged, sorted}
 use Rattle.tariff.specs.declared.contracts.Contract.{Contract}
 use Rattle.tariff.specs.declared.contracts.Period.{Period}
@@ -20,7 +21,6 @@ use Rattle.tariff.specs.Contracts.{samePeriod, ofPeriod}
 use Rattle.tariff.specs.Feasibility.{excess}
 use Rattle.cut_rules.specs.Cuts.{contractOf, quantityOf, Row, precedes, putRow, inOrder, passing, leastCut, hasCut, rowOf, rowsTo, leastCuts}
 use Rattle.cut_rules.specs.Inner.{need, enough, closed, slope, closedOr, closedCut, cutOr0, keyOf, rowKey, keysTo}
-use Rattle.cut_rules.proofs.Needs.{and-both}
 use Rattle.cut_rules.proofs.Cuts.{passing-is, least-is-closed, least-positive}
 use Rattle.cut_rules.proofs.Rows.{of-precedes, precedes-other, each-inOrder, each-row, NumbersRise}
 
@@ -91,7 +91,7 @@ closed-key : (n : ℕ) (e w : ℕ → ℤ) (q i x : ℕ) → x ≡ closed n e w 
 unfolding closed
 closed-key n e w q i x is h =
     by-need (leb (need n e w) q && enough n e w (need n e w)) (need n e w) q i x is h
-    (λ b. leb-true (need n e w) q (and-both (leb (need n e w) q) (enough n e w (need n e w)) b .0))
+    (λ b. leb-true (need n e w) q (both (leb (need n e w) q) (enough n e w (need n e w)) b .0))
 
 -- none of the other period
 of-period : (i : ℕ) (s : Bool) (C : ℕ) (c : Bool) (r : Row) → cond (ltb 0 C) (keyOf C i ∷ []) [] ≡ map rowKey (cond c (r ∷ []) [])

@@ -10,24 +10,19 @@ use lib.Dec.{leb}
 use lib.ListN.{length}
 use lib.IntN.{ℤ, pos, _*ℤ_, zero-*ℤ}
 use Rattle.lists.specs.Lists.{some, Each}
+use Rattle.lists.proofs.Search.{both}
 use Rattle.tariff.specs.declared.contracts.Contract.{Contract}
 use Rattle.tariff.specs.declared.contracts.Period.{Period}
-use Rattle.tariff.specs.declared.contracts.Period.the-variants.{OffPeak, OnPeak}
 use Rattle.tariff.specs.declared.processes.Process.{Process}
 use Rattle.tariff.specs.Units.{Grid}
 use Rattle.tariff.specs.Contracts.{samePeriod}
+use Rattle.tariff.proofs.Periods.{same-is}
 use Rattle.cut_rules.specs.Cuts.{contractOf, quantityOf, Row, precedes, inOrder, passing, leastCut, hasCut, rowOf, rowsTo, leastCuts}
 use Rattle.cut_rules.specs.Theorems.{Absent, rowAt, BookPasses, CutPasses, IsLeastCut, LeastCuts}
-use Rattle.cut_rules.proofs.Needs.{and-both, is-false}
+use Rattle.cut_rules.proofs.Needs.{is-false}
 use Rattle.cut_rules.proofs.Flows.{cut-out}
 use Rattle.cut_rules.proofs.Cuts.{passing-is, least-clears, smaller-fails, least-most, idle, least-positive}
 use Rattle.cut_rules.proofs.Rows.{is, each-inOrder, some-inOrder, inOrder-at, each-row, numbers-rise, row-there}
-
-same-period : (a b : Period) → samePeriod a b ≡ true → a ≡ b
-same-period OffPeak OffPeak e = refl
-same-period OffPeak OnPeak e = absurd (true≢false (sym e))
-same-period OnPeak OffPeak e = absurd (true≢false (sym e))
-same-period OnPeak OnPeak e = refl
 
 module _ (g : Grid) (process : Process) (period : Period) (cs : List Contract) where
   abbrev listed : List Row
@@ -52,11 +47,11 @@ module _ (g : Grid) (process : Process) (period : Period) (cs : List Contract) w
     row-least : (i : ℕ) → i < length cs → hasCut g process period cs i ≡ true → IsLeastCut g process period cs (rowOf g process period cs i)
     unfolding hasCut
     row-least i b h =
-        let both = and-both (samePeriod (contractOf cs i .period) period) (leb (leastCut g process period cs i) (quantityOf cs i)) h in
-        let most = leb-true (leastCut g process period cs i) (quantityOf cs i) (both .1) in
+        let r = both (samePeriod (contractOf cs i .period) period) (leb (leastCut g process period cs i) (quantityOf cs i)) h in
+        let most = leb-true (leastCut g process period cs i) (quantityOf cs i) (r .1) in
         record {
           in-book = b;
-          of-period = same-period (contractOf cs i .period) period (both .0);
+          of-period = same-is (contractOf cs i .period) period (r .0);
           some-cut = least-positive g process period cs i out;
           at-most-all = most;
           clears-book = least-clears g process period cs i most;

@@ -34,7 +34,7 @@ fn put_tested(
     requires { ⌜ GoodCells maxLimit constraints (now limits) × GoodFactors nodes constraints (now factors) ⌝ }
     ensures { λ r. ⌜ Put (before buf) 0 (withBook nodes (before book) (lines (gridOf nodes constraints (before limits) (before factors)))) (after buf) r ⌝ }
 {
-    match books::check_book(nodes, book) {
+    match book_checks::check_book(nodes, book) {
         Checked::Refused(refusal) => text::put_refused(buf, b"book", refusal),
         Checked::Passed => put_lines(buf, nodes, constraints, limits, factors, book),
     }
@@ -47,7 +47,7 @@ fn put_report(grid_file: &[u8], book_file: &[u8], buf: &mut [u8]) -> usize
 {
     let mut limits = [0u64; MAX_CONSTRAINTS];
     let mut factors = [0i64; PROGRAM_FACTORS];
-    match grid_file::read_within(PROGRAM_GRID_BYTES, grid_file, &mut limits, &mut factors) {
+    match grid_reading::read_within(PROGRAM_GRID_BYTES, grid_file, &mut limits, &mut factors) {
         GridAnswer::Refused(refusal) => text::put_refused(buf, b"grid", refusal),
         GridAnswer::Read {
             nodes,

@@ -19,10 +19,10 @@ use Rattle.tariff.specs.Checks.{shortTable}
 use Rattle.tariff.specs.Feasibility.{totalFlow}
 use Rattle.tariff.proofs.Checks.{append-refuses, append-passes, passed-append, passed-cons}
 use Rattle.tables.specs.TableChecks.{gridTableChecks}
-use Rattle.feasibility_test.specs.declared.Flows.{Flows}
-use Rattle.feasibility_test.specs.TestBook.{testChecks, testChecked}
-use Rattle.feasibility_test.specs.Carried.{Carries}
-use Rattle.feasibility_test.proofs.Checking.{Tested, tested}
+use Rattle.test_rules.specs.declared.Flows.{Flows}
+use Rattle.test_rules.specs.TestBook.{testChecks, testChecked}
+use Rattle.test_rules.specs.Carried.{Carries}
+use Rattle.test_rules.proofs.Checking.{Tested, tested}
 use Rattle.flows.specs.FindFlows.{FlowsCall, findFlowsChecks, findFlowsChecked, countedContracts, flowCells}
 use Rattle.flows.specs.Theorems.{testAs}
 

@@ -12,7 +12,7 @@ use Rattle.tariff.specs.Checks.{processNumber}
 use Rattle.tariff.specs.Feasibility.{totalFlow, released, excess, overloaded, overloadSet}
 use Rattle.tariff.proofs.Checks.{first-passes, passed-cons}
 use Rattle.tables.specs.TableChecks.{gridTableChecks}
-use Rattle.feasibility_test.specs.TestBook.{TestCall, testChecks, testChecked, testedGrid, testedProcess, testedContracts}
+use Rattle.test_rules.specs.TestBook.{TestCall, testChecks, testChecked, testedGrid, testedProcess, testedContracts}
 use Rattle.flows.specs.declared.FlowsAnswer.{FlowsAnswer}
 use Rattle.flows.specs.FindFlows.{FlowsCall, FindsFlows}
 use Rattle.flows.specs.Theorems.{testAs, releasedAt}

@@ -14,7 +14,7 @@ use Rattle.tariff.specs.Refusals.{Check, first, Outcome, given, refusedBy, answ
 use Rattle.tariff.specs.Checks.{nodeCount, constraintCount, periodNumber, shortTable, limitRange, factorRange}
 use Rattle.tariff.specs.Feasibility.{totalFlow}
 use Rattle.layouts.specs.BookFile.{bookIn}
-use Rattle.books.specs.BookChecks.{bookChecks}
+use Rattle.book_rules.specs.BookChecks.{bookChecks}
 use Rattle.flows.specs.declared.FlowsAnswer.{FlowsAnswer}
 use Rattle.flows.specs.declared.FlowsAnswer.the-variants.{Found, Refused}
 

@@ -2,7 +2,7 @@
 use Prim.Native.Nat.{ℕ}
 use lib.IntN.{ℤ, pos}
 use Rattle.tariff.specs.Feasibility.{released}
-use Rattle.feasibility_test.specs.TestBook.{TestCall, testCall, testedGrid, testedProcess}
+use Rattle.test_rules.specs.TestBook.{TestCall, testCall, testedGrid, testedProcess}
 use Rattle.flows.specs.FindFlows.{FlowsCall}
 
 -- the test of the same tables and book in a process

@@ -8,11 +8,11 @@ ghost use Rattle.lists.specs.Lent.{before, after, overwrite};
 ghost use Rattle.tariff.specs.Units.{maxConstraints};
 ghost use Rattle.flows.specs.FindFlows.{flowsCall, findFlowsChecked, FindsFlows};
 ghost use Rattle.flows.specs.ReleasedPercent.{ReleasesPercent};
-use feasibility_test::Flows;
 use tariff::Checked;
 use tariff::Period;
 use tariff::Process;
 use tariff::Refusal;
+use test_rules::Flows;
 
 // What finding the flows gives beside the cells: how many contracts were counted.
 pub enum FlowsAnswer {
@@ -53,7 +53,7 @@ fn check_flows(
     ensures { λ r. ⌜ r ≡ findFlowsChecked (flowsCall nodes constraints period (before limits) (before factors) (before book) (before place)) ⌝ }
 {
     // No process is asked for: 0 is always one.
-    let tested = feasibility_test::check_test(nodes, constraints, 0, period, limits, factors, book);
+    let tested = test_verdict::check_test(nodes, constraints, 0, period, limits, factors, book);
     if let Checked::Refused(refusal) = tested {
         return Checked::Refused(refusal);
     }
@@ -79,7 +79,7 @@ pub fn find_flows(
     if let Checked::Refused(refusal) = checked {
         return FlowsAnswer::Refused(refusal);
     }
-    let carried = feasibility_test::carry(
+    let carried = test_flows::carry(
         nodes,
         constraints,
         factors,

@@ -3,7 +3,6 @@ use mathlib.Core.Path.{_≡_, refl, _∙_}
 use mathlib.Core.Bool.{true, false}
 use mathlib.Core.List.{List, [], _∷_}
 use Prim.Native.Nat.{ℕ, _≤_, _<_}
-use native.Mathlib.Omega.{arith}
 use borrow.Author.Tests.{lt-ltb, le-ltb, ltb-false}
 use lib.Dec.{ltb}
 use lib.ListN.{length}
@@ -15,9 +14,7 @@ use Rattle.tariff.specs.Refusals.{Check, first}
 use Rattle.tariff.specs.Checks.{holderRange, shortTable}
 use Rattle.tariff.proofs.Checks.{first-passes, first-refuses, last-passes, append-refuses, append-passes, passed-append, passed-cons}
 use Rattle.layouts.specs.BookFile.{bookFormIn, contractCountIn}
-use Rattle.layouts.proofs.BookFile.{book-bytes-least}
-use Rattle.books.specs.BookChecks.{ownChecks}
-use Rattle.books.proofs.Accepted.{own-accepted}
+use Rattle.book_rules.specs.BookChecks.{ownChecks}
 use Rattle.view_rules.specs.Views.{holderView}
 use Rattle.view_rules.specs.HolderView.{HolderViewCall, holderViewChecks, holderViewChecked}
 use Rattle.holder_view.specs.Inner.{rowsTo}
@@ -26,10 +23,6 @@ use Rattle.holder_view.specs.Inner.{rowsTo}
 pub view-rows : (h : ℕ) (s : List ℕ) → holderView h s ≡ rowsTo (bookFormIn s) h s (contractCountIn s)
 unfolding holderView rowsTo
 view-rows h s = refl
-
--- an accepted book has its header
-pub header-of : (n : ℕ) (s : List ℕ) → first (ownChecks n s) ≡ Passed → 2 ≤ length s
-header-of n s e = book-bytes-least (bookFormIn s) (contractCountIn s) _ (omega (arith, own-accepted n s e .size))
 
 module _ (q : HolderViewCall) where
   abbrev last : List Check

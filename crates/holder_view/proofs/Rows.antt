@@ -20,7 +20,7 @@ use Rattle.layouts.specs.Forms.{endWidth, recordBytes}
 use Rattle.layouts.specs.BookFile.{contractIn}
 use Rattle.layouts.specs.Inner.{contractOf}
 use Rattle.layouts.proofs.BookFile.{contract-in-fits}
-use Rattle.books.specs.Inner.{contractBytes, bitsBytes}
+use Rattle.book_rules.specs.Inner.{contractBytes, bitsBytes}
 use Rattle.view_rules.specs.Views.{numbered, heldAt, heldTo, viewRow}
 use Rattle.view_rules.proofs.Numbers.{bits-bytes}
 use Rattle.view_rules.proofs.Rows.{row-bytes, length-rows, held-there, not-held}

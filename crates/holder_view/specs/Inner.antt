@@ -4,7 +4,7 @@ use Prim.Native.Nat.{ℕ}
 use Rattle.bits.specs.Bits.{digits}
 use Rattle.layouts.specs.declared.forms.Form.{Form}
 use Rattle.layouts.specs.BookFile.{contractIn}
-use Rattle.books.specs.Inner.{bitsBytes}
+use Rattle.book_rules.specs.Inner.{bitsBytes}
 use Rattle.view_rules.specs.Views.{heldAt, heldTo, viewRow}
 
 -- the row of contract i whose bits are v

@@ -12,6 +12,8 @@ ghost use Rattle.layouts.specs.Inner.{contractOf};
 ghost use Rattle.view_rules.specs.Views.{heldAt, heldTo};
 ghost use Rattle.view_rules.specs.HolderView.{holderViewCall, holderViewChecked, WritesHolderView};
 ghost use Rattle.holder_view.specs.Inner.{storedRow, rowsAt, rowsTo};
+use book_bits::NARROW_END_WIDTH;
+use book_bits::WIDE_END_WIDTH;
 use layouts::Form;
 use layouts::WriteAnswer;
 use tariff::Checked;
@@ -23,8 +25,8 @@ fn holder_of(form: Form, v: u64) -> u64
     ensures { λ r. ⌜ r ≡ contractOf (endWidth form) v .holder ⌝ }
 {
     match form {
-        Form::Narrow => bits::part(v, 36, 10),
-        Form::Wide => bits::part(v, 44, 10),
+        Form::Narrow => book_bits::holder_in(v, NARROW_END_WIDTH),
+        Form::Wide => book_bits::holder_in(v, WIDE_END_WIDTH),
     }
 }
 
@@ -43,7 +45,7 @@ fn held_at(book: &[u8], form: Form, holder: u64, i: usize) -> usize
     requires { ⌜ (i < 1024) × (bookBytes form i + recordBytes form ≤ length (now book)) ⌝ }
     ensures { λ r. ⌜ (r ≡ length (heldAt holder i (contractIn form (before book) i))) × (r ≤ 1) ⌝ }
 {
-    if holder_of(form, books::bits_at(book, form, i)) == holder {
+    if holder_of(form, book_bits::bits_at(book, form, i)) == holder {
         1
     } else {
         0
@@ -80,14 +82,14 @@ fn room_short(book: &[u8], form: Form, count: usize, holder: u64, bytes: usize) 
 fn check_holder_view(nodes: usize, book: &[u8], holder: u64, bytes: usize) -> Checked
     ensures { λ r. ⌜ ((place : List ℕ) → length place ≡ bytes → r ≡ holderViewChecked (holderViewCall nodes (before book) holder place)) ⌝ }
 {
-    if let Checked::Refused(refusal) = books::check_own(nodes, book) {
+    if let Checked::Refused(refusal) = book_checks::check_own(nodes, book) {
         return Checked::Refused(refusal);
     }
     if MAX_HOLDER < holder {
         return Checked::Refused(Refusal::HolderRange);
     }
-    let form = books::book_form(book);
-    if room_short(book, form, books::contract_count(book), holder, bytes) {
+    let form = book_bits::book_form(book);
+    if room_short(book, form, book_bits::contract_count(book), holder, bytes) {
         return Checked::Refused(Refusal::ShortTable);
     }
     Checked::Passed
@@ -112,7 +114,7 @@ fn put_held(book: &[u8], form: Form, holder: u64, i: usize, view: &mut [u8], at:
     ensures { λ r. ⌜ after view ≡ take at (before view) ++ rowsAt form holder (before book) i ++ drop r (before view) ⌝ }
     ensures { λ r. ⌜ r ≡ at + length (rowsAt form holder (before book) i) ⌝ }
 {
-    let own = books::bits_at(book, form, i);
+    let own = book_bits::bits_at(book, form, i);
     if holder_of(form, own) != holder {
         return at;
     }
@@ -143,8 +145,8 @@ pub fn write_holder_view(nodes: usize, book: &[u8], holder: u64, view: &mut [u8]
     match check_holder_view(nodes, book, holder, view.len()) {
         Checked::Refused(refusal) => WriteAnswer::Refused(refusal),
         Checked::Passed => {
-            let form = books::book_form(book);
-            let count = books::contract_count(book);
+            let form = book_bits::book_form(book);
+            let count = book_bits::contract_count(book);
             WriteAnswer::Written {
                 bytes: write_held(book, form, count, holder, view),
             }

@@ -8,8 +8,8 @@ use Rattle.lists.specs.Lists.{listTo}
 use Rattle.lists.proofs.Lists.{flatMap-more}
 use Rattle.text.specs.Decimal.{decimal}
 use Rattle.text.proofs.Digits.{decimal-below}
-use Rattle.calendar.specs.Dates.{firstYear}
-use Rattle.calendar.specs.OnPeak.{hoursADay, onPeakHours, tableEntry}
+use Rattle.date_rules.specs.Dates.{firstYear}
+use Rattle.date_rules.specs.OnPeak.{hoursADay, onPeakHours, tableEntry}
 use Rattle.hours_text.specs.TableText.{countLine}
 
 -- the first k lines

@@ -7,7 +7,7 @@ use Rattle.lists.specs.Lists.{listTo}
 use Rattle.lists.specs.Lent.{overwrite}
 use Rattle.text.specs.Ascii.{ascii}
 use Rattle.text.specs.Decimal.{decimal}
-use Rattle.calendar.specs.OnPeak.{tableEntries, tableEntry}
+use Rattle.date_rules.specs.OnPeak.{tableEntries, tableEntry}
 
 unfoldable pub countLine : ℕ → List ℕ
 countLine hours = decimal hours ++ ascii "\n"

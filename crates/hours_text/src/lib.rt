@@ -3,9 +3,9 @@ ghost use Prim.Native.Nat.{_+_, _*_, _≤_};
 ghost use lib.ListN.{length};
 ghost use Rattle.lists.specs.Lent.{before, after};
 ghost use Rattle.text.specs.Inner.{Put};
-ghost use Rattle.calendar.specs.OnPeak.{hoursADay};
+ghost use Rattle.date_rules.specs.OnPeak.{hoursADay};
 ghost use Rattle.hours_text.specs.TableText.{countLine, tableBytes, PutsTable};
-use calendar::FIRST_YEAR;
+use dates::FIRST_YEAR;
 
 // 28 years.
 const ENTRIES: u64 = 336;
@@ -31,7 +31,7 @@ pub fn put_table(buf: &mut [u8]) -> usize
     let mut next = 0;
     let mut k = 0;
     while k < ENTRIES {
-        let hours = calendar::hours_by_rule(FIRST_YEAR + k / 12, 1 + k % 12);
+        let hours = date_on_peak::hours_by_rule(FIRST_YEAR + k / 12, 1 + k % 12);
         next = put_count(buf, next, hours);
         k += 1;
     }

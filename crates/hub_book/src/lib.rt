@@ -64,10 +64,10 @@ fn check_given(
 ) -> Checked
     ensures { λ r. ⌜ r ≡ first (givenChecks nodes (before book) terms (before hub) (before weights) quantity) ⌝ }
 {
-    if let Checked::Refused(refusal) = books::check_own(nodes, book) {
+    if let Checked::Refused(refusal) = book_checks::check_own(nodes, book) {
         return Checked::Refused(refusal);
     }
-    let form = books::book_form(book);
+    let form = book_bits::book_form(book);
     let below = form.ends_below(nodes);
     if let Checked::Refused(refusal) = check_terms(below, terms, hub, quantity) {
         return Checked::Refused(refusal);
@@ -122,11 +122,11 @@ fn write_grown(
     ensures { λ r. ⌜ after file ≡ overwrite (grownFront form count terms made (before sources) (before quantities) (before book)) (before file) ⌝ }
 {
     copy_book(book, file);
-    books::store_header(file, form, count + made);
+    book_bits::store_header(file, form, count + made);
     let mut i = 0;
     while i < made {
         let c = row_at(terms, sources, quantities, i);
-        books::store_contract(file, form, count + i, c);
+        book_bits::store_contract(file, form, count + i, c);
         i += 1;
     }
 }
@@ -166,11 +166,11 @@ pub fn add_hub_contract(
         &mut sources,
         &mut quantities,
     );
-    let count = books::contract_count(book);
+    let count = book_bits::contract_count(book);
     if MAX_CONTRACTS < count + made {
         return WriteAnswer::Refused(Refusal::ContractCount);
     }
-    let form = books::book_form(book);
+    let form = book_bits::book_form(book);
     let bytes = form.book_bytes(count + made);
     if file.len() < bytes {
         return WriteAnswer::Refused(Refusal::ShortTable);

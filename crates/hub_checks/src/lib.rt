@@ -8,7 +8,8 @@ ghost use Rattle.lists.specs.Lists.{some};
 ghost use Rattle.lists.specs.Lent.{before};
 ghost use Rattle.tariff.specs.Units.{maxHubNodes};
 ghost use Rattle.tariff.specs.Refusals.{first};
-ghost use Rattle.hub_rules.specs.Hubs.{sumBy, weightBad, shapeBad, listed, twice, hubNodeNumber, hubShape, hubTwice};
+ghost use Rattle.tariff.specs.Checks.{listedNodes};
+ghost use Rattle.hub_rules.specs.Hubs.{sumBy, weightBad, shapeBad, listed, twice, hubShape, hubTwice};
 use tariff::Checked;
 use tariff::HUB_WEIGHT;
 use tariff::MAX_HUB_NODES;
@@ -18,10 +19,7 @@ use tariff::Refusal;
 fn weight_bad(weight: u64) -> bool
     ensures { λ r. ⌜ r ≡ weightBad weight ⌝ }
 {
-    if weight == 0 {
-        return true;
-    }
-    HUB_WEIGHT < weight
+    tariff::zero_or_above(weight, HUB_WEIGHT)
 }
 
 // Whether one of the weights is not.
@@ -115,7 +113,7 @@ pub fn check_shape(nodes: &[u64], weights: &[u64]) -> Checked
 // 11, 24, 25, of a hub of nodes below `bound`.
 pub fn check_hub(bound: usize, nodes: &[u64], weights: &[u64]) -> Checked
     requires { ⌜ 0 < bound ⌝ }
-    ensures { λ r. ⌜ r ≡ first (hubNodeNumber bound (before nodes) ∷ hubShape (before nodes) (before weights) ∷ hubTwice (before nodes) ∷ []) ⌝ }
+    ensures { λ r. ⌜ r ≡ first (listedNodes bound (before nodes) ∷ hubShape (before nodes) (before weights) ∷ hubTwice (before nodes) ∷ []) ⌝ }
 {
     if tables::listed_outside(bound, nodes) {
         return Checked::Refused(Refusal::NodeNumber);

@@ -9,17 +9,13 @@ use lib.Dec.{leb}
 use lib.ListN.{length, getD, drop, drop-of-length-le}
 use lib.IntN.{ℤ, pos, natAbs, _+ℤ_, _*ℤ_, +ℤ-assoc, +ℤ-idr}
 use Rattle.lists.specs.Lists.{some}
-use Rattle.lists.proofs.Search.{neither, none-bad}
+use Rattle.lists.proofs.Search.{neither}
 use Rattle.integers.proofs.Sizes.{natAbs-add, natAbs-times}
 use Rattle.tariff.specs.Units.{Factors, hubWeight}
 use Rattle.tariff.specs.Inner.{maxMcc, maxWeighted}
 use Rattle.tariff.specs.Settlement.{mcc}
 use Rattle.hub_rules.specs.Hubs.{sumBy, hubSum}
 use Rattle.hub_checks.proofs.Rest.{rest-cons, sum-rest}
-
--- a listed node
-pub node-below : (n : ℕ) (ns : List ℕ) → some (leb n) ns ≡ false → (i : ℕ) → i < length ns → getD ns i 0 < n
-node-below n ns low i h = leb-false n (getD ns i 0) (none-bad (leb n) ns 0 low i h)
 
 -- what the weights from place i on may still add
 abbrev pub toCome : List ℕ → ℕ → ℕ

@@ -12,7 +12,8 @@ use Rattle.lists.specs.Lists.{some}
 use Rattle.lists.proofs.Search.{neither}
 use Rattle.largest_remainders.specs.Ranks.{addTo}
 use Rattle.largest_remainders.proofs.Counting.{addTo-cong, addTo-plus}
-use Rattle.hub_rules.specs.Hubs.{sumBy, addPairs, listed, twice, weightOf}
+use Rattle.hub_rules.specs.Hubs.{sumBy, listed, twice, weightOf}
+use Rattle.hub_rules.specs.Inner.{addPairs}
 
 pub fails : (b : Bool) → b ≡ false → T (not b)
 fails b e = subst (λ (x : Bool). T (not x)) (sym e) tt

@@ -1,11 +1,11 @@
 -- A book's packing over the width w of its ends, B bytes a contract, and the spare bits p: total, fit, written then read, read then written; and the book's
 -- file in either form.
 use mathlib.Core.Path.{_≡_, refl, sym, ap, _∙_}
-use mathlib.Core.Bool.{Bool, true, false, cond}
+use mathlib.Core.Bool.{cond}
 use mathlib.Core.List.{List, [], _∷_, flatMap}
 use Prim.Native.Nat.{ℕ, _+_, _*_, _^_, _≤_, _<_}
 use native.Mathlib.Omega.{arith}
-use borrow.Author.Tests.{eqb-true, ne-eqb}
+use borrow.Author.Tests.{ne-eqb}
 use lib.Dec.{eqb}
 use lib.ListN.{length, getD}
 use Rattle.lists.specs.Lists.{Each, listTo}
@@ -71,10 +71,6 @@ module _ (w : ℕ) where
 
   pub length-contractsIn : (s : List ℕ) → length (contractsIn w s) ≡ contractCountIn s
   length-contractsIn s = length-listTo (contractCountIn s) (λ i. contractFrom w s (16 + contractBits w * i))
-
-  -- what is read fits
-  pub contracts-fit : (s : List ℕ) → Each (ContractFits w) (contractsIn w s)
-  contracts-fit s = each-listTo (ContractFits w) (contractCountIn s) (λ i. contractFrom w s (16 + contractBits w * i)) (λ i b. contract-fits s (16 + contractBits w * i))
 
 -- ---- a book
 
@@ -150,15 +146,6 @@ form-is f s e = ap (λ (p : ℕ). cond (eqb p 63) Wide Narrow) e ∙ back f
 pub form-narrow : (s : List ℕ) → (bookSpareIn s ≡ 63 → ⊥) → bookFormIn s ≡ Narrow
 unfolding bookFormIn
 form-narrow s h = rw (ne-eqb (bookSpareIn s) 63 h)
-
--- the wide form is there for all six spare bits alone
-pub wide-spare : (s : List ℕ) → bookFormIn s ≡ Wide → bookSpareIn s ≡ 63
-unfolding bookFormIn
-wide-spare s e = by (eqb (bookSpareIn s) 63) refl e
-  where
-    by : (b : Bool) → eqb (bookSpareIn s) 63 ≡ b → cond b Wide Narrow ≡ Wide → bookSpareIn s ≡ 63
-    by true q e = eqb-true (bookSpareIn s) 63 q
-    by false q e = cc
 
 -- the bytes s are the file of a book in the form f: what each reader finds in them
 pub record Filed (f : Form) (cs : List Contract) (s : List ℕ) : Type 0 where

@@ -1,33 +1,27 @@
 -- The grid's file, written then read and read then written: its body behind any header of h bits, then the file in either form.
-use mathlib.Core.Path.{_≡_, refl, ap, _∙_}
+use mathlib.Core.Path.{_≡_, refl, _∙_}
 use mathlib.Core.Logic.{_↔_}
 use mathlib.Core.List.{List, [], _∷_, _++_, map, append-assoc}
-use mathlib.Core.Bool.{Bool, true, false, cond}
-use Prim.Native.Nat.{ℕ, zero, suc, _+_, _-_, _*_, _^_, _≤_, _<_}
-use native.Mathlib.Nat.{two-pow-succ}
+use Prim.Native.Nat.{ℕ, _+_, _*_, _^_, _≤_, _<_}
 use native.Mathlib.Omega.{arith}
-use borrow.Author.Tests.{ltb-true, ltb-false}
-use lib.Dec.{ltb}
-use lib.Pow.{pow-pos}
-use lib.Signed.{mag}
 use lib.ListN.{length, length-map}
 use lib.Seq.{take-all}
-use lib.IntN.{ℤ, pos, negsuc}
+use lib.IntN.{ℤ}
 use Rattle.bits.specs.Bits.{field, fields}
 use Rattle.bits.specs.Signed.{ofInt, toInt}
 use Rattle.bits.specs.Fields.{Field, bits, total, fileOf}
 use Rattle.bits.specs.Inner.{Fit, Holds}
 use Rattle.bits.proofs.Numbers.{Below}
-use Rattle.bits.proofs.Fields.{field-lt, length-fields, below-fields}
+use Rattle.bits.proofs.Fields.{length-fields, below-fields}
 use Rattle.bits.proofs.SignedLaws.{Small, to-of-all, of-to-all, of-below}
 use Rattle.bits.proofs.Files.{total-append, total-run, fit-append, fit-run}
 use Rattle.layouts.specs.declared.forms.Form.{Form}
 use Rattle.layouts.specs.Files.{bytesFor, padFor}
 use Rattle.layouts.specs.Forms.{gridSpare, gridHeaderBits}
-use Rattle.layouts.specs.GridFile.{limitWidth, factorWidth, bitsBehind, gridBits, gridBytes, gridHeader, gridBody, gridFields, gridFile}
+use Rattle.layouts.specs.GridFile.{limitWidth, factorWidth, bitsBehind, gridBytes, gridHeader, gridBody, gridFields, gridFile}
 use Rattle.layouts.specs.GridFile.{gridFormIn, nodesIn, constraintsIn, gridSpareIn, headerIn, limitsFrom, factorsFrom, limitsIn, factorsIn, gridPadIn, gridIn}
 use Rattle.layouts.proofs.Padded.{Padded, padded-total, padded-written, padded-read, holds-then-run}
-use Rattle.layouts.proofs.GridHeader.{nodeWidth, header-total, header-fit, HeaderFound, header-found, header-holds, nodes-fit-read}
+use Rattle.layouts.proofs.GridHeader.{nodeWidth, header-total, header-fit, header-found, header-holds}
 
 -- what the fields of a grid's body can hold
 pub record BodyFits (n k : ℕ) (ls : List ℕ) (fs : List ℤ) : Type 0 where
@@ -35,24 +29,6 @@ pub record BodyFits (n k : ℕ) (ls : List ℕ) (fs : List ℤ) : Type 0 where
   pub one-factor-each : length fs ≡ n * k
   pub limits-fit : Below limitWidth ls
   pub factors-fit : Small factorWidth fs
-
--- ---- integers of w bits
-
--- the integer of w bits is one of w bits
-small-to : (w v : ℕ) → 1 ≤ w → v < 2 ^ w → mag (toInt w v) < 2 ^ (w - 1)
-small-to w v p h = by (ltb v (2 ^ (w - 1))) refl
-  where
-    half : 2 ^ w ≡ 2 ^ (w - 1) + 2 ^ (w - 1)
-    half = ap (λ (x : ℕ). 2 ^ x) (omega arith) ∙ two-pow-succ (w - 1)
-
-    by : (b : Bool) → ltb v (2 ^ (w - 1)) ≡ b → mag (cond b (pos v) (negsuc (2 ^ w - suc v))) < 2 ^ (w - 1)
-    by true e = ltb-true v (2 ^ (w - 1)) e
-    by false e = omega (arith, half, ltb-false v (2 ^ (w - 1)) e)
-
-small-to-all : (w : ℕ) (vs : List ℕ) → 1 ≤ w → Below w vs → Small w (map (toInt w) vs)
-small-to-all w [] p h i = pow-pos (w - 1)
-small-to-all w (v ∷ vs) p h zero = small-to w v p (h 0)
-small-to-all w (v ∷ vs) p h (suc i) = small-to-all w vs p (λ j. h (suc j)) i
 
 -- ---- the body, behind a header of o bits
 
@@ -103,17 +79,6 @@ module _ (s : List ℕ) (o n k : ℕ) where
   pub length-factors : length (factorsFrom s o n k) ≡ n * k
   unfolding factorsFrom
   length-factors = length-map (fields s (o + limitWidth * k) factorWidth (n * k)) (toInt factorWidth) ∙ length-fields s (o + limitWidth * k) factorWidth (n * k)
-
-  -- fits
-  pub body-fits-read : BodyFits n k (limitsFrom s o k) (factorsFrom s o n k)
-  unfolding limitsFrom factorsFrom
-  body-fits-read =
-      record {
-        one-limit-each = length-limits;
-        one-factor-each = length-factors;
-        limits-fit = below-fields s o limitWidth k;
-        factors-fit = small-to-all factorWidth (fields s (o + limitWidth * k) factorWidth (n * k)) (omega arith) (below-fields s (o + limitWidth * k) factorWidth (n * k));
-      }
 
 -- ---- the fields behind a header, and the padding
 
@@ -243,10 +208,6 @@ module _ (s : List ℕ) where
 
   abbrev K : ℕ
   K = constraintsIn s
-
-  -- what is read fits
-  pub grid-fits : GridFits F N K (limitsIn s) (factorsIn s)
-  grid-fits = record { nodes-fit = nodes-fit-read s F; constraints-fit = field-lt s 8 7; body-fits = body-fits-read s (headerIn s) N K }
 
   pub grid-read : Below 8 s → length s ≡ gridBytes F N K → gridSpareIn s ≡ gridSpare F → gridPadIn s ≡ 0 → fileOf (gridFields F N K (limitsIn s) (factorsIn s)) ≡ s
   unfolding gridFields

@@ -1,14 +1,13 @@
 -- A grid's header in each form: its bits, and what the readers find in it.
-use mathlib.Core.Path.{_≡_, refl, sym, ap, _∙_}
+use mathlib.Core.Path.{_≡_, refl, sym}
 use mathlib.Core.Bool.{Bool, true, false, cond, _&&_}
 use mathlib.Core.List.{List}
 use Prim.Native.Nat.{ℕ, _^_, _<_, _≤_}
 use native.Mathlib.Omega.{arith}
-use borrow.Author.Tests.{eqb-true, eq-eqb, ne-eqb}
+use borrow.Author.Tests.{eqb-true, ne-eqb}
 use lib.Dec.{eqb}
 use Rattle.bits.specs.Fields.{total}
 use Rattle.bits.specs.Inner.{Fit, Holds}
-use Rattle.bits.proofs.Fields.{field-lt}
 use Rattle.layouts.specs.declared.forms.Form.{Form}
 use Rattle.layouts.specs.declared.forms.Form.the-variants.{Narrow, Wide}
 use Rattle.layouts.specs.Forms.{gridSpare, gridHeaderBits, mostNodes}
@@ -53,10 +52,6 @@ nodeWidth Wide = 16
 pub most-nodes-fit : (f : Form) (n : ℕ) → n ≤ mostNodes f → n < 2 ^ nodeWidth f
 most-nodes-fit Narrow n h = omega arith
 most-nodes-fit Wide n h = omega arith
-
-pub nodes-fit-read : (s : List ℕ) (f : Form) → nodesOf f s < 2 ^ nodeWidth f
-nodes-fit-read s Narrow = field-lt s 0 8
-nodes-fit-read s Wide = field-lt s 16 16
 
 pub header-total : (f : Form) (n k : ℕ) → total (gridHeader f n k) ≡ gridHeaderBits f
 unfolding gridHeader

@@ -1,13 +1,14 @@
 -- Laws of a search for a bad element, from the front: a turn, each end, and what a search that found none says.
 use mathlib.Core.Path.{_≡_, refl, sym, ap, _∙_}
-use mathlib.Core.Bool.{Bool, true, false, _||_}
+use mathlib.Core.Bool.{Bool, true, false, _||_, _&&_}
 use mathlib.Core.List.{List, [], _∷_, _++_}
 use Prim.Native.Nat.{ℕ, zero, suc, _+_, _≤_, _<_}
 use native.Mathlib.Numerals.{add-one}
 use native.Mathlib.Omega.{arith}
-use borrow.Author.Tests.{lt-ltb, le-ltb}
+use borrow.Author.Tests.{lt-ltb, le-ltb, leb-false}
 use lib.ListN.{length, getD, take}
 use lib.Seq.{take-suc, take-all, length-take-le}
+use lib.Dec.{leb}
 use Rattle.lists.specs.Lists.{some, above}
 
 -- ---- two conditions
@@ -15,6 +16,10 @@ use Rattle.lists.specs.Lists.{some, above}
 pub neither : (a b : Bool) → (a || b) ≡ false → (a ≡ false) × (b ≡ false)
 neither true b e = (e, cc)
 neither false b e = (refl, e)
+
+pub both : (a b : Bool) → (a && b) ≡ true → (a ≡ true) × (b ≡ true)
+both true b e = (refl, e)
+both false b e = (e, cc)
 
 -- ---- a bad element
 
@@ -64,6 +69,10 @@ module _ {A : Type 0} (bad : A → Bool) where
   pub some-start : some bad [] ≡ false
   unfolding some
   some-start = refl
+
+-- where no number of a list is n or above, each is below n
+pub all-below : (n : ℕ) (xs : List ℕ) → some (leb n) xs ≡ false → (i : ℕ) → i < length xs → getD xs i 0 < n
+all-below n xs none i h = leb-false n (getD xs i 0) (none-bad (leb n) xs 0 none i h)
 
 -- a cell of the first n
 pub cell-in : {A : Type 0} (cells : List A) (n i : ℕ) → n ≤ length cells → i < n → i < length (take n cells)

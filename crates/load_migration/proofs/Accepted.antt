@@ -21,16 +21,16 @@ use Rattle.layouts.specs.Forms.{endWidth}
 use Rattle.layouts.specs.BookFile.{bookBytes, bookFile, contractIn}
 use Rattle.layouts.specs.BookTable.{ContractFits}
 use Rattle.layouts.proofs.BookFile.{book-written, contract-in-fits}
-use Rattle.books.specs.BookChecks.{contractChecks}
-use Rattle.books.specs.Inner.{headerBytes}
-use Rattle.books.proofs.Accepted.{contract-in-range}
-use Rattle.books.proofs.Making.{front-begins, front-ends}
+use Rattle.book_rules.specs.BookChecks.{contractChecks}
+use Rattle.book_rules.specs.Inner.{headerBytes}
+use Rattle.book_rules.proofs.Accepted.{contract-in-range}
+use Rattle.book_rules.proofs.Making.{front-begins, front-ends}
 use Rattle.migration_rules.specs.Contracts.{gained, countered, newBook}
 use Rattle.migration_rules.specs.Inner.{Within}
 use Rattle.migration_rules.proofs.Books.{all-each}
 use Rattle.load_transfers.specs.Squares.{lostIn}
-use Rattle.migrated_contracts.specs.Inner.{Ready, Appended}
-use Rattle.migrated_contracts.proofs.Pairs.{fits-gained, fits-countered}
+use Rattle.migration_pairs.specs.Inner.{Ready, Appended}
+use Rattle.migration_pairs.proofs.Pairs.{fits-gained, fits-countered}
 use Rattle.load_migration.specs.Inner.{roomChecks, contractsTo, newTo}
 
 -- a contract of ends below the node count and of a quantity in range passes its own checks

@@ -15,9 +15,9 @@ use Rattle.tariff.proofs.Checks.{passed-cons, passed-append}
 use Rattle.layouts.specs.Forms.{endWidth}
 use Rattle.layouts.specs.BookFile.{bookFile, bookFormIn, contractCountIn, contractAt, bookIn}
 use Rattle.layouts.proofs.BookFile.{book-read, book-fits}
-use Rattle.books.specs.BookChecks.{contractChecks, ownChecks}
-use Rattle.books.proofs.Accepted.{contracts-pass, own-parts, own-passes, own-accepted}
-use Rattle.books.proofs.Making.{Made, book-made}
+use Rattle.book_rules.specs.BookChecks.{contractChecks, ownChecks}
+use Rattle.book_rules.proofs.Accepted.{contracts-pass, own-parts, own-passes, own-accepted}
+use Rattle.book_rules.proofs.Making.{Made, book-made}
 use Rattle.migration_rules.specs.Transfers.{loss, loadExceeded}
 use Rattle.migration_rules.proofs.Alike.{loads-within}
 use Rattle.load_migration.specs.MigrateLoad.{MigrateLoadCall, rowsGiven, contractsGrown, migrateLoadChecked, bookMigrated}
@@ -46,8 +46,8 @@ module _ (q : MigrateLoadCall) (pass : migrateLoadChecked q ≡ Passed) where
       (grown-passes (loss (rowsGiven q)) (q .loads) (figures .few) within t (q .nodes) (bookIn (q .book))
       (each-listTo (λ (c : Contract). first (contractChecks (q .nodes) c) ≡ Passed) (contractCountIn (q .book)) (contractAt (q .book)) (contracts-pass (q .nodes) (q .book) own)))
 
-  pub grown-accepted : first (ownChecks (q .nodes) (bookMigrated q)) ≡ Passed
-  grown-accepted = own-passes (q .nodes) (bookMigrated q) (own-parts (q .nodes) (q .book) (input-own q input-passed) .0) (book-grown .accepted)
+  pub new-book-accepted : first (ownChecks (q .nodes) (bookMigrated q)) ≡ Passed
+  new-book-accepted = own-passes (q .nodes) (bookMigrated q) (own-parts (q .nodes) (q .book) (input-own q input-passed) .0) (book-grown .accepted)
 
   -- where the contracts are as they were, so are the bytes
   pub bytes-same : Bytes (q .book) → contractsGrown q ≡ bookIn (q .book) → bookMigrated q ≡ q .book

@@ -17,8 +17,8 @@ use Rattle.tariff.specs.Refusals.{Check, first}
 use Rattle.tariff.specs.Units.{maxEntities, maxLoad}
 use Rattle.tariff.proofs.Checks.{first-passes, first-refuses, append-refuses, append-passes, passed-cons, passed-append}
 use Rattle.layouts.specs.BookFile.{bookFormIn, contractCountIn}
-use Rattle.books.specs.BookChecks.{ownChecks}
-use Rattle.books.proofs.Accepted.{Accepted, own-accepted}
+use Rattle.book_rules.specs.BookChecks.{ownChecks}
+use Rattle.book_rules.proofs.Accepted.{Accepted, own-accepted}
 use Rattle.migration_rules.specs.Transfers.{Row, loss, lossesTo, load, exceeded, rowChecks, rangeChecks, loadExceeded, loadsExceeded}
 use Rattle.migration_rules.proofs.Nets.{losses-cong}
 use Rattle.tariff.specs.declared.units.Transfer.{Transfer}

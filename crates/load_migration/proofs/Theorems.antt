@@ -8,17 +8,18 @@ use Rattle.tariff.specs.declared.refusals.Checked.the-variants.{Passed}
 use Rattle.tariff.specs.Refusals.{first}
 use Rattle.tariff.specs.Contracts.{periodOf}
 use Rattle.layouts.specs.BookFile.{bookFormIn, bookIn}
-use Rattle.books.specs.BookChecks.{ownChecks}
+use Rattle.book_rules.specs.BookChecks.{ownChecks}
 use Rattle.migration_rules.specs.Transfers.{net}
 use Rattle.migration_rules.specs.Theorems.{Kept}
 use Rattle.migration_rules.proofs.Theorems.{migration-keeps, nothing-moved}
 use Rattle.load_migration.specs.MigrateLoad.{MigrateLoadCall, rowsGiven, contractsGrown, migrateLoadChecked, bookMigrated}
-use Rattle.load_migration.proofs.Made.{book-grown, grown-accepted, bytes-same}
+use Rattle.load_migration.proofs.Made.{book-grown, bytes-same}
+use Rattle.load_migration.proofs.Made as M
 
 module _ (q : MigrateLoadCall) (pass : migrateLoadChecked q ≡ Passed) where
   -- the new book is accepted for the same node count
   pub new-book-accepted : first (ownChecks (q .nodes) (bookMigrated q)) ≡ Passed
-  new-book-accepted = grown-accepted q pass
+  new-book-accepted = M.new-book-accepted q pass
 
   -- "a book made from a book keeps its form"
   pub new-book-form : bookFormIn (bookMigrated q) ≡ bookFormIn (q .book)

@@ -13,7 +13,7 @@ use Rattle.layouts.specs.declared.WriteAnswer.{WriteAnswer}
 use Rattle.layouts.specs.declared.forms.Form.{Form}
 use Rattle.layouts.specs.BookFile.{bookBytes, bookFile, bookFormIn, contractIn}
 use Rattle.layouts.specs.Writing.{Writes}
-use Rattle.books.specs.BookChecks.{ownChecks}
+use Rattle.book_rules.specs.BookChecks.{ownChecks}
 use Rattle.migration_rules.specs.Transfers.{RowLists, rangeChecks}
 use Rattle.migration_rules.specs.Contracts.{newFrom, newBook}
 use Rattle.load_transfers.specs.Squares.{lostIn}

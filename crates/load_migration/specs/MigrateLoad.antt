@@ -11,7 +11,7 @@ use Rattle.tariff.specs.Contracts.{periodOf}
 use Rattle.layouts.specs.declared.WriteAnswer.{WriteAnswer}
 use Rattle.layouts.specs.BookFile.{bookBytes, bookFile, bookFormIn, bookIn}
 use Rattle.layouts.specs.Writing.{Writes, WritesForC}
-use Rattle.books.specs.BookChecks.{ownChecks}
+use Rattle.book_rules.specs.BookChecks.{ownChecks}
 use Rattle.migration_rules.specs.Transfers.{Row, RowLists, rowsIn, loss, rangeChecks, loadExceeded}
 use Rattle.migration_rules.specs.Contracts.{newBook}
 

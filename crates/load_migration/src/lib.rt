@@ -8,7 +8,7 @@ ghost use Rattle.layouts.specs.BookFile.{bookBytes, bookFile, contractCountIn, 
 ghost use Rattle.migration_rules.specs.Transfers.{rowLists};
 ghost use Rattle.migration_rules.specs.Contracts.{newBook};
 ghost use Rattle.load_transfers.specs.Squares.{lostIn};
-ghost use Rattle.migrated_contracts.specs.Inner.{Ready, Appended};
+ghost use Rattle.migration_pairs.specs.Inner.{Ready, Appended};
 ghost use Rattle.load_migration.specs.MigrateLoad.{migrateLoadCall, MigratesLoad};
 ghost use Rattle.load_migration.specs.Inner.{inputChecks, roomChecks, Readable, contractsTo, newTo, grownTo, Roomy, Grows};
 use layouts::Form;
@@ -36,7 +36,7 @@ fn check_input(
     if 1 < period {
         return Checked::Refused(Refusal::PeriodOrKind);
     }
-    if let Checked::Refused(refusal) = books::check_own(nodes, book) {
+    if let Checked::Refused(refusal) = book_checks::check_own(nodes, book) {
         return Checked::Refused(refusal);
     }
     load_transfers::check_figures(classes, customers, rates, olds, news, loads)
@@ -57,9 +57,9 @@ fn grown_count(
     let mut grown = count;
     let mut i = 0;
     while i < count {
-        let base = books::contract_at(book, form, i);
+        let base = book_bits::contract_at(book, form, i);
         let row = square[load_transfers::row_of(base.holder)];
-        grown += migrated_contracts::new_count(base, period, row, loads);
+        grown += migration_pairs::new_count(base, period, row, loads);
         i += 1;
     }
     grown
@@ -85,7 +85,7 @@ fn store_old(file: &mut [u8], form: Form, book: &[u8], count: usize)
 {
     let mut i = 0;
     while i < count {
-        books::store_contract(file, form, i, books::contract_at(book, form, i));
+        book_bits::store_contract(file, form, i, book_bits::contract_at(book, form, i));
         i += 1;
     }
 }
@@ -107,9 +107,9 @@ fn store_grown(
     let mut place = count;
     let mut i = 0;
     while i < count {
-        let base = books::contract_at(book, form, i);
+        let base = book_bits::contract_at(book, form, i);
         let row = square[load_transfers::row_of(base.holder)];
-        place = migrated_contracts::store_new(file, form, place, base, period, row, loads);
+        place = migration_pairs::store_new(file, form, place, base, period, row, loads);
         i += 1;
     }
     place
@@ -131,7 +131,7 @@ fn write_grown(
     requires { ⌜ Roomy form (contractsTo form (now book) count) (newTo form (now book) period square (now loads) count) (now file) ⌝ }
     ensures { λ r. ⌜ after file ≡ overwrite (bookFile form (grownTo form (before book) period square (before loads) count)) (before file) ⌝ }
 {
-    books::store_header(file, form, grown);
+    book_bits::store_header(file, form, grown);
     store_old(file, form, book, count);
     store_grown(file, form, book, count, period, square, loads);
 }
@@ -147,8 +147,8 @@ fn migrate_by(
     requires { ⌜ Readable (bookFormIn (now book)) (contractCountIn (now book)) (now book) × Ready square (now loads) ⌝ }
     ensures { λ r. ⌜ Grows (before book) (newBook (lostIn square) (before loads) period (bookIn (before book))) (before file) r (after file) ⌝ }
 {
-    let form = books::book_form(book);
-    let count = books::contract_count(book);
+    let form = book_bits::book_form(book);
+    let count = book_bits::contract_count(book);
     let grown = grown_count(book, form, count, period, square, loads);
     match check_room(form, grown, file.len()) {
         Checked::Refused(refusal) => WriteAnswer::Refused(refusal),

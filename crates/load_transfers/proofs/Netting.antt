@@ -1,5 +1,5 @@
 -- Rows netted one after the other: the square at the start, a turn, and the end.
-use mathlib.Core.Path.{_≡_, refl, sym, ap, _∙_}
+use mathlib.Core.Path.{_≡_, refl, sym, _∙_}
 use mathlib.Core.Logic.{_≢_}
 use mathlib.Core.Bool.{Bool, true, _&&_}
 use mathlib.Core.List.{List, [], _∷_}
@@ -12,12 +12,12 @@ use lib.ListN.{length, getD}
 use lib.IntN.{pos, natAbs}
 use Rattle.lists.specs.Lists.{listTo}
 use Rattle.lists.proofs.Lists.{length-listTo, listTo-more, each-listTo}
+use Rattle.lists.proofs.Search.{both}
 use Rattle.integers.proofs.Sizes.{zero-size}
 use Rattle.tariff.specs.declared.units.Transfer.{Transfer}
 use Rattle.tariff.specs.Units.{maxEntities}
 use Rattle.migration_rules.specs.Transfers.{rowsOf}
 use Rattle.migration_rules.proofs.Nets.{net-none, net-more}
-use Rattle.migration_rules.proofs.Books.{both}
 use Rattle.load_transfers.specs.Squares.{noTransfer, cellIn, Nets}
 use Rattle.load_transfers.specs.Inner.{maxNet, transferred, Shaped, NetSquare, RowIn, rowAt, rowsTo, RowsIn}
 use Rattle.load_transfers.proofs.Squares.{shape-transferred, cell-transferred, net-sized}

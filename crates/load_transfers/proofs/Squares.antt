@@ -12,13 +12,13 @@ use lib.ListN.{length, getD, set, length-set}
 use lib.Seq.{getD-set-same, getD-set-other}
 use lib.IntN.{ℤ, pos, negℤ, natAbs, _+ℤ_, _-ℤ_}
 use Rattle.lists.specs.Lists.{Each}
-use Rattle.integers.specs.Sums.{max0, sumOver}
+use Rattle.lists.proofs.Search.{both}
+use Rattle.integers.specs.Sums.{max0}
 use Rattle.integers.proofs.Sizes.{natAbs-sub, natAbs-sumOver}
 use Rattle.integers.proofs.Linear.{⊖of, ⊖s}
 use Rattle.tariff.specs.declared.units.Transfer.{Transfer}
 use Rattle.tariff.specs.Units.{maxEntities, maxRows, maxCustomers, maxRate}
 use Rattle.migration_rules.specs.Transfers.{Row, moved, net, lossesTo}
-use Rattle.migration_rules.proofs.Books.{both}
 use Rattle.load_transfers.specs.Squares.{noTransfer, cellIn, rowLosses, lostIn}
 use Rattle.load_transfers.specs.Inner.{maxNet, stored, transferred, Shaped, SizedRow, Sized, RowIn}
 

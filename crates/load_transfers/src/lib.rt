@@ -34,20 +34,14 @@ const STEP: usize = 500;
 fn entity_bad(entities: usize, number: u64) -> bool
     ensures { λ r. ⌜ r ≡ entityBad entities number ⌝ }
 {
-    if number == 0 {
-        return true;
-    }
-    (entities as u64) < number
+    tariff::zero_or_above(number, entities as u64)
 }
 
 // How many LSEs there are: none, or too many.
 fn entity_count_bad(entities: usize) -> bool
     ensures { λ r. ⌜ r ≡ entityCount entities .fails ⌝ }
 {
-    if entities == 0 {
-        return true;
-    }
-    MAX_ENTITIES < entities
+    tariff::zero_or_above(entities as u64, MAX_ENTITIES as u64)
 }
 
 // One row: a figure too large, a number that is no LSE's, or old and new the same.

@@ -18,12 +18,12 @@ use Rattle.tariff.specs.declared.refusals.Checked.{Checked}
 use Rattle.tariff.specs.declared.refusals.Checked.the-variants.{Passed, Refused}
 use Rattle.tariff.specs.declared.contracts.Period.{Period}
 use Rattle.tariff.specs.Units.{Grid, maxConstraints}
-use Rattle.tariff.specs.Refusals.{first, decided, answered}
+use Rattle.tariff.specs.Refusals.{first, decided, answered, cellAfter}
 use Rattle.tariff.proofs.Checks.{first-append, passed-cons, passed-append}
 use Rattle.tier_rules.specs.Checks.{maxTier, markChecks, returnChecks, unsetMark, isUnset}
 use Rattle.tier_rules.specs.Runs.{returnedTo}
 use Rattle.tier_rules.specs.declared.RunningAnswer.{RunningAnswer}
-use Rattle.tier_rules.specs.Cells.{stateNumbers, stateFlows, flagCell, heldCell, stateCells, runningOutcome, bufferAfter}
+use Rattle.tier_rules.specs.Cells.{stateNumbers, stateFlows, flagCell, heldCell, stateCells, runningOutcome}
 use Rattle.tier_rules.specs.Cells.{dropMark, markedNumbers, markedFlows, returnedNumbers, returnedFlows, Holds}
 use Rattle.tier_rules.specs.Tiers.{Tiers, marked}
 use Rattle.tier_rules.proofs.Cells.{behind}
@@ -156,7 +156,7 @@ return-parts q unset e =
 mark-goes-on : (q : MarkTierCall) → MarkGoesOn q (numbersMarked q) (flowsMarked q)
 mark-goes-on q g process t awards =
     goes-on g process t (markTierChecked q) (λ s. markTierChecks q) (marked (q .tier)) (stateCells awards (q .numbers) (q .flows))
-    (λ x. stateCells awards (bufferAfter x (markedNumbers (q .tier) (q .numbers)) (q .numbers)) (bufferAfter x (markedFlows (q .tier) (q .flows)) (q .flows))) (λ z. refl) (λ s r h. refl)
+    (λ x. stateCells awards (cellAfter x (markedNumbers (q .tier) (q .numbers)) (q .numbers)) (cellAfter x (markedFlows (q .tier) (q .flows)) (q .flows))) (λ z. refl) (λ s r h. refl)
     (λ s r h e.
     let k = at-tier q e in
     (marked-reached g process t s r (q .tier), marked-holds g t s awards (q .numbers) (q .flows) h (k .numbers-long) (k .flows-long) (q .tier) (k .some-tier) (k .last-tier)))
@@ -177,7 +177,7 @@ return-checks q g t s awards h =
 return-goes-on : (q : ReturnToTierCall) → ReturnGoesOn q (numbersReturned q) (flowsReturned q)
 return-goes-on q g process t awards =
     goes-on g process t (returnToTierChecked q) (returnToTierChecks q) (returnedTo (q .tier)) (stateCells awards (q .numbers) (q .flows))
-    (λ x. stateCells awards (bufferAfter x (returnedNumbers (q .tier) (q .numbers)) (q .numbers)) (bufferAfter x (returnedFlows (q .tier) (q .flows)) (q .flows))) (λ z. refl)
+    (λ x. stateCells awards (cellAfter x (returnedNumbers (q .tier) (q .numbers)) (q .numbers)) (cellAfter x (returnedFlows (q .tier) (q .flows)) (q .flows))) (λ z. refl)
     (λ s r h. return-checks q g t s awards h)
     (λ s r h e.
     let m = Option·getD (s .mark (q .tier)) 0 in

@@ -7,11 +7,11 @@ use Rattle.tariff.specs.declared.contracts.Period.{Period}
 use Rattle.tariff.specs.declared.processes.Process.{Process}
 use Rattle.tariff.specs.declared.refusals.Checked.{Checked}
 use Rattle.tariff.specs.Units.{Grid}
-use Rattle.tariff.specs.Refusals.{Check, first, answered, numberAfter}
+use Rattle.tariff.specs.Refusals.{Check, first, answered, cellAfter, ForC}
 use Rattle.tier_rules.specs.declared.RunningAnswer.{RunningAnswer}
 use Rattle.tier_rules.specs.Tiers.{marked}
 use Rattle.tier_rules.specs.Checks.{markChecks}
-use Rattle.tier_rules.specs.Cells.{stateCells, stateBuffers, runningOutcome, bufferAfter, markedNumbers, markedFlows, GoesOn}
+use Rattle.tier_rules.specs.Cells.{stateCells, stateBuffers, runningOutcome, markedNumbers, markedFlows, GoesOn}
 
 -- the tier by its number, and the two buffers as they are at entry
 pub record MarkTierCall : Type 0 where
@@ -31,10 +31,10 @@ module _ (q : MarkTierCall) where
   markTierChecked = first markTierChecks
 
   abbrev pub numbersMarked : List ℕ
-  numbersMarked = bufferAfter markTierChecked (markedNumbers (q .tier) (q .numbers)) (q .numbers)
+  numbersMarked = cellAfter markTierChecked (markedNumbers (q .tier) (q .numbers)) (q .numbers)
 
   abbrev pub flowsMarked : List ℤ
-  flowsMarked = bufferAfter markTierChecked (markedFlows (q .tier) (q .flows)) (q .flows)
+  flowsMarked = cellAfter markTierChecked (markedFlows (q .tier) (q .flows)) (q .flows)
 
   -- of every running test in the buffers at entry, with whatever awards' cells, which are not taken
   abbrev pub MarkGoesOn : List ℕ → List ℤ → Type 0
@@ -48,9 +48,6 @@ pub record MarksTier (q : MarkTierCall) (answer : RunningAnswer) (numbers : List
   pub flows-marked : flows ≡ flowsMarked q
   pub running : MarkGoesOn q numbers flows
 
--- the same for C: the refusal's number
-pub record MarksTierForC (q : MarkTierCall) (number : ℕ) (numbers : List ℕ) (flows : List ℤ) : Type 0 where
-  pub refusal-number : number ≡ numberAfter (markTierChecked q)
-  pub numbers-marked : numbers ≡ numbersMarked q
-  pub flows-marked : flows ≡ flowsMarked q
-  pub running : MarkGoesOn q numbers flows
+-- the same for C
+abbrev pub MarksTierForC : MarkTierCall → ℕ → List ℕ → List ℤ → Type 0
+MarksTierForC q number numbers flows = ForC RunningAnswer runningOutcome (λ answer. MarksTier q answer numbers flows) number

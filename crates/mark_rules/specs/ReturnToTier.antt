@@ -6,25 +6,24 @@ use Prim.Native.Nat.{ℕ}
 use lib.Dec.{eqb}
 use lib.ListN.{getD}
 use lib.IntN.{ℤ}
+use Rattle.mark_rules.specs.MarkTier.{MarkTierCall, markTierCall}
 use Rattle.tariff.specs.declared.contracts.Period.{Period}
 use Rattle.tariff.specs.declared.processes.Process.{Process}
 use Rattle.tariff.specs.declared.refusals.Checked.{Checked}
 use Rattle.tariff.specs.Units.{Grid}
-use Rattle.tariff.specs.Refusals.{Check, first, answered, numberAfter}
+use Rattle.tariff.specs.Refusals.{Check, first, answered, cellAfter, ForC}
 use Rattle.tier_rules.specs.declared.RunningAnswer.{RunningAnswer}
 use Rattle.tier_rules.specs.Tiers.{Tiers}
 use Rattle.tier_rules.specs.Checks.{returnChecks, isUnset}
 use Rattle.tier_rules.specs.Runs.{returnedTo}
-use Rattle.tier_rules.specs.Cells.{flagCell, stateCells, stateBuffers, runningOutcome, bufferAfter, returnedNumbers, returnedFlows, GoesOn}
+use Rattle.tier_rules.specs.Cells.{flagCell, stateCells, stateBuffers, runningOutcome, returnedNumbers, returnedFlows, GoesOn}
 
--- the tier by its number, and the two buffers as they are at entry
-pub record ReturnToTierCall : Type 0 where
-  pub tier : ℕ
-  pub numbers : List ℕ
-  pub flows : List ℤ
+-- the call is that of marking
+abbrev pub ReturnToTierCall : Type 0
+ReturnToTierCall = MarkTierCall
 
 abbrev pub returnToTierCall : ℕ → List ℕ → List ℤ → ReturnToTierCall
-returnToTierCall i numbers flows = record { tier = i; numbers = numbers; flows = flows }
+returnToTierCall = markTierCall
 
 module _ (q : ReturnToTierCall) where
   -- 9 for the buffers, then "20 is for returning to an unset mark or naming any other tier"
@@ -40,10 +39,10 @@ module _ (q : ReturnToTierCall) where
   returnToTierChecks s = returnListed (isUnset (s .mark (q .tier)))
 
   abbrev pub numbersReturned : List ℕ
-  numbersReturned = bufferAfter returnToTierChecked (returnedNumbers (q .tier) (q .numbers)) (q .numbers)
+  numbersReturned = cellAfter returnToTierChecked (returnedNumbers (q .tier) (q .numbers)) (q .numbers)
 
   abbrev pub flowsReturned : List ℤ
-  flowsReturned = bufferAfter returnToTierChecked (returnedFlows (q .tier) (q .flows)) (q .flows)
+  flowsReturned = cellAfter returnToTierChecked (returnedFlows (q .tier) (q .flows)) (q .flows)
 
   -- of every running test in the buffers at entry, with whatever awards' cells, which are not taken
   abbrev pub ReturnGoesOn : List ℕ → List ℤ → Type 0
@@ -58,9 +57,6 @@ pub record ReturnsToTier (q : ReturnToTierCall) (answer : RunningAnswer) (number
   pub flows-returned : flows ≡ flowsReturned q
   pub running : ReturnGoesOn q numbers flows
 
--- the same for C: the refusal's number
-pub record ReturnsToTierForC (q : ReturnToTierCall) (number : ℕ) (numbers : List ℕ) (flows : List ℤ) : Type 0 where
-  pub refusal-number : number ≡ numberAfter (returnToTierChecked q)
-  pub numbers-returned : numbers ≡ numbersReturned q
-  pub flows-returned : flows ≡ flowsReturned q
-  pub running : ReturnGoesOn q numbers flows
+-- the same for C
+abbrev pub ReturnsToTierForC : ReturnToTierCall → ℕ → List ℕ → List ℤ → Type 0
+ReturnsToTierForC q number numbers flows = ForC RunningAnswer runningOutcome (λ answer. ReturnsToTier q answer numbers flows) number

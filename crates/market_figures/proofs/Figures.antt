@@ -3,20 +3,16 @@ use mathlib.Core.Path.{_≡_, refl, ap, ap₂, _∙_}
 use mathlib.Core.Bool.{Bool, true, false, cond}
 use mathlib.Core.List.{List, [], _∷_, map}
 use Prim.Native.Nat.{ℕ}
-use lib.Dec.{eqb}
-use lib.IntN.{ℤ, pos, _+ℤ_, _-ℤ_}
-use lib.Signed.{ltZ}
-use Rattle.lists.specs.Sets.{setOf, countOf, lowestOf}
+use lib.IntN.{ℤ, _+ℤ_}
 use Rattle.integers.specs.Sums.{sumOver}
 use Rattle.tariff.specs.declared.contracts.Contract.{Contract}
 use Rattle.tariff.specs.declared.contracts.Period.{Period}
-use Rattle.tariff.specs.declared.processes.Process.{Process}
-use Rattle.tariff.specs.Units.{Factors, Grid}
+use Rattle.tariff.specs.Units.{Factors}
 use Rattle.tariff.specs.Contracts.{samePeriod, ofPeriod}
-use Rattle.tariff.specs.Feasibility.{flow, totalFlow, released, excess, overloaded, overloadSet, overloadCount, lowestOverload}
+use Rattle.tariff.specs.Feasibility.{flow, totalFlow}
 use Rattle.tariff.specs.Settlement.{amount, spreadAt, pricedAt, pricedSet, exactTotal, cents}
-use Rattle.feasibility_test.specs.TestBook.{testValues}
-use Rattle.settlement.specs.SettleHour.{centsOf, pricedOf, centsSum, hourTotal}
+use Rattle.test_rules.proofs.Figures.{same-test}
+use Rattle.hour_rules.specs.SettleHour.{centsOf, pricedOf, centsSum, hourTotal}
 use Rattle.view_rules.specs.Views.{anonymous}
 use Rattle.market_figures.specs.Theorems.{SameFigures}
 
@@ -65,35 +61,19 @@ priced-anonymous : (f : Factors) (p : List ℕ) (t : Period) (c : Contract) → 
 unfolding pricedOf pricedSet pricedAt spreadAt anonymous
 priced-anonymous f p t c = refl
 
--- ---- the test's figures
+-- ---- flows
 
 module _ (t : Period) (cs : List Contract) where
   flows-same : (f : Factors) (k : ℕ) → totalFlow f (ofPeriod t (map anonymous cs)) k ≡ totalFlow f (ofPeriod t cs) k
   unfolding totalFlow
   flows-same f k = period-sum (λ c. flow f c k) (flow-anonymous f k) t cs
 
-  module _ (g : Grid) (process : Process) where
-    overloads-same : overloaded g process (ofPeriod t (map anonymous cs)) ≡ overloaded g process (ofPeriod t cs)
-    unfolding overloaded
-    overloads-same = λ i k. ltZ (pos (released (g .limits) process k)) (flows-same (g .factors) k i)
-
-    excess-same : excess g process (ofPeriod t (map anonymous cs)) ≡ excess g process (ofPeriod t cs)
-    unfolding excess
-    excess-same = λ i k. flows-same (g .factors) k i -ℤ pos (released (g .limits) process k)
-
-    verdict-same : testValues g process (ofPeriod t (map anonymous cs)) ≡ testValues g process (ofPeriod t cs)
-    unfolding testValues overloadSet overloadCount lowestOverload
-    verdict-same =
-        let n = g .factors .constraints in
-        λ i. cond (eqb (setOf n (overloads-same i)) 0) []
-        (pos (setOf n (overloads-same i)) ∷ pos (countOf n (overloads-same i)) ∷ pos (lowestOf n (overloads-same i)) ∷ excess-same i (lowestOf n (overloads-same i)) ∷ [])
-
 pub figures-same : (cs : List Contract) → SameFigures (map anonymous cs) cs
 unfolding centsSum hourTotal exactTotal
 figures-same cs =
     record {
       same-flows = λ f t k. flows-same t cs f k;
-      same-verdict = λ g process t. verdict-same t cs g process;
+      same-verdict = λ g process t. same-test g process _ _ (flows-same t cs (g .factors));
       same-cents = λ f p t. map-anonymous (centsOf f p t) (cents-anonymous f p t) cs;
       same-sets = λ f p t. map-anonymous (pricedOf f p t) (priced-anonymous f p t) cs;
       same-sum = λ f p t. period-sum (λ c. cents (amount f p c)) (λ c. ap cents (amount-anonymous f p c)) t cs;

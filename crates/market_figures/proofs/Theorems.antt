@@ -6,7 +6,7 @@ use Rattle.tariff.specs.declared.contracts.Contract.{Contract}
 use Rattle.tariff.specs.declared.refusals.Checked.the-variants.{Passed}
 use Rattle.tariff.specs.Refusals.{first}
 use Rattle.layouts.specs.BookFile.{bookIn}
-use Rattle.books.specs.BookChecks.{ownChecks}
+use Rattle.book_rules.specs.BookChecks.{ownChecks}
 use Rattle.view_rules.specs.Views.{marketFile}
 use Rattle.view_rules.proofs.Theorems.{market-is-a-book}
 use Rattle.market_figures.specs.Theorems.{SameFigures}

@@ -8,13 +8,12 @@ use Rattle.tariff.specs.declared.processes.Process.{Process}
 use Rattle.tariff.specs.Units.{Factors, Grid}
 use Rattle.tariff.specs.Contracts.{ofPeriod}
 use Rattle.tariff.specs.Feasibility.{totalFlow}
-use Rattle.feasibility_test.specs.TestBook.{testValues}
-use Rattle.settlement.specs.SettleHour.{centsOf, pricedOf, centsSum, hourTotal}
+use Rattle.test_rules.specs.Theorems.{SameTest}
+use Rattle.hour_rules.specs.SettleHour.{centsOf, pricedOf, centsSum, hourTotal}
 
 pub record SameFigures (cs ds : List Contract) : Type 0 where
   pub same-flows : (f : Factors) (t : Period) (k : ℕ) → totalFlow f (ofPeriod t cs) k ≡ totalFlow f (ofPeriod t ds) k
-  -- the verdict, and where it is a failure the set, the count, the lowest and the excess there
-  pub same-verdict : (g : Grid) (process : Process) (t : Period) → testValues g process (ofPeriod t cs) ≡ testValues g process (ofPeriod t ds)
+  pub same-verdict : (g : Grid) (process : Process) (t : Period) → SameTest g process (ofPeriod t cs) (ofPeriod t ds)
   -- cents and priced sets, contract by contract
   pub same-cents : (f : Factors) (p : List ℕ) (t : Period) → map (centsOf f p t) cs ≡ map (centsOf f p t) ds
   pub same-sets : (f : Factors) (p : List ℕ) (t : Period) → map (pricedOf f p t) cs ≡ map (pricedOf f p t) ds

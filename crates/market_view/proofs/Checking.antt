@@ -11,8 +11,8 @@ use Rattle.tariff.specs.Refusals.{Check, first}
 use Rattle.tariff.specs.Checks.{shortTable}
 use Rattle.tariff.proofs.Checks.{first-refuses, last-passes, append-refuses, append-passes, passed-append, passed-cons}
 use Rattle.layouts.specs.BookFile.{bookBytes, contractCountIn, bookFormIn}
-use Rattle.books.specs.BookChecks.{ownChecks}
-use Rattle.books.proofs.Accepted.{own-accepted}
+use Rattle.book_rules.specs.BookChecks.{ownChecks}
+use Rattle.book_rules.proofs.Accepted.{own-accepted}
 use Rattle.view_rules.specs.MarketView.{MarketViewCall, marketViewChecks, marketViewChecked}
 
 module _ (q : MarketViewCall) where

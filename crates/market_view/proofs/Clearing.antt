@@ -5,8 +5,8 @@ use native.Mathlib.Omega.{arith}
 use Rattle.layouts.specs.declared.forms.Form.{Form}
 use Rattle.layouts.specs.Forms.{endWidth}
 use Rattle.layouts.specs.Inner.{contractOf}
-use Rattle.books.specs.Inner.{contractBytes, bitsBytes}
-use Rattle.books.proofs.Bytes.{contract-number}
+use Rattle.book_rules.specs.Inner.{contractBytes, bitsBytes}
+use Rattle.book_rules.proofs.Bytes.{contract-number}
 use Rattle.view_rules.specs.Views.{anonymous}
 use Rattle.view_rules.proofs.Numbers.{withHolder, with-holder}
 use Rattle.market_view.specs.Inner.{clearedNumber}

@@ -10,18 +10,29 @@ ghost use Rattle.layouts.specs.BookFile.{bookBytes, bookFile, contractIn};
 ghost use Rattle.view_rules.specs.Views.{anonymous};
 ghost use Rattle.view_rules.specs.MarketView.{marketViewCall, marketViewChecked, WritesMarketView};
 ghost use Rattle.market_view.specs.Inner.{clearedNumber};
+use book_bits::NARROW_HOLDER_AT;
+use book_bits::NARROW_PERIOD_AT;
+use book_bits::WIDE_HOLDER_AT;
+use book_bits::WIDE_PERIOD_AT;
 use layouts::Form;
 use layouts::WriteAnswer;
 use tariff::Checked;
 use tariff::Refusal;
+
+// What the bits above a holder count for, in either form.
+const NARROW_ABOVE: u64 = 1u64 << NARROW_PERIOD_AT;
+
+const WIDE_ABOVE: u64 = 1u64 << WIDE_PERIOD_AT;
 
 // A contract's bits with the holder's ten cleared: the two above them, and all below.
 fn cleared(form: Form, v: u64) -> u64
     ensures { λ r. ⌜ r ≡ clearedNumber form v ⌝ }
 {
     match form {
-        Form::Narrow => bits::part(v, 46, 2) * 70368744177664 + bits::part(v, 0, 36),
-        Form::Wide => bits::part(v, 54, 2) * 18014398509481984 + bits::part(v, 0, 44),
+        Form::Narrow => bits::part(v, NARROW_PERIOD_AT, 2) * NARROW_ABOVE
+            + bits::part(v, 0, NARROW_HOLDER_AT),
+        Form::Wide => bits::part(v, WIDE_PERIOD_AT, 2) * WIDE_ABOVE
+            + bits::part(v, 0, WIDE_HOLDER_AT),
     }
 }
 
@@ -30,11 +41,11 @@ fn write_anonymous(book: &[u8], form: Form, count: usize, file: &mut [u8])
     requires { ⌜ (count ≤ maxContracts) × (bookBytes form count ≤ length (now book)) × (bookBytes form count ≤ length (now file)) ⌝ }
     ensures { λ r. ⌜ after file ≡ overwrite (bookFile form (listTo count (λ i. anonymous (contractIn form (before book) i)))) (before file) ⌝ }
 {
-    books::store_header(file, form, count);
+    book_bits::store_header(file, form, count);
     let mut i = 0;
     while i < count {
-        let own = books::bits_at(book, form, i);
-        books::store_bits(file, form, i, cleared(form, own));
+        let own = book_bits::bits_at(book, form, i);
+        book_bits::store_bits(file, form, i, cleared(form, own));
         i += 1;
     }
 }
@@ -43,7 +54,7 @@ fn write_anonymous(book: &[u8], form: Form, count: usize, file: &mut [u8])
 fn check_market_view(nodes: usize, book: &[u8], bytes: usize) -> Checked
     ensures { λ r. ⌜ ((place : List ℕ) → length place ≡ bytes → r ≡ marketViewChecked (marketViewCall nodes (before book) place)) ⌝ }
 {
-    if let Checked::Refused(refusal) = books::check_own(nodes, book) {
+    if let Checked::Refused(refusal) = book_checks::check_own(nodes, book) {
         return Checked::Refused(refusal);
     }
     if bytes < book.len() {
@@ -59,8 +70,8 @@ pub fn write_market_view(nodes: usize, book: &[u8], file: &mut [u8]) -> WriteAns
     match check_market_view(nodes, book, file.len()) {
         Checked::Refused(refusal) => WriteAnswer::Refused(refusal),
         Checked::Passed => {
-            let form = books::book_form(book);
-            write_anonymous(book, form, books::contract_count(book), file);
+            let form = book_bits::book_form(book);
+            write_anonymous(book, form, book_bits::contract_count(book), file);
             WriteAnswer::Written { bytes: book.len() }
         }
     }

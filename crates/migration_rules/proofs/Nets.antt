@@ -1,4 +1,4 @@
--- Nets: each the opposite of its mirror, one row more, sizes, and an LSE's losses.
+-- Nets: each the net-opposite of its mirror, one row more, sizes, and an LSE's losses.
 use mathlib.Core.Path.{_≡_, refl}
 use mathlib.Core.List.{List, [], _∷_, _++_}
 use Prim.Native.Nat.{ℕ, zero, suc, _+_, _≤_, _<_}
@@ -17,14 +17,14 @@ use Rattle.migration_rules.specs.Theorems.{manualRows, netsOf, manualNet
 mirror : (x y s u : ℤ) → s ≡ negℤ u → x -ℤ y +ℤ s ≡ negℤ (y -ℤ x +ℤ u)
 mirror x y s u = rw (⊖of x, ⊖of y, ⊖of s, ⊖of u) (simp ⊖s (omega arith))
 
-pub opposite : (rows : List Row) (i j : ℕ) → net rows i j ≡ negℤ (net rows j i)
+pub net-opposite : (rows : List Row) (i j : ℕ) → net rows i j ≡ negℤ (net rows j i)
 unfolding net sumOver
-opposite [] i j = refl
-opposite (r ∷ rows) i j = mirror (pos (moved r i j)) (pos (moved r j i)) (net rows i j) (net rows j i) (opposite rows i j)
+net-opposite [] i j = refl
+net-opposite (r ∷ rows) i j = mirror (pos (moved r i j)) (pos (moved r j i)) (net rows i j) (net rows j i) (net-opposite rows i j)
 
-pub manual : netsOf manualRows ≡ manualNets
+pub manual-nets : netsOf manualRows ≡ manualNets
 unfolding net sumOver moved
-manual = refl
+manual-nets = refl
 
 -- no rows, and one row more
 pub net-none : (i j : ℕ) → net [] i j ≡ pos 0

@@ -32,13 +32,10 @@ fn check_lists(form: Form, nodes: usize, old: &[u64], new: &[u64]) -> Checked
 pub fn check_remap(nodes: usize, book: &[u8], old: &[u64], new: &[u64], bytes: usize) -> Checked
     ensures { λ r. ⌜ ((place : List ℕ) → length place ≡ bytes → r ≡ remapBookChecked (remapBookCall nodes (before book) (before old) (before new) place)) ⌝ }
 {
-    if tariff::nodes_bad(nodes) {
-        return Checked::Refused(Refusal::NodeCount);
-    }
-    if let Checked::Refused(refusal) = books::check_book(nodes, book) {
+    if let Checked::Refused(refusal) = book_checks::check_own(nodes, book) {
         return Checked::Refused(refusal);
     }
-    if let Checked::Refused(refusal) = check_lists(books::book_form(book), nodes, old, new) {
+    if let Checked::Refused(refusal) = check_lists(book_bits::book_form(book), nodes, old, new) {
         return Checked::Refused(refusal);
     }
     if bytes < book.len() {

@@ -12,8 +12,9 @@ use Rattle.tariff.specs.declared.processes.Process.{Process}
 use Rattle.tariff.specs.Units.{Factors, Grid}
 use Rattle.tariff.specs.Contracts.{ofPeriod}
 use Rattle.tariff.specs.Settlement.{exactTotal}
-use Rattle.tariff.specs.Feasibility.{totalFlow, Passes, excess, overloadSet, overloadCount, lowestOverload}
+use Rattle.tariff.specs.Feasibility.{totalFlow}
 use Rattle.tariff.specs.Shortfall.{IsWorst}
+use Rattle.test_rules.specs.Theorems.{SameTest}
 
 -- "any reordering of the contracts": the same ones, each as often, in any order
 abbrev pub Reordered : List Contract → List Contract → Type 0
@@ -24,19 +25,11 @@ pub record SameFlows (f : Factors) (cs ds : List Contract) : Type 0 where
   pub flows-same : (k : ℕ) → totalFlow f cs k ≡ totalFlow f ds k
   pub counted-same : length cs ≡ length ds
 
--- the same overload set, and so the same count, lowest, excess anywhere and verdict
-pub record SameOverloads (g : Grid) (process : Process) (cs ds : List Contract) : Type 0 where
-  pub set-same : overloadSet g process cs ≡ overloadSet g process ds
-  pub count-same : overloadCount g process cs ≡ overloadCount g process ds
-  pub lowest-same : lowestOverload g process cs ≡ lowestOverload g process ds
-  pub excess-same : (k : ℕ) → excess g process cs k ≡ excess g process ds k
-  pub verdict-same : Passes g process cs ↔ Passes g process ds
-
 -- THE STATEMENTS, for every grid, process, period and price list, and any two lists of contracts
 pub record Reordering : Type 0 where
   pub reorder-keeps-flows : (f : Factors) (t : Period) (cs ds : List Contract) → Reordered cs ds → SameFlows f (ofPeriod t cs) (ofPeriod t ds)
   pub reorder-keeps-overloads : (g : Grid) (process : Process) (t : Period) (cs ds : List Contract) → Reordered cs ds
-      → SameOverloads g process (ofPeriod t cs) (ofPeriod t ds)
+      → SameTest g process (ofPeriod t cs) (ofPeriod t ds)
   pub reorder-keeps-exact-total : (f : Factors) (p : List ℕ) (t : Period) (cs ds : List Contract) → Reordered cs ds
       → exactTotal f p (ofPeriod t cs) ≡ exactTotal f p (ofPeriod t ds)
   -- so the worst shortfall is the same number

@@ -19,9 +19,9 @@ use Rattle.layouts.specs.Forms.{endWidth}
 use Rattle.layouts.specs.BookFile.{contractCountIn, bookFormIn, contractAt, bookIn}
 use Rattle.layouts.specs.BookTable.{ContractFits}
 use Rattle.layouts.proofs.BookFile.{length-bookIn, book-fits}
-use Rattle.books.specs.BookChecks.{contractChecks, bookChecks}
-use Rattle.books.proofs.Accepted.{contracts-pass, book-accepted}
-use Rattle.books.proofs.Making.{book-made}
+use Rattle.book_rules.specs.BookChecks.{contractChecks, bookChecks}
+use Rattle.book_rules.proofs.Accepted.{contracts-pass, book-accepted}
+use Rattle.book_rules.proofs.Making.{book-made}
 use Rattle.reorder_rules.specs.Reordering.{Reordered}
 use Rattle.reorder_rules.proofs.Perms.{length-perm, each-by}
 use Rattle.reordering.specs.Entries.{IsBook}

@@ -19,16 +19,16 @@ use Rattle.tariff.specs.Feasibility.{Passes}
 use Rattle.tariff.specs.Settlement.{wholeCents, parts}
 use Rattle.tariff.proofs.Theorems.{pass-is-worst-zero}
 use Rattle.layouts.specs.BookFile.{contractCountIn, contractAt, bookIn}
-use Rattle.feasibility_test.specs.declared.Flows.{Flows}
-use Rattle.feasibility_test.specs.declared.TestAnswer.{TestAnswer}
-use Rattle.feasibility_test.specs.declared.TestAnswer.the-variants.{Pass}
-use Rattle.feasibility_test.specs.TestBook.{TestCall, testOutcome, testedGrid, testedProcess, testedContracts, testValues}
-use Rattle.feasibility_test.specs.Carried.{Carries}
+use Rattle.test_rules.specs.declared.Flows.{Flows}
+use Rattle.test_rules.specs.declared.TestAnswer.{TestAnswer}
+use Rattle.test_rules.specs.declared.TestAnswer.the-variants.{Pass}
+use Rattle.test_rules.specs.TestBook.{TestCall, testOutcome, testedGrid, testedProcess, testedContracts, testValues}
+use Rattle.test_rules.specs.Carried.{Carries}
 use Rattle.flows.specs.declared.FlowsAnswer.{FlowsAnswer}
 use Rattle.flows.specs.FindFlows.{FlowsCall, flowsOutcome, countedContracts}
 use Rattle.flows.proofs.Passing.{flow-is}
-use Rattle.settlement.specs.declared.SettleAnswer.{SettleAnswer}
-use Rattle.settlement.specs.SettleHour.{HourCall, settleOutcome, settleChecked, hourFactors, hourPrices, hourPeriod, centsOf, pricedOf, centsCells, pricedCells, sumGiven, exactGiven}
+use Rattle.hour_rules.specs.declared.SettleAnswer.{SettleAnswer}
+use Rattle.hour_rules.specs.SettleHour.{HourCall, settleOutcome, settleChecked, hourFactors, hourPrices, hourPeriod, centsOf, pricedOf, centsCells, pricedCells, sumGiven, exactGiven}
 use Rattle.reorder_rules.specs.Reordering.{Reordered}
 use Rattle.reorder_rules.specs.Relief.{Raised, OptionMore}
 use Rattle.reorder_rules.proofs.Figures.{flows-perm}

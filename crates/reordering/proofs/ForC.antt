@@ -6,32 +6,27 @@ use Prim.Native.Nat.{ℕ, _≤_, _<_}
 use lib.ListN.{length, getD}
 use lib.IntN.{ℤ, pos}
 use Rattle.lists.specs.Lent.{Lent, before, after}
-use Rattle.tariff.specs.declared.contracts.Contract.{Contract}
-use Rattle.tariff.specs.declared.processes.Process.{Process}
-use Rattle.tariff.specs.Units.{Grid, limit, factorsOf}
+use Rattle.tariff.specs.Units.{limit, factorsOf}
 use Rattle.tariff.specs.Contracts.{periodOf}
-use Rattle.tariff.specs.Feasibility.{Passes, lowestOverload}
+use Rattle.tariff.specs.Feasibility.{Passes}
 use Rattle.tariff.specs.Settlement.{wholeCents, parts}
 use Rattle.tariff.proofs.Answers.{figure-is}
 use Rattle.tariff.proofs.Theorems.{pass-is-worst-zero}
 use Rattle.layouts.specs.BookFile.{contractCountIn, contractAt, bookIn}
-use Rattle.feasibility_test.specs.TestBook.{TestCall, testChecked, testedGrid, testedProcess, testedContracts, TestCells, testCells, testedCells}
+use Rattle.test_rules.specs.TestBook.{TestCall, testChecked, testedGrid, testedProcess, testedContracts, TestCells, testedCells}
+use Rattle.test_rules.proofs.Figures.{same-cells}
 use Rattle.flows.specs.FindFlows.{FlowsCall, findFlowsChecked, countedContracts}
 use Rattle.flows.proofs.Passing.{flow-is}
-use Rattle.settlement.specs.SettleHour.{HourCall, settleChecked, hourFactors, hourPrices, hourPeriod, sumGiven, exactGiven}
-use Rattle.reorder_rules.specs.Reordering.{Reordered, SameOverloads}
+use Rattle.hour_rules.specs.SettleHour.{HourCall, settleChecked, hourFactors, hourPrices, hourPeriod, sumGiven, exactGiven}
+use Rattle.reorder_rules.specs.Reordering.{Reordered}
 use Rattle.reorder_rules.specs.Relief.{OptionMore}
 use Rattle.reorder_rules.proofs.Theorems.{reordering, relief}
 use Rattle.reordering.specs.Entries.{testOn, testUnder, hourOn, flowsOn, SameCells}
-use Rattle.reordering.specs.ForC.{TestFigures, SameFigures, HourFigures, SameTotalsGiven, TestedForC, FoundForC, SettledForC}
+use Rattle.reordering.specs.ForC.{TestFigures, SameTestGiven, HourFigures, SameTotalsGiven, TestedForC, FoundForC, SettledForC}
 use Rattle.reordering.proofs.Values.{totals-kept}
 use Rattle.reordering.proofs.Answers.{still-passes, CellsGiven, cells-same}
 
 -- ---- the test
-
-cells-by : (g : Grid) (process : Process) (cs ds : List Contract) → SameOverloads g process cs ds → testCells g process cs ≡ testCells g process ds
-unfolding testCells
-cells-by g process cs ds o = rw (o .set-same, o .count-same, o .lowest-same, o .excess-same (lowestOverload g process ds))
 
 module _ (q : TestCall) (n : ℕ) (c : TestFigures) (h : TestedForC q n c) where
   set-is : after (c .set) ≡ testedCells q .set
@@ -54,11 +49,11 @@ module _ (q : TestCall) (n : ℕ) (c : TestFigures) (h : TestedForC q n c) where
       (λ e. w .1 (d .0 e), λ p. d .1 (w .0 p))
 
 module _ (q : TestCall) (s : List ℕ) (m n : ℕ) (c d : TestFigures) (h : TestedForC q m c) (l : TestedForC (testOn q s) n d) where
-  pub test-same-for-c : Reordered (bookIn (q .book)) (bookIn s) → SameFigures c d
+  pub test-same-for-c : Reordered (bookIn (q .book)) (bookIn s) → SameTestGiven c d
   test-same-for-c p =
       let same : testedCells q ≡ testedCells (testOn q s)
-      = cells-by (testedGrid q) (testedProcess q) (testedContracts q) (testedContracts (testOn q s))
-      (reordering .reorder-keeps-overloads (testedGrid q) (testedProcess q) (periodOf (q .period)) (bookIn (q .book)) (bookIn s) p) in
+      = same-cells (testedGrid q) (testedProcess q) (testedContracts q) (testedContracts (testOn q s))
+      (reordering .reorder-keeps-overloads (testedGrid q) (testedProcess q) (periodOf (q .period)) (bookIn (q .book)) (bookIn s) p .flows-same) in
       record {
         same-set = set-is q m c h ∙ ap (λ (t : TestCells). t .set) same ∙ sym (set-is (testOn q s) n d l);
         same-count = count-is q m c h ∙ ap (λ (t : TestCells). t .count) same ∙ sym (count-is (testOn q s) n d l);

@@ -7,7 +7,7 @@ use Rattle.lists.specs.Lent.{Lent, after}
 use Rattle.lists.proofs.Lists.{listTo-cong, map-listTo}
 use Rattle.tariff.specs.declared.contracts.Contract.{Contract}
 use Rattle.layouts.specs.BookFile.{contractCountIn, contractAt, bookIn}
-use Rattle.settlement.specs.SettleHour.{HourCall, hourFactors, hourPrices, hourPeriod, centsOf, pricedOf}
+use Rattle.hour_rules.specs.SettleHour.{HourCall, hourFactors, hourPrices, hourPeriod, centsOf, pricedOf}
 use Rattle.reorder_rules.specs.Reordering.{Reordered}
 use Rattle.reordering.specs.Entries.{hourOn}
 use Rattle.reordering.specs.Moving.{SettledRow, rowsLeft, RowsMove}

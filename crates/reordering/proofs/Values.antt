@@ -1,4 +1,4 @@
--- The figures of the test are made of the overloads, those of an hour are sums, and a cell is a function of its contract alone.
+-- The figures of the test are made of the flows, those of an hour are sums, and a cell is a function of its contract alone.
 use mathlib.Core.Path.{_≡_, refl, sym, ap, _∙_}
 use mathlib.Core.List.{List, [], _∷_, map}
 use Prim.Native.Nat.{ℕ, zero, suc, _<_}
@@ -10,22 +10,17 @@ use Rattle.tariff.specs.declared.contracts.Period.{Period}
 use Rattle.tariff.specs.declared.processes.Process.{Process}
 use Rattle.tariff.specs.Units.{Factors, Grid}
 use Rattle.tariff.specs.Contracts.{ofPeriod}
-use Rattle.tariff.specs.Feasibility.{lowestOverload}
 use Rattle.tariff.specs.Settlement.{amount, cents}
-use Rattle.reorder_rules.specs.Reordering.{Reordered, SameOverloads}
+use Rattle.reorder_rules.specs.Reordering.{Reordered}
 use Rattle.reorder_rules.proofs.Perms.{period-sum-perm}
 use Rattle.reorder_rules.proofs.Theorems.{reordering}
-use Rattle.feasibility_test.specs.TestBook.{testValues}
-use Rattle.settlement.specs.SettleHour.{centsOf, pricedOf, centsSum, hourTotal}
+use Rattle.test_rules.specs.TestBook.{testValues}
+use Rattle.hour_rules.specs.SettleHour.{centsOf, pricedOf, centsSum, hourTotal}
 use Rattle.reordering.specs.Values.{SameTotals, CellsMove}
-
-values-by : (g : Grid) (process : Process) (cs ds : List Contract) → SameOverloads g process cs ds → testValues g process cs ≡ testValues g process ds
-unfolding testValues
-values-by g process cs ds o = rw (o .set-same, o .count-same, o .lowest-same, o .excess-same (lowestOverload g process ds))
 
 pub verdict-kept : (g : Grid) (process : Process) (t : Period) (cs ds : List Contract) → Reordered cs ds
     → testValues g process (ofPeriod t cs) ≡ testValues g process (ofPeriod t ds)
-verdict-kept g process t cs ds h = values-by g process (ofPeriod t cs) (ofPeriod t ds) (reordering .reorder-keeps-overloads g process t cs ds h)
+verdict-kept g process t cs ds h = reordering .reorder-keeps-overloads g process t cs ds h .figures-same
 
 module _ (f : Factors) (p : List ℕ) (t : Period) (cs ds : List Contract) where
   pub totals-kept : Reordered cs ds → SameTotals f p t cs ds

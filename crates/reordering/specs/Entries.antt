@@ -15,16 +15,16 @@ use Rattle.layouts.specs.declared.forms.Form.{Form}
 use Rattle.layouts.specs.Forms.{endWidth}
 use Rattle.layouts.specs.BookFile.{bookFile, contractCountIn, bookFormIn, contractAt, bookIn}
 use Rattle.layouts.specs.BookTable.{ContractFits}
-use Rattle.books.specs.BookChecks.{bookChecks}
-use Rattle.feasibility_test.specs.declared.Flows.{Flows}
-use Rattle.feasibility_test.specs.declared.TestAnswer.{TestAnswer}
-use Rattle.feasibility_test.specs.declared.TestAnswer.the-variants.{Pass}
-use Rattle.feasibility_test.specs.TestBook.{TestCall, testCall, testOutcome, testChecked, TestsBook}
-use Rattle.feasibility_test.specs.Carried.{Carries}
+use Rattle.book_rules.specs.BookChecks.{bookChecks}
+use Rattle.test_rules.specs.declared.Flows.{Flows}
+use Rattle.test_rules.specs.declared.TestAnswer.{TestAnswer}
+use Rattle.test_rules.specs.declared.TestAnswer.the-variants.{Pass}
+use Rattle.test_rules.specs.TestBook.{TestCall, testCall, testOutcome, testChecked, TestsBook}
+use Rattle.test_rules.specs.Carried.{Carries}
 use Rattle.flows.specs.declared.FlowsAnswer.{FlowsAnswer}
 use Rattle.flows.specs.FindFlows.{FlowsCall, flowsCall, flowsOutcome, findFlowsChecked, FindsFlows}
-use Rattle.settlement.specs.declared.SettleAnswer.{SettleAnswer}
-use Rattle.settlement.specs.SettleHour.{HourCall, hourCall, settleOutcome, settleChecked, SettlesHour}
+use Rattle.hour_rules.specs.declared.SettleAnswer.{SettleAnswer}
+use Rattle.hour_rules.specs.SettleHour.{HourCall, hourCall, settleOutcome, settleChecked, SettlesHour}
 use Rattle.reorder_rules.specs.Reordering.{Reordered}
 use Rattle.reorder_rules.specs.Relief.{OptionMore}
 

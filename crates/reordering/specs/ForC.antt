@@ -8,9 +8,9 @@ use Rattle.lists.specs.Lent.{Lent, after}
 use Rattle.tariff.specs.declared.refusals.Checked.the-variants.{Passed}
 use Rattle.tariff.specs.Units.{limit}
 use Rattle.layouts.specs.BookFile.{contractCountIn, contractAt, bookIn}
-use Rattle.feasibility_test.specs.TestBook.{TestCall, testChecked, TestsBookForC}
+use Rattle.test_rules.specs.TestBook.{TestCall, testChecked, TestsBookForC}
 use Rattle.flows.specs.FindFlows.{FlowsCall, findFlowsChecked, FindsFlowsForC}
-use Rattle.settlement.specs.SettleHour.{HourCall, settleChecked, SettlesForC}
+use Rattle.hour_rules.specs.SettleHour.{HourCall, settleChecked, SettlesForC}
 use Rattle.reorder_rules.specs.Reordering.{Reordered}
 use Rattle.reorder_rules.specs.Relief.{OptionMore}
 use Rattle.reordering.specs.Entries.{testOn, testUnder, hourOn, flowsOn, SameCells}
@@ -23,7 +23,7 @@ pub record TestFigures : Type 0 where
   pub lowest : Lent ℕ
   pub excess : Lent ℤ
 
-pub record SameFigures (c d : TestFigures) : Type 0 where
+pub record SameTestGiven (c d : TestFigures) : Type 0 where
   pub same-set : after (c .set) ≡ after (d .set)
   pub same-count : after (c .count) ≡ after (d .count)
   pub same-lowest : after (c .lowest) ≡ after (d .lowest)
@@ -58,7 +58,7 @@ pub record SettledForC (q : HourCall) (number : ℕ) (c : HourFigures) : Type 0 
 -- THE STATEMENTS. An empty set is a pass.
 pub record EntriesForC : Type 0 where
   pub crr-test-reordered : (q : TestCall) (s : List ℕ) (m n : ℕ) (c d : TestFigures) → TestedForC q m c → TestedForC (testOn q s) n d
-      → Reordered (bookIn (q .book)) (bookIn s) → SameFigures c d
+      → Reordered (bookIn (q .book)) (bookIn s) → SameTestGiven c d
   pub crr-test-limits-raised : (q : TestCall) (limits : List ℕ) (m n : ℕ) (c d : TestFigures) → TestedForC q m c → TestedForC (testUnder q limits) n d
       → ((k : ℕ) → k < q .constraints → limit (q .limits) k ≤ limit limits k) → after (c .set) ≡ 0 → after (d .set) ≡ 0
   pub crr-test-option-added : (q : TestCall) (s : List ℕ) (m n : ℕ) (c d : TestFigures) → TestedForC q m c → TestedForC (testOn q s) n d

@@ -8,8 +8,8 @@ use Rattle.lists.specs.Lists.{listTo}
 use Rattle.lists.specs.Lent.{Lent, after}
 use Rattle.tariff.specs.declared.contracts.Contract.{Contract}
 use Rattle.layouts.specs.BookFile.{contractCountIn, contractAt, bookIn}
-use Rattle.settlement.specs.declared.SettleAnswer.{SettleAnswer}
-use Rattle.settlement.specs.SettleHour.{HourCall}
+use Rattle.hour_rules.specs.declared.SettleAnswer.{SettleAnswer}
+use Rattle.hour_rules.specs.SettleHour.{HourCall}
 use Rattle.reorder_rules.specs.Reordering.{Reordered}
 use Rattle.reordering.specs.Entries.{hourOn, HourSettled}
 use Rattle.reordering.specs.ForC.{HourFigures, SettledForC}

@@ -11,8 +11,8 @@ use Rattle.tariff.specs.declared.processes.Process.{Process}
 use Rattle.tariff.specs.Units.{Factors, Grid}
 use Rattle.tariff.specs.Contracts.{ofPeriod}
 use Rattle.reorder_rules.specs.Reordering.{Reordered}
-use Rattle.feasibility_test.specs.TestBook.{testValues}
-use Rattle.settlement.specs.SettleHour.{centsOf, pricedOf, centsSum, hourTotal}
+use Rattle.test_rules.specs.TestBook.{testValues}
+use Rattle.hour_rules.specs.SettleHour.{centsOf, pricedOf, centsSum, hourTotal}
 
 module _ (f : Factors) (p : List ℕ) (t : Period) (cs ds : List Contract) where
   -- the same sum of rounded cents, and the same exact total

@@ -11,8 +11,8 @@ ghost use Rattle.text.specs.Inner.{Put};
 ghost use Rattle.tariff.specs.Units.{maxConstraints};
 ghost use Rattle.report_rules.specs.Report.{numbersTo};
 ghost use Rattle.report_rules.specs.Inner.{inSet, member, failed, answerFigures, overBy, memberRoom, numbersRoom, countsRoom, figuresRoom};
-use feasibility_test::TestAnswer;
 use tariff::Flow;
+use test_rules::TestAnswer;
 
 // Constraint k, if it is in the set, at place `next` of a list that begins at place `at`.
 fn put_member(buf: &mut [u8], at: usize, next: usize, set: u64, k: usize) -> usize

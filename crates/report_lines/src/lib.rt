@@ -8,14 +8,14 @@ ghost use Rattle.text.specs.Inner.{Put};
 ghost use Rattle.tariff.specs.Units.{factorsOf, gridOf};
 ghost use Rattle.tariff.specs.Contracts.{ofPeriod};
 ghost use Rattle.layouts.specs.BookFile.{bookIn};
-ghost use Rattle.feasibility_test.specs.Carried.{Carries};
+ghost use Rattle.test_rules.specs.Carried.{Carries};
 ghost use Rattle.report_rules.specs.Report.{periodWord, processWord, line, periodLines, lines};
 ghost use Rattle.report_rules.specs.WriteReport.{reportRoom};
 ghost use Rattle.report_rules.specs.Inner.{Reportable, periodRoom, processRoom, lineRoom, periodLinesRoom};
-use feasibility_test::Flows;
 use report_figures::put_figures;
 use tariff::Period;
 use tariff::Process;
+use test_rules::Flows;
 
 // The period's word and a comma.
 fn put_period(buf: &mut [u8], at: usize, period: Period) -> usize
@@ -61,7 +61,7 @@ fn put_line(
     ensures { λ r. ⌜ Put (before buf) at (line (gridOf nodes constraints (before limits) (before factors)) (bookIn (before book)) period process) (after buf) r ⌝ }
     ensures { λ r. ⌜ r ≤ at + lineRoom ⌝ }
 {
-    let answer = feasibility_test::verdict(constraints, process, limits, flows);
+    let answer = test_verdict::verdict(constraints, process, limits, flows);
     let first = put_period(buf, at, period);
     let second = put_process(buf, first, process);
     let third = put_figures(buf, second, constraints, answer);
@@ -84,7 +84,7 @@ fn put_period_lines(
     ensures { λ r. ⌜ Put (before buf) at (periodLines (gridOf nodes constraints (before limits) (before factors)) (bookIn (before book)) period) (after buf) r ⌝ }
     ensures { λ r. ⌜ r ≤ at + periodLinesRoom ⌝ }
 {
-    let flows = feasibility_test::carry(nodes, constraints, factors, period, book);
+    let flows = test_flows::carry(nodes, constraints, factors, period, book);
     let first = put_line(
         buf,
         at,

@@ -20,16 +20,16 @@ use Rattle.tariff.specs.Contracts.{ofPeriod, InRange}
 use Rattle.tariff.specs.Inner.{FactorsInRange, LimitsInRange}
 use Rattle.tariff.specs.Feasibility.{excess, overloaded, overloadSet, overloadCount, lowestOverload}
 use Rattle.tariff.proofs.Answers.{never-given}
-use Rattle.tariff.proofs.Overloads.{passes-empty, fails-lowest}
+use Rattle.tariff.proofs.Overloads.{pass-is-empty-set, fails-lowest}
 use Rattle.tariff.proofs.Sizes.{excess-sized, ofPeriod-in-range}
 use Rattle.layouts.specs.BookFile.{bookIn}
 use Rattle.layouts.proofs.BookFile.{length-bookIn}
 use Rattle.tables.proofs.Cells.{cut-sized}
-use Rattle.books.proofs.Accepted.{book-accepted, all-in-range}
-use Rattle.feasibility_test.specs.declared.TestAnswer.{TestAnswer}
-use Rattle.feasibility_test.specs.declared.TestAnswer.the-variants.{Pass, Fail, Refused as NotTested}
-use Rattle.feasibility_test.specs.TestBook.{testOutcome, testValues}
-use Rattle.feasibility_test.specs.Inner.{Judges}
+use Rattle.book_rules.proofs.Accepted.{book-accepted, all-in-range}
+use Rattle.test_rules.specs.declared.TestAnswer.{TestAnswer}
+use Rattle.test_rules.specs.declared.TestAnswer.the-variants.{Pass, Fail, Refused as NotTested}
+use Rattle.test_rules.specs.TestBook.{testOutcome, testValues}
+use Rattle.test_rules.specs.Inner.{Judges}
 use Rattle.report_rules.specs.Report.{periodWord, processWord, numbersTo, figures, line}
 use Rattle.report_rules.specs.Inner.{Reportable, inSet, failed, answerFigures, overBy}
 use Rattle.report_rules.proofs.Members.{numbers-set}
@@ -84,7 +84,7 @@ module _ (g : Grid) (process : Process) (cs : List Contract) where
   over-small fs ls each few Pass e = omega arith
   over-small fs ls each few (Fail set count lowest over) e =
       let f = fail-told set count lowest (over .0) e in
-      let inside = fails-lowest g process cs (λ p. eqb-false (overloadSet g process cs) 0 (f .some-set) (passes-empty g process cs .0 p)) .inside in
+      let inside = fails-lowest g process cs (λ p. eqb-false (overloadSet g process cs) 0 (f .some-set) (pass-is-empty-set g process cs .0 p)) .inside in
       rw (f .over-is) (omega (arith, excess-sized g fs ls process cs (lowestOverload g process cs) each inside))
   over-small fs ls each few (NotTested r) e = absurd (never-given r _ e)
 

@@ -12,9 +12,9 @@ use Rattle.tariff.specs.declared.refusals.Checked.the-variants.{Passed}
 use Rattle.tariff.specs.Units.{maxConstraints, maxLimit}
 use Rattle.tariff.specs.Refusals.{first}
 use Rattle.tables.specs.Inner.{GoodFactors, GoodCells}
-use Rattle.books.specs.BookChecks.{bookChecks}
-use Rattle.feasibility_test.specs.declared.TestAnswer.{TestAnswer}
-use Rattle.feasibility_test.specs.declared.TestAnswer.the-variants.{Pass, Fail, Refused}
+use Rattle.book_rules.specs.BookChecks.{bookChecks}
+use Rattle.test_rules.specs.declared.TestAnswer.{TestAnswer}
+use Rattle.test_rules.specs.declared.TestAnswer.the-variants.{Pass, Fail, Refused}
 use Rattle.report_rules.specs.Report.{numbersTo}
 
 -- tables and a book that the test accepts in every process and period

@@ -82,5 +82,5 @@ pub fn check_award(
     if 1000 <= numbers[0] {
         return Checked::Refused(Refusal::ContractCount);
     }
-    book_file::check_row(nodes, award, 0)
+    book_rows::check_row(nodes, award, 0)
 }

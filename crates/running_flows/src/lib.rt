@@ -11,10 +11,10 @@ ghost use Rattle.tables.specs.Inner.{GoodFactors};
 ghost use Rattle.tier_rules.specs.Cells.{stateNumbers, heldIn};
 ghost use Rattle.running_rules.specs.AddAward.{noState};
 ghost use Rattle.running_rules.specs.Inner.{Addable, StateLike, SameFlows, FlowsWith, AddsFlows};
-use feasibility_test::Flows;
 use tariff::Contract;
 use tariff::MAX_CONSTRAINTS;
 use tariff::Process;
+use test_rules::Flows;
 
 // The largest flow of one award: both factors at their largest, and the quantity.
 const MAX_FLOW: u64 = 200000000000;
@@ -80,7 +80,7 @@ fn flows_with(
     ensures { λ r. ⌜ FlowsWith (factorsOf nodes constraints (before factors)) c (before flows) r ⌝ }
 {
     let mut tried = held_flows(constraints, flows);
-    feasibility_test::add_flow(&mut tried.flows, c, constraints, factors);
+    test_flows::add_flow(&mut tried.flows, c, constraints, factors);
     tried
 }
 
@@ -107,7 +107,7 @@ pub fn add_flows(
         return true;
     }
     let tried = flows_with(nodes, constraints, factors, c, numbers, flows);
-    if feasibility_test::overload_set(constraints, process, limits, tried) != 0 {
+    if test_verdict::overload_set(constraints, process, limits, tried) != 0 {
         return true;
     }
     flows::fill_flows(constraints, tried, flows);

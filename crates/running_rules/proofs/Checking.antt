@@ -20,7 +20,7 @@ use Rattle.tariff.proofs.Checks.{first-passes, first-refuses, first-under, appe
 use Rattle.tables.specs.TableChecks.{gridTableChecks}
 use Rattle.tables.proofs.Passing.{GridTables, grid-tables}
 use Rattle.layouts.specs.BookTable.{contractCells}
-use Rattle.book_file.specs.WriteBook.{rowChecks}
+use Rattle.book_rules.specs.WriteBook.{rowChecks}
 use Rattle.tier_rules.specs.Checks.{runningChecks, awardChecks}
 use Rattle.tier_rules.specs.Cells.{awardsCells, stateNumbers, stateFlows, stateBuffers}
 use Rattle.running_rules.specs.OpenRunning.{OpenRunningCall, openRunningChecks, openRunningChecked}

@@ -22,8 +22,8 @@ use Rattle.tariff.specs.Feasibility.{flow}
 use Rattle.tariff.specs.Contracts.{InRange}
 use Rattle.tariff.proofs.Sizes.{flow-sized}
 use Rattle.tables.specs.Inner.{GoodFactors}
-use Rattle.feasibility_test.specs.declared.Flows.{Flows}
-use Rattle.feasibility_test.specs.Inner.{Adds, Room}
+use Rattle.test_rules.specs.declared.Flows.{Flows}
+use Rattle.test_rules.specs.Inner.{Adds, Room}
 use Rattle.tier_rules.specs.Cells.{heldIn, countedIn, flowWith}
 use Rattle.running_rules.specs.AddAward.{noState}
 use Rattle.running_rules.specs.Inner.{StateLike, SameFlows, FlowsWith}

@@ -25,11 +25,11 @@ use Rattle.tariff.specs.Inner.{FactorsInRange}
 use Rattle.tariff.proofs.Sizes.{totalFlow-sized, ofPeriod-in-range}
 use Rattle.tariff.proofs.Periods.{ofPeriod-same, sumOver-more}
 use Rattle.tariff.specs.Processes.{percent}
-use Rattle.feasibility_test.specs.declared.Flows.{Flows}
-use Rattle.books.proofs.Accepted.{contract-in-range}
+use Rattle.test_rules.specs.declared.Flows.{Flows}
+use Rattle.book_rules.proofs.Accepted.{contract-in-range}
 use Rattle.tier_rules.specs.Tiers.{Tiers, Award, Reached}
 use Rattle.tier_rules.specs.Cells.{heldIn, countedIn, flowWith, stateCells, Holds}
-use Rattle.tier_rules.proofs.States.{other-fits}
+use Rattle.tier_rules.proofs.States.{other-period-never-21}
 use Rattle.running_rules.specs.AddAward.{noState, exceedsWith, cellsOver}
 use Rattle.running_rules.specs.Inner.{FlowsWith, AddsFlows}
 use Rattle.running_rules.proofs.Flowing.{beyond, none-found}
@@ -128,7 +128,7 @@ module _ (n k : ℕ) (limits : List ℕ) (factors : List ℤ) (process : Process
       → cellsOver b limits process F c numbers flows ≡ ltb 0 (overloadSet (gridOf n k limits factors) process (ofPeriod t (s .awards ++ c ∷ [])))
   unfolding cellsOver exceedsWith overloadSet overloaded
   by-period c true e = rw no-odd (ap (ltb 0) (set-cong k _ _ (λ j l. ap₂ (λ (x : ℕ) (y : ℤ). ltZ (pos x) y) (limit-is j l) (more c e j l))))
-  by-period c false e = sym (other-fits (gridOf n k limits factors) process t s r c e)
+  by-period c false e = sym (other-period-never-21 (gridOf n k limits factors) process t s r c e)
 
   pub over-told : (c : Contract) → cellsOver (samePeriod (c .period) t) limits process F c numbers flows ≡ ltb 0 (overloadSet (gridOf n k limits factors) process (ofPeriod t (s .awards ++ c ∷ [])))
   over-told c = by-period c (samePeriod (c .period) t) refl

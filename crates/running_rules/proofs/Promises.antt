@@ -13,13 +13,13 @@ use Rattle.tariff.specs.declared.refusals.Checked.the-variants.{Passed, Refused
 use Rattle.tariff.specs.Units.{gridOf}
 use Rattle.tariff.specs.Contracts.{periodOf}
 use Rattle.tariff.specs.Processes.{processOf}
-use Rattle.tariff.specs.Refusals.{first, answered}
+use Rattle.tariff.specs.Refusals.{first, answered, cellAfter}
 use Rattle.tariff.proofs.Checks.{append-refuses, append-passes, passed-append, first-refuses, last-passes}
 use Rattle.tier_rules.specs.declared.RunningAnswer.{RunningAnswer}
 use Rattle.tier_rules.specs.declared.RunningAnswer.the-variants as is
 use Rattle.tier_rules.specs.Tiers.{Tiers, opened, withAward, Reached}
 use Rattle.tier_rules.specs.Checks.{overload, awardChecks, awardOver}
-use Rattle.tier_rules.specs.Cells.{heldIn, stateCells, runningOutcome, bufferAfter, openedNumbers, openedFlows, withAwardRow, withAwardNumbers, withAwardFlows, Holds}
+use Rattle.tier_rules.specs.Cells.{heldIn, stateCells, runningOutcome, openedNumbers, openedFlows, withAwardRow, withAwardNumbers, withAwardFlows, Holds}
 use Rattle.tier_rules.proofs.States.{opened-reached}
 use Rattle.tier_rules.proofs.Runs.{added-reached}
 use Rattle.tier_rules.proofs.Holding.{opened-holds, added-holds}
@@ -102,8 +102,8 @@ module _ (q : AddAwardCall) where
   add-goes-on : AddGoesOn q (stateCells (awardsAdded q) (numbersAdded q) (flowsAdded q))
   add-goes-on =
       goes-on (addGrid q) (addProcess q) (addPeriod q) (addAwardChecked q) (addAwardChecks q) (withAward (awarded q)) (stateCells (q .awards) (q .numbers) (q .flows))
-      (λ x. stateCells (bufferAfter x (withAwardRow held (awarded q) (q .awards)) (q .awards)) (bufferAfter x (withAwardNumbers (ownPeriod q) (q .numbers)) (q .numbers))
-      (bufferAfter x (withAwardFlows (ownPeriod q) (addFactors q) (awarded q) (q .flows)) (q .flows)))
+      (λ x. stateCells (cellAfter x (withAwardRow held (awarded q) (q .awards)) (q .awards)) (cellAfter x (withAwardNumbers (ownPeriod q) (q .numbers)) (q .numbers))
+      (cellAfter x (withAwardFlows (ownPeriod q) (addFactors q) (awarded q) (q .flows)) (q .flows)))
       (λ z. refl) (λ s r h. same-checks s (r, h)) (λ s r h e. next-state s (r, h) e)
 
   adds-award : (answer : RunningAnswer) (awards numbers : List ℕ) (flows : List ℤ) → runningOutcome answer ≡ answered (addAwardChecked q) []

@@ -19,13 +19,13 @@ use Rattle.tariff.specs.Units.{Factors, Grid, factorsOf, gridOf, maxFlow}
 use Rattle.tariff.specs.Contracts.{samePeriod, periodOf}
 use Rattle.tariff.specs.Processes.{processOf}
 use Rattle.tariff.specs.Feasibility.{released}
-use Rattle.tariff.specs.Refusals.{Check, first, answered, numberAfter}
+use Rattle.tariff.specs.Refusals.{Check, first, answered, cellAfter, ForC}
 use Rattle.tariff.specs.Checks.{shortTable}
 use Rattle.layouts.specs.BookTable.{contractCells, rowAt}
 use Rattle.tier_rules.specs.declared.RunningAnswer.{RunningAnswer}
 use Rattle.tier_rules.specs.Tiers.{Tiers, withAward}
 use Rattle.tier_rules.specs.Checks.{overload, runningChecks, awardChecks, awardOver}
-use Rattle.tier_rules.specs.Cells.{awardsCells, heldIn, countedIn, StateCells, stateCells, stateBuffers, runningOutcome, bufferAfter}
+use Rattle.tier_rules.specs.Cells.{awardsCells, heldIn, countedIn, StateCells, stateCells, stateBuffers, runningOutcome}
 use Rattle.tier_rules.specs.Cells.{withAwardRow, withAwardNumbers, flowWith, withAwardFlows, GoesOn}
 
 -- the counts, process and period by number, the grid's tables, the award as a book's row, and the three buffers as they are at entry
@@ -110,13 +110,13 @@ module _ (q : AddAwardCall) where
   addAwardChecks s = addListed (length (s .awards)) (awardOver addGrid addProcess addPeriod (s .awards) awarded)
 
   abbrev pub awardsAdded : List ℕ
-  awardsAdded = bufferAfter addAwardChecked (withAwardRow (heldIn (q .numbers)) awarded (q .awards)) (q .awards)
+  awardsAdded = cellAfter addAwardChecked (withAwardRow (heldIn (q .numbers)) awarded (q .awards)) (q .awards)
 
   abbrev pub numbersAdded : List ℕ
-  numbersAdded = bufferAfter addAwardChecked (withAwardNumbers ownPeriod (q .numbers)) (q .numbers)
+  numbersAdded = cellAfter addAwardChecked (withAwardNumbers ownPeriod (q .numbers)) (q .numbers)
 
   abbrev pub flowsAdded : List ℤ
-  flowsAdded = bufferAfter addAwardChecked (withAwardFlows ownPeriod addFactors awarded (q .flows)) (q .flows)
+  flowsAdded = cellAfter addAwardChecked (withAwardFlows ownPeriod addFactors awarded (q .flows)) (q .flows)
 
   -- of every running test of this grid, process and period in the buffers at entry
   abbrev pub AddGoesOn : StateCells → Type 0
@@ -131,10 +131,6 @@ pub record AddsAward (q : AddAwardCall) (answer : RunningAnswer) (exit : StateCe
   pub flows-added : exit .flows ≡ flowsAdded q
   pub running : AddGoesOn q exit
 
--- the same for C: the refusal's number
-pub record AddsAwardForC (q : AddAwardCall) (number : ℕ) (exit : StateCells) : Type 0 where
-  pub refusal-number : number ≡ numberAfter (addAwardChecked q)
-  pub awards-added : exit .awards ≡ awardsAdded q
-  pub numbers-added : exit .numbers ≡ numbersAdded q
-  pub flows-added : exit .flows ≡ flowsAdded q
-  pub running : AddGoesOn q exit
+-- the same for C
+abbrev pub AddsAwardForC : AddAwardCall → ℕ → StateCells → Type 0
+AddsAwardForC q number exit = ForC RunningAnswer runningOutcome (λ answer. AddsAward q answer exit) number

@@ -15,8 +15,8 @@ use Rattle.tariff.specs.Refusals.{Check}
 use Rattle.tariff.specs.Checks.{nodeCount, constraintCount, processNumber, periodNumber, shortTable, contractCount}
 use Rattle.tables.specs.Inner.{GoodFactors, GoodCells}
 use Rattle.layouts.specs.BookTable.{contractCells}
-use Rattle.book_file.specs.WriteBook.{rowChecks}
-use Rattle.feasibility_test.specs.declared.Flows.{Flows}
+use Rattle.book_rules.specs.WriteBook.{rowChecks}
+use Rattle.test_rules.specs.declared.Flows.{Flows}
 use Rattle.tier_rules.specs.Checks.{runningChecks}
 use Rattle.tier_rules.specs.Cells.{awardsCells, stateNumbers, stateFlows, heldIn, countedIn, stateBuffers, flowWith, withAwardFlows}
 use Rattle.running_rules.specs.AddAward.{AddAwardCall, noState, cellsOver}

@@ -10,12 +10,12 @@ use Rattle.tariff.specs.declared.refusals.Checked.the-variants.{Passed}
 use Rattle.tariff.specs.Units.{gridOf}
 use Rattle.tariff.specs.Contracts.{periodOf}
 use Rattle.tariff.specs.Processes.{processOf}
-use Rattle.tariff.specs.Refusals.{Check, first, answered, numberAfter}
+use Rattle.tariff.specs.Refusals.{Check, first, answered, cellAfter, ForC}
 use Rattle.tariff.specs.Checks.{shortTable}
 use Rattle.tier_rules.specs.declared.RunningAnswer.{RunningAnswer}
 use Rattle.tier_rules.specs.Tiers.{opened}
 use Rattle.tier_rules.specs.Checks.{runningChecks}
-use Rattle.tier_rules.specs.Cells.{awardsCells, stateCells, stateBuffers, runningOutcome, bufferAfter, openedNumbers, openedFlows, Running}
+use Rattle.tier_rules.specs.Cells.{awardsCells, stateCells, stateBuffers, runningOutcome, openedNumbers, openedFlows, Running}
 
 -- the counts, process and period by number, the grid's tables, and the three buffers as they are at entry
 pub record OpenRunningCall : Type 0 where
@@ -59,10 +59,10 @@ module _ (q : OpenRunningCall) where
   openRunningChecked = first openRunningChecks
 
   abbrev pub numbersOpened : List ℕ
-  numbersOpened = bufferAfter openRunningChecked (openedNumbers (q .numbers)) (q .numbers)
+  numbersOpened = cellAfter openRunningChecked (openedNumbers (q .numbers)) (q .numbers)
 
   abbrev pub flowsOpened : List ℤ
-  flowsOpened = bufferAfter openRunningChecked (openedFlows (q .flows)) (q .flows)
+  flowsOpened = cellAfter openRunningChecked (openedFlows (q .flows)) (q .flows)
 
   -- nothing is held and nothing marked: a running test that the other operations take
   abbrev pub OpenedRunning : List ℕ → List ℤ → Type 0
@@ -78,9 +78,6 @@ pub record OpensRunning (q : OpenRunningCall) (answer : RunningAnswer) (numbers 
   pub flows-opened : flows ≡ flowsOpened q
   pub running : OpenedRunning q numbers flows
 
--- the same for C: the refusal's number
-pub record OpensRunningForC (q : OpenRunningCall) (number : ℕ) (numbers : List ℕ) (flows : List ℤ) : Type 0 where
-  pub refusal-number : number ≡ numberAfter (openRunningChecked q)
-  pub numbers-opened : numbers ≡ numbersOpened q
-  pub flows-opened : flows ≡ flowsOpened q
-  pub running : OpenedRunning q numbers flows
+-- the same for C
+abbrev pub OpensRunningForC : OpenRunningCall → ℕ → List ℕ → List ℤ → Type 0
+OpensRunningForC q number numbers flows = ForC RunningAnswer runningOutcome (λ answer. OpensRunning q answer numbers flows) number

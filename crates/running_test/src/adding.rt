@@ -4,33 +4,15 @@ ghost use Prim.Native.Nat.{_+_, _≤_, _<_};
 ghost use lib.ListN.{length, set};
 ghost use Rattle.lists.specs.Lent.{before, after};
 ghost use Rattle.tariff.specs.Units.{maxContracts};
-ghost use Rattle.layouts.specs.BookTable.{contractCells, rowAt};
 ghost use Rattle.tier_rules.specs.Cells.{awardsCells, stateNumbers, heldIn, leftIn, withAwardRow};
 ghost use Rattle.running_rules.specs.AddAward.{addAwardCall, AddsAward};
 use layouts::CONTRACT_CELLS;
 use tariff::Checked;
 use tariff::Contract;
-use tariff::Kind;
 use tariff::Period;
 use tariff::Process;
-use tariff::Quantity;
 use tariff::Refusal;
 use tier_rules::RunningAnswer;
-
-// The award of a row.
-fn award_of(award: &[u64]) -> Contract
-    requires { ⌜ contractCells ≤ length (now award) ⌝ }
-    ensures { λ r. ⌜ r ≡ rowAt (before award) 0 ⌝ }
-{
-    Contract {
-        kind: Kind::from_number(award[0]),
-        period: Period::from_number(award[1]),
-        holder: award[2],
-        source: award[3] as usize,
-        sink: award[4] as usize,
-        quantity: Quantity(award[5]),
-    }
-}
 
 // Stores an award behind those held.
 fn store_award(c: Contract, awards: &mut [u64], numbers: &mut [u64])
@@ -38,7 +20,7 @@ fn store_award(c: Contract, awards: &mut [u64], numbers: &mut [u64])
     ensures { λ r. ⌜ (after awards ≡ withAwardRow (heldIn (before numbers)) c (before awards))
         × (after numbers ≡ set (before numbers) 0 (heldIn (before numbers) + 1)) ⌝ }
 {
-    book_file::store_row(awards, CONTRACT_CELLS * (numbers[0] as usize), c);
+    book_rows::store_row(awards, CONTRACT_CELLS * (numbers[0] as usize), c);
     numbers[0] = numbers[0] + 1;
 }
 
@@ -72,7 +54,7 @@ pub fn add_award(
     if let Checked::Refused(refusal) = checked {
         return RunningAnswer::Refused(refusal);
     }
-    let c = award_of(award);
+    let c = book_rows::contract_from(award, 0);
     let own = c.period;
     let is_own = own.same(Period::from_number(period));
     let over = running_flows::add_flows(

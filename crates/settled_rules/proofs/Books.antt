@@ -26,9 +26,9 @@ use Rattle.layouts.specs.Forms.{endWidth, recordBytes}
 use Rattle.layouts.specs.BookFile.{bookFile, contractCountIn, bookFormIn, contractAt, bookIn}
 use Rattle.layouts.specs.BookTable.{ContractFits}
 use Rattle.layouts.proofs.BookFile.{contract-in-fits, book-fits, length-bookIn}
-use Rattle.books.specs.BookChecks.{contractChecks}
-use Rattle.books.proofs.Accepted.{Accepted, contract-in-range, contracts-pass, own-parts, own-accepted, own-passes}
-use Rattle.books.proofs.Making.{Made, book-made}
+use Rattle.book_rules.specs.BookChecks.{contractChecks}
+use Rattle.book_rules.proofs.Accepted.{Accepted, contract-in-range, contracts-pass, own-parts, own-accepted, own-passes}
+use Rattle.book_rules.proofs.Making.{Made, book-made}
 use Rattle.flow_laws.specs.Quantities.{withQuantity}
 use Rattle.settled_rules.specs.Settled.{quantity, totalOf, Filled, SettledOf, settled, settledFile}
 use Rattle.settled_rules.specs.Theorems.{FiveFits, AcceptedFor, SettledBook}

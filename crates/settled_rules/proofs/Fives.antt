@@ -7,6 +7,7 @@ use native.Mathlib.Omega.{arith}
 use native.Mathlib.Nat.{eq-or-lt-of-le, mul-le-mul-right}
 use borrow.Author.Tests.{eqb-true, eq-eqb, ne-eqb}
 use lib.Dec.{eqb}
+use Rattle.lists.proofs.Search.{both}
 use Rattle.tariff.specs.declared.contracts.Kind.{Kind}
 use Rattle.tariff.specs.declared.contracts.Period.{Period}
 use Rattle.tariff.specs.declared.contracts.Contract.{Contract}
@@ -131,11 +132,6 @@ same-contract a b s e =
 
 -- ---- the test of five figures
 
-and-both : (a b : Bool) → (a && b) ≡ true → (a ≡ true) × (b ≡ true)
-and-both true true e = (refl, refl)
-and-both true false e = (refl, e)
-and-both false b e = (e, absurd (true≢false (sym e)))
-
 -- whether c has the five of d
 abbrev pub fiveLike : Contract → Contract → Bool
 fiveLike d c = hasFive (d .kind) (d .period) (d .holder) (d .source) (d .sink) c
@@ -148,10 +144,10 @@ has-five kind period holder source sink c e =
     let t = eqb (periodBit (c .period)) (periodBit period) in
     let h = eqb (c .holder) holder in
     let f = eqb (c .source) source in
-    let p = and-both (k && t && h && f) (eqb (c .sink) sink) e in
-    let q = and-both (k && t && h) f (p .0) in
-    let r = and-both (k && t) h (q .0) in
-    let s = and-both k t (r .0) in
+    let p = both (k && t && h && f) (eqb (c .sink) sink) e in
+    let q = both (k && t && h) f (p .0) in
+    let r = both (k && t) h (q .0) in
+    let s = both k t (r .0) in
     record {
       kind = sym (kind-back (c .kind)) ∙ ap kindOf (eqb-true (kindBit (c .kind)) (kindBit kind) (s .0)) ∙ kind-back kind;
       period = sym (period-back (c .period)) ∙ ap periodOf (eqb-true (periodBit (c .period)) (periodBit period) (s .1)) ∙ period-back period;

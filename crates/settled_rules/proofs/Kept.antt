@@ -6,10 +6,12 @@ use Rattle.tariff.specs.declared.processes.Process.{Process}
 use Rattle.tariff.specs.Units.{Grid}
 use Rattle.tariff.specs.Contracts.{ofPeriod}
 use Rattle.layouts.specs.BookFile.{bookIn}
+use Rattle.test_rules.specs.Theorems.{SameTest}
+use Rattle.test_rules.proofs.Figures.{same-test}
 use Rattle.settled_rules.specs.Settled.{settled, settledFile}
-use Rattle.settled_rules.specs.Theorems.{AcceptedFor, SameTest, SamePayments}
+use Rattle.settled_rules.specs.Theorems.{AcceptedFor, SamePayments}
 use Rattle.settled_rules.proofs.Books.{book-five, settled-is-a-book}
-use Rattle.settled_rules.proofs.Surviving.{flows-kept, total-kept, same-test, same-payments}
+use Rattle.settled_rules.proofs.Surviving.{flows-kept, total-kept, same-payments}
 
 module _ (n : ℕ) (s : List ℕ) (ok : AcceptedFor n s) (g : Grid) (process : Process) (t : Period) where
   pub verdicts-survive : SameTest g process (ofPeriod t (bookIn (settledFile s))) (ofPeriod t (bookIn s))

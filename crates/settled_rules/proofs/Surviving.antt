@@ -3,26 +3,22 @@ use mathlib.Core.Path.{_≡_, refl, sym, ap, _∙_}
 use mathlib.Core.Bool.{Bool, true, false, cond}
 use mathlib.Core.List.{List, [], _∷_}
 use Prim.Native.Nat.{ℕ, _+_}
-use lib.Dec.{eqb}
 use lib.IntN.{ℤ, pos, _+ℤ_, _-ℤ_, *ℤ-zero, +ℤ-idl}
-use lib.Signed.{ltZ}
 use Rattle.lists.specs.Lists.{Each}
-use Rattle.lists.specs.Sets.{setOf, countOf, lowestOf}
 use Rattle.integers.specs.Sums.{sumOver}
 use Rattle.tariff.specs.declared.contracts.Contract.{Contract}
 use Rattle.tariff.specs.declared.contracts.Period.{Period}
 use Rattle.tariff.specs.declared.processes.Process.{Process}
 use Rattle.tariff.specs.Units.{Factors, Grid}
 use Rattle.tariff.specs.Contracts.{counted, samePeriod, ofPeriod}
-use Rattle.tariff.specs.Feasibility.{flow, totalFlow, released, excess, overloaded, overloadSet, overloadCount, lowestOverload}
+use Rattle.tariff.specs.Feasibility.{flow, totalFlow}
 use Rattle.tariff.specs.Settlement.{mcc, amount, exactTotal}
 use Rattle.tariff.specs.Shortfall.{netPayment}
 use Rattle.tariff.proofs.WorstNumber.{shortfall-by, worst-by}
-use Rattle.feasibility_test.specs.TestBook.{testValues}
 use Rattle.flow_laws.specs.Quantities.{withQuantity}
 use Rattle.flow_laws.proofs.Additive.{counted-product, counted-plus, flow-plus, flow-times}
 use Rattle.settled_rules.specs.Settled.{settled}
-use Rattle.settled_rules.specs.Theorems.{FiveFits, SameTest, SamePayments}
+use Rattle.settled_rules.specs.Theorems.{FiveFits, SamePayments}
 use Rattle.settled_rules.proofs.Totals.{sum-settled}
 
 -- ---- sums over the contracts of one period
@@ -71,23 +67,9 @@ module _ (f : Factors) (t : Period) (cs : List Contract) (fits : Each FiveFits c
       period-settled t (amount f p) (λ c a b. counted-plus (c .kind) (mcc f p (c .sink) -ℤ mcc f p (c .source)) a b)
       (λ c. counted-product (c .kind) (mcc f p (c .sink) -ℤ mcc f p (c .source)) 0 ∙ *ℤ-zero (counted (c .kind) (mcc f p (c .sink) -ℤ mcc f p (c .source)))) cs fits
 
--- ---- the test's answer is made of the flows
+-- ---- what is made of the exact totals
 
 module _ (g : Grid) (process : Process) where
-  valuesOf : (ℕ → ℤ) → List ℤ
-  valuesOf flows =
-      let over : ℕ → Bool = λ k. ltZ (pos (released (g .limits) process k)) (flows k) in
-      let n = g .factors .constraints in
-      cond (eqb (setOf n over) 0) []
-      (pos (setOf n over) ∷ pos (countOf n over) ∷ pos (lowestOf n over) ∷ (flows (lowestOf n over) -ℤ pos (released (g .limits) process (lowestOf n over))) ∷ [])
-
-  values-of : (cs : List Contract) → testValues g process cs ≡ valuesOf (totalFlow (g .factors) cs)
-  unfolding testValues overloadSet overloadCount lowestOverload excess overloaded valuesOf
-  values-of cs = refl
-
-  pub same-test : (xs ys : List Contract) → ((k : ℕ) → totalFlow (g .factors) xs k ≡ totalFlow (g .factors) ys k) → SameTest g process xs ys
-  same-test xs ys e = record { flows = e; figures = values-of xs ∙ (λ i. valuesOf (λ k. e k i)) ∙ sym (values-of ys) }
-
   pub same-payments : (xs ys : List Contract) → ((p : List ℕ) → exactTotal (g .factors) p xs ≡ exactTotal (g .factors) p ys) → SamePayments g process xs ys
   unfolding netPayment
   same-payments xs ys e =

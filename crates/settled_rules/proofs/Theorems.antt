@@ -12,8 +12,9 @@ use Rattle.tariff.specs.declared.processes.Process.{Process}
 use Rattle.tariff.specs.Units.{Grid}
 use Rattle.tariff.specs.Contracts.{ofPeriod}
 use Rattle.layouts.specs.BookFile.{bookFormIn, bookIn}
+use Rattle.test_rules.specs.Theorems.{SameTest}
 use Rattle.settled_rules.specs.Settled.{fiveOf, totalOf, Filled, SettledOf, settled, settledFile}
-use Rattle.settled_rules.specs.Theorems.{FiveFits, SameFive, Sooner, AcceptedFor, SettledBook, SameTest, SamePayments}
+use Rattle.settled_rules.specs.Theorems.{FiveFits, SameFive, Sooner, AcceptedFor, SettledBook, SamePayments}
 use Rattle.settled_rules.proofs.Fives as F
 use Rattle.settled_rules.proofs.Unique as U
 use Rattle.settled_rules.proofs.Merging as M

@@ -1,6 +1,6 @@
 -- Rows that are settled are the only ones: by the least five, then by how full its first row is.
 use mathlib.Core.Path.{_≡_, refl, sym, ap, ap₂, _∙_}
-use mathlib.Core.Logic.{_⊎_, ⊎-elim}
+use mathlib.Core.Logic.{⊎-elim}
 use mathlib.Core.Bool.{Bool, true, false, cond}
 use mathlib.Core.List.{List, [], _∷_}
 use Prim.Native.Nat.{ℕ, _+_, _≤_, _<_}
@@ -42,12 +42,8 @@ total-none f (c ∷ cs) e = total-past f c cs (λ s. omega (arith, e .0)) ∙ to
 
 -- ---- ordered rows
 
--- rows behind r: of its five or a greater one, and of a greater one where r is not full
+-- rows behind r: of a greater five where r is, and where r is not full
 module _ (f : ℕ) where
-  pub from : (r : Contract) (rows : List Contract) → Ordered (r ∷ rows) → f ≤ fiveOf r → Each (λ c. f ≤ fiveOf c) (r ∷ rows)
-  from r [] o h = (h, tt)
-  from r (s ∷ rows) o h = (h, from s rows (o .1) (⊎-elim (λ l. omega arith) (λ w. omega (arith, w .0)) (o .0)))
-
   above : (r : Contract) (rows : List Contract) → Ordered (r ∷ rows) → f < fiveOf r → Each (λ c. f < fiveOf c) (r ∷ rows)
   above r [] o h = (h, tt)
   above r (s ∷ rows) o h = (h, above s rows (o .1) (⊎-elim (λ l. omega arith) (λ w. omega (arith, w .0)) (o .0)))

@@ -1,3 +1,4 @@
 pub mod Settled
+pub mod SettledBook
 pub mod Theorems
 pub mod Inner

@@ -10,12 +10,10 @@ use Rattle.tariff.specs.declared.processes.Process.{Process}
 use Rattle.tariff.specs.declared.refusals.Checked.the-variants.{Passed}
 use Rattle.tariff.specs.Refusals.{first}
 use Rattle.tariff.specs.Units.{Grid}
-use Rattle.tariff.specs.Feasibility.{totalFlow}
 use Rattle.tariff.specs.Settlement.{exactTotal}
 use Rattle.tariff.specs.Shortfall.{netPayment, shortfall, IsWorst}
 use Rattle.layouts.specs.BookFile.{kindBit, periodBit, bookFormIn, bookIn}
-use Rattle.books.specs.BookChecks.{ownChecks}
-use Rattle.feasibility_test.specs.TestBook.{testValues}
+use Rattle.book_rules.specs.BookChecks.{ownChecks}
 use Rattle.settled_rules.specs.Settled.{settled, settledFile}
 
 -- the ranges of a book's fields, of either width
@@ -52,11 +50,6 @@ pub record SettledBook (n : ℕ) (s : List ℕ) : Type 0 where
   pub same-form : bookFormIn (settledFile s) ≡ bookFormIn s
   pub rows : bookIn (settledFile s) ≡ settled (bookIn s)
   pub no-longer : length (settledFile s) ≤ length s
-
--- "Verdicts survive": the flow on each constraint, and all that the test gives: verdict, set, count, lowest and excess
-pub record SameTest (g : Grid) (process : Process) (xs ys : List Contract) : Type 0 where
-  pub flows : (k : ℕ) → totalFlow (g .factors) xs k ≡ totalFlow (g .factors) ys k
-  pub figures : testValues g process xs ≡ testValues g process ys
 
 -- "exact totals survive": at each price list, and what is made of them
 pub record SamePayments (g : Grid) (process : Process) (xs ys : List Contract) : Type 0 where

@@ -18,10 +18,7 @@ const MIN_BALANCE: i64 = -MAX_BALANCE;
 fn count_bad(count: usize) -> bool
     ensures { λ r. ⌜ r ≡ coordinatorCount count .fails ⌝ }
 {
-    if count == 0 {
-        return true;
-    }
-    MAX_COORDINATORS < count
+    tariff::zero_or_above(count as u64, MAX_COORDINATORS as u64)
 }
 
 // 26, of the balance: the least i64 has no size in an i64, so it is compared first.

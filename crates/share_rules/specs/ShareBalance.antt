@@ -10,7 +10,7 @@ use Rattle.lists.specs.Lists.{listTo}
 use Rattle.integers.specs.Sums.{sumTo}
 use Rattle.tariff.specs.declared.refusals.Checked.{Checked}
 use Rattle.tariff.specs.declared.refusals.Checked.the-variants.{Passed}
-use Rattle.tariff.specs.Refusals.{Check, first, Outcome, given, refusedBy, answered, cellsAfter, numberAfter}
+use Rattle.tariff.specs.Refusals.{Check, first, Outcome, given, refusedBy, answered, cellsAfter, ForC}
 use Rattle.tariff.specs.Checks.{coordinatorCount, balanceRange, demandRange, noDemand, shortTable}
 use Rattle.largest_remainders.specs.Shares.{beforeBy, total, whole, rest, share}
 use Rattle.share_rules.specs.declared.ShareAnswer.{ShareAnswer}
@@ -93,7 +93,5 @@ pub record SharesBalance (q : ShareCall) (answer : ShareAnswer) (exit : List ℤ
   pub fair : shareChecked q ≡ Passed → Fair (q .balance) (q .demands) exit
 
 -- the same for C
-pub record SharesBalanceForC (q : ShareCall) (number : ℕ) (exit : List ℤ) : Type 0 where
-  pub refusal-number : number ≡ numberAfter (shareChecked q)
-  pub shares-given : exit ≡ cellsAfter (shareChecked q) (sharesOf (q .balance) (q .demands)) (q .place)
-  pub fair : shareChecked q ≡ Passed → Fair (q .balance) (q .demands) exit
+abbrev pub SharesBalanceForC : ShareCall → ℕ → List ℤ → Type 0
+SharesBalanceForC q number exit = ForC ShareAnswer shareOutcome (λ answer. SharesBalance q answer exit) number

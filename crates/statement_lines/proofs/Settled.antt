@@ -16,10 +16,10 @@ use Rattle.tariff.specs.Settlement.{amount, pricedSet, pricedCount, cents, whol
 use Rattle.tariff.proofs.Theorems.{priced-size-is-ones}
 use Rattle.lists.proofs.Lists.{length-listTo, getD-listTo, map-listTo}
 use Rattle.layouts.specs.BookFile.{contractCountIn, contractAt, bookIn}
-use Rattle.settlement.specs.declared.Totals.{Totals}
-use Rattle.settlement.specs.SettleHour.{centsOf, pricedOf, centsSum, hourTotal}
-use Rattle.settlement.specs.Inner.{Settles}
-use Rattle.settlement.proofs.HourSums.{values-are}
+use Rattle.hour_rules.specs.declared.Totals.{Totals}
+use Rattle.hour_rules.specs.SettleHour.{centsOf, pricedOf, centsSum, hourTotal}
+use Rattle.hour_rules.specs.Inner.{Settles}
+use Rattle.hour_rules.proofs.HourSums.{values-are}
 use Rattle.statement_lines.specs.Lines.{heading, contractLine, lineOf, sumLine, exactLine, contractLines, lines}
 use Rattle.statement_lines.specs.Inner.{linesTo, settledLines, Sized}
 

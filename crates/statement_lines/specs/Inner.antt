@@ -8,8 +8,8 @@ use Rattle.tariff.specs.declared.contracts.Period.{Period}
 use Rattle.tariff.specs.declared.contracts.Contract.{Contract}
 use Rattle.tariff.specs.Units.{maxConstraints, maxContracts}
 use Rattle.tariff.specs.Inner.{maxCents}
-use Rattle.settlement.specs.declared.Totals.{Totals}
-use Rattle.settlement.specs.Inner.{Bounded}
+use Rattle.hour_rules.specs.declared.Totals.{Totals}
+use Rattle.hour_rules.specs.Inner.{Bounded}
 use Rattle.statement_lines.specs.Lines.{heading, lineOf, sumLine, exactLine}
 
 -- the largest totals that are told in a line

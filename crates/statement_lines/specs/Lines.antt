@@ -13,7 +13,7 @@ use Rattle.tariff.specs.declared.contracts.Contract.{Contract}
 use Rattle.tariff.specs.Units.{Factors, maxContracts}
 use Rattle.tariff.specs.Contracts.{samePeriod}
 use Rattle.tariff.specs.Settlement.{amount, pricedCount, cents, wholeCents, parts}
-use Rattle.settlement.specs.SettleHour.{centsSum, hourTotal}
+use Rattle.hour_rules.specs.SettleHour.{centsSum, hourTotal}
 
 -- "The first line is the fixed text"
 abbrev pub heading : List ℕ

@@ -14,8 +14,8 @@ ghost use Rattle.tariff.specs.Inner.{maxCents};
 ghost use Rattle.layouts.specs.BookFile.{bookBytes, bookFormIn, contractIn, contractAt};
 ghost use Rattle.statement_lines.specs.Lines.{heading, kindWord, contractLine, lineOf, sumLine, exactLine, longestLine, longestSum, longestExact};
 ghost use Rattle.statement_lines.specs.Inner.{maxTotal, linesTo, settledLines, Sized};
+use hour_rules::Totals;
 use layouts::Form;
-use settlement::Totals;
 use tariff::Contract;
 use tariff::Kind;
 use tariff::MAX_CONTRACTS;
@@ -136,7 +136,7 @@ fn put_contracts(
     let mut next = at;
     let mut i = 0;
     while i < count {
-        let c = books::contract_at(book, form, i);
+        let c = book_bits::contract_at(book, form, i);
         let set = priced[i];
         let size = u64::count_ones(set) as u64;
         next = put_own(buf, next, period, i as u64, c, cents[i], size);
@@ -184,7 +184,7 @@ pub fn put_lines(
     requires { ⌜ Sized count (now cents) (now priced) totals × (length heading + longestLine * count + longestSum + longestExact ≤ length (now buf)) ⌝ }
     ensures { λ r. ⌜ Put (before buf) 0 (settledLines period (contractAt (before book)) (before cents) (before priced) count totals) (after buf) r ⌝ }
 {
-    let form = books::book_form(book);
+    let form = book_bits::book_form(book);
     let first = text::put_text(buf, 0, &HEADING);
     let second = put_contracts(buf, first, period, book, form, count, cents, priced);
     let third = put_sum(buf, second, totals.sum);

@@ -9,16 +9,17 @@ ghost use Rattle.tariff.specs.Units.{factorsOf};
 ghost use Rattle.tariff.specs.Refusals.{first};
 ghost use Rattle.layouts.specs.BookFile.{bookIn};
 ghost use Rattle.tables.specs.Inner.{GoodFactors};
-ghost use Rattle.books.specs.BookChecks.{bookChecks};
+ghost use Rattle.book_rules.specs.BookChecks.{bookChecks};
 ghost use Rattle.tables.specs.Inner.{Hour};
 ghost use Rattle.statement_lines.specs.Lines.{lines, longestStatement};
 ghost use Rattle.statement_text.specs.WriteStatement.{statement, statementCall, WritesStatement};
 ghost use Rattle.statement_text.specs.Inner.{pricedText, bookedText};
 use grid_rules::GridAnswer;
+use hour_rules::Totals;
 use layouts::PROGRAM_FACTORS;
 use layouts::PROGRAM_GRID_BYTES;
 use layouts::WriteAnswer;
-use price_file::PriceAnswer;
+use price_rules::PriceAnswer;
 use statement_lines::LONGEST_STATEMENT;
 use tariff::Checked;
 use tariff::MAX_CONSTRAINTS;
@@ -43,7 +44,7 @@ fn put_settled(
 {
     let mut cents = [0i64; MAX_CONTRACTS];
     let mut priced = [0u64; MAX_CONTRACTS];
-    let totals = settlement::settle(
+    let totals: Totals = hour_contracts::settle(
         nodes,
         constraints,
         period,
@@ -53,7 +54,7 @@ fn put_settled(
         &mut cents,
         &mut priced,
     );
-    let count = books::contract_count(book);
+    let count = book_bits::contract_count(book);
     statement_lines::put_lines(buf, period, book, count, &cents, &priced, totals)
 }
 
@@ -72,7 +73,7 @@ fn put_priced(
         (pricedText (factorsOf nodes constraints (before factors)) (bookIn (before book)) (before «price_file»)) (after buf) r ⌝ }
 {
     let mut prices = [0u64; MAX_CONSTRAINTS];
-    match price_file::read_prices(constraints, price_file, &mut prices) {
+    match price_reading::read_prices(constraints, price_file, &mut prices) {
         PriceAnswer::Refused(refusal) => text::put_refused(buf, b"prices", refusal),
         PriceAnswer::Read { period } => {
             let hour = Period::from_number(period);
@@ -93,7 +94,7 @@ fn put_booked(
     requires { ⌜ (longestStatement ≤ length (now buf)) × GoodFactors nodes constraints (now factors) ⌝ }
     ensures { λ r. ⌜ Put (before buf) 0 (bookedText (factorsOf nodes constraints (before factors)) (before book) (before «price_file»)) (after buf) r ⌝ }
 {
-    match books::check_book(nodes, book) {
+    match book_checks::check_book(nodes, book) {
         Checked::Refused(refusal) => text::put_refused(buf, b"book", refusal),
         Checked::Passed => put_priced(buf, nodes, constraints, factors, book, price_file),
     }
@@ -106,7 +107,7 @@ fn put_statement(grid_file: &[u8], book_file: &[u8], price_file: &[u8], buf: &mu
 {
     let mut limits = [0u64; MAX_CONSTRAINTS];
     let mut factors = [0i64; PROGRAM_FACTORS];
-    match grid_file::read_within(PROGRAM_GRID_BYTES, grid_file, &mut limits, &mut factors) {
+    match grid_reading::read_within(PROGRAM_GRID_BYTES, grid_file, &mut limits, &mut factors) {
         GridAnswer::Refused(refusal) => text::put_refused(buf, b"grid", refusal),
         GridAnswer::Read {
             nodes,

@@ -2,11 +2,12 @@
 use mathlib.Core.Bool.{Bool, _||_}
 use mathlib.Core.List.{List, [], _∷_}
 use Prim.Native.Nat.{ℕ, _+_, _*_, _≤_, _<_}
-use lib.ListN.{length, getD, take}
+use lib.ListN.{length, getD}
 use lib.IntN.{ℤ, pos}
+use Rattle.tables.specs.TableChecks.{hourTablesWith}
 use Rattle.tariff.specs.Units.{factorsOf, maxNodes, maxConstraints, maxPrice}
 use Rattle.tariff.specs.Refusals.{Check}
-use Rattle.tariff.specs.Checks.{factorBad, nodeCount, constraintCount, periodNumber, shortTable, factorRange, priceRange}
+use Rattle.tariff.specs.Checks.{factorBad, periodNumber, shortTable}
 use Rattle.tariff.specs.Inner.{FactorsInRange}
 
 -- a table of factors for n nodes and k constraints
@@ -33,13 +34,4 @@ fourBad fs i =
 
 -- 2, 3, 17, 9, 7, 15, with `place` cells for an answer of one cell a node
 unfoldable pub hourTableChecks : ℕ → ℕ → ℕ → List ℤ → List ℕ → ℕ → List Check
-hourTableChecks n k period factors prices place =
-    nodeCount n
-    ∷ constraintCount k
-    ∷ periodNumber period
-    ∷ shortTable (length factors) (n * k)
-    ∷ shortTable (length prices) k
-    ∷ shortTable place n
-    ∷ factorRange (take (n * k) factors)
-    ∷ priceRange (take k prices)
-    ∷ []
+hourTableChecks n k period factors prices place = hourTablesWith (periodNumber period ∷ []) (shortTable place n ∷ []) n k factors prices

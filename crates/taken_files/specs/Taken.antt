@@ -9,7 +9,7 @@ use Rattle.tariff.specs.declared.refusals.Checked.the-variants.{Refused}
 use Rattle.tariff.specs.Refusals.{first, decided}
 use Rattle.layouts.specs.GridFile.{gridIn}
 use Rattle.grid_rules.specs.ReadGrid.{cappedChecks, programBytes}
-use Rattle.books.specs.BookChecks.{bookChecks}
+use Rattle.book_rules.specs.BookChecks.{bookChecks}
 use Rattle.report_rules.specs.WriteReport.{report}
 use Rattle.statement_text.specs.WriteStatement.{statement}
 

@@ -50,6 +50,10 @@ contractCount m = record { fails = ltb maxContracts m; refusal = ContractCount }
 abbrev pub nodeNumber : ℕ → ℕ → ℕ → Check
 nodeNumber nodes source sink = record { fails = leb nodes source || leb nodes sink; refusal = NodeNumber }
 
+-- the same of listed nodes (document 02, paper 6: "a listed number not below the node count"; paper 7)
+abbrev pub listedNodes : ℕ → List ℕ → Check
+listedNodes nodes listed = record { fails = some (leb nodes) listed; refusal = NodeNumber }
+
 -- 13: quantity 0 or above 1,000,000
 abbrev pub quantityRange : ℕ → Check
 quantityRange q = record { fails = eqb q 0 || ltb maxQuantity q; refusal = QuantityRange }

@@ -31,8 +31,8 @@ use Rattle.layouts.specs.BookFile.{bookBytes, contractCountIn, bookSpareIn, boo
 use Rattle.layouts.proofs.BookFile.{book-bytes-most}
 use Rattle.layouts.specs.PriceFile.{priceBytes, priceCount}
 use Rattle.grid_rules.specs.ReadGrid.{gridSizeChecks, gridFigureChecks, cappedChecks, programBytes}
-use Rattle.books.specs.BookChecks.{bookChecks}
-use Rattle.price_file.specs.ReadPrices.{priceFileChecks}
+use Rattle.book_rules.specs.BookChecks.{bookChecks}
+use Rattle.price_rules.specs.ReadPrices.{priceFileChecks}
 use Rattle.text.specs.Ascii.{ascii}
 use Rattle.text.specs.RefusedLine.{refusedLine}
 use Rattle.texts.specs.WithFiles.{withGrid, withBook, withPrices}

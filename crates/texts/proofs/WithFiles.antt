@@ -15,10 +15,10 @@ use Rattle.layouts.specs.BookFile.{bookIn}
 use Rattle.grid_rules.specs.declared.GridAnswer.the-variants.{Refused as NotRead}
 use Rattle.grid_rules.specs.ReadGrid.{readGridCall, cappedChecks, ReadsWithin, programBytes, programFactors}
 use Rattle.grid_rules.proofs.Taken.{GridTaken, program-room}
-use Rattle.books.specs.BookChecks.{bookChecks}
-use Rattle.price_file.specs.declared.PriceAnswer.the-variants.{Refused as NotPriced}
-use Rattle.price_file.specs.ReadPrices.{readPricesCall, priceFileChecks, ReadsPrices}
-use Rattle.price_file.proofs.Taken.{PricesTaken, room-enough as table-enough}
+use Rattle.book_rules.specs.BookChecks.{bookChecks}
+use Rattle.price_rules.specs.declared.PriceAnswer.the-variants.{Refused as NotPriced}
+use Rattle.price_rules.specs.ReadPrices.{readPricesCall, priceFileChecks, ReadsPrices}
+use Rattle.price_rules.proofs.Taken.{PricesTaken, room-enough as table-enough}
 use Rattle.text.specs.Ascii.{ascii}
 use Rattle.text.specs.RefusedLine.{refusedLine}
 use Rattle.text.proofs.Answering.{refused-line}

@@ -11,8 +11,8 @@ use Rattle.layouts.specs.GridFile.{gridIn}
 use Rattle.layouts.specs.BookFile.{bookIn}
 use Rattle.layouts.specs.PriceFile.{periodIn, pricesIn}
 use Rattle.grid_rules.specs.ReadGrid.{cappedChecks, programBytes}
-use Rattle.books.specs.BookChecks.{bookChecks}
-use Rattle.price_file.specs.ReadPrices.{priceFileChecks}
+use Rattle.book_rules.specs.BookChecks.{bookChecks}
+use Rattle.price_rules.specs.ReadPrices.{priceFileChecks}
 use Rattle.text.specs.Ascii.{ascii}
 use Rattle.text.specs.RefusedLine.{refusedLine}
 

@@ -26,8 +26,8 @@ use Rattle.reorder_rules.proofs.Perms.{length-perm}
 use Rattle.reorder_rules.proofs.Theorems.{reordering, relief}
 use Rattle.tier_rules.specs.Tiers.{Tiers, Award, Reached}
 use Rattle.layouts.specs.BookTable.{rowAt}
-use Rattle.books.specs.BookChecks.{contractChecks}
-use Rattle.book_file.specs.WriteBook.{rowChecks}
+use Rattle.book_rules.specs.BookChecks.{contractChecks}
+use Rattle.book_rules.specs.WriteBook.{rowChecks}
 use Rattle.tier_rules.specs.Checks.{overload, awardChecks, awardOver, addChecks}
 use Rattle.tier_rules.specs.Cells.{StateCells, Holds}
 use Rattle.tier_reordering.specs.Awards.{SameCells}

@@ -14,7 +14,8 @@ use Rattle.tariff.specs.declared.refusals.Checked.the-variants.{Refused}
 use Rattle.tariff.specs.Units.{Grid, maxContracts}
 use Rattle.tariff.specs.Refusals.{first}
 use Rattle.tariff.specs.Contracts.{ofPeriod}
-use Rattle.reorder_rules.specs.Reordering.{Reordered, SameOverloads}
+use Rattle.test_rules.specs.Theorems.{SameTest}
+use Rattle.reorder_rules.specs.Reordering.{Reordered}
 use Rattle.reorder_rules.specs.Relief.{Raised, OptionMore}
 use Rattle.tier_rules.specs.Tiers.{Tiers, Reached}
 use Rattle.tier_rules.specs.Checks.{awardOver, addChecks}
@@ -32,7 +33,7 @@ pub record AwardsHeld : Type 0 where
   pub held-reordered : (g : Grid) (t : Period) (s r : Tiers) (cells other : StateCells) → Holds g t s cells → Holds g t r other
       → Reordered (s .awards) (r .awards) → SameCells g cells other
   pub held-verdict : (g : Grid) (process : Process) (t : Period) (s r : Tiers) → Reordered (s .awards) (r .awards)
-      → SameOverloads g process (ofPeriod t (s .awards)) (ofPeriod t (r .awards))
+      → SameTest g process (ofPeriod t (s .awards)) (ofPeriod t (r .awards))
   pub next-award-alike : (g : Grid) (process : Process) (t : Period) (held other : List Contract) (c : Contract) → Reordered held other
       → awardOver g process t held c .fails ≡ awardOver g process t other c .fails
   -- and adding an award finds the same, refusals included

@@ -8,6 +8,7 @@ use native.Mathlib.Nat.{pos-of-ne-zero}
 use borrow.Author.Tests.{ltb-false, eqb-false, eq-eqb}
 use lib.Dec.{ltb, eqb}
 use lib.ListN.{getD}
+use lib.IntN.{ℤ}
 use Rattle.lists.proofs.Search.{neither}
 use Rattle.tariff.specs.declared.contracts.Period.{Period}
 use Rattle.tariff.specs.declared.processes.Process.{Process}
@@ -15,12 +16,14 @@ use Rattle.tariff.specs.declared.refusals.Refusal.{Refusal}
 use Rattle.tariff.specs.declared.refusals.Checked.{Checked}
 use Rattle.tariff.specs.declared.refusals.Checked.the-variants.{Passed, Refused}
 use Rattle.tariff.specs.Units.{Grid}
-use Rattle.tariff.specs.Refusals.{Check, first, decided, Outcome, answered, numberAfter}
+use Rattle.tariff.specs.Refusals.{Check, first, decided, answered, cellAfter}
 use Rattle.tariff.proofs.Checks.{first-append}
+use Rattle.tariff.proofs.Answers.{answer-refused, answer-passed}
 use Rattle.tier_rules.specs.declared.RunningAnswer.{RunningAnswer}
+use Rattle.tier_rules.specs.declared.RunningAnswer.the-variants as is
 use Rattle.tier_rules.specs.Tiers.{Tiers, Reached}
 use Rattle.tier_rules.specs.Checks.{maxTier, tierNumber, isUnset}
-use Rattle.tier_rules.specs.Cells.{flagCell, StateCells, runningOutcome, bufferAfter, MarkIs, Holds, Running, GoesOn}
+use Rattle.tier_rules.specs.Cells.{flagCell, StateCells, runningOutcome, MarkIs, Holds, Running, GoesOn}
 use Rattle.tier_rules.proofs.States.{reached-worst, reached-values}
 
 module _ (g : Grid) (process : Process) (t : Period) where
@@ -41,19 +44,26 @@ module _ (g : Grid) (process : Process) (t : Period) where
 -- ---- a buffer at exit: x is what the checking function gave
 
 module _ {A : Type 0} (x checked : Checked) (found : x ≡ checked) where
-  pub buffer-refused : (r : Refusal) → x ≡ Refused r → (made entry : List A) → entry ≡ bufferAfter checked made entry
+  pub buffer-refused : (r : Refusal) → x ≡ Refused r → (made entry : List A) → entry ≡ cellAfter checked made entry
   buffer-refused r told made entry = rw (← found, told)
 
-  pub buffer-passed : x ≡ Passed → (made entry last : List A) → last ≡ made → last ≡ bufferAfter checked made entry
+  pub buffer-passed : x ≡ Passed → (made entry last : List A) → last ≡ made → last ≡ cellAfter checked made entry
   buffer-passed told made entry last e = rw (← found, told) e
 
--- the number alone, for C
-pub number-given : (checked : Checked) (answer : RunningAnswer) → runningOutcome answer ≡ answered checked [] → (n : ℕ) → n ≡ runningOutcome answer .number → n ≡ numberAfter checked
-number-given checked answer a n e = e ∙ ap (λ (o : Outcome). o .number) a ∙ by checked
-  where
-    by : (x : Checked) → answered x [] .number ≡ numberAfter x
-    by Passed = refl
-    by (Refused r) = refl
+-- the promise on both buffers and the answer, from what the checking function gave
+module _ (checked : Checked) (made-numbers numbers₀ : List ℕ) (made-flows flows₀ : List ℤ) (Promise : RunningAnswer → List ℕ → List ℤ → Type 0)
+    (promised : (answer : RunningAnswer) (numbers : List ℕ) (flows : List ℤ) → runningOutcome answer ≡ answered checked []
+    → numbers ≡ cellAfter checked made-numbers numbers₀ → flows ≡ cellAfter checked made-flows flows₀ → Promise answer numbers flows)
+    (x : Checked) (found : x ≡ checked) where
+  pub both-kept : (r : Refusal) → x ≡ Refused r → Promise (is.Refused r) numbers₀ flows₀
+  both-kept r told =
+      promised (is.Refused r) numbers₀ flows₀ (answer-refused x checked found r told [])
+      (buffer-refused x checked found r told made-numbers numbers₀) (buffer-refused x checked found r told made-flows flows₀)
+
+  pub both-made : x ≡ Passed → (numbers : List ℕ) (flows : List ℤ) → numbers ≡ made-numbers → flows ≡ made-flows → Promise is.Held numbers flows
+  both-made told numbers flows n f =
+      promised is.Held numbers flows (answer-passed x checked found told [])
+      (buffer-passed x checked found told made-numbers numbers₀ numbers n) (buffer-passed x checked found told made-flows flows₀ flows f)
 
 -- ---- checks that find the same
 

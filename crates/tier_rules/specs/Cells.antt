@@ -20,7 +20,7 @@ use Rattle.tariff.specs.Refusals.{Check, first, decided, Outcome, given, refuse
 use Rattle.tariff.specs.Checks.{shortTable}
 use Rattle.tariff.specs.Shortfall.{IsWorst}
 use Rattle.layouts.specs.BookTable.{contractCells, cellsOf}
-use Rattle.feasibility_test.specs.TestBook.{testValues}
+use Rattle.test_rules.specs.TestBook.{testValues}
 use Rattle.tier_rules.specs.declared.RunningAnswer.{RunningAnswer}
 use Rattle.tier_rules.specs.declared.RunningAnswer.the-variants.{Held, Refused}
 use Rattle.tier_rules.specs.Tiers.{Tiers, Reached}
@@ -78,10 +78,6 @@ stateBuffers numbers flows = shortTable (length numbers) stateNumbers ∷ shortT
 abbrev pub runningOutcome : RunningAnswer → Outcome
 runningOutcome Held = given []
 runningOutcome (Refused r) = refusedBy r
-
--- a buffer at exit: "a refusal changes nothing"
-abbrev pub bufferAfter : {A : Type 0} → Checked → List A → List A → List A
-bufferAfter checked made entry = decided checked (λ r. entry) made
 
 -- ---- what each operation makes of them
 

@@ -7,7 +7,7 @@ use lib.ListN.{length}
 use lib.IntN.{ℤ}
 use Rattle.lists.specs.Lists.{listTo}
 use Rattle.tariff.specs.declared.refusals.Checked.{Checked}
-use Rattle.tariff.specs.Refusals.{Check, first, Outcome, given, refusedBy, answered, cellsAfter, numberAfter}
+use Rattle.tariff.specs.Refusals.{Check, first, Outcome, given, refusedBy, answered, cellsAfter, ForC}
 use Rattle.tariff.specs.Checks.{shortTable}
 use Rattle.migration_rules.specs.Transfers.{Row, RowLists, rowsIn, net, rowChecks}
 use Rattle.transfer_square.specs.declared.NetsAnswer.{NetsAnswer}
@@ -48,6 +48,5 @@ pub record NetsTransfers (q : NetTransfersCall) (answer : NetsAnswer) (exit : Li
   pub nets-given : exit ≡ cellsAfter (netTransfersChecked q) (netsGiven q) (q .place)
 
 -- the same for C
-pub record NetsTransfersForC (q : NetTransfersCall) (number : ℕ) (exit : List ℤ) : Type 0 where
-  pub refusal-number : number ≡ numberAfter (netTransfersChecked q)
-  pub nets-given : exit ≡ cellsAfter (netTransfersChecked q) (netsGiven q) (q .place)
+abbrev pub NetsTransfersForC : NetTransfersCall → ℕ → List ℤ → Type 0
+NetsTransfersForC q number exit = ForC NetsAnswer netsOutcome (λ answer. NetsTransfers q answer exit) number

@@ -26,9 +26,9 @@ use Rattle.layouts.specs.Forms.{endWidth, recordBytes}
 use Rattle.layouts.specs.BookFile.{contractBits, contractFields, contractFrom, bookBytes, contractCountIn, bookFormIn, contractIn, contractAt}
 use Rattle.layouts.specs.BookTable.{ContractFits}
 use Rattle.layouts.proofs.BookFile.{total-contract, fit-contract, whole-bytes, contract-holds, contract-in-fits}
-use Rattle.books.specs.BookChecks.{ownChecks}
-use Rattle.books.specs.Inner.{contractBytes}
-use Rattle.books.proofs.Accepted.{own-accepted, accepted-room}
+use Rattle.book_rules.specs.BookChecks.{ownChecks}
+use Rattle.book_rules.specs.Inner.{contractBytes}
+use Rattle.book_rules.proofs.Accepted.{own-accepted, accepted-room}
 use Rattle.view_rules.specs.Views.{Numbered, numbered, heldAt, heldTo, viewRow}
 
 -- ---- a row's bytes

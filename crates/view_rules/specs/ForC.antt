@@ -7,7 +7,7 @@ use Rattle.lists.specs.Lent.{Lent, before, after}
 use Rattle.tariff.specs.declared.refusals.Checked.the-variants.{Passed}
 use Rattle.tariff.specs.Refusals.{first}
 use Rattle.layouts.specs.BookFile.{bookFormIn}
-use Rattle.books.specs.BookChecks.{ownChecks}
+use Rattle.book_rules.specs.BookChecks.{ownChecks}
 use Rattle.view_rules.specs.Views.{heldIn}
 use Rattle.view_rules.specs.MarketView.{marketViewCall, WritesMarketViewForC}
 use Rattle.view_rules.specs.HolderView.{holderViewCall, WritesHolderViewForC}

@@ -14,7 +14,7 @@ use Rattle.layouts.specs.declared.WriteAnswer.the-variants.{Written, Refused}
 use Rattle.layouts.specs.Forms.{recordBytes}
 use Rattle.layouts.specs.BookFile.{bookBytes, contractCountIn, bookSpareIn, bookFormIn, contractIn, contractAt, bookIn}
 use Rattle.layouts.specs.Writing.{writeOutcome}
-use Rattle.books.specs.BookChecks.{ownChecks}
+use Rattle.book_rules.specs.BookChecks.{ownChecks}
 use Rattle.view_rules.specs.Views.{anonymous, marketFile, Numbered, numbered, heldIn}
 
 -- ---- "books that differ only in holder numbers", field by field: what a view hides is said without the view's own definition

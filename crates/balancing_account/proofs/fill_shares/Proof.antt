@@ -24,9 +24,6 @@ Inv-loop balance least demands wholes keys shares₀ i₀ shares i =
 abbrev μ-loop : tie.MeasureT-loop
 μ-loop balance least demands wholes keys shares₀ i₀ shares i = length demands - i
 
-loop-holds : tie.Need-loop-holds Inv-loop μ-loop
-loop-holds c = search needs
-
 share-at-requires : tie.Need-share-at-requires Inv-loop μ-loop
 share-at-requires c κs =
     let s = c .before .before .before .before .before in
@@ -60,4 +57,4 @@ returns c =
 pub fill-shares-spec : {M : Type 1} → statement M
 fill-shares-spec =
     tie.close (tie.spec
-    Inv-loop μ-loop loop-holds share-at-requires (λ c. search needs) (λ c. search needs) (λ c. search needs) (λ c. search needs) loop-again (λ c. search needs) returns)
+    Inv-loop μ-loop (λ c. search needs) share-at-requires (λ c. search needs) (λ c. search needs) (λ c. search needs) (λ c. search needs) loop-again (λ c. search needs) returns)

@@ -13,14 +13,8 @@ use Rattle.share_rules.proofs.Signs.{signed-negative, signed-positive, signed-s
 use Rattle.balancing_account.proofs.signed_like.Statement.{statement}
 use Rattle.balancing_account.proofs.signed_like.Tie as tie
 
-cast-result : tie.Need-cast-result
-cast-result c = search needs
-
 sub-result : tie.Need-sub-result
 sub-result c = cast-minus-fits (c .before .args .cents) (omega (arith, c .before .pre))
-
-cast-result-2 : tie.Need-cast-result-2
-cast-result-2 c = search needs
 
 returns : tie.Need-returns
 returns c =
@@ -35,4 +29,4 @@ returns-2 c =
     rw (cast-back (a .cents) (omega (arith, c .before .pre)) ∙ signed-positive (a .balance) (a .cents) from) (refl, omega (arith, c .before .pre, signed-sized (a .balance) (a .cents)))
 
 pub signed-like-spec : {M : Type 1} → statement M
-signed-like-spec = tie.close (tie.spec cast-result sub-result cast-result-2 returns returns-2)
+signed-like-spec = tie.close (tie.spec (λ c. search needs) sub-result (λ c. search needs) returns returns-2)

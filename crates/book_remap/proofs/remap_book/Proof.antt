@@ -5,9 +5,7 @@ use native.Mathlib.Nat.{le-of-eq}
 use native.Mathlib.Omega.{arith}
 use lib.ListN.{length}
 use Rattle.tariff.proofs.Answers.{answer-refused, cells-refused, answer-passed, cells-passed}
-use Rattle.layouts.specs.BookFile.{bookFormIn, contractCountIn}
-use Rattle.layouts.proofs.BookFile.{book-bytes-least}
-use Rattle.books.proofs.Accepted.{book-accepted}
+use Rattle.book_rules.proofs.Accepted.{book-accepted, accepted-header}
 use Rattle.remap_rules.specs.RemapBook.{RemapBookCall, remapBookCall, bookRemapped}
 use Rattle.remap_rules.proofs.Accepted.{Remappable, remappable, movable, looked-up-list, length-remade}
 use borrow.Author.Needs.{needs}
@@ -25,9 +23,7 @@ moved-ends-requires c κs = ok c .listed
 
 -- an accepted book has its header
 header-there : (c : tie.After-enum-told) → 2 ≤ length (call c .book)
-header-there c =
-    let q = call c in
-    book-bytes-least (bookFormIn (q .book)) (contractCountIn (q .book)) _ (omega (arith, book-accepted (q .nodes) (q .book) (ok c .accepted) .size))
+header-there c = let q = call c in accepted-header (q .nodes) (q .book) (book-accepted (q .nodes) (q .book) (ok c .accepted))
 
 write-moved-requires : tie.Need-write-moved-requires
 write-moved-requires c κs =

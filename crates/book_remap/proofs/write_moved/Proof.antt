@@ -13,8 +13,8 @@ use Rattle.layouts.specs.Forms.{endWidth}
 use Rattle.layouts.specs.BookFile.{contractIn}
 use Rattle.layouts.proofs.BookFile.{record-room}
 use Rattle.layouts.specs.BookTable.{ContractFits}
-use Rattle.books.specs.Inner.{headerBytes, bookFront}
-use Rattle.books.proofs.Making.{front-begins, front-more, front-ends}
+use Rattle.book_rules.specs.Inner.{headerBytes, bookFront}
+use Rattle.book_rules.proofs.Making.{front-begins, front-more, front-ends}
 use Rattle.remap_rules.specs.Inner.{movedBy}
 use borrow.Author.Needs.{needs}
 use Rattle.book_remap.proofs.write_moved.Statement.{statement}

@@ -1,8 +1,8 @@
 -- `crr_month_hours`.
 use mathlib.Core.Path.{sym, ap, _∙_}
 use Rattle.tariff.proofs.Answers.{refused-answers, refused-keeps, given-answers, given-count}
-use Rattle.calendar.specs.OnPeak.{onPeakHours}
-use Rattle.hours_table.specs.MonthHours.{monthHoursChecked, hoursOutcome}
+use Rattle.date_rules.specs.OnPeak.{onPeakHours}
+use Rattle.date_hours.specs.MonthHours.{monthHoursChecked, hoursOutcome}
 use borrow.Author.Needs.{needs}
 use Rattle.c_calendar.proofs.crr_month_hours.Statement.{statement}
 use Rattle.c_calendar.proofs.crr_month_hours.Tie as tie

@@ -1,8 +1,8 @@
 -- `crr_month_later`.
 use mathlib.Core.Path.{sym, ap, _∙_}
 use Rattle.tariff.proofs.Answers.{refused-answers, refused-keeps, given-answers, given-count}
-use Rattle.calendar.specs.Dates.{dateOf}
-use Rattle.calendar.specs.MonthLater.{dateValues, dateOutcome, laterYear, laterMonth, laterDay, monthLater, monthLaterChecked}
+use Rattle.dates.specs.Date.{dateOf}
+use Rattle.dates.specs.MonthLater.{dateValues, dateOutcome, laterYear, laterMonth, laterDay, monthLater, monthLaterChecked}
 use borrow.Author.Needs.{needs}
 use Rattle.c_calendar.proofs.crr_month_later.Statement.{statement}
 use Rattle.c_calendar.proofs.crr_month_later.Tie as tie

@@ -1,8 +1,8 @@
 -- `crr_weekday`.
 use mathlib.Core.Path.{sym, ap, _∙_}
 use Rattle.tariff.proofs.Answers.{refused-answers, refused-keeps, given-answers, given-count}
-use Rattle.calendar.specs.Dates.{dateOf}
-use Rattle.calendar.specs.Weekday.{weekdayChecked, weekdayOutcome, weekdayIs}
+use Rattle.dates.specs.Date.{dateOf}
+use Rattle.dates.specs.Weekday.{weekdayChecked, weekdayOutcome, weekdayIs}
 use borrow.Author.Needs.{needs}
 use Rattle.c_calendar.proofs.crr_weekday.Statement.{statement}
 use Rattle.c_calendar.proofs.crr_weekday.Tie as tie

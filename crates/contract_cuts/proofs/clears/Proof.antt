@@ -20,33 +20,9 @@ Inv-loop constraints factors excesses cut source sink kind k₀ k =
 abbrev μ-loop : tie.MeasureT-loop
 μ-loop constraints factors excesses cut source sink kind k₀ k = constraints - k
 
-mul-source : tie.Need-mul-source Inv-loop μ-loop
-mul-source c = search needs
-
-mul-sink : tie.Need-mul-sink Inv-loop μ-loop
-mul-sink c = search needs
-
 loop-holds : tie.Need-loop-holds Inv-loop μ-loop
 unfolding enough
 loop-holds c = (omega arith, refl)
-
-add-counted-flow : tie.Need-add-counted-flow Inv-loop μ-loop
-add-counted-flow c = search needs
-
-mul-counted-flow : tie.Need-mul-counted-flow Inv-loop μ-loop
-mul-counted-flow c = search needs
-
-shared-slice-copy-out-counted-flow : tie.Need-shared-slice-copy-out-counted-flow Inv-loop μ-loop
-shared-slice-copy-out-counted-flow c = search needs
-
-add-counted-flow-2 : tie.Need-add-counted-flow-2 Inv-loop μ-loop
-add-counted-flow-2 c = search needs
-
-mul-counted-flow-2 : tie.Need-mul-counted-flow-2 Inv-loop μ-loop
-mul-counted-flow-2 c = search needs
-
-shared-slice-copy-out-counted-flow-2 : tie.Need-shared-slice-copy-out-counted-flow-2 Inv-loop μ-loop
-shared-slice-copy-out-counted-flow-2 c = search needs
 
 counted-flow-requires : tie.Need-counted-flow-requires Inv-loop μ-loop
 counted-flow-requires c κs =
@@ -57,9 +33,6 @@ counted-flow-requires c κs =
 
 near : (c : tie.After-counted-flow Inv-loop μ-loop) → c .before .before .before .before .loop .k < c .before .before .before .before .before .before .before .args .constraints
 near c = c .before .before .before .loop-test .taken
-
-mul-t13 : tie.Need-mul-t13 Inv-loop μ-loop
-mul-t13 c = search needs
 
 shared-slice-copy-out-t20 : tie.Need-shared-slice-copy-out-t20 Inv-loop μ-loop
 shared-slice-copy-out-t20 c = let s = c .before .before .before .before .before .before .before in omega (arith, near c, s .pre .1 .long)
@@ -93,12 +66,6 @@ returns c =
     let over = over-so (e (k x)) _ _ _ (back (e (k x)) (excess-small x)) (relief x) (x .exceeds .result) (x .exceeds .ensures) (c .if1 .taken) in
     enough-fails e (slopeIn (s x .args .constraints) (s x .args .factors .now) (s x .args .c)) (s x .args .constraints) (k x) (s x .args .cut .0) (near (x .before .before)) over
 
-add-k : tie.Need-add-k Inv-loop μ-loop
-add-k c = search needs
-
-loop-less : tie.Need-loop-less Inv-loop μ-loop
-loop-less c = search needs
-
 loop-again : tie.Need-loop-again Inv-loop μ-loop
 loop-again c =
     let x = c .before in
@@ -116,5 +83,5 @@ returns-2 c =
 pub clears-spec : {M : Type 1} → statement M
 clears-spec =
     tie.close (tie.spec
-    Inv-loop μ-loop mul-source mul-sink loop-holds add-counted-flow mul-counted-flow shared-slice-copy-out-counted-flow add-counted-flow-2 mul-counted-flow-2 shared-slice-copy-out-counted-flow-2
-    counted-flow-requires mul-t13 shared-slice-copy-out-t20 exceeds-requires returns add-k loop-less loop-again returns-2)
+    Inv-loop μ-loop (λ c. search needs) (λ c. search needs) loop-holds (λ c. search needs) (λ c. search needs) (λ c. search needs) (λ c. search needs) (λ c. search needs) (λ c. search needs)
+    counted-flow-requires (λ c. search needs) shared-slice-copy-out-t20 exceeds-requires returns (λ c. search needs) (λ c. search needs) loop-again returns-2)

@@ -23,41 +23,14 @@ Inv-loop constraints factors excesses from upto source sink kind most need₀ k�
 abbrev μ-loop : tie.MeasureT-loop
 μ-loop constraints factors excesses from upto source sink kind most need₀ k₀ n k = upto - k
 
-mul-source : tie.Need-mul-source Inv-loop μ-loop
-mul-source c = search needs
-
-mul-sink : tie.Need-mul-sink Inv-loop μ-loop
-mul-sink c = search needs
-
 loop-holds : tie.Need-loop-holds Inv-loop μ-loop
 loop-holds c =
     let s = c .before .before .before in
     let o = s .pre .2 in
     (o .from-below, omega arith, need-before (cellAt (s .args .excesses .now)) (slopeIn (s .args .constraints) (s .args .factors .now) (s .args .c)) (s .args .from) (o .none-before))
 
-mul-excess : tie.Need-mul-excess Inv-loop μ-loop
-mul-excess c = search needs
-
 shared-slice-copy-out-excess : tie.Need-shared-slice-copy-out-excess Inv-loop μ-loop
 shared-slice-copy-out-excess c = let s = c .before .before .before .before .before in omega (arith, s .pre .1 .long, s .pre .2 .upto-below)
-
-add-raised : tie.Need-add-raised Inv-loop μ-loop
-add-raised c = search needs
-
-mul-raised : tie.Need-mul-raised Inv-loop μ-loop
-mul-raised c = search needs
-
-shared-slice-copy-out-raised : tie.Need-shared-slice-copy-out-raised Inv-loop μ-loop
-shared-slice-copy-out-raised c = search needs
-
-add-raised-2 : tie.Need-add-raised-2 Inv-loop μ-loop
-add-raised-2 c = search needs
-
-mul-raised-2 : tie.Need-mul-raised-2 Inv-loop μ-loop
-mul-raised-2 c = search needs
-
-shared-slice-copy-out-raised-2 : tie.Need-shared-slice-copy-out-raised-2 Inv-loop μ-loop
-shared-slice-copy-out-raised-2 c = search needs
 
 raised-requires : tie.Need-raised-requires Inv-loop μ-loop
 raised-requires c κs =
@@ -107,12 +80,6 @@ returns c =
     let none = need-none (e x) (w x) (k x) n q (x .raised .result .0) (raised-is x) (s x .args .constraints) (near x) (overloaded x) found in
     (omega arith, none ∙ nothing (enough (s x .args .constraints) (e x) (w x) 0))
 
-add-k : tie.Need-add-k Inv-loop μ-loop
-add-k c = search needs
-
-loop-less : tie.Need-loop-less Inv-loop μ-loop
-loop-less c = search needs
-
 loop-again : tie.Need-loop-again Inv-loop μ-loop
 loop-again c =
     let s = c .before .before .before .before .before .before .before in
@@ -147,5 +114,5 @@ returns-2 c =
 pub least-need-spec : {M : Type 1} → statement M
 least-need-spec =
     tie.close (tie.spec
-    Inv-loop μ-loop mul-source mul-sink loop-holds mul-excess shared-slice-copy-out-excess add-raised mul-raised shared-slice-copy-out-raised add-raised-2 mul-raised-2
-    shared-slice-copy-out-raised-2 raised-requires (λ c κs. search needs) returns add-k loop-less loop-again returns-2)
+    Inv-loop μ-loop (λ c. search needs) (λ c. search needs) loop-holds (λ c. search needs) shared-slice-copy-out-excess (λ c. search needs) (λ c. search needs) (λ c. search needs) (λ c. search needs) (λ c. search needs)
+    (λ c. search needs) raised-requires (λ c κs. search needs) returns (λ c. search needs) (λ c. search needs) loop-again returns-2)

@@ -15,15 +15,6 @@ Inv-loop constraints excesses k₀ k = (k ≤ constraints) × ((j : ℕ) → k �
 abbrev μ-loop : tie.MeasureT-loop
 μ-loop constraints excesses k₀ k = k
 
-loop-holds : tie.Need-loop-holds Inv-loop μ-loop
-loop-holds c = (omega arith, λ j a b. absurd (omega arith))
-
-shared-slice-copy-out-excess : tie.Need-shared-slice-copy-out-excess Inv-loop μ-loop
-shared-slice-copy-out-excess c = omega (arith, c .before .before .pre .long)
-
-returns : tie.Need-returns Inv-loop μ-loop
-returns c = c .before .before .before .loop .inv
-
 loop-again : tie.Need-loop-again Inv-loop μ-loop
 loop-again c =
     let s = c .before .before .before .before in
@@ -32,9 +23,9 @@ loop-again c =
     let last = quiet (cellAt (s .args .excesses .now) (l .k - 1)) (s .pre .sized (l .k - 1) (omega arith)) (c .if1 .left) in
     (omega arith, one-before P (l .k) (s .args .constraints) (omega arith) (l .inv .1) last)
 
-returns-2 : tie.Need-returns-2 Inv-loop μ-loop
-returns-2 c = let l = c .before .loop in (omega arith, λ j a b. l .inv .1 j (omega arith) b)
-
 pub overloads-end-spec : {M : Type 1} → statement M
 overloads-end-spec =
-    tie.close (tie.spec Inv-loop μ-loop loop-holds (λ c. search needs) (λ c. search needs) shared-slice-copy-out-excess returns (λ c. search needs) (λ c. search needs) loop-again returns-2)
+    tie.close (tie.spec
+    Inv-loop μ-loop (λ c. (omega arith, λ j a b. absurd (omega arith))) (λ c. search needs) (λ c. search needs)
+    (λ c. omega (arith, c .before .before .pre .long)) (λ c. c .before .before .before .loop .inv) (λ c. search needs) (λ c. search needs) loop-again
+    (λ c. let l = c .before .loop in (omega arith, λ j a b. l .inv .1 j (omega arith) b)))

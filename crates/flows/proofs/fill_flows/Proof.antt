@@ -20,9 +20,6 @@ Inv-loop constraints out₀ cells k₀ out k =
 abbrev μ-loop : tie.MeasureT-loop
 μ-loop constraints out₀ cells k₀ out k = constraints - k
 
-loop-holds : tie.Need-loop-holds Inv-loop μ-loop
-loop-holds c = search needs
-
 near : (c : tie.In-loop Inv-loop μ-loop) → c .before .loop .k < maxConstraints
 near c = omega (arith, c .before .before .before .pre .0 .0)
 
@@ -52,4 +49,4 @@ returns c =
 pub fill-flows-spec : {M : Type 1} → statement M
 fill-flows-spec =
     tie.close (tie.spec
-    Inv-loop μ-loop loop-holds (λ c. omega (arith, near c)) near (λ c. omega (arith, near (c .before))) slice-set-from-out (λ c. search needs) (λ c. search needs) loop-again (λ c. search needs) returns)
+    Inv-loop μ-loop (λ c. search needs) (λ c. omega (arith, near c)) near (λ c. omega (arith, near (c .before))) slice-set-from-out (λ c. search needs) (λ c. search needs) loop-again (λ c. search needs) returns)

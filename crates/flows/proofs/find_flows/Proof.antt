@@ -10,8 +10,8 @@ use Rattle.tariff.specs.Units.{factorsOf}
 use Rattle.tariff.specs.Refusals.{given}
 use Rattle.tariff.proofs.Answers.{answer-refused, cells-refused, answer-passed, cells-passed}
 use Rattle.layouts.specs.BookFile.{bookIn}
-use Rattle.feasibility_test.specs.Carried.{Carries}
-use Rattle.feasibility_test.proofs.Flowing.{carried-judgeable}
+use Rattle.test_rules.specs.Carried.{Carries}
+use Rattle.test_rules.proofs.Flowing.{carried-judgeable}
 use Rattle.flows.specs.FindFlows.{FlowsCall, flowsCall, findFlowsChecked, countedContracts, flowCells}
 use Rattle.flows.proofs.Passing.{Ready, ready, cells-are}
 use borrow.Author.Needs.{needs}

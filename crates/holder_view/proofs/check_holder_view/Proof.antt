@@ -8,11 +8,11 @@ use lib.Dec.{ltb}
 use lib.ListN.{length}
 use Rattle.tariff.specs.declared.refusals.Checked.the-variants.{Passed}
 use Rattle.tariff.specs.Refusals.{first}
-use Rattle.books.specs.BookChecks.{ownChecks}
-use Rattle.books.proofs.Accepted.{own-accepted}
+use Rattle.book_rules.specs.BookChecks.{ownChecks}
+use Rattle.book_rules.proofs.Accepted.{own-accepted, own-header}
 use Rattle.view_rules.specs.Views.{holderView}
 use Rattle.holder_view.specs.Inner.{rowsTo}
-use Rattle.holder_view.proofs.Checking.{view-rows, header-of, book-refuses, no-holder, no-room, room}
+use Rattle.holder_view.proofs.Checking.{view-rows, book-refuses, no-holder, no-room, room}
 use borrow.Author.Needs.{needs}
 use Rattle.holder_view.proofs.check_holder_view.Statement.{statement}
 use Rattle.holder_view.proofs.check_holder_view.Tie as tie
@@ -28,7 +28,7 @@ returns-2 : tie.Need-returns-2
 returns-2 c place e = sym (no-holder _ (accepted (c .before)) (omega arith))
 
 header-there : tie.Need-book-form-requires
-header-there c κs = header-of _ _ (accepted (c .before))
+header-there c κs = own-header _ _ (accepted (c .before))
 
 room-short-requires : tie.Need-room-short-requires
 room-short-requires c κs =

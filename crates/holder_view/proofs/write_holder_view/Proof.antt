@@ -4,10 +4,10 @@ use native.Mathlib.Nat.{le-of-eq}
 use native.Mathlib.Omega.{arith}
 use Rattle.tariff.specs.declared.refusals.Checked.the-variants.{Passed}
 use Rattle.tariff.proofs.Answers.{answer-refused, cells-refused, answer-passed, cells-passed}
-use Rattle.books.proofs.Accepted.{own-accepted}
+use Rattle.book_rules.proofs.Accepted.{own-accepted, own-header}
 use Rattle.view_rules.specs.Views.{holderView}
 use Rattle.view_rules.specs.HolderView.{HolderViewCall, holderViewCall, holderViewChecked}
-use Rattle.holder_view.proofs.Checking.{view-rows, header-of, accepted-of, room-of}
+use Rattle.holder_view.proofs.Checking.{view-rows, accepted-of, room-of}
 use borrow.Author.Needs.{needs}
 use Rattle.holder_view.proofs.write_holder_view.Statement.{statement}
 use Rattle.holder_view.proofs.write_holder_view.Tie as tie
@@ -19,7 +19,7 @@ ok : (c : tie.After-enum-told) → holderViewChecked (call c) ≡ Passed
 ok c = sym (c .before .before .check-holder-view .ensures (call c .place) refl) ∙ c .enum-told .given .1
 
 header-there : tie.Need-book-form-requires
-header-there c κs = header-of (call c .nodes) (call c .book) (accepted-of (call c) (ok c))
+header-there c κs = own-header (call c .nodes) (call c .book) (accepted-of (call c) (ok c))
 
 write-held-requires : tie.Need-write-held-requires
 write-held-requires c κs =

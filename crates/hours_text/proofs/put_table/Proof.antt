@@ -8,8 +8,8 @@ use borrow.Author.Needs.{needs}
 use Rattle.lists.specs.Lists.{listTo}
 use Rattle.text.specs.Inner.{Put}
 use Rattle.text.proofs.Putting.{_then_, put-none, put-same, put-front}
-use Rattle.calendar.specs.OnPeak.{tableEntries}
-use Rattle.calendar.proofs.Months.{month-of}
+use Rattle.date_rules.specs.OnPeak.{tableEntries}
+use Rattle.date_rules.proofs.Months.{month-of}
 use Rattle.hours_text.proofs.Lines.{linesTo, lines-more}
 use Rattle.hours_text.proofs.put_table.Statement.{statement}
 use Rattle.hours_text.proofs.put_table.Tie as tie

@@ -3,7 +3,7 @@ use mathlib.Core.Path.{sym, _∙_}
 use borrow.Author.Needs.{needs}
 use borrow.Author.Tests.{lt-ltb, le-ltb}
 use Rattle.tariff.proofs.Checks.{first-passes, first-refuses, append-refuses, append-passes}
-use Rattle.books.specs.BookChecks.{ownChecks}
+use Rattle.book_rules.specs.BookChecks.{ownChecks}
 use Rattle.load_migration.specs.Inner.{inputChecks}
 use Rattle.load_migration.proofs.check_input.Statement.{statement}
 use Rattle.load_migration.proofs.check_input.Tie as tie

@@ -4,7 +4,7 @@ use Prim.Native.Nat.{_+_, _-_, _*_, _≤_}
 use native.Mathlib.Omega.{arith}
 use borrow.Author.Needs.{needs}
 use lib.ListN.{length}
-use Rattle.migrated_contracts.proofs.Pairs.{row-ready, new-by-row}
+use Rattle.migration_pairs.proofs.Pairs.{row-ready, new-by-row}
 use Rattle.load_migration.specs.Inner.{newTo}
 use Rattle.load_migration.proofs.Growing.{contract-there, none-new, length-more}
 use Rattle.load_migration.proofs.grown_count.Statement.{statement}

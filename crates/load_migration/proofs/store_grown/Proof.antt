@@ -10,8 +10,8 @@ use Rattle.layouts.specs.BookFile.{contractIn}
 use Rattle.layouts.proofs.BookFile.{contract-in-fits}
 use Rattle.migration_rules.specs.Contracts.{newFrom}
 use Rattle.load_transfers.specs.Squares.{lostIn}
-use Rattle.migrated_contracts.specs.Inner.{Appended}
-use Rattle.migrated_contracts.proofs.Pairs.{none-appended, more-appended, room-fewer, row-ready, new-by-row}
+use Rattle.migration_pairs.specs.Inner.{Appended}
+use Rattle.migration_pairs.proofs.Pairs.{none-appended, more-appended, room-fewer, row-ready, new-by-row}
 use Rattle.load_migration.specs.Inner.{newTo}
 use Rattle.load_migration.proofs.Growing.{contract-there, none-new, new-more, length-more, new-grow}
 use Rattle.load_migration.proofs.store_grown.Statement.{statement}

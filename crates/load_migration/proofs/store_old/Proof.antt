@@ -9,8 +9,8 @@ use Rattle.lists.specs.Lists.{listTo}
 use Rattle.lists.proofs.Lists.{listTo-more}
 use Rattle.layouts.specs.BookFile.{contractIn}
 use Rattle.layouts.proofs.BookFile.{record-room, contract-in-fits}
-use Rattle.migrated_contracts.specs.Inner.{Appended}
-use Rattle.migrated_contracts.proofs.Pairs.{none-appended, more-appended, one-appended}
+use Rattle.migration_pairs.specs.Inner.{Appended}
+use Rattle.migration_pairs.proofs.Pairs.{none-appended, more-appended, one-appended}
 use Rattle.load_migration.specs.Inner.{contractsTo}
 use Rattle.load_migration.proofs.Growing.{contract-there}
 use Rattle.load_migration.proofs.store_old.Statement.{statement}

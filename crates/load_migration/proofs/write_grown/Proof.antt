@@ -7,7 +7,7 @@ use Rattle.lists.proofs.Lists.{length-listTo}
 use Rattle.layouts.specs.BookFile.{contractIn}
 use Rattle.layouts.proofs.BookFile.{book-bytes-least}
 use Rattle.migration_rules.specs.Contracts.{newBook}
-use Rattle.migrated_contracts.proofs.Pairs.{room-fewer}
+use Rattle.migration_pairs.proofs.Pairs.{room-fewer}
 use Rattle.load_migration.specs.Inner.{contractsTo, newTo}
 use Rattle.load_migration.proofs.Accepted.{book-fits, grown-written}
 use Rattle.load_migration.proofs.write_grown.Statement.{statement}

@@ -13,8 +13,8 @@ use Rattle.layouts.specs.Forms.{endWidth}
 use Rattle.layouts.specs.BookFile.{contractIn}
 use Rattle.layouts.proofs.BookFile.{record-room, contract-in-fits}
 use Rattle.layouts.specs.BookTable.{ContractFits}
-use Rattle.books.specs.Inner.{headerBytes, contractBytes, bookFront, bitsBytes}
-use Rattle.books.proofs.Making.{front-begins, front-more, front-ends}
+use Rattle.book_rules.specs.Inner.{headerBytes, contractBytes, bookFront, bitsBytes}
+use Rattle.book_rules.proofs.Making.{front-begins, front-more, front-ends}
 use Rattle.view_rules.specs.Views.{anonymous}
 use Rattle.view_rules.proofs.Market.{anonymous-fits}
 use Rattle.market_view.proofs.Clearing.{cleared-bytes}

@@ -6,9 +6,7 @@ use native.Mathlib.Omega.{arith}
 use lib.ListN.{length}
 use Rattle.tariff.specs.declared.refusals.Checked.the-variants.{Passed}
 use Rattle.tariff.proofs.Answers.{answer-refused, cells-refused, answer-passed, cells-passed}
-use Rattle.layouts.specs.BookFile.{bookFormIn, contractCountIn}
-use Rattle.layouts.proofs.BookFile.{book-bytes-least}
-use Rattle.books.proofs.Accepted.{own-accepted}
+use Rattle.book_rules.proofs.Accepted.{own-accepted, own-header}
 use Rattle.view_rules.specs.Views.{marketFile}
 use Rattle.view_rules.specs.MarketView.{MarketViewCall, marketViewCall, marketViewChecked}
 use Rattle.view_rules.proofs.Market.{market-rows, market-length}
@@ -25,9 +23,7 @@ ok c = sym (c .before .before .check-market-view .ensures (call c .place) refl) 
 
 -- an accepted book has its header
 header-there : (c : tie.After-enum-told) → 2 ≤ length (call c .book)
-header-there c =
-    let q = call c in
-    book-bytes-least (bookFormIn (q .book)) (contractCountIn (q .book)) _ (omega (arith, own-accepted (q .nodes) (q .book) (accepted-of q (ok c)) .size))
+header-there c = let q = call c in own-header (q .nodes) (q .book) (accepted-of q (ok c))
 
 write-anonymous-requires : tie.Need-write-anonymous-requires
 write-anonymous-requires c κs =

@@ -15,16 +15,10 @@ returns c =
     let d = c .before .before .put-text .ensures in
     (rw (c .before .before .before .before .before .enum-told .given .1) d, omega (arith, d .place))
 
-returns-2 : tie.Need-returns-2
-returns-2 c =
-    let d = c .before .before .put-failed in
-    (rw (c .before .before .before .before .before .answer .given .1) (d .ensures .0), d .ensures .1)
-
-returns-3 : tie.Need-returns-3
-returns-3 c = (rw (c .enum-told2 .given .1) (put-none (omega arith)), omega arith)
-
 pub put-figures-spec : {M : Type 1} → statement M
 put-figures-spec =
     tie.close (tie.spec
-    (λ c. search needs) (λ c. search needs) (λ c κs. search needs) (λ c. search needs) put-failed-requires (λ c. search needs) (λ c. search needs) returns (λ c. search needs) returns-2
-    returns-3)
+    (λ c. search needs) (λ c. search needs) (λ c κs. search needs) (λ c. search needs) put-failed-requires (λ c. search needs) (λ c. search needs) returns
+    (λ c. search needs)
+    (λ c. let d = c .before .before .put-failed in (rw (c .before .before .before .before .before .answer .given .1) (d .ensures .0), d .ensures .1))
+    (λ c. (rw (c .enum-told2 .given .1) (put-none (omega arith)), omega arith)))

@@ -4,8 +4,8 @@ use Rattle.tariff.specs.Units.{gridOf}
 use Rattle.tariff.specs.Contracts.{ofPeriod}
 use Rattle.layouts.specs.BookFile.{bookIn}
 use Rattle.text.proofs.Putting.{put-same, _then_}
-use Rattle.feasibility_test.specs.Inner.{Judges}
-use Rattle.feasibility_test.proofs.Flowing.{carried-judgeable}
+use Rattle.test_rules.specs.Inner.{Judges}
+use Rattle.test_rules.proofs.Flowing.{carried-judgeable}
 use Rattle.report_rules.proofs.Answering.{over-bound, line-text}
 use borrow.Author.Needs.{needs}
 use Rattle.report_lines.proofs.put_line.Statement.{statement}

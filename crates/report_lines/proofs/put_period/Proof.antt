@@ -4,17 +4,10 @@ use borrow.Author.Needs.{needs}
 use Rattle.report_lines.proofs.put_period.Statement.{statement}
 use Rattle.report_lines.proofs.put_period.Tie as tie
 
-returns : tie.Need-returns
-returns c =
-    let d = c .before .before .put-text .ensures in
-    (rw (c .before .before .before .before .before .enum-told .given .1) d, omega (arith, d .place))
-
-returns-2 : tie.Need-returns-2
-returns-2 c =
-    let d = c .before .before .put-text2 .ensures in
-    (rw (c .before .before .before .before .before .enum-told2 .given .1) d, omega (arith, d .place))
-
 pub put-period-spec : {M : Type 1} → statement M
 put-period-spec =
     tie.close (tie.spec
-    (λ c. search needs) (λ c. search needs) (λ c κs. search needs) (λ c. search needs) (λ c. search needs) (λ c κs. search needs) (λ c. search needs) returns (λ c. search needs) returns-2)
+    (λ c. search needs) (λ c. search needs) (λ c κs. search needs) (λ c. search needs) (λ c. search needs) (λ c κs. search needs) (λ c. search needs)
+    (λ c. let d = c .before .before .put-text .ensures in (rw (c .before .before .before .before .before .enum-told .given .1) d, omega (arith, d .place)))
+    (λ c. search needs)
+    (λ c. let d = c .before .before .put-text2 .ensures in (rw (c .before .before .before .before .before .enum-told2 .given .1) d, omega (arith, d .place))))

@@ -1,5 +1,5 @@
 -- `flows_with`: the flows held, and the award's added.
-use Rattle.feasibility_test.proofs.Checking.{ends-of}
+use Rattle.test_rules.proofs.Checking.{ends-of}
 use Rattle.running_rules.proofs.Flowing.{room-of, with-added}
 use Rattle.running_flows.proofs.flows_with.Statement.{statement}
 use Rattle.running_flows.proofs.flows_with.Tie as tie

@@ -27,6 +27,4 @@ returns c =
     (p1 .ensures then rw (kept (s .args .sum) (s .pre .0)) at (p2 .ensures .0) then p3 .ensures, omega (arith, total-long (s .args .sum) (s .pre .0)))
 
 pub put-sum-spec : {M : Type 1} → statement M
-put-sum-spec =
-    tie.close (tie.spec
-    (λ c. search needs) (λ c κs. search needs) put-signed-requires put-char-requires (λ c. search needs) returns)
+put-sum-spec = tie.close (tie.spec (λ c. search needs) (λ c κs. search needs) put-signed-requires put-char-requires (λ c. search needs) returns)

@@ -4,7 +4,7 @@ use native.Mathlib.Omega.{arith}
 use lib.ListN.{length-replicate}
 use Rattle.text.proofs.Putting.{put-same}
 use Rattle.tariff.specs.Units.{maxConstraints}
-use Rattle.price_file.proofs.Taken.{prices-taken}
+use Rattle.price_rules.proofs.Taken.{prices-taken}
 use Rattle.texts.proofs.WithFiles.{prices-refused, prices-text}
 use borrow.Author.Needs.{needs}
 use Rattle.statement_text.proofs.put_priced.Statement.{statement}

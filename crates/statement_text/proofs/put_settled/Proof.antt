@@ -1,7 +1,7 @@
 -- `put_settled`: what settling leaves fits the lines.
 use native.Mathlib.Omega.{arith}
 use Rattle.text.proofs.Putting.{put-same}
-use Rattle.books.proofs.Accepted.{Accepted, book-accepted}
+use Rattle.book_rules.proofs.Accepted.{Accepted, book-accepted}
 use Rattle.statement_lines.proofs.Settled.{settled-sized, settled-lines}
 use borrow.Author.Needs.{needs}
 use Rattle.statement_text.proofs.put_settled.Statement.{statement}

@@ -5,16 +5,8 @@ use Rattle.tables.proofs.Factors.{below-range, not-below}
 use Rattle.tables.proofs.factor_bad.Statement.{statement}
 use Rattle.tables.proofs.factor_bad.Tie as tie
 
-returns : tie.Need-returns
-returns c =
-    let z = c .before .args .factor in
-    below-range z (rw (toZ-ofZ w64 z (c .before .fits .factor)) at (c .if1 .taken))
-
-returns-2 : tie.Need-returns-2
-returns-2 c =
-    let z = c .before .args .factor in
-    let e = toZ-ofZ w64 z (c .before .fits .factor) in
-    rw e (not-below z (rw e at (c .if1 .left)))
-
 pub factor-bad-spec : {M : Type 1} → statement M
-factor-bad-spec = tie.close (tie.spec returns returns-2)
+factor-bad-spec =
+    tie.close (tie.spec
+    (λ c. let z = c .before .args .factor in below-range z (rw (toZ-ofZ w64 z (c .before .fits .factor)) at (c .if1 .taken)))
+    (λ c. let z = c .before .args .factor in let e = toZ-ofZ w64 z (c .before .fits .factor) in rw e (not-below z (rw e at (c .if1 .left)))))

@@ -3,8 +3,5 @@ use borrow.Author.Needs.{needs}
 use Rattle.transfer_square.proofs.cell_of.Statement.{statement}
 use Rattle.transfer_square.proofs.cell_of.Tie as tie
 
-returns : tie.Need-returns
-returns c = search needs
-
 pub cell-of-spec : {M : Type 1} → statement M
-cell-of-spec = tie.close (tie.spec returns)
+cell-of-spec = tie.close (tie.spec (λ c. search needs))

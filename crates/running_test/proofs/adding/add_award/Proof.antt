@@ -10,7 +10,7 @@ use Rattle.tariff.specs.declared.contracts.Contract.{Contract}
 use Rattle.tariff.specs.declared.contracts.Period.{Period}
 use Rattle.tariff.specs.Contracts.{samePeriod}
 use Rattle.layouts.specs.BookTable.{rowAt}
-use Rattle.books.proofs.Accepted.{contract-in-range}
+use Rattle.book_rules.proofs.Accepted.{contract-in-range}
 use Rattle.tier_rules.specs.Cells.{heldIn, countedIn, withAwardRow, withAwardFlows}
 use Rattle.tier_rules.proofs.Runs.{row-award}
 use Rattle.running_rules.specs.AddAward.{AddAwardCall, addAwardOn, addProcess, addFactors, awarded, ownPeriod}
@@ -49,7 +49,7 @@ add-flows-requires c κs =
     record {
       good-limits = f .before .tables .good-limits;
       good-factors = f .before .tables .good-factors;
-      in-range = rw (w .award-of .ensures) (contract-in-range (q .nodes) (rowAt (q .award) 0) (row-award (q .nodes) (q .award) (f .row) .checks-pass));
+      in-range = rw (w .contract-from .ensures) (contract-in-range (q .nodes) (rowAt (q .award) 0) (row-award (q .nodes) (q .award) (f .row) .checks-pass));
       numbers-long = f .before .numbers-long;
       flows-long = f .before .flows-long;
       room = f .room;
@@ -65,8 +65,8 @@ added a =
     let t = m .before in
     let w = t .before in
     let q = told (w .before) in
-    adds-as (m .same .result) (ownPeriod q) (q .limits) (p .from-number2 .result) (addProcess q) (addFactors q) (w .award-of .result) (awarded q) (q .numbers) (q .flows) _ _ _
-    (m .same .ensures ∙ ap₂ samePeriod (ap (λ (x : Contract). x .period) (w .award-of .ensures)) (t .from-number .ensures)) (p .from-number2 .ensures) (w .award-of .ensures) (a .add-flows .ensures)
+    adds-as (m .same .result) (ownPeriod q) (q .limits) (p .from-number2 .result) (addProcess q) (addFactors q) (w .contract-from .result) (awarded q) (q .numbers) (q .flows) _ _ _
+    (m .same .ensures ∙ ap₂ samePeriod (ap (λ (x : Contract). x .period) (w .contract-from .ensures)) (t .from-number .ensures)) (p .from-number2 .ensures) (w .contract-from .ensures) (a .add-flows .ensures)
 
 returns-2 : tie.Need-returns-2
 returns-2 c =
@@ -109,7 +109,7 @@ returns-3 c =
     let d = added a in
     let held = ap heldIn (counts e1) ∙ counts-kept (ownPeriod q) (q .numbers) (countedIn (q .numbers) + 1) .1 in
     adds-passed q (held-passes q (k .check-award .result) (k .check-award .ensures) (e .enum-told .given .1) (sym (d .over-is) ∙ e1 .if1 .left)) _ _ _
-    (st .store-award .ensures .0 ∙ ap₂ (λ (m : ℕ) (x : Contract). withAwardRow m x (q .awards)) held (w .award-of .ensures))
+    (st .store-award .ensures .0 ∙ ap₂ (λ (m : ℕ) (x : Contract). withAwardRow m x (q .awards)) held (w .contract-from .ensures))
     (st .store-award .ensures .1 ∙ ap₂ (λ (l : List ℕ) (m : ℕ). set l 0 (m + 1)) (counts e1) held)
     (d .flows-are ∙ ap (λ (b : Bool). cond b (q .flows) (withAwardFlows (ownPeriod q) (addFactors q) (awarded q) (q .flows))) (e1 .if1 .left))
 

@@ -4,11 +4,10 @@ use mathlib.Core.Bool.{Bool}
 use mathlib.Core.List.{[], _∷_}
 use borrow.Author.Needs.{needs}
 use Rattle.tariff.specs.Refusals.{first}
-use Rattle.tariff.proofs.Answers.{answer-refused, answer-passed}
 use Rattle.tier_rules.specs.Checks.{runningChecks}
 use Rattle.tier_rules.specs.Cells.{openedNumbers, openedFlows}
-use Rattle.tier_rules.proofs.Going.{buffer-refused, buffer-passed}
-use Rattle.running_rules.specs.OpenRunning.{OpenRunningCall, openRunningOn, openRunningChecked}
+use Rattle.tier_rules.proofs.Going.{both-kept, both-made}
+use Rattle.running_rules.specs.OpenRunning.{OpenRunningCall, openRunningOn, openRunningChecked, OpensRunning}
 use Rattle.running_rules.specs.Inner.{shortIf}
 use Rattle.running_rules.proofs.Checking.{open-is, Openable, openable}
 use Rattle.running_rules.proofs.Promises.{opens-running}
@@ -37,10 +36,8 @@ returns : tie.Need-returns
 returns c =
     let k = c .before .before .before in
     let q = call (start k) in
-    let told = c .before .refusal .given .1 in
-    opens-running q _ _ _ (answer-refused (k .check-tables .result) (openRunningChecked q) (found k) _ told [])
-    (buffer-refused (k .check-tables .result) (openRunningChecked q) (found k) _ told (openedNumbers (q .numbers)) (q .numbers))
-    (buffer-refused (k .check-tables .result) (openRunningChecked q) (found k) _ told (openedFlows (q .flows)) (q .flows))
+    both-kept (openRunningChecked q) (openedNumbers (q .numbers)) (q .numbers) (openedFlows (q .flows)) (q .flows) (OpensRunning q) (opens-running q)
+    (k .check-tables .result) (found k) _ (c .before .refusal .given .1)
 
 returns-2 : tie.Need-returns-2
 returns-2 c =
@@ -48,10 +45,8 @@ returns-2 c =
     let e = n .before .before in
     let k = e .before .before in
     let q = call (start k) in
-    let told = e .enum-told .given .1 in
-    opens-running q _ _ _ (answer-passed (k .check-tables .result) (openRunningChecked q) (found k) told [])
-    (buffer-passed (k .check-tables .result) (openRunningChecked q) (found k) told (openedNumbers (q .numbers)) (q .numbers) _ (n .clear-numbers .ensures))
-    (buffer-passed (k .check-tables .result) (openRunningChecked q) (found k) told (openedFlows (q .flows)) (q .flows) _ (c .before .clear-flows .ensures))
+    both-made (openRunningChecked q) (openedNumbers (q .numbers)) (q .numbers) (openedFlows (q .flows)) (q .flows) (OpensRunning q) (opens-running q)
+    (k .check-tables .result) (found k) (e .enum-told .given .1) _ _ (n .clear-numbers .ensures) (c .before .clear-flows .ensures)
 
 pub open-running-spec : {M : Type 1} → statement M
 open-running-spec =
