@@ -1,4 +1,4 @@
-"""The commands on copies of a book: the settled form, and whether two folders have the same book."""
+"""The commands on copies of a book: the canonical form, and whether two folders have the same book."""
 
 import hashlib
 import json
@@ -9,7 +9,7 @@ from support import CASE_L, IEEE14, FolderTest, command
 import crr
 
 
-class Settled(FolderTest):
+class Canonical(FolderTest):
     HEADING = "OWNER,HEDGE_TYPE,TIME_OF_USE,SOURCE,SINK,MW\n"
     BOOK = "CRR_ID,OWNER,HEDGE_TYPE,TIME_OF_USE,SOURCE,SINK,MW\n"
 
@@ -30,20 +30,20 @@ class Settled(FolderTest):
         )
         case = self.case(rows)
         self.assertEqual(
-            command("settled", case), (0, self.HEADING + out, "4 contracts, 4 rows in the settled form\n")
+            command("canonical", case), (0, self.HEADING + out, "4 contracts, 4 rows in the canonical form\n")
         )
         self.assertEqual(command("pack", case, "-o", self.folder / "bin")[0], 0)
-        self.assertEqual(command("settled", self.folder / "bin"), command("settled", case))
+        self.assertEqual(command("canonical", self.folder / "bin"), command("canonical", case))
 
     def test_file(self):
-        out = self.folder / "below" / "settled.bin"
+        out = self.folder / "below" / "canonical.bin"
         self.assertEqual(
-            command("settled", CASE_L, "-o", out),
-            (0, f"{out}: 4 contracts, 4 rows in the settled form\n", ""),
+            command("canonical", CASE_L, "-o", out),
+            (0, f"{out}: 4 contracts, 4 rows in the canonical form\n", ""),
         )
         file = bytes.fromhex("0100 009000100005 407000102710 407000200001 c080002001f4")
         self.assertEqual(out.read_bytes(), file)
-        status, text, err = command("settled", CASE_L, "-o", out, "--json")
+        status, text, err = command("canonical", CASE_L, "-o", out, "--json")
         answer = json.loads(text)
         self.assertEqual(
             (status, answer["out"], answer["contracts"], len(answer["rows"]), err), (0, str(out), 4, 4, "")
@@ -61,12 +61,12 @@ class Settled(FolderTest):
 
     def test_empty(self):
         self.assertEqual(
-            command("settled", self.case("")), (0, self.HEADING, "0 contracts, 0 rows in the settled form\n")
+            command("canonical", self.case("")), (0, self.HEADING, "0 contracts, 0 rows in the canonical form\n")
         )
 
     def test_faults(self):
         status, out, err = command(
-            "settled", self.case("a,Fir,OPT,ON,Bus 1,Bus 2,0\n"), "-o", self.folder / "out.bin"
+            "canonical", self.case("a,Fir,OPT,ON,Bus 1,Bus 2,0\n"), "-o", self.folder / "out.bin"
         )
         self.assertEqual(
             (status, out, err.count("(refusal 13)"), (self.folder / "out.bin").exists()), (2, "", 1, False)

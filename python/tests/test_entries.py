@@ -122,22 +122,22 @@ class Refusals(unittest.TestCase):
             self.assertEqual((written(length, figure), figure.value), (b"", length))
             self.assertEqual((written(length + 2, figure), figure.value), (b"xx", length))
 
-    def test_settled(self):
+    def test_canonical(self):
         rows = [(0, 1, 7, 0, 1, 600_000)] * 3
         for form, file in ((0, "0080 4070001f4240 4070001c3500"), (1, "00bf 407000001f4240 407000001c3500")):
-            self.assertEqual(crr.write_settled_book(2, crr.write_book(2, rows, form)), bytes.fromhex(file))
+            self.assertEqual(crr.write_canonical_book(2, crr.write_book(2, rows, form)), bytes.fromhex(file))
         book = crr.write_book(2, rows[:1])
-        self.refused(2, crr.write_settled_book, 0, book)
-        self.refused(1, crr.write_settled_book, 2, b"")
-        self.refused(10, crr.write_settled_book, 2, bits([(10, 1001), (6, 0)]))
-        self.refused(4, crr.write_settled_book, 2, bits([(10, 0), (6, 1)]))
-        self.refused(5, crr.write_settled_book, 2, book + b"\0")
-        self.refused(11, crr.write_settled_book, 1, book)
-        self.refused(13, crr.write_settled_book, 2, book[:-3] + b"\x1f\xff\xff")
+        self.refused(2, crr.write_canonical_book, 0, book)
+        self.refused(1, crr.write_canonical_book, 2, b"")
+        self.refused(10, crr.write_canonical_book, 2, bits([(10, 1001), (6, 0)]))
+        self.refused(4, crr.write_canonical_book, 2, bits([(10, 0), (6, 1)]))
+        self.refused(5, crr.write_canonical_book, 2, book + b"\0")
+        self.refused(11, crr.write_canonical_book, 1, book)
+        self.refused(13, crr.write_canonical_book, 2, book[:-3] + b"\x1f\xff\xff")
 
-    def test_place_for_the_settled_form(self):
+    def test_place_for_the_canonical_form(self):
         """The function in Python lends a place for any book: 9 is asked of the entry itself."""
-        entry, book = Entry("crr_write_settled_book"), crr.write_book(2, [(0, 1, 7, 0, 1, 5)] * 2)
+        entry, book = Entry("crr_write_canonical_book"), crr.write_book(2, [(0, 1, 7, 0, 1, 5)] * 2)
         place, count = bytearray(b"\7" * 9), c_uint64(7)
         with self.assertRaises(crr.Refused) as caught:
             entry(2, Lent(book, "B"), Lent(memoryview(place)[:7], "B", True), count)

@@ -83,7 +83,7 @@ class Figures(unittest.TestCase):
                     break
         return [(number, cut) for cut, number in sorted(cuts)]
 
-    def test_settled_books(self):
+    def test_canonical_books(self):
         """Shuffled and split copies have one form, that of the totals; a thousandth more has another."""
         rng = random.Random(SEED)
         for _ in range(200):
@@ -98,13 +98,13 @@ class Figures(unittest.TestCase):
                 for done in range(0, total, 10**6)
             ]
             form = crr.write_book(200, cut)
-            self.assertEqual(crr.write_settled_book(200, crr.write_book(200, rows)), form)
-            self.assertEqual(crr.write_settled_book(200, form), form)
+            self.assertEqual(crr.write_canonical_book(200, crr.write_book(200, rows)), form)
+            self.assertEqual(crr.write_canonical_book(200, form), form)
             split = [(*row[:5], part) for row in rows for part in (row[5] // 2, row[5] - row[5] // 2) if part]
             rng.shuffle(split)
-            self.assertEqual(crr.write_settled_book(200, crr.write_book(200, split)), form)
+            self.assertEqual(crr.write_canonical_book(200, crr.write_book(200, split)), form)
             split[0] = (*split[0][:5], split[0][5] + 1)
-            self.assertNotEqual(crr.write_settled_book(200, crr.write_book(200, split)), form)
+            self.assertNotEqual(crr.write_canonical_book(200, crr.write_book(200, split)), form)
 
     def test_cuts(self):
         rng, listed = random.Random(SEED), 0

@@ -154,7 +154,7 @@ class Spared(FolderTest):
             return {name for argument in one.arguments for name in argument.names}
 
         writing = {name for name, one in COMMANDS.items() if "-o" in names(one)}
-        expected = "pack unpack settle report remap market holder settled hub-add tiers migrate"
+        expected = "pack unpack settle report remap market holder canonical hub-add tiers migrate"
         self.assertEqual(writing, set(expected.split()))
         self.assertEqual({name for name, one in COMMANDS.items() if "--force" in names(one)}, writing)
 
@@ -205,7 +205,7 @@ class Spared(FolderTest):
         self.assertEqual(command("settle", IEEE14, "-o", self.folder)[0], 0)
 
     def test_views(self):
-        for arguments in (("market",), ("holder", 7), ("settled",)):
+        for arguments in (("market",), ("holder", 7), ("canonical",)):
             place = self.folder / arguments[0]
             place.write_text("mine")
             self.refused(arguments[0], CASE_L, *arguments[1:], "-o", place)
@@ -221,7 +221,7 @@ class Spared(FolderTest):
         before = everything(self.folder)
         for case, names in places.items():
             for name in names:
-                for arguments in (("report",), ("settled",), ("market",), ("report", "--force")):
+                for arguments in (("report",), ("canonical",), ("market",), ("report", "--force")):
                     place = self.folder / case / name
                     status, _, err = command(*arguments, self.folder / case, "-o", place)
                     said = f"{place}: that is a file of the case itself: choose another"

@@ -19,7 +19,7 @@ use Rattle.tariff.specs.Settlement.{wholeCents, parts}
 use Rattle.tariff.proofs.Answers.{given-told, number-of, none-refused, figure-is}
 use Rattle.tariff.proofs.Checks.{first-append, append-passes, first-passes, last-passes}
 use Rattle.layouts.specs.BookFile.{contractCountIn}
-use Rattle.tables.specs.TableChecks.{gridTableChecks}
+use Rattle.grid_tables.specs.TableChecks.{gridTableChecks}
 use Rattle.book_rules.specs.BookChecks.{bookChecks}
 use Rattle.book_rules.proofs.Accepted.{own-parts}
 use Rattle.test_rules.specs.declared.TestAnswer.{TestAnswer}
@@ -27,12 +27,12 @@ use Rattle.test_rules.specs.declared.TestAnswer.the-variants.{Pass}
 use Rattle.test_rules.specs.TestBook.{TestCall, testCall, testOutcome, TestsBook, testChecks, testChecked, testedGrid, testedProcess, testedContracts, testValues, TestCells, testedCells}
 use Rattle.test_rules.proofs.Figures.{same-test, same-cells}
 use Rattle.test_rules.proofs.Judging.{passed-told}
-use Rattle.flows.specs.declared.FlowsAnswer.{FlowsAnswer}
-use Rattle.flows.specs.FindFlows.{FlowsCall, flowsCall, findFlowsChecks, findFlowsChecked, countedContracts, flowCells, flowsOutcome, FindsFlows}
+use Rattle.test_loading.specs.declared.FlowsAnswer.{FlowsAnswer}
+use Rattle.test_loading.specs.FindFlows.{FlowsCall, flowsCall, findFlowsChecks, findFlowsChecked, countedContracts, flowCells, flowsOutcome, FindsFlows}
 use Rattle.hour_rules.specs.declared.SettleAnswer.{SettleAnswer}
 use Rattle.hour_rules.specs.declared.SettleAnswer.the-variants.{Settled}
 use Rattle.hour_rules.specs.SettleHour.{HourCall, hourCall, settleOutcome, SettlesHour, SettlesForC, settleChecks, settleChecked, hourTotal, hourFactors, hourPrices, hourPeriod, sumGiven, exactGiven}
-use Rattle.reordering.specs.ForC.{HourFigures}
+use Rattle.order_calls.specs.ForC.{HourFigures}
 use Rattle.book_calls.specs.Alike.{AlikeBooks, FlowsAlike, RoomFor, AnsweredAlike}
 
 -- the number of each answer is its checks'

@@ -19,7 +19,7 @@ use Rattle.book_rules.proofs.Accepted.{own-parts}
 use Rattle.view_rules.specs.Views.{marketFile}
 use Rattle.view_rules.specs.MarketView.{marketViewCall, marketViewChecks, marketViewChecked, WritesMarketView}
 use Rattle.view_rules.proofs.Theorems.{market-is-a-book}
-use Rattle.market_figures.proofs.Theorems.{market-figures}
+use Rattle.view_figures.proofs.Theorems.{market-figures}
 use Rattle.hour_rules.specs.SettleHour.{HourCall, hourCall, hourTotal, settleChecks, settleChecked, hourFactors, hourPrices, hourPeriod, centsCells, pricedCells, sumGiven, exactGiven}
 use Rattle.book_calls.specs.Alike.{AnsweredAlike}
 use Rattle.book_calls.specs.Market.{EqualRoom, SamePlaces, HourAlike, MarketCalls}

@@ -1,5 +1,5 @@
 -- Two books that a market can't tell apart by flows and exact totals, and what the entries and the C functions answer on them. Statements only; papers 5 and 11 of
--- document 02 are instances (Migration.antt, Settled.antt), and the market's view of paper 10 is another (Market.antt).
+-- document 02 are instances (Migration.antt, Canonical.antt), and the market's view of paper 10 is another (Market.antt).
 use mathlib.Core.Path.{_≡_}
 use mathlib.Core.Logic.{_↔_}
 use mathlib.Core.List.{List}
@@ -19,12 +19,12 @@ use Rattle.book_rules.specs.BookChecks.{ownChecks}
 use Rattle.test_rules.specs.declared.TestAnswer.{TestAnswer}
 use Rattle.test_rules.specs.declared.TestAnswer.the-variants.{Pass}
 use Rattle.test_rules.specs.TestBook.{testCall, testOutcome, TestsBook, TestsBookForC}
-use Rattle.flows.specs.declared.FlowsAnswer.{FlowsAnswer}
-use Rattle.flows.specs.FindFlows.{flowsCall, flowsOutcome, FindsFlows, FindsFlowsForC}
+use Rattle.test_loading.specs.declared.FlowsAnswer.{FlowsAnswer}
+use Rattle.test_loading.specs.FindFlows.{flowsCall, flowsOutcome, FindsFlows, FindsFlowsForC}
 use Rattle.hour_rules.specs.declared.SettleAnswer.{SettleAnswer}
 use Rattle.hour_rules.specs.declared.SettleAnswer.the-variants.{Settled}
 use Rattle.hour_rules.specs.SettleHour.{hourCall, settleOutcome, SettlesHour, SettlesForC}
-use Rattle.reordering.specs.ForC.{TestFigures, SameTestGiven, HourFigures}
+use Rattle.order_calls.specs.ForC.{TestFigures, SameTestGiven, HourFigures}
 
 -- both are accepted for n nodes, and have the same flow on every constraint and the same exact total, on every grid, at all prices, in either period
 pub record AlikeBooks (n : ℕ) (s t : List ℕ) : Type 0 where

@@ -10,7 +10,7 @@ use Rattle.layouts.specs.declared.WriteAnswer.the-variants.{Written}
 use Rattle.view_rules.specs.MarketView.{marketViewCall, WritesMarketView, WritesMarketViewForC}
 use Rattle.hour_rules.specs.declared.SettleAnswer.{SettleAnswer}
 use Rattle.hour_rules.specs.SettleHour.{hourCall, settleOutcome, SettlesHour, SettlesForC}
-use Rattle.reordering.specs.ForC.{HourFigures, SameTotalsGiven}
+use Rattle.order_calls.specs.ForC.{HourFigures, SameTotalsGiven}
 use Rattle.book_calls.specs.Alike.{AnsweredAlike}
 
 -- places for cents and sets of equal length; and the same cells there

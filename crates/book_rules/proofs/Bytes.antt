@@ -9,7 +9,7 @@ use lib.ListN.{length, set, length-append}
 use Rattle.lists.specs.Lists.{Each}
 use Rattle.lists.specs.Lent.{overwrite}
 use Rattle.bits.specs.Bits.{digits}
-use Rattle.bits.specs.Fields.{Field, bits, total, packed, fileOf}
+use Rattle.bits.specs.Fields.{Field, bits, totalWidth, packed, fileOf}
 use Rattle.bits.specs.Inner.{Fit}
 use Rattle.bits.proofs.Numbers.{digits-append, digits-high}
 use Rattle.bits.proofs.Files.{total-append, packed-append, packed-lt}
@@ -26,12 +26,12 @@ use Rattle.layouts.proofs.BookFile.{total-contract, fit-contract, whole-bytes}
 use Rattle.book_rules.specs.Inner.{headerBytes, contractBytes, bookFront, termsNumber, contractNumber, bitsBytes}
 
 -- fields that fill whole bytes, behind others that do
-file-append : (xs ys : List Field) (a b : ℕ) → total xs ≡ 8 * a → total ys ≡ 8 * b → Fit ys → fileOf (xs ++ ys) ≡ fileOf xs ++ fileOf ys
+file-append : (xs ys : List Field) (a b : ℕ) → totalWidth xs ≡ 8 * a → totalWidth ys ≡ 8 * b → Fit ys → fileOf (xs ++ ys) ≡ fileOf xs ++ fileOf ys
 unfolding fileOf
 file-append xs ys a b ea eb fit =
-    let whole : total (xs ++ ys) / 8 ≡ a + b = omega (arith, total-append xs ys) in
-    let na : total xs / 8 ≡ a = omega arith in
-    let nb : total ys / 8 ≡ b = omega arith in
+    let whole : totalWidth (xs ++ ys) / 8 ≡ a + b = omega (arith, total-append xs ys) in
+    let na : totalWidth xs / 8 ≡ a = omega arith in
+    let nb : totalWidth ys / 8 ≡ b = omega arith in
     let lt : packed ys < 2 ^ (8 * b) = rw eb at (packed-lt ys fit) in
     rw (whole, na, nb, packed-append xs ys, eb) (
     digits-append 8 a b (packed xs * 2 ^ (8 * b) + packed ys)
@@ -90,7 +90,7 @@ module _ (f : Form) where
   fields : Contract → List Field
   fields = contractFields (endWidth f)
 
-  total-contracts : (cs : List Contract) → total (flatMap fields cs) ≡ 8 * (recordBytes f * length cs)
+  total-contracts : (cs : List Contract) → totalWidth (flatMap fields cs) ≡ 8 * (recordBytes f * length cs)
   unfolding fields
   total-contracts cs = total-records (contractFields (endWidth f)) (contractBits (endWidth f)) (total-contract (endWidth f)) cs ∙ rw (← whole-bytes f) (omega arith)
 

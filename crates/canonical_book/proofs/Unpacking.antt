@@ -12,14 +12,14 @@ use Rattle.layouts.specs.BookTable.{ContractFits}
 use Rattle.layouts.proofs.ContractBits.{kind-lt, period-lt, contract-is}
 use Rattle.book_rules.specs.Inner.{contractBytes, termsNumber, contractNumber, bitsBytes}
 use Rattle.book_rules.proofs.Bytes.{contract-number}
-use Rattle.settled_rules.specs.Settled.{quantity, fiveOf}
-use Rattle.settled_rules.specs.Inner.{numberOf}
+use Rattle.canonical_rules.specs.Canonical.{quantity, fiveOf}
+use Rattle.canonical_rules.specs.Inner.{rowNumber}
 
 pub parts-bytes : (form : Form) (c : Contract) (t s e q r : ℕ) → t ≡ termsNumber c → s ≡ c .source → e ≡ c .sink → q ≡ quantity c → r ≡ contractNumber form t s e q
     → contractBytes form c ≡ bitsBytes form r
 parts-bytes form c t s e q r et es ee eq er = contract-number form c t q r et eq (er ∙ ap₂ (λ (x y : ℕ). contractNumber form t x y q) es ee)
 
-module _ (form : Form) (c : Contract) (fits : ContractFits (endWidth form) c) (v : ℕ) (e : v ≡ numberOf c) where
+module _ (form : Form) (c : Contract) (fits : ContractFits (endWidth form) c) (v : ℕ) (e : v ≡ rowNumber c) where
   wide : ContractFits 12 c
   wide = widen form fits
     where

@@ -8,7 +8,7 @@ use Rattle.layouts.specs.Forms.{endWidth}
 use Rattle.layouts.specs.Inner.{contractOf}
 use Rattle.layouts.specs.BookTable.{ContractFits}
 use Rattle.book_rules.specs.Inner.{contractBytes}
-use Rattle.settled_rules.specs.Inner.{numberOf}
+use Rattle.canonical_rules.specs.Inner.{rowNumber}
 
 -- the bytes of the row whose number is v
 abbrev pub rowBytes : Form → ℕ → List ℕ
@@ -18,4 +18,4 @@ rowBytes form v = contractBytes form (contractOf 12 v)
 pub record RowOf (form : Form) (v : ℕ) : Type 0 where
   pub of : Contract
   pub fits : ContractFits (endWidth form) of
-  pub is : v ≡ numberOf of
+  pub is : v ≡ rowNumber of

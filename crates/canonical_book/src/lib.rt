@@ -1,4 +1,4 @@
-// The settled form of a book (document 02, paper 11), written in the book's form.
+// The canonical form of a book (document 02, paper 11), written in the book's form.
 ghost use mathlib.Core.Path.{_≡_};
 ghost use mathlib.Core.List.{_++_};
 ghost use Prim.Native.Nat.{ℕ, _+_, _≤_, _<_};
@@ -9,7 +9,7 @@ ghost use Rattle.tariff.specs.Units.{maxContracts};
 ghost use Rattle.layouts.specs.Forms.{recordBytes};
 ghost use Rattle.layouts.specs.BookFile.{bookBytes, bookFile};
 ghost use Rattle.layouts.specs.Inner.{contractOf};
-ghost use Rattle.settled_rules.specs.SettledBook.{settledBookCall, WritesSettledBook};
+ghost use Rattle.canonical_rules.specs.CanonicalBook.{canonicalBookCall, WritesCanonicalBook};
 ghost use Rattle.canonical_book.specs.Inner.{rowBytes, RowOf};
 use book_bits::WIDE_END_WIDTH;
 use layouts::Form;
@@ -45,16 +45,16 @@ fn write_rows(form: Form, cells: &[u64], rows: usize, file: &mut [u8])
     }
 }
 
-// Writes the settled form of a book for a grid of `nodes` nodes. Takes 16,000 bytes of stack.
-pub fn write_settled_book(nodes: usize, book: &[u8], file: &mut [u8]) -> WriteAnswer
-    ensures { λ r. ⌜ WritesSettledBook (settledBookCall nodes (before book) (before file)) r (after file) ⌝ }
+// Writes the canonical form of a book for a grid of `nodes` nodes. Takes 16,000 bytes of stack.
+pub fn write_canonical_book(nodes: usize, book: &[u8], file: &mut [u8]) -> WriteAnswer
+    ensures { λ r. ⌜ WritesCanonicalBook (canonicalBookCall nodes (before book) (before file)) r (after file) ⌝ }
 {
     if let Checked::Refused(refusal) = book_checks::check_own(nodes, book) {
         return WriteAnswer::Refused(refusal);
     }
     let form = book_bits::book_form(book);
     let mut cells = [0u64; MAX_CONTRACTS];
-    let rows = canonical_numbers::settle(book, form, book_bits::contract_count(book), &mut cells);
+    let rows = canonical_numbers::canonical_rows(book, form, book_bits::contract_count(book), &mut cells);
     let bytes = form.book_bytes(rows);
     if file.len() < bytes {
         return WriteAnswer::Refused(Refusal::ShortTable);

@@ -1,3 +1,3 @@
 pub mod Packing
 pub mod Turning
-pub mod Settling
+pub mod CanonicalRows

@@ -10,9 +10,9 @@ use lib.Seq.{length-take-le, take-suc-set, take-set-le, drop-cons, drop-set-lt, 
 use Rattle.lists.specs.Lists.{Each}
 use Rattle.lists.proofs.Lists.{each-at}
 use Rattle.lists.proofs.Fill.{drop-later}
-use Rattle.settled_rules.specs.Inner.{goes, out, pending, walkFrom, walk, fiveIn, quantityIn, numberAt, walkNumbers}
+use Rattle.canonical_rules.specs.Inner.{goes, out, pending, walkFrom, walk, fiveIn, quantityIn, numberAt, walkNumbers}
 use Rattle.canonical_numbers.specs.declared.Step.{Step}
-use Rattle.canonical_numbers.specs.Inner.{Sized, Steps}
+use Rattle.canonical_numbers.specs.Inner.{SizedQuantity, Steps}
 
 abbrev pub numbersFrom : ℕ → List ℕ → List ℕ
 numbersFrom = walkFrom fiveIn quantityIn numberAt
@@ -31,13 +31,13 @@ pub record Walking (cells₀ : List ℕ) (count : ℕ) (cells : List ℕ) (row r
   pub few : rows < i
   pub within : i ≤ count
   pub size : length cells ≡ length cells₀
-  pub sized : Sized row
+  pub sized : SizedQuantity row
   pub rest : drop i cells ≡ drop i cells₀
   pub done : take rows cells ++ numbersFrom row (drop i (take count cells₀)) ≡ walkNumbers (take count cells₀)
 
-module _ (cells₀ : List ℕ) (count : ℕ) (le : count ≤ length cells₀) (all : Each Sized (take count cells₀)) where
-  sized-at : (i : ℕ) → i < count → Sized (getD cells₀ i 0)
-  sized-at i h = rw (getD-take count cells₀ i 0 h) at (each-at Sized (take count cells₀) i 0 all (rw (length-take-le count cells₀ le) h))
+module _ (cells₀ : List ℕ) (count : ℕ) (le : count ≤ length cells₀) (all : Each SizedQuantity (take count cells₀)) where
+  sized-at : (i : ℕ) → i < count → SizedQuantity (getD cells₀ i 0)
+  sized-at i h = rw (getD-take count cells₀ i 0 h) at (each-at SizedQuantity (take count cells₀) i 0 all (rw (length-take-le count cells₀ le) h))
 
   pub walking-begins : 0 < count → Walking cells₀ count cells₀ (getD cells₀ 0 0) 0 1
   walking-begins some =
@@ -51,7 +51,7 @@ module _ (cells₀ : List ℕ) (count : ℕ) (le : count ≤ length cells₀) (a
         let b = drop-cons cells₀ i 0 (omega arith) in
         ap (λ (l : List ℕ). getD l 0 0) (sym a ∙ w .rest ∙ b)
 
-    pub read-sized : i < count → Sized (getD cells i 0)
+    pub read-sized : i < count → SizedQuantity (getD cells i 0)
     read-sized h = rw (cell-read h) (sized-at i h)
 
     next-cell : i < count → drop i (take count cells₀) ≡ getD cells₀ i 0 ∷ drop (i + 1) (take count cells₀)

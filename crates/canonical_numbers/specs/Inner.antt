@@ -7,14 +7,14 @@ use lib.ListN.{length}
 use Rattle.tariff.specs.Units.{maxQuantity, maxContracts}
 use Rattle.layouts.specs.declared.forms.Form.{Form}
 use Rattle.layouts.specs.BookFile.{bookBytes, contractIn}
-use Rattle.settled_rules.specs.Settled.{Filled}
-use Rattle.settled_rules.specs.Theorems.{FiveFits}
-use Rattle.settled_rules.specs.Inner.{goes, out, pending, fiveIn, quantityIn, numberAt}
+use Rattle.canonical_rules.specs.Canonical.{Filled}
+use Rattle.canonical_rules.specs.Theorems.{FiveFits}
+use Rattle.canonical_rules.specs.Inner.{goes, out, pending, fiveIn, quantityIn, numberAt}
 use Rattle.canonical_numbers.specs.declared.Step.{Step}
 
 -- a row's quantity is at most 1,000,000
-abbrev pub Sized : ℕ → Type 0
-Sized v = quantityIn v ≤ maxQuantity
+abbrev pub SizedQuantity : ℕ → Type 0
+SizedQuantity v = quantityIn v ≤ maxQuantity
 
 -- what a step of the walk gives of the pending row and the next one
 pub record Steps (row next : ℕ) (s : Step) : Type 0 where
@@ -22,7 +22,7 @@ pub record Steps (row next : ℕ) (s : Step) : Type 0 where
   pub goes-is : s .goes ≡ cond (goes fiveIn quantityIn numberAt row next) 1 0
   pub pending-is : s .pending ≡ pending fiveIn quantityIn numberAt row next
   pub few : s .goes ≤ 1
-  pub sized : Sized (s .pending)
+  pub sized : SizedQuantity (s .pending)
 
 -- the first contracts of a book's bytes, which numbers can be made of
 pub record Countable (form : Form) (book : List ℕ) (count : ℕ) : Type 0 where

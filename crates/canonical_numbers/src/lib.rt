@@ -1,4 +1,4 @@
-// A book's contracts as numbers that have the settled order (document 02, paper 11): sorted, added together and cut in one walk.
+// A book's contracts as numbers that have the canonical order (document 02, paper 11): sorted, added together and cut in one walk.
 ghost use mathlib.Core.Path.{_≡_};
 ghost use mathlib.Core.List.{map};
 ghost use Prim.Native.Nat.{_+_, _≤_, _<_};
@@ -9,9 +9,9 @@ ghost use Rattle.tariff.specs.Units.{maxContracts, maxQuantity};
 ghost use Rattle.layouts.specs.Forms.{recordBytes};
 ghost use Rattle.layouts.specs.BookFile.{bookBytes, contractIn};
 ghost use Rattle.layouts.specs.Inner.{contractOf};
-ghost use Rattle.settled_rules.specs.Settled.{settled};
-ghost use Rattle.settled_rules.specs.Inner.{numberOf, quantityIn, numberAt, walkNumbers};
-ghost use Rattle.canonical_numbers.specs.Inner.{Sized, Steps, Countable};
+ghost use Rattle.canonical_rules.specs.Canonical.{canonical};
+ghost use Rattle.canonical_rules.specs.Inner.{rowNumber, quantityIn, numberAt, walkNumbers};
+ghost use Rattle.canonical_numbers.specs.Inner.{SizedQuantity, Steps, Countable};
 use book_bits::NARROW_END_WIDTH;
 use book_bits::QUANTITIES;
 use book_bits::WIDE_END_WIDTH;
@@ -19,10 +19,10 @@ use layouts::Form;
 use tariff::MAX_QUANTITY;
 use tariff::Quantity;
 
-// The number of the contract whose bits are the lowest of `v`, its ends of `width` bits: ends of 12 bits, so that it has the settled order.
+// The number of the contract whose bits are the lowest of `v`, its ends of `width` bits: ends of 12 bits, so that it has the canonical order.
 fn number_of(v: u64, width: usize) -> u64
     requires { ⌜ width ≤ 12 ⌝ }
-    ensures { λ r. ⌜ r ≡ numberOf (contractOf width v) ⌝ }
+    ensures { λ r. ⌜ r ≡ rowNumber (contractOf width v) ⌝ }
 {
     let terms = book_bits::terms_in(v, width);
     let source = book_bits::source_in(v, width);
@@ -34,7 +34,7 @@ fn number_of(v: u64, width: usize) -> u64
 // The number of contract i of a book's bytes.
 fn number_at(book: &[u8], form: Form, i: usize) -> u64
     requires { ⌜ (i < 1024) × (bookBytes form i + recordBytes form ≤ length (now book)) ⌝ }
-    ensures { λ r. ⌜ r ≡ numberOf (contractIn form (before book) i) ⌝ }
+    ensures { λ r. ⌜ r ≡ rowNumber (contractIn form (before book) i) ⌝ }
 {
     match form {
         Form::Narrow => number_of(book_bits::bits_at(book, Form::Narrow, i), NARROW_END_WIDTH),
@@ -45,7 +45,7 @@ fn number_at(book: &[u8], form: Form, i: usize) -> u64
 // Puts the numbers of the first `count` contracts into the first cells.
 fn fill_numbers(book: &[u8], form: Form, count: usize, cells: &mut [u64])
     requires { ⌜ (count ≤ maxContracts) × (bookBytes form count ≤ length (now book)) × (count ≤ length (now cells)) ⌝ }
-    ensures { λ r. ⌜ take count (after cells) ≡ listTo count (λ i. numberOf (contractIn form (before book) i)) ⌝ }
+    ensures { λ r. ⌜ take count (after cells) ≡ listTo count (λ i. rowNumber (contractIn form (before book) i)) ⌝ }
 {
     let mut i = 0;
     while i < count {
@@ -78,7 +78,7 @@ fn row_with(row: u64, quantity: Quantity) -> u64
 
 // The pending row and the next one: of one five they are added, and a full row goes out where they are more; of two fives the pending row goes out.
 fn next_step(row: u64, next: u64) -> Step
-    requires { ⌜ Sized row × Sized next ⌝ }
+    requires { ⌜ SizedQuantity row × SizedQuantity next ⌝ }
     ensures { λ r. ⌜ Steps row next r ⌝ }
 {
     if row / QUANTITIES != next / QUANTITIES {
@@ -107,7 +107,7 @@ fn next_step(row: u64, next: u64) -> Step
 
 // Adds together and cuts the first `count` cells, whose fives rise. Gives how many rows there are then: never more than are read, so they go into the same cells.
 fn walk(cells: &mut [u64], count: usize) -> usize
-    requires { ⌜ (0 < count) × (count ≤ length (now cells)) × Each Sized (take count (now cells)) ⌝ }
+    requires { ⌜ (0 < count) × (count ≤ length (now cells)) × Each SizedQuantity (take count (now cells)) ⌝ }
     ensures { λ r. ⌜ (take r (after cells) ≡ walkNumbers (take count (before cells))) × (r ≤ count) ⌝ }
 {
     let mut row = cells[0];
@@ -124,10 +124,10 @@ fn walk(cells: &mut [u64], count: usize) -> usize
     rows + 1
 }
 
-// The settled rows of the first `count` contracts of a book's bytes, as numbers in the first cells. Gives how many there are.
-pub fn settle(book: &[u8], form: Form, count: usize, cells: &mut [u64]) -> usize
+// The canonical rows of the first `count` contracts of a book's bytes, as numbers in the first cells. Gives how many there are.
+pub fn canonical_rows(book: &[u8], form: Form, count: usize, cells: &mut [u64]) -> usize
     requires { ⌜ Countable form (now book) count × (count ≤ length (now cells)) ⌝ }
-    ensures { λ r. ⌜ (take r (after cells) ≡ map numberOf (settled (listTo count (contractIn form (before book))))) × (r ≤ count) ⌝ }
+    ensures { λ r. ⌜ (take r (after cells) ≡ map rowNumber (canonical (listTo count (contractIn form (before book))))) × (r ≤ count) ⌝ }
 {
     if count == 0 {
         return 0;

@@ -21,8 +21,8 @@ use Rattle.tariff.specs.Units.{maxLimit}
 use Rattle.tariff.specs.Contracts.{samePeriod}
 use Rattle.tariff.specs.Processes.{percent}
 use Rattle.test_rules.proofs.Judging.{released-small}
-use Rattle.cut_rules.specs.Inner.{keyOf, keysTo}
-use Rattle.contract_cuts.specs.Inner.{cellAt, cutIn}
+use Rattle.cut_rules.specs.Inner.{cutKey, keysTo}
+use Rattle.cut_needs.specs.Inner.{cellAt, cutIn}
 use Rattle.cut_keys.specs.Inner.{excessIn, periodCut}
 
 -- ---- the cut of a contract of either period
@@ -39,13 +39,13 @@ module _ (k : ℕ) (table excesses : List ℤ) (period : Period) (c : Contract) 
 -- ---- a key behind those that are there, for a cut
 
 module _ (keys : List ℕ) (count number cut P : ℕ) (is : cut ≡ P) where
-  pub key-stored : count < length keys → 0 < cut → take (count + 1) (set keys count (cut * 1024 + number)) ≡ take count keys ++ cond (ltb 0 P) (keyOf P number ∷ []) []
+  pub key-stored : count < length keys → 0 < cut → take (count + 1) (set keys count (cut * 1024 + number)) ≡ take count keys ++ cond (ltb 0 P) (cutKey P number ∷ []) []
   key-stored h s = rw (add-one, take-suc-set keys count (cut * 1024 + number) h, ← is, lt-ltb 0 cut s)
 
-  pub no-key : cut ≡ 0 → take count keys ≡ take count keys ++ cond (ltb 0 P) (keyOf P number ∷ []) []
+  pub no-key : cut ≡ 0 → take count keys ≡ take count keys ++ cond (ltb 0 P) (cutKey P number ∷ []) []
   no-key z = rw (← is, z) (sym (append-nil (take count keys)))
 
-pub keys-more : (cutOf : ℕ → ℕ) (i : ℕ) → keysTo cutOf (i + 1) ≡ keysTo cutOf i ++ cond (ltb 0 (cutOf i)) (keyOf (cutOf i) i ∷ []) []
+pub keys-more : (cutOf : ℕ → ℕ) (i : ℕ) → keysTo cutOf (i + 1) ≡ keysTo cutOf i ++ cond (ltb 0 (cutOf i)) (cutKey (cutOf i) i ∷ []) []
 unfolding keysTo
 keys-more cutOf i = rw add-one
 

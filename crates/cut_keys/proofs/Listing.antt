@@ -25,7 +25,7 @@ use Rattle.tariff.specs.Contracts.{InRange, counted, samePeriod, ofPeriod}
 use Rattle.tariff.specs.Refusals.{first}
 use Rattle.tariff.specs.Feasibility.{released, excess, overloadSet}
 use Rattle.layouts.specs.BookFile.{bookIn, contractCountIn, contractAt}
-use Rattle.tables.specs.Inner.{GoodCells, GoodFactors}
+use Rattle.grid_tables.specs.Inner.{GoodCells, GoodFactors}
 use Rattle.book_rules.specs.BookChecks.{bookChecks}
 use Rattle.book_rules.proofs.Accepted.{book-accepted}
 use Rattle.test_rules.specs.declared.Flows.{Flows}
@@ -33,14 +33,14 @@ use Rattle.test_rules.specs.Inner.{Judgeable}
 use Rattle.test_rules.specs.Carried.{Carries}
 use Rattle.test_rules.proofs.Flowing.{part, own-flow, carried-judgeable}
 use Rattle.test_rules.proofs.Judging.{over, set-is}
-use Rattle.flow_laws.specs.Quantities.{withQuantity}
-use Rattle.cut_rules.specs.Cuts.{contractOf, Row, passing, rowsTo, leastCuts}
+use Rattle.test_flow_laws.specs.Quantities.{withQuantity}
+use Rattle.cut_rules.specs.Cuts.{nthContract, CutRow, passing, cutRowsTo, leastCuts}
 use Rattle.cut_rules.specs.Inner.{closed, cutFlow, slope, cutOr0, rowKey, keysTo}
 use Rattle.cut_rules.proofs.Turns.{closed-cong}
 use Rattle.cut_rules.proofs.Rows.{each-row, numbers-rise}
 use Rattle.cut_rules.proofs.Keys.{Few, keys-in-order, keys-are}
 use Rattle.cut_rules.proofs.Theorems.{failing-rows, passing-rows}
-use Rattle.contract_cuts.specs.Inner.{Excesses, cellAt, slopeFrom, slopeIn, cutIn}
+use Rattle.cut_needs.specs.Inner.{Excesses, cellAt, slopeFrom, slopeIn, cutIn}
 use Rattle.cut_keys.specs.Inner.{excessIn, periodCut}
 use Rattle.cut_keys.proofs.Collecting.{excess-sized}
 
@@ -93,7 +93,7 @@ module _ (n k : ℕ) (ls : List ℕ) (fs : List ℤ) (process : Process) (t : Pe
     excess-is j b = values j b ∙ rw (carried .flows-are j b, getD-take k ls j 0 b)
 
     -- ---- a contract's cut
-    at-index : (i : ℕ) → i < contractCountIn book → contractOf cs i ≡ contractAt book i
+    at-index : (i : ℕ) → i < contractCountIn book → nthContract cs i ≡ contractAt book i
     at-index i b = getD-listTo (contractCountIn book) (contractAt book) i _ b
 
     cut-is : (c : Contract) → InRange n c
@@ -113,8 +113,8 @@ module _ (n k : ℕ) (ls : List ℕ) (fs : List ℤ) (process : Process) (t : Pe
         ∙ ap (λ (c : Contract). cond (samePeriod (c .period) t) (closed k (excess g process (ofPeriod t cs)) (slope (factorsOf n k fs) t c) (c .quantity .0) 0) 0) (sym (at-index i b))
 
     -- ---- all of them, in order
-    abbrev own : List Row
-    own = rowsTo g process t cs (length cs)
+    abbrev own : List CutRow
+    own = cutRowsTo g process t cs (length cs)
 
     few : Few own
     few = each-row g process t cs (λ r. r .number < 1024) (length cs) (λ i b c. omega (arith, length-listTo (contractCountIn book) (contractAt book), book-accepted n book accepted .few))
@@ -122,7 +122,7 @@ module _ (n k : ℕ) (ls : List ℕ) (fs : List ℤ) (process : Process) (t : Pe
     collected : passing g process t cs ≡ false → keysTo (λ (i : ℕ). periodCut k fs cells t (contractAt book i)) (contractCountIn book) ≡ map rowKey own
     collected out =
         keys-are g process t cs out (λ (i : ℕ). periodCut k fs cells t (contractAt book i)) (contractCountIn book) cuts-are
-        ∙ ap (λ (m : ℕ). map rowKey (rowsTo g process t cs m)) (sym (length-listTo (contractCountIn book) (contractAt book)))
+        ∙ ap (λ (m : ℕ). map rowKey (cutRowsTo g process t cs m)) (sym (length-listTo (contractCountIn book) (contractAt book)))
 
     -- the collected keys, sorted
     pub listed-keys : passing g process t cs ≡ false → (count : ℕ) (keys last : List ℕ) → count ≤ length keys

@@ -9,7 +9,7 @@ use Rattle.tariff.specs.declared.contracts.Period.{Period}
 use Rattle.tariff.specs.declared.processes.Process.{Process}
 use Rattle.tariff.specs.Contracts.{samePeriod}
 use Rattle.tariff.specs.Processes.{percent}
-use Rattle.contract_cuts.specs.Inner.{cellAt, cutIn}
+use Rattle.cut_needs.specs.Inner.{cellAt, cutIn}
 
 -- the excess at constraint j: its flow less its released limit
 abbrev pub excessIn : List ℕ → Process → List ℤ → ℕ → ℤ

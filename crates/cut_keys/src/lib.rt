@@ -11,12 +11,12 @@ ghost use Rattle.tariff.specs.declared.refusals.Checked.the-variants.{Passed};
 ghost use Rattle.tariff.specs.Units.{gridOf, maxContracts, maxLimit};
 ghost use Rattle.tariff.specs.Refusals.{first};
 ghost use Rattle.layouts.specs.BookFile.{bookIn, contractCountIn, contractAt};
-ghost use Rattle.tables.specs.Inner.{GoodFactors, GoodCells};
+ghost use Rattle.grid_tables.specs.Inner.{GoodFactors, GoodCells};
 ghost use Rattle.book_rules.specs.BookChecks.{bookChecks};
 ghost use Rattle.test_rules.specs.Inner.{Ends, Judgeable};
 ghost use Rattle.cut_rules.specs.Cuts.{leastCuts};
-ghost use Rattle.cut_rules.specs.Inner.{keyOf, rowKey, keysTo};
-ghost use Rattle.contract_cuts.specs.Inner.{Excesses, Overloads};
+ghost use Rattle.cut_rules.specs.Inner.{cutKey, rowKey, keysTo};
+ghost use Rattle.cut_needs.specs.Inner.{Excesses, Overloads};
 ghost use Rattle.cut_keys.specs.Inner.{excessIn, periodCut};
 use cut_rules::KEY_BASE;
 use tariff::Contract;
@@ -66,11 +66,11 @@ fn add_key(
     requires { ⌜ (number < 1024) × (count < length (now keys)) ⌝ }
     ensures { λ r. ⌜ (r ≤ count + 1) × (length (after keys) ≡ length (before keys)) ⌝ }
     ensures { λ r. ⌜ take r (after keys) ≡ take count (before keys) ++ cond (ltb 0 (periodCut constraints (before factors) (before excesses) period c))
-        (keyOf (periodCut constraints (before factors) (before excesses) period c) number ∷ []) [] ⌝ }
+        (cutKey (periodCut constraints (before factors) (before excesses) period c) number ∷ []) [] ⌝ }
 {
     let own = c.period;
     if own.same(period) {
-        let cut = contract_cuts::least_cut(c, constraints, factors, excesses, from, upto);
+        let cut = cut_needs::least_cut(c, constraints, factors, excesses, from, upto);
         if cut.is_zero() {
             return count;
         }
@@ -144,8 +144,8 @@ pub fn row_keys(
     }
     let mut excesses = [0i64; MAX_CONSTRAINTS];
     fill_excess(constraints, process, limits, carried, &mut excesses);
-    let from = contract_cuts::first_overload(constraints, &excesses);
-    let upto = contract_cuts::overloads_end(constraints, &excesses);
+    let from = cut_needs::first_overload(constraints, &excesses);
+    let upto = cut_needs::overloads_end(constraints, &excesses);
     let count = collect_keys(
         nodes,
         constraints,

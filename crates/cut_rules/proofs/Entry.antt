@@ -19,25 +19,25 @@ use Rattle.tariff.specs.Units.{maxContracts}
 use Rattle.tariff.proofs.Checks.{append-refuses, append-passes}
 use Rattle.layouts.specs.BookFile.{bookIn, contractCountIn, contractAt}
 use Rattle.test_rules.specs.TestBook.{TestCall, testChecks, testChecked, testedGrid, testedProcess}
-use Rattle.cut_rules.specs.Cuts.{Row}
+use Rattle.cut_rules.specs.Cuts.{CutRow}
 use Rattle.cut_rules.specs.Theorems.{LeastCuts}
 use Rattle.cut_rules.specs.Inner.{rowKey}
 use Rattle.cut_rules.proofs.Keys.{Few, few-rows, key-numbers, key-cuts}
 use Rattle.cut_rules.proofs.Theorems.{least-cuts}
 use Rattle.cut_rules.specs.declared.CutsAnswer.{CutsAnswer}
 use Rattle.cut_rules.specs.declared.CutsAnswer.the-variants as is
-use Rattle.cut_rules.specs.FindCuts.{CutsCall, cutsCall, cutsOutcome, rowsIn, testedPeriod, listedRows, roomChecks, findCutsChecks, findCutsChecked}
+use Rattle.cut_rules.specs.FindCuts.{CutsCall, cutsCall, cutsOutcome, cutRowsIn, testedPeriod, listedRows, cutRoomChecks, findCutsChecks, findCutsChecked}
 use Rattle.cut_rules.specs.FindCuts.{numberCells, cutCells, HoldLeastCuts, FindsCuts}
 
 -- ---- the checks: x is what the test's found
 module _ (q : CutsCall) (x : Checked) (found : x ≡ testChecked (q .test)) where
   pub test-refuses : (r : Refusal) → x ≡ Refused r → Refused r ≡ findCutsChecked q
   unfolding findCutsChecks
-  test-refuses r told = sym (append-refuses (testChecks (q .test)) (roomChecks q) r (sym found ∙ told))
+  test-refuses r told = sym (append-refuses (testChecks (q .test)) (cutRoomChecks q) r (sym found ∙ told))
 
-  pub then-room : x ≡ Passed → findCutsChecked q ≡ first (roomChecks q)
+  pub then-room : x ≡ Passed → findCutsChecked q ≡ first (cutRoomChecks q)
   unfolding findCutsChecks
-  then-room told = append-passes (testChecks (q .test)) (roomChecks q) (sym found ∙ told)
+  then-room told = append-passes (testChecks (q .test)) (cutRoomChecks q) (sym found ∙ told)
 
 -- ---- keys taken apart
 
@@ -46,34 +46,34 @@ few-listed q h =
     few-rows (testedGrid (q .test)) (testedProcess (q .test)) (testedPeriod q) (bookIn (q .test .book))
     (omega (arith, length-listTo (contractCountIn (q .test .book)) (contractAt (q .test .book))))
 
-module _ (rows : List Row) (few : Few rows) (keys : List ℕ) (listed : ℕ) (long : listed ≤ length keys) (are : take listed keys ≡ map rowKey rows) where
+module _ (rows : List CutRow) (few : Few rows) (keys : List ℕ) (listed : ℕ) (long : listed ≤ length keys) (are : take listed keys ≡ map rowKey rows) where
   pub how-many : listed ≡ length rows
   how-many = sym (length-take-le listed keys long) ∙ ap length are ∙ length-map rows rowKey
 
   apart : (f : ℕ → ℕ) → listTo listed (λ (j : ℕ). f (getD keys j 0)) ≡ map f (map rowKey rows)
   apart f = sym (map-listTo listed (λ (j : ℕ). getD keys j 0) f) ∙ ap (map f) (sym (take-is-listTo listed keys 0 long) ∙ are)
 
-  pub number-cells : listTo listed (λ (j : ℕ). getD keys j 0 % 1024) ≡ map (λ (r : Row). r .number) rows
+  pub number-cells : listTo listed (λ (j : ℕ). getD keys j 0 % 1024) ≡ map (λ (r : CutRow). r .number) rows
   number-cells = apart (λ (x : ℕ). x % 1024) ∙ key-numbers rows few
 
-  pub cut-cells : listTo listed (λ (j : ℕ). getD keys j 0 / 1024) ≡ map (λ (r : Row). r .cut) rows
+  pub cut-cells : listTo listed (λ (j : ℕ). getD keys j 0 / 1024) ≡ map (λ (r : CutRow). r .cut) rows
   cut-cells = apart (λ (x : ℕ). x / 1024) ∙ key-cuts rows few
 
 -- ---- the rows that stand in the tables
 
-rows-stand : (rows : List Row) (numbers cuts : List ℕ)
-    → rowsIn (length rows) (overwrite (map (λ (r : Row). r .number) rows) numbers) (overwrite (map (λ (r : Row). r .cut) rows) cuts) ≡ rows
+rows-stand : (rows : List CutRow) (numbers cuts : List ℕ)
+    → cutRowsIn (length rows) (overwrite (map (λ (r : CutRow). r .number) rows) numbers) (overwrite (map (λ (r : CutRow). r .cut) rows) cuts) ≡ rows
 rows-stand rows numbers cuts = listTo-is rows _ (record { number = 0; cut = 0 }) at
   where
-    none : Row
+    none : CutRow
     none = record { number = 0; cut = 0 }
 
-    cell : (f : Row → ℕ) (entry : List ℕ) (i : ℕ) → i < length rows → f none ≡ 0 → getD (overwrite (map f rows) entry) i 0 ≡ f (getD rows i none)
+    cell : (f : CutRow → ℕ) (entry : List ℕ) (i : ℕ) → i < length rows → f none ≡ 0 → getD (overwrite (map f rows) entry) i 0 ≡ f (getD rows i none)
     cell f entry i h z =
         front-at (map f rows) entry (length rows) (length-map rows f) i 0 h ∙ ap (getD (map f rows) i) (sym z) ∙ List·getD-map f rows i none
 
     at : (i : ℕ) → i < length rows
-        → record { number = getD (overwrite (map (λ (r : Row). r .number) rows) numbers) i 0; cut = getD (overwrite (map (λ (r : Row). r .cut) rows) cuts) i 0 }
+        → record { number = getD (overwrite (map (λ (r : CutRow). r .number) rows) numbers) i 0; cut = getD (overwrite (map (λ (r : CutRow). r .cut) rows) cuts) i 0 }
         ≡ getD rows i (record { number = 0; cut = 0 })
     at i h = λ t. record { number = cell (λ r. r .number) numbers i h refl t; cut = cell (λ r. r .cut) cuts i h refl t }
 
@@ -82,9 +82,9 @@ hold-least-cuts : (q : CutsCall) (numbers cuts : List ℕ) → numbers ≡ cells
     → findCutsChecked q ≡ Passed → HoldLeastCuts q (length (listedRows q)) numbers cuts
 hold-least-cuts q numbers cuts en ec passed = subst (LeastCuts _ _ _ _) (sym stand) (least-cuts _ _ _ _)
   where
-    stand : rowsIn (length (listedRows q)) numbers cuts ≡ listedRows q
+    stand : cutRowsIn (length (listedRows q)) numbers cuts ≡ listedRows q
     stand =
-        ap₂ (rowsIn (length (listedRows q))) (en ∙ ap (λ (x : Checked). cellsAfter x (numberCells q) (q .numbers)) passed) (ec ∙ ap (λ (x : Checked). cellsAfter x (cutCells q) (q .cuts)) passed)
+        ap₂ (cutRowsIn (length (listedRows q))) (en ∙ ap (λ (x : Checked). cellsAfter x (numberCells q) (q .numbers)) passed) (ec ∙ ap (λ (x : Checked). cellsAfter x (cutCells q) (q .cuts)) passed)
         ∙ rows-stand (listedRows q) (q .numbers) (q .cuts)
 
 -- ---- the promise

@@ -14,7 +14,7 @@ use Rattle.tariff.specs.Refusals.{Check, first, Outcome, given, refusedBy, answ
 use Rattle.tariff.specs.Checks.{shortTable}
 use Rattle.layouts.specs.BookFile.{bookIn}
 use Rattle.test_rules.specs.TestBook.{TestCall, testChecks, testedGrid, testedProcess}
-use Rattle.cut_rules.specs.Cuts.{Row, leastCuts}
+use Rattle.cut_rules.specs.Cuts.{CutRow, leastCuts}
 use Rattle.cut_rules.specs.Theorems.{LeastCuts}
 use Rattle.cut_rules.specs.declared.CutsAnswer.{CutsAnswer}
 use Rattle.cut_rules.specs.declared.CutsAnswer.the-variants.{Found, Refused}
@@ -31,39 +31,39 @@ cutsOutcome (Found listed) = given (pos listed ∷ [])
 cutsOutcome (Refused r) = refusedBy r
 
 -- rows as they stand in two tables
-abbrev pub rowsIn : ℕ → List ℕ → List ℕ → List Row
-rowsIn listed numbers cuts = listTo listed (λ (j : ℕ). record { number = getD numbers j 0; cut = getD cuts j 0 })
+abbrev pub cutRowsIn : ℕ → List ℕ → List ℕ → List CutRow
+cutRowsIn listed numbers cuts = listTo listed (λ (j : ℕ). record { number = getD numbers j 0; cut = getD cuts j 0 })
 
 module _ (q : CutsCall) where
   abbrev pub testedPeriod : Period
   testedPeriod = periodOf (q .test .period)
 
   -- the rows, in order
-  abbrev pub listedRows : List Row
+  abbrev pub listedRows : List CutRow
   listedRows = leastCuts (testedGrid (q .test)) (testedProcess (q .test)) testedPeriod (bookIn (q .test .book))
 
   -- "then 9": a place with fewer cells than there are rows
-  abbrev pub roomChecks : List Check
-  roomChecks = shortTable (length (q .numbers)) (length listedRows) ∷ shortTable (length (q .cuts)) (length listedRows) ∷ []
+  abbrev pub cutRoomChecks : List Check
+  cutRoomChecks = shortTable (length (q .numbers)) (length listedRows) ∷ shortTable (length (q .cuts)) (length listedRows) ∷ []
 
   -- "It checks as the test does, then 9."
   unfoldable pub findCutsChecks : List Check
-  findCutsChecks = testChecks (q .test) ++ roomChecks
+  findCutsChecks = testChecks (q .test) ++ cutRoomChecks
 
   abbrev pub findCutsChecked : Checked
   findCutsChecked = first findCutsChecks
 
   -- a cell of either place for each row
   abbrev pub numberCells : List ℕ
-  numberCells = map (λ (r : Row). r .number) listedRows
+  numberCells = map (λ (r : CutRow). r .number) listedRows
 
   abbrev pub cutCells : List ℕ
-  cutCells = map (λ (r : Row). r .cut) listedRows
+  cutCells = map (λ (r : CutRow). r .cut) listedRows
 
   -- so many rows in these tables are what the paper says
   abbrev pub HoldLeastCuts : ℕ → List ℕ → List ℕ → Type 0
   HoldLeastCuts listed numbers cuts =
-      LeastCuts (testedGrid (q .test)) (testedProcess (q .test)) testedPeriod (bookIn (q .test .book)) (rowsIn listed numbers cuts)
+      LeastCuts (testedGrid (q .test)) (testedProcess (q .test)) testedPeriod (bookIn (q .test .book)) (cutRowsIn listed numbers cuts)
 
 module _ (test : TestCall) (numbers cuts : Lent (List ℕ)) where
   abbrev pub cutsCall : CutsCall

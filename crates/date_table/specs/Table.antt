@@ -36,5 +36,5 @@ cells =
     ∷ []
 
 -- the cell of a year and a month
-abbrev pub place : ℕ → ℕ → ℕ
-place y m = (y - firstYear) * 12 + (m - 1)
+abbrev pub monthCell : ℕ → ℕ → ℕ
+monthCell y m = (y - firstYear) * 12 + (m - 1)

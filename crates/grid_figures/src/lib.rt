@@ -3,7 +3,7 @@ ghost use mathlib.Core.Path.{_≡_};
 ghost use Prim.Native.Nat.{_^_, _<_};
 ghost use Rattle.bits.specs.Signed.{toInt};
 ghost use Rattle.lists.specs.Lent.{before};
-ghost use Rattle.lists.specs.Lists.{some};
+ghost use Rattle.lists.specs.Lists.{anyOf};
 ghost use Rattle.tariff.specs.Refusals.{first};
 ghost use Rattle.tariff.specs.Checks.{factorBad};
 ghost use Rattle.layouts.specs.GridFile.{factorWidth, factorsIn};
@@ -34,7 +34,7 @@ fn bits_bad(bits: u64) -> bool
 // Whether a factor of the file is out of range: node by node and, within a node, constraint by constraint, up to the first that is.
 fn factor_bad_in(file: &[u8], header: usize, nodes: usize, constraints: usize) -> bool
     requires { ⌜ Counted (now file) header nodes constraints ⌝ }
-    ensures { λ r. ⌜ r ≡ some factorBad (factorsIn (before file)) ⌝ }
+    ensures { λ r. ⌜ r ≡ anyOf factorBad (factorsIn (before file)) ⌝ }
 {
     let mut found = false;
     let mut at = header + LIMIT_WIDTH * constraints;
@@ -42,7 +42,7 @@ fn factor_bad_in(file: &[u8], header: usize, nodes: usize, constraints: usize) -
     'nodes: while node < nodes {
         let mut constraint = 0;
         while constraint < constraints {
-            if bits_bad(bits::late_field(file, at, FACTOR_WIDTH)) {
+            if bits_bad(bits::load_field(file, at, FACTOR_WIDTH)) {
                 found = true;
                 break 'nodes;
             }

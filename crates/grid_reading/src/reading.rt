@@ -35,7 +35,7 @@ fn read_factors(file: &[u8], offset: usize, count: usize, out: &mut [i64])
     let mut at = offset;
     let mut i = 0;
     while i < count {
-        out[i] = bits::signed(bits::late_field(file, at, FACTOR_WIDTH), FACTOR_WIDTH);
+        out[i] = bits::signed(bits::load_field(file, at, FACTOR_WIDTH), FACTOR_WIDTH);
         at += FACTOR_WIDTH;
         i += 1;
     }

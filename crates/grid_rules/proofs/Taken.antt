@@ -19,9 +19,9 @@ use Rattle.layouts.specs.declared.forms.Form.{Form}
 use Rattle.layouts.specs.Forms.{formNumber}
 use Rattle.layouts.specs.GridFile.{gridFormIn, headerIn, nodesIn, constraintsIn, limitsIn, factorsIn, gridIn}
 use Rattle.layouts.proofs.GridFile.{length-limits, length-factors}
-use Rattle.tables.specs.Inner.{GoodFactors, GoodCells}
-use Rattle.tables.proofs.Cells.{good-cells}
-use Rattle.tables.proofs.Factors.{factors-in-range}
+use Rattle.grid_tables.specs.Inner.{GoodFactors, GoodCells}
+use Rattle.grid_tables.proofs.Cells.{good-cells}
+use Rattle.grid_tables.proofs.Factors.{factors-in-range}
 use Rattle.grid_rules.specs.declared.GridAnswer.the-variants.{Read}
 use Rattle.grid_rules.specs.ReadGrid.{readGridCall, gridSizeChecks, gridFigureChecks, gridFileChecks, cappedChecks, readGridChecks, withinChecks, gridValues}
 use Rattle.grid_rules.specs.ReadGrid.{ReadsBy, ReadsGrid, ReadsWithin, programBytes, programFactors}

@@ -5,11 +5,11 @@ ghost use Rattle.lists.specs.Lent.{before};
 ghost use Rattle.tariff.specs.Units.{maxContracts};
 ghost use Rattle.tariff.specs.Inner.{maxAmount};
 ghost use Rattle.tariff.specs.Contracts.{InRange};
-ghost use Rattle.hour_rules.specs.Inner.{factorsIn, pricesIn, PricedBy, EndMccs, AmountOf, HourAmount, Bounded, Added};
+ghost use Rattle.hour_rules.specs.Inner.{hourFactorsIn, hourPricesIn, PricedBy, EndMccs, AmountOf, HourAmount, Bounded, Added};
 use hour_rules::PricedAmount;
 use hour_rules::PricedHour;
 use hour_rules::Totals;
-use priced_sets::priced_set;
+use hour_priced::priced_set;
 use tariff::Amount;
 use tariff::Contract;
 use tariff::Mcc;
@@ -25,7 +25,7 @@ fn amount_of(
     source: Mcc,
 ) -> PricedAmount
     requires { ⌜ PricedBy hour (now factors) (now prices) × InRange (hour .nodes) c × EndMccs hour (now factors) (now prices) c sink source ⌝ }
-    ensures { λ r. ⌜ AmountOf (factorsIn hour (before factors)) (pricesIn hour (before prices)) c r ⌝ }
+    ensures { λ r. ⌜ AmountOf (hourFactorsIn hour (before factors)) (hourPricesIn hour (before prices)) c r ⌝ }
 {
     let quantity = c.quantity;
     let kind = c.kind;
@@ -51,7 +51,7 @@ pub fn hour_amount(
     source: Mcc,
 ) -> PricedAmount
     requires { ⌜ PricedBy hour (now factors) (now prices) × InRange (hour .nodes) c × EndMccs hour (now factors) (now prices) c sink source ⌝ }
-    ensures { λ r. ⌜ HourAmount (factorsIn hour (before factors)) (pricesIn hour (before prices)) (hour .period) c r ⌝ }
+    ensures { λ r. ⌜ HourAmount (hourFactorsIn hour (before factors)) (hourPricesIn hour (before prices)) (hour .period) c r ⌝ }
 {
     let own = c.period;
     let period = hour.period;

@@ -9,16 +9,16 @@ ghost use Rattle.tariff.specs.Refusals.{first};
 ghost use Rattle.tariff.specs.Contracts.{InRange};
 ghost use Rattle.layouts.specs.BookFile.{bookBytes, contractCountIn, contractIn};
 ghost use Rattle.book_rules.specs.BookChecks.{bookChecks};
-ghost use Rattle.tables.specs.Inner.{Hour};
-ghost use Rattle.congestion.specs.Inner.{MccTable};
-ghost use Rattle.hour_rules.specs.Inner.{factorsIn, pricesIn, PricedBy, SettlesFirst, Settles};
-use congestion::all_mccs;
+ghost use Rattle.grid_tables.specs.Inner.{Hour};
+ghost use Rattle.hour_mcc.specs.Inner.{MccTable};
+ghost use Rattle.hour_rules.specs.Inner.{hourFactorsIn, hourPricesIn, PricedBy, SettlesFirst, Settles};
+use hour_mcc::all_mccs;
 use hour_amounts::add_amount;
 use hour_amounts::hour_amount;
 use hour_rules::PricedHour;
 use hour_rules::Totals;
 use layouts::Form;
-use priced_sets::posted_set;
+use hour_priced::posted_set;
 use tariff::MAX_NODES;
 use tariff::Mcc;
 use tariff::Period;
@@ -38,7 +38,7 @@ fn settle_contracts(
     requires { ⌜ PricedBy hour (now factors) (now prices) × MccTable (hour .nodes) (hour .constraints) (now factors) (now prices) mccs ⌝ }
     requires { ⌜ ((i : ℕ) → i < count → InRange (hour .nodes) (contractIn form (now book) i)) ⌝ }
     requires { ⌜ (count ≤ maxContracts) × (bookBytes form count ≤ length (now book)) × (count ≤ length (now cents)) × (count ≤ length (now sets)) ⌝ }
-    ensures { λ r. ⌜ SettlesFirst (factorsIn hour (before factors)) (pricesIn hour (before prices)) (hour .period) count (contractIn form (before book))
+    ensures { λ r. ⌜ SettlesFirst (hourFactorsIn hour (before factors)) (hourPricesIn hour (before prices)) (hour .period) count (contractIn form (before book))
         (before cents) (after cents) (before sets) (after sets) r ⌝ }
 {
     let mut totals = Totals {

@@ -18,7 +18,7 @@ use Rattle.tariff.specs.Settlement.{amount}
 use Rattle.tariff.proofs.Sizes.{counted-sized}
 use Rattle.hour_rules.specs.SettleHour.{pricedOf}
 use Rattle.hour_rules.specs.declared.PricedAmount.{PricedAmount}
-use Rattle.congestion.specs.Inner.{MccAt}
+use Rattle.hour_mcc.specs.Inner.{MccAt}
 use Rattle.hour_rules.specs.Inner.{hourAmount, AmountOf, HourAmount}
 
 -- ---- on the way to an amount

@@ -34,9 +34,9 @@ use Rattle.book_rules.proofs.Accepted.{book-accepted}
 use Rattle.hour_rules.specs.declared.Totals.{Totals}
 use Rattle.hour_rules.specs.declared.SettleAnswer.the-variants.{Settled}
 use Rattle.hour_rules.specs.SettleHour.{centsOf, pricedOf, centsSum, hourTotal}
-use Rattle.tables.specs.Inner.{Hour}
+use Rattle.grid_tables.specs.Inner.{Hour}
 use Rattle.hour_rules.specs.Inner.{hourAmount, exactOf, Bounded, SettlesFirst, Settles}
-use Rattle.congestion.proofs.Products.{prices-in, front-at}
+use Rattle.hour_mcc.proofs.Products.{prices-in, front-at}
 use Rattle.hour_rules.proofs.Pricing.{priced-few}
 
 -- ---- a machine sum of two numbers that are kept in an i64

@@ -12,8 +12,8 @@ use Rattle.tariff.specs.Refusals.{Check, first, decided}
 use Rattle.tariff.specs.Checks.{shortTable}
 use Rattle.tariff.proofs.Checks.{first-append, passed-cons, passed-append}
 use Rattle.layouts.specs.BookFile.{contractCountIn}
-use Rattle.tables.specs.Inner.{Hour, hourTableChecks}
-use Rattle.tables.proofs.Passing.{hour-tables, hour-of}
+use Rattle.grid_tables.specs.Inner.{Hour, hourTableChecks}
+use Rattle.grid_tables.proofs.Passing.{hour-tables, hour-of}
 use Rattle.book_rules.specs.BookChecks.{bookChecks}
 use Rattle.hour_rules.specs.SettleHour.{HourCall, settleChecks}
 

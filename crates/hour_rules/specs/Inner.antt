@@ -17,20 +17,20 @@ use Rattle.tariff.specs.Contracts.{samePeriod}
 use Rattle.tariff.specs.Inner.{maxAmount, maxCents}
 use Rattle.tariff.specs.Settlement.{amount, pricedSet, cents}
 use Rattle.layouts.specs.BookFile.{contractCountIn, bookIn}
-use Rattle.tables.specs.Inner.{Hour}
-use Rattle.congestion.specs.Inner.{MccAt}
-use Rattle.priced_sets.specs.Inner.{postedIn}
+use Rattle.grid_tables.specs.Inner.{Hour}
+use Rattle.hour_mcc.specs.Inner.{MccAt}
+use Rattle.hour_priced.specs.Inner.{postedIn}
 use Rattle.hour_rules.specs.declared.PricedHour.{PricedHour}
 use Rattle.hour_rules.specs.declared.PricedAmount.{PricedAmount}
 use Rattle.hour_rules.specs.declared.Totals.{Totals}
 use Rattle.hour_rules.specs.SettleHour.{centsOf, pricedOf, centsSum, hourTotal}
 
 -- the factors and prices of an hour, by its counts
-abbrev pub factorsIn : PricedHour → List ℤ → Factors
-factorsIn hour factors = factorsOf (hour .nodes) (hour .constraints) factors
+abbrev pub hourFactorsIn : PricedHour → List ℤ → Factors
+hourFactorsIn hour factors = factorsOf (hour .nodes) (hour .constraints) factors
 
-abbrev pub pricesIn : PricedHour → List ℕ → List ℕ
-pricesIn hour prices = take (hour .constraints) prices
+abbrev pub hourPricesIn : PricedHour → List ℕ → List ℕ
+hourPricesIn hour prices = take (hour .constraints) prices
 
 -- tables that no check refuses, and the set of the prices that aren't 0
 pub record PricedBy (hour : PricedHour) (factors : List ℤ) (prices : List ℕ) : Type 0 where

@@ -5,7 +5,7 @@ use mathlib.Core.List.{List, [], _∷_, _++_, map}
 use Prim.Native.Nat.{ℕ}
 use lib.ListN.{length, take}
 use lib.IntN.{ℤ, pos, _+ℤ_, _*ℤ_}
-use Rattle.tables.specs.TableChecks.{hourTablesWith}
+use Rattle.grid_tables.specs.TableChecks.{hourTablesWith}
 use Rattle.lists.specs.Lent.{Lent, before, after}
 use Rattle.integers.specs.Sums.{sumOver}
 use Rattle.tariff.specs.declared.contracts.Contract.{Contract}

@@ -23,7 +23,7 @@ fn check_settle(
     ensures { λ r. ⌜ r ≡ first (settleChecks (hourCall nodes constraints period (before factors) (before prices) (before book)) cells sets) ⌝ }
 {
     // No answer of a cell a node is given: as many cells as nodes suffice.
-    let hour = tables::check_hour_tables(nodes, constraints, period, factors, prices, nodes);
+    let hour = grid_tables::check_hour_tables(nodes, constraints, period, factors, prices, nodes);
     if let Checked::Refused(refusal) = hour {
         return Checked::Refused(refusal);
     }

@@ -4,7 +4,7 @@ use mathlib.Core.Bool.{true, false}
 use mathlib.Core.List.{List, [], _∷_}
 use Prim.Native.Nat.{ℕ, _≤_, _<_}
 use borrow.Author.Tests.{lt-ltb, le-ltb, le-leb, lt-leb}
-use Rattle.lists.specs.Lists.{some}
+use Rattle.lists.specs.Lists.{anyOf}
 use Rattle.tariff.specs.declared.refusals.Refusal.{Refusal}
 use Rattle.tariff.specs.declared.refusals.Refusal.the-variants.{PeriodOrKind, HolderRange, NodeNumber, QuantityRange}
 use Rattle.tariff.specs.declared.refusals.Checked.the-variants.{Passed, Refused}
@@ -46,13 +46,13 @@ module _ (below : ℕ) (t : Terms) (ns : List ℕ) (q : ℕ) where
 
         module _ (listed : listedNodes below ns .fails ≡ false) where
           pub sink-refused : below ≤ t .sink → Refused NodeNumber ≡ first (termChecks below t ns q)
-          unfolding termChecks some
+          unfolding termChecks anyOf
           sink-refused h =
               sym (first-passes _ _ both ∙ first-passes _ _ (le-ltb maxHolder (t .holder) held) ∙ first-passes _ _ listed ∙ first-refuses _ _ (rw (le-leb below (t .sink) h)))
 
           module _ (sunk : t .sink < below) where
             ends-good : first (termChecks below t ns q) ≡ first (quantityRange q ∷ [])
-            unfolding termChecks some
+            unfolding termChecks anyOf
             ends-good = first-passes _ _ both ∙ first-passes _ _ (le-ltb maxHolder (t .holder) held) ∙ first-passes _ _ listed ∙ first-passes _ _ (rw (lt-leb below (t .sink) sunk))
 
             pub quantity-refused : quantityRange q .fails ≡ true → Refused QuantityRange ≡ first (termChecks below t ns q)

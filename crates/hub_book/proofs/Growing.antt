@@ -7,7 +7,7 @@ use native.Mathlib.Omega.{arith}
 use borrow.Author.Tests.{lt-ltb, le-ltb, ltb-false, leb-false, lt-leb}
 use lib.Dec.{leb, ltb, eqb}
 use lib.ListN.{length, length-append}
-use Rattle.lists.specs.Lists.{some, Each, listTo}
+use Rattle.lists.specs.Lists.{anyOf, Each, listTo}
 use Rattle.lists.proofs.Lists.{length-listTo, getD-listTo, each-append, each-listTo, each-at}
 use Rattle.lists.proofs.Search.{neither}
 use Rattle.tariff.specs.declared.contracts.Contract.{Contract}
@@ -55,7 +55,7 @@ pub record Given (q : HubCall) : Type 0 where
   pub sized : q .quantity ≤ maxQuantity
 
 pub given-is : (q : HubCall) → first (givenOf q) ≡ Passed → Given q
-unfolding givenChecks termChecks some
+unfolding givenChecks termChecks anyOf
 given-is q e =
     let own = passed-append (ownChecks (q .nodes) (q .book)) _ e in
     let terms = passed-cons _ _ (own .1) in

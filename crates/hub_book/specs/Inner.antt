@@ -44,7 +44,7 @@ pub record Whole (f : Form) (count : ℕ) (s : List ℕ) : Type 0 where
   pub size : length s ≡ bookBytes f count
 
 -- rows that fit, and room for them
-pub record Room (f : Form) (count : ℕ) (t : Terms) (made : ℕ) (sources quantities : List ℕ) (place : List ℕ) : Type 0 where
+pub record HubRoom (f : Form) (count : ℕ) (t : Terms) (made : ℕ) (sources quantities : List ℕ) (place : List ℕ) : Type 0 where
   pub few : count + made ≤ maxContracts
   pub source-cells : made ≤ length sources
   pub quantity-cells : made ≤ length quantities

@@ -5,7 +5,7 @@ ghost use lib.ListN.{length};
 ghost use Rattle.lists.specs.Lent.{before, after, overwrite};
 ghost use Rattle.tariff.specs.Refusals.{first};
 ghost use Rattle.hub_book.specs.AddHubContract.{hubCall, AddsHub};
-ghost use Rattle.hub_book.specs.Inner.{termChecks, givenChecks, rowContract, Whole, Room, grownFront};
+ghost use Rattle.hub_book.specs.Inner.{termChecks, givenChecks, rowContract, Whole, HubRoom, grownFront};
 use layouts::Form;
 use layouts::WriteAnswer;
 use tariff::Checked;
@@ -40,7 +40,7 @@ fn check_terms(below: usize, terms: Terms, hub: &[u64], quantity: u64) -> Checke
     if MAX_HOLDER < terms.holder {
         return Checked::Refused(Refusal::HolderRange);
     }
-    if tables::listed_outside(below, hub) {
+    if grid_tables::listed_outside(below, hub) {
         return Checked::Refused(Refusal::NodeNumber);
     }
     let bound = below as u64;
@@ -118,7 +118,7 @@ fn write_grown(
     quantities: &[u64],
     file: &mut [u8],
 )
-    requires { ⌜ Whole form count (now book) × Room form count terms made (now sources) (now quantities) (now file) ⌝ }
+    requires { ⌜ Whole form count (now book) × HubRoom form count terms made (now sources) (now quantities) (now file) ⌝ }
     ensures { λ r. ⌜ after file ≡ overwrite (grownFront form count terms made (before sources) (before quantities) (before book)) (before file) ⌝ }
 {
     copy_book(book, file);

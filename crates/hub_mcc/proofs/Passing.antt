@@ -15,9 +15,9 @@ use Rattle.tariff.specs.Checks.{shortTable, listedNodes}
 use Rattle.tariff.proofs.Checks.{first-under, first-passes, passed-cons, passed-append, nodes-some-of}
 use Rattle.tariff.proofs.Answers.{none-refuses, given-values}
 use Rattle.tariff.proofs.Rounding.{floor-sized}
-use Rattle.tables.specs.Inner.{Hour, hourTableChecks}
-use Rattle.tables.proofs.Passing.{hour-tables, hour-of}
-use Rattle.congestion.proofs.Products.{node-sized}
+use Rattle.grid_tables.specs.Inner.{Hour, hourTableChecks}
+use Rattle.grid_tables.proofs.Passing.{hour-tables, hour-of}
+use Rattle.hour_mcc.proofs.Products.{node-sized}
 use Rattle.hub_rules.specs.Hubs.{hubShape, hubTwice, hubSum, hubQuotient}
 use Rattle.hub_rules.specs.Inner.{IsHub}
 use Rattle.hub_rules.proofs.Sharing.{is-hub}

@@ -4,7 +4,7 @@ use mathlib.Core.List.{List, [], _∷_, _++_}
 use Prim.Native.Nat.{ℕ, _<_}
 use lib.ListN.{take}
 use lib.IntN.{ℤ, pos, _+ℤ_, _*ℤ_}
-use Rattle.tables.specs.TableChecks.{hourTablesWith}
+use Rattle.grid_tables.specs.TableChecks.{hourTablesWith}
 use Rattle.lists.specs.Lent.{Lent, before, after}
 use Rattle.tariff.specs.declared.refusals.Checked.{Checked}
 use Rattle.tariff.specs.declared.refusals.Checked.the-variants.{Passed}

@@ -8,10 +8,10 @@ use native.Mathlib.Nat.{eq-zero-or-pos}
 use native.Mathlib.Omega.{arith}
 use lib.Dec.{T, ltb, eqb, ltb→lt, eqb→eq, eqb-refl, nltb→le}
 use lib.ListN.{length}
-use Rattle.lists.specs.Lists.{some}
+use Rattle.lists.specs.Lists.{anyOf}
 use Rattle.lists.proofs.Search.{neither}
 use Rattle.largest_remainders.specs.Ranks.{addTo, rankOf}
-use Rattle.largest_remainders.specs.Shares.{beforeBy, total, whole, rest, leftover, rank, given, share, positives}
+use Rattle.largest_remainders.specs.Shares.{beforeBy, totalWeight, whole, rest, leftover, rank, givenOne, share, positives}
 use Rattle.largest_remainders.proofs.Counting.{bit, addTo-cong, count-is-sum, bit-same}
 use Rattle.largest_remainders.proofs.Sharing.{wholes-le}
 use Rattle.largest_remainders.proofs.Theorems.{adds-up, near, few, to-positive, no-weight}
@@ -27,11 +27,11 @@ holds false e = subst T e tt
 
 pub is-hub : (n : ℕ) (ns ws : List ℕ) → Taken n ns ws → IsHub n ns ws
 is-hub n ns ws t =
-    let total = not (eqb (sumBy (λ w. w) ws) hubWeight) in
-    let s1 = neither (eqb (length ns) 0) (ltb maxHubNodes (length ns) || (not (eqb (length ns) (length ws)) || (some weightBad ws || total))) (t .shaped) in
-    let s2 = neither (ltb maxHubNodes (length ns)) (not (eqb (length ns) (length ws)) || (some weightBad ws || total)) (s1 .1) in
-    let s3 = neither (not (eqb (length ns) (length ws))) (some weightBad ws || total) (s2 .1) in
-    let s4 = neither (some weightBad ws) total (s3 .1) in
+    let totalWeight = not (eqb (sumBy (λ w. w) ws) hubWeight) in
+    let s1 = neither (eqb (length ns) 0) (ltb maxHubNodes (length ns) || (not (eqb (length ns) (length ws)) || (anyOf weightBad ws || totalWeight))) (t .shaped) in
+    let s2 = neither (ltb maxHubNodes (length ns)) (not (eqb (length ns) (length ws)) || (anyOf weightBad ws || totalWeight)) (s1 .1) in
+    let s3 = neither (not (eqb (length ns) (length ws))) (anyOf weightBad ws || totalWeight) (s2 .1) in
+    let s4 = neither (anyOf weightBad ws) totalWeight (s3 .1) in
     record {
       some-nodes = ⊎-elim (λ z. absurd (nonzero (length ns) (s1 .0) z)) (λ p. p) (eq-zero-or-pos (length ns));
       few-nodes = nltb→le maxHubNodes (length ns) (fails (ltb maxHubNodes (length ns)) (s2 .0));
@@ -52,11 +52,11 @@ module _ (n : ℕ) (ns ws : List ℕ) (hub : IsHub n ns ws) (q : ℕ) where
   abbrev W : ℕ → ℕ
   W = weightOf ns ws
 
-  pub total-is : total n W ≡ hubWeight
-  unfolding total
+  pub total-is : totalWeight n W ≡ hubWeight
+  unfolding totalWeight
   total-is = nodes-pairs n ns ws (hub .once) (hub .low) (λ m w. w) (λ m. refl) ∙ pairs-weights ns ws (hub .one-each) (λ w. w) ∙ hub .together
 
-  pub total-some : 0 < total n W
+  pub total-some : 0 < totalWeight n W
   total-some = omega (arith, total-is, weight-some)
 
   pub whole-is : (m : ℕ) → whole n W q m ≡ downShare q (W m)
@@ -129,11 +129,11 @@ module _ (n : ℕ) (ns ws : List ℕ) (hub : IsHub n ns ws) (q : ℕ) where
       left false b = omega arith
 
   -- so who is given one is the same
-  pub given-is : (m : ℕ) → given n W q m ≡ ltb (aheadOf ns ws q m) (leftOver q ws)
+  pub given-is : (m : ℕ) → givenOne n W q m ≡ ltb (aheadOf ns ws q m) (leftOver q ws)
   given-is m = ⊎-elim zero-rest (λ p. ap₂ ltb (rank-is m p) leftover-is) (eq-zero-or-pos (shareRest q (W m)))
     where
-      zero-rest : shareRest q (W m) ≡ 0 → given n W q m ≡ ltb (aheadOf ns ws q m) (leftOver q ws)
-      zero-rest e = bit-same (given n W q m) (ltb (aheadOf ns ws q m) (leftOver q ws))
+      zero-rest : shareRest q (W m) ≡ 0 → givenOne n W q m ≡ ltb (aheadOf ns ws q m) (leftOver q ws)
+      zero-rest e = bit-same (givenOne n W q m) (ltb (aheadOf ns ws q m) (leftOver q ws))
           (λ t. absurd (no (to-positive n W q total-some m t)))
           (λ t. absurd (never (ltb→lt (aheadOf ns ws q m) (leftOver q ws) t)))
         where
@@ -147,7 +147,7 @@ module _ (n : ℕ) (ns ws : List ℕ) (hub : IsHub n ns ws) (q : ℕ) where
   unfolding listedShare share
   share-is m = by (listed ns m) (unlisted ns ws m)
     where
-      by : (b : Bool) → (b ≡ false → W m ≡ 0) → cond b (downShare q (W m) + bit (ltb (aheadOf ns ws q m) (leftOver q ws))) 0 ≡ whole n W q m + bit (given n W q m)
+      by : (b : Bool) → (b ≡ false → W m ≡ 0) → cond b (downShare q (W m) + bit (ltb (aheadOf ns ws q m) (leftOver q ws))) 0 ≡ whole n W q m + bit (givenOne n W q m)
       by true f = ap₂ _+_ (sym (whole-is m)) (ap bit (sym (given-is m)))
       by false f = sym (no-weight n W q total-some m (f refl))
 
@@ -163,7 +163,7 @@ module _ (n : ℕ) (ns ws : List ℕ) (hub : IsHub n ns ws) (q : ℕ) where
   -- a node whose remainder is 0 gets nothing of what is left over
   pub nothing-over : (m : ℕ) → rest n W q m ≡ 0 → share n W q m ≡ whole n W q m
   unfolding share
-  nothing-over m e = by (given n W q m) (to-positive n W q total-some m)
+  nothing-over m e = by (givenOne n W q m) (to-positive n W q total-some m)
     where
       by : (b : Bool) → (T b → 0 < rest n W q m) → whole n W q m + cond b 1 0 ≡ whole n W q m
       by true f = absurd (omega (arith, f tt))

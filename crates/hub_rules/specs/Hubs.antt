@@ -5,7 +5,7 @@ use Prim.Native.Nat.{ℕ, zero, suc, _+_}
 use lib.Dec.{ltb, eqb}
 use lib.ListN.{length}
 use lib.IntN.{ℤ, pos, _+ℤ_, _*ℤ_}
-use Rattle.lists.specs.Lists.{some}
+use Rattle.lists.specs.Lists.{anyOf}
 use Rattle.integers.specs.Division.{floorDiv, floorMod}
 use Rattle.largest_remainders.specs.Shares.{share}
 use Rattle.tariff.specs.declared.contracts.Contract.{Contract}
@@ -29,13 +29,13 @@ weightBad w = eqb w 0 || ltb hubWeight w
 abbrev pub shapeBad : List ℕ → List ℕ → Bool
 shapeBad ns ws =
     eqb (length ns) 0
-    || (ltb maxHubNodes (length ns) || (not (eqb (length ns) (length ws)) || (some weightBad ws || not (eqb (sumBy (λ w. w) ws) hubWeight))))
+    || (ltb maxHubNodes (length ns) || (not (eqb (length ns) (length ws)) || (anyOf weightBad ws || not (eqb (sumBy (λ w. w) ws) hubWeight))))
 
 abbrev pub hubShape : List ℕ → List ℕ → Check
 hubShape ns ws = record { fails = shapeBad ns ws; refusal = HubShape }
 
 abbrev pub listed : List ℕ → ℕ → Bool
-listed ns m = some (λ x. eqb x m) ns
+listed ns m = anyOf (λ x. eqb x m) ns
 
 -- 25: "a node listed twice"
 unfoldable pub twice : List ℕ → Bool

@@ -5,7 +5,7 @@ use mathlib.Core.List.{List, [], _∷_}
 use Prim.Native.Nat.{ℕ, _+_, _-_, _*_, _/_, _%_, _≤_, _<_}
 use lib.Dec.{leb, ltb, eqb}
 use lib.ListN.{length}
-use Rattle.lists.specs.Lists.{some}
+use Rattle.lists.specs.Lists.{anyOf}
 use Rattle.tariff.specs.declared.contracts.Contract.{Contract}
 use Rattle.tariff.specs.Units.{maxHubNodes, hubWeight}
 use Rattle.hub_rules.specs.Hubs.{sumBy, listed, twice, weightOf, contractsBelow}
@@ -15,7 +15,7 @@ pub record IsHub (n : ℕ) (ns ws : List ℕ) : Type 0 where
   pub few-nodes : length ns ≤ maxHubNodes
   pub one-each : length ns ≡ length ws
   pub together : sumBy (λ w. w) ws ≡ hubWeight
-  pub low : some (leb n) ns ≡ false
+  pub low : anyOf (leb n) ns ≡ false
   pub once : twice ns ≡ false
 
 -- ---- shares among the listed nodes: those of largest_remainders among all (proofs/Sharing.antt)

@@ -9,8 +9,8 @@ use lib.Seq.{take-all}
 use lib.IntN.{ℤ}
 use Rattle.bits.specs.Bits.{field, fields}
 use Rattle.bits.specs.Signed.{ofInt, toInt}
-use Rattle.bits.specs.Fields.{Field, bits, total, fileOf}
-use Rattle.bits.specs.Inner.{Fit, Holds}
+use Rattle.bits.specs.Fields.{Field, bits, totalWidth, fileOf}
+use Rattle.bits.specs.Inner.{Fit, HoldsFields}
 use Rattle.bits.proofs.Numbers.{Below}
 use Rattle.bits.proofs.Fields.{length-fields, below-fields}
 use Rattle.bits.proofs.SignedLaws.{Small, to-of-all, of-to-all, of-below}
@@ -36,16 +36,16 @@ pub record BodyFits (n k : ℕ) (ls : List ℕ) (fs : List ℤ) : Type 0 where
 unfoldable pub coded : List ℕ → List ℕ → List Field
 coded ls vs = map (bits limitWidth) ls ++ map (bits factorWidth) vs
 
-module _ (hs : List Field) (o n k : ℕ) (ls vs : List ℕ) (starts : total hs ≡ o) (many : length ls ≡ k) (each : length vs ≡ n * k) where
+module _ (hs : List Field) (o n k : ℕ) (ls vs : List ℕ) (starts : totalWidth hs ≡ o) (many : length ls ≡ k) (each : length vs ≡ n * k) where
   -- the header and the limits
   front : List Field
   front = hs ++ map (bits limitWidth) ls
 
-  limits-end : total front ≡ o + limitWidth * k
+  limits-end : totalWidth front ≡ o + limitWidth * k
   unfolding front
   limits-end = rw (total-append hs (map (bits limitWidth) ls), total-run limitWidth ls, many, starts)
 
-  pub body-total : total (hs ++ coded ls vs) ≡ o + limitWidth * k + factorWidth * (n * k)
+  pub body-total : totalWidth (hs ++ coded ls vs) ≡ o + limitWidth * k + factorWidth * (n * k)
   unfolding coded front
   body-total =
       rw (← append-assoc hs (map (bits limitWidth) ls) (map (bits factorWidth) vs), total-append front (map (bits factorWidth) vs), limits-end, total-run factorWidth vs, each)
@@ -58,16 +58,16 @@ module _ (hs : List Field) (o n k : ℕ) (ls vs : List ℕ) (starts : total hs �
 
   module _ (s : List ℕ) (inside : o + limitWidth * k + factorWidth * (n * k) ≤ 8 * length s) where
     -- the body's parts, as the readers find them
-    pub body-parts : Holds s 0 (hs ++ coded ls vs) ↔ (Holds s 0 hs × (fields s o limitWidth k ≡ ls) × (fields s (o + limitWidth * k) factorWidth (n * k) ≡ vs))
+    pub body-parts : HoldsFields s 0 (hs ++ coded ls vs) ↔ (HoldsFields s 0 hs × (fields s o limitWidth k ≡ ls) × (fields s (o + limitWidth * k) factorWidth (n * k) ≡ vs))
     unfolding coded front
     body-parts =
         rw (← append-assoc hs (map (bits limitWidth) ls) (map (bits factorWidth) vs))
         (λ h. let t = second .0 h in let u = first .0 (t .0) in (u .0, u .1, t .1), λ h. second .1 (first .1 (h .0, h .1), h .2))
       where
-        first : Holds s 0 front ↔ (Holds s 0 hs × (fields s o limitWidth k ≡ ls))
+        first : HoldsFields s 0 front ↔ (HoldsFields s 0 hs × (fields s o limitWidth k ≡ ls))
         first = holds-then-run s 0 hs limitWidth ls o k (omega (arith, starts)) many (omega arith)
 
-        second : Holds s 0 (front ++ map (bits factorWidth) vs) ↔ (Holds s 0 front × (fields s (o + limitWidth * k) factorWidth (n * k) ≡ vs))
+        second : HoldsFields s 0 (front ++ map (bits factorWidth) vs) ↔ (HoldsFields s 0 front × (fields s (o + limitWidth * k) factorWidth (n * k) ≡ vs))
         second = holds-then-run s 0 front factorWidth vs (o + limitWidth * k) (n * k) (omega (arith, limits-end)) each (omega arith)
 
 -- what is read from bit o on
@@ -86,12 +86,12 @@ module _ (s : List ℕ) (o n k : ℕ) where
 pub record Behind (hs : List Field) (h n k : ℕ) (ls : List ℕ) (fs : List ℤ) (s : List ℕ) : Type 0 where
   pub size : length s ≡ bytesFor (bitsBehind h n k)
   pub bytes : Below 8 s
-  pub header : Holds s 0 hs
+  pub header : HoldsFields s 0 hs
   pub limits : limitsFrom s h k ≡ ls
   pub factors : factorsFrom s h n k ≡ fs
   pub pad : field s (bitsBehind h n k) (padFor (bitsBehind h n k)) ≡ 0
 
-module _ (hs : List Field) (h n k : ℕ) (starts : total hs ≡ h) where
+module _ (hs : List Field) (h n k : ℕ) (starts : totalWidth hs ≡ h) where
   abbrev whole : List ℕ → List ℤ → List Field
   whole ls fs = hs ++ gridBody ls fs ++ bits (padFor (bitsBehind h n k)) 0 ∷ []
 
@@ -103,10 +103,10 @@ module _ (hs : List Field) (h n k : ℕ) (starts : total hs ≡ h) where
     unfolding vs
     each = length-map fs (ofInt factorWidth) ∙ f .one-factor-each
 
-    used : total (hs ++ coded ls vs) ≡ bitsBehind h n k
+    used : totalWidth (hs ++ coded ls vs) ≡ bitsBehind h n k
     used = body-total hs h n k ls vs starts (f .one-limit-each) each
 
-    pub behind-total : total (hs ++ gridBody ls fs ++ bits (padFor (bitsBehind h n k)) 0 ∷ []) ≡ 8 * bytesFor (bitsBehind h n k)
+    pub behind-total : totalWidth (hs ++ gridBody ls fs ++ bits (padFor (bitsBehind h n k)) 0 ∷ []) ≡ 8 * bytesFor (bitsBehind h n k)
     unfolding gridBody coded vs
     behind-total = padded-total (hs ++ coded ls vs) (bitsBehind h n k) used
 
@@ -122,7 +122,7 @@ module _ (hs : List Field) (h n k : ℕ) (starts : total hs ≡ h) where
           pad = p .pad;
         }
       where
-        parts : Holds s 0 hs × (fields s h limitWidth k ≡ ls) × (fields s (h + limitWidth * k) factorWidth (n * k) ≡ vs)
+        parts : HoldsFields s 0 hs × (fields s h limitWidth k ≡ ls) × (fields s (h + limitWidth * k) factorWidth (n * k) ≡ vs)
         parts = body-parts hs h n k ls vs starts (f .one-limit-each) each s (omega (arith, p .size)) .0 (p .holds)
 
     pub behind-written : Fit hs → Behind hs h n k ls fs (fileOf (hs ++ gridBody ls fs ++ bits (padFor (bitsBehind h n k)) 0 ∷ []))
@@ -176,7 +176,7 @@ pub record GridWritten (f : Form) (n k : ℕ) (ls : List ℕ) (fs : List ℤ) (s
   pub pad : gridPadIn s ≡ 0
 
 module _ (f : Form) (n k : ℕ) (ls : List ℕ) (fs : List ℤ) (fit : GridFits f n k ls fs) where
-  pub total-grid : total (gridFields f n k ls fs) ≡ 8 * gridBytes f n k
+  pub total-grid : totalWidth (gridFields f n k ls fs) ≡ 8 * gridBytes f n k
   unfolding gridFields
   total-grid = behind-total (gridHeader f n k) (gridHeaderBits f) n k (header-total f n k) ls fs (fit .body-fits)
 

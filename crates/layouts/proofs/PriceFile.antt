@@ -6,8 +6,8 @@ use Prim.Native.Nat.{ℕ, _^_, _<_}
 use native.Mathlib.Omega.{arith}
 use lib.ListN.{length}
 use Rattle.bits.specs.Bits.{fields}
-use Rattle.bits.specs.Fields.{Field, bits, total}
-use Rattle.bits.specs.Inner.{Fit, Holds}
+use Rattle.bits.specs.Fields.{Field, bits, totalWidth}
+use Rattle.bits.specs.Inner.{Fit, HoldsFields}
 use Rattle.bits.proofs.Numbers.{Below}
 use Rattle.bits.proofs.Fields.{length-fields}
 use Rattle.bits.proofs.Files.{total-append, total-run, fit-append, fit-run}
@@ -39,11 +39,11 @@ body : ℕ → ℕ → List ℕ → List Field
 body t k ps = header t k ++ map (bits priceWidth) ps
 
 module _ (t k : ℕ) (ps : List ℕ) (many : length ps ≡ k) where
-  body-total : total (body t k ps) ≡ priceBits k
+  body-total : totalWidth (body t k ps) ≡ priceBits k
   unfolding body
   body-total = rw (total-append (header t k) (map (bits priceWidth) ps), total-run priceWidth ps, many)
 
-  body-parts : (s : List ℕ) → length s ≡ priceBytes k → (Holds s 0 (body t k ps) ↔ (Holds s 0 (header t k) × (fields s 8 priceWidth k ≡ ps)))
+  body-parts : (s : List ℕ) → length s ≡ priceBytes k → (HoldsFields s 0 (body t k ps) ↔ (HoldsFields s 0 (header t k) × (fields s 8 priceWidth k ≡ ps)))
   unfolding body
   body-parts s size = holds-then-run s 0 (header t k) priceWidth ps 8 k refl many (omega arith)
 

@@ -21,12 +21,12 @@ use Rattle.layouts.specs.BookFile.{bookBytes}
 use Rattle.layouts.specs.BookTable.{ContractFits}
 use Rattle.book_rules.specs.Inner.{contractBytes}
 use Rattle.book_rules.proofs.Making.{front-more}
-use Rattle.migration_rules.specs.Contracts.{gained, countered, migrates, share, pairFor, pairsTo, newFrom}
+use Rattle.migration_rules.specs.Contracts.{gained, countered, migrates, gainerShare, pairFor, pairsTo, newFrom}
 use Rattle.migration_rules.proofs.Books.{base}
-use Rattle.load_transfers.specs.Squares.{noTransfer, ofNet, rowLosses, lostIn}
-use Rattle.load_transfers.proofs.Squares.{row-sized}
+use Rattle.migration_transfers.specs.Squares.{noTransfer, ofNet, rowLosses, lostIn}
+use Rattle.migration_transfers.proofs.Squares.{row-sized}
 use Rattle.migration_shares.specs.Inner.{NetReady, Held}
-use Rattle.migration_pairs.specs.Inner.{Ready, RowReady, pairOf, Appended}
+use Rattle.migration_pairs.specs.Inner.{MigrationReady, RowReady, pairOf, Appended}
 
 -- ---- both contracts fit where the base does
 
@@ -58,24 +58,24 @@ module _ (lost : ℕ → ℕ → ℕ) (loads : List ℕ) (c : Contract) where
   no-pairs = refl
 
   -- one gainer more, whose share is q
-  pub pairs-more : (j q : ℕ) → q ≡ share lost loads c (suc j) → pairsTo lost loads c (suc j) ≡ pairsTo lost loads c j ++ pairOf c (suc j) q
+  pub pairs-more : (j q : ℕ) → q ≡ gainerShare lost loads c (suc j) → pairsTo lost loads c (suc j) ≡ pairsTo lost loads c j ++ pairOf c (suc j) q
   unfolding pairsTo pairFor
   pairs-more j q e = rw e
 
-  pub length-more : (j q : ℕ) → q ≡ share lost loads c (suc j) → length (pairsTo lost loads c (suc j)) ≡ length (pairsTo lost loads c j) + length (pairOf c (suc j) q)
+  pub length-more : (j q : ℕ) → q ≡ gainerShare lost loads c (suc j) → length (pairsTo lost loads c (suc j)) ≡ length (pairsTo lost loads c j) + length (pairOf c (suc j) q)
   length-more j q e = ap length (pairs-more j q e) ∙ length-append (pairsTo lost loads c j) (pairOf c (suc j) q)
 
   pub pairs-few : (m : ℕ) → length (pairsTo lost loads c m) ≤ 2 * m
   pairs-few zero = rw no-pairs (omega arith)
   pairs-few (suc m) =
-      let q = share lost loads c (suc m) in
+      let q = gainerShare lost loads c (suc m) in
       omega (arith, pairs-few m, length-more m q refl, pair-length c (suc m) q, two-most (eqb q 0))
 
   pub pairs-grow : (j m : ℕ) → j ≤ m → length (pairsTo lost loads c j) ≤ length (pairsTo lost loads c m)
   pairs-grow zero zero h = omega arith
   pairs-grow (suc j) zero h = absurd (omega arith)
   pairs-grow j (suc m) h =
-      ⊎-elim (λ e. rw e (omega arith)) (λ l. le-trans (pairs-grow j m (omega arith)) (omega (arith, length-more m (share lost loads c (suc m)) refl))) (eq-or-lt-of-le h)
+      ⊎-elim (λ e. rw e (omega arith)) (λ l. le-trans (pairs-grow j m (omega arith)) (omega (arith, length-more m (gainerShare lost loads c (suc m)) refl))) (eq-or-lt-of-le h)
 
 -- ---- stored
 
@@ -129,8 +129,8 @@ module _ (row : List Transfer) (loads : List ℕ) (c : Contract) (j : ℕ) where
   abbrev cell : ℤ
   cell = getD row j noTransfer .0
 
-  pub share-by-net : (q : ℕ) → q ≡ share (ofNet cell) loads c 1 → q ≡ share (rowLosses row) loads c (suc j)
-  unfolding share
+  pub share-by-net : (q : ℕ) → q ≡ gainerShare (ofNet cell) loads c 1 → q ≡ gainerShare (rowLosses row) loads c (suc j)
+  unfolding gainerShare
   share-by-net q e = let place : suc j - 1 ≡ j = omega arith in rw place e
 
   pub net-ready : RowReady row loads c → Held loads c → j < length loads → NetReady cell loads c
@@ -144,12 +144,12 @@ module _ (row : List Transfer) (loads : List ℕ) (c : Contract) (j : ℕ) where
 
 pub pairs-by-row : (square : List (List Transfer)) (loads : List ℕ) (c : Contract) (m : ℕ)
     → pairsTo (rowLosses (getD square (c .holder - 1) [])) loads c m ≡ pairsTo (lostIn square) loads c m
-unfolding pairsTo pairFor share
+unfolding pairsTo pairFor gainerShare
 pairs-by-row square loads c zero = refl
 pairs-by-row square loads c (suc m) = rw (pairs-by-row square loads c m)
 
 -- place p is the holder's, where it is an LSE
-module _ (square : List (List Transfer)) (loads : List ℕ) (ready : Ready square loads) (c : Contract) (p : ℕ)
+module _ (square : List (List Transfer)) (loads : List ℕ) (ready : MigrationReady square loads) (c : Contract) (p : ℕ)
     (own : 0 < c .holder → c .holder ≤ maxEntities → p ≡ c .holder - 1) where
   same-place : 0 < c .holder → c .holder ≤ length loads → p ≡ c .holder - 1
   same-place a b = own a (omega (arith, ready .few))

@@ -17,13 +17,13 @@ use Rattle.book_rules.specs.Inner.{bookFront}
 use Rattle.migration_rules.specs.Transfers.{load}
 use Rattle.migration_rules.specs.Contracts.{gained, countered}
 use Rattle.migration_rules.specs.Inner.{Within}
-use Rattle.load_transfers.specs.Squares.{lostFrom, lostIn}
-use Rattle.load_transfers.specs.Inner.{SizedRow, Sized}
+use Rattle.migration_transfers.specs.Squares.{lostFrom, lostIn}
+use Rattle.migration_transfers.specs.Inner.{SizedRow, SizedSquare}
 
-pub record Ready (square : List (List Transfer)) (loads : List ℕ) : Type 0 where
+pub record MigrationReady (square : List (List Transfer)) (loads : List ℕ) : Type 0 where
   pub few : length loads ≤ maxEntities
   pub most : (i : ℕ) → i < length loads → getD loads i 0 ≤ maxLoad
-  pub size : Sized square
+  pub size : SizedSquare square
   pub losses : Within (lostIn square) loads
 
 -- the same of one contract and its holder's row in the square, where the holder has one

@@ -18,8 +18,8 @@ use Rattle.tariff.specs.declared.contracts.Period.the-variants.{OffPeak, OnPeak
 use Rattle.tariff.specs.Contracts.{samePeriod, ofPeriod}
 use Rattle.tariff.proofs.Periods.{ofPeriod-append}
 use Rattle.migration_rules.specs.Transfers.{lossesTo, load}
-use Rattle.migration_rules.specs.Contracts.{gained, countered, obliges, migrates, share, pairFor, pairsTo, newFrom, newBook}
-use Rattle.migration_rules.specs.Theorems.{Kept, sharesTo}
+use Rattle.migration_rules.specs.Contracts.{gained, countered, obliges, migrates, gainerShare, pairFor, pairsTo, newFrom, newBook}
+use Rattle.migration_rules.specs.Theorems.{MigrationKept, sharesTo}
 use Rattle.migration_rules.specs.Inner.{Within}
 use Rattle.migration_rules.proofs.Pairs.{Paired, made, paired-append, pairs-keep}
 
@@ -49,11 +49,11 @@ module _ (t : Period) (lost : ℕ → ℕ → ℕ) (loads : List ℕ) where
   -- ---- pairs
   one-paired : (c : Contract) (j : ℕ) → Paired (pairFor lost loads c j)
   unfolding pairFor
-  one-paired c j = by (eqb (share lost loads c j) 0)
+  one-paired c j = by (eqb (gainerShare lost loads c j) 0)
     where
-      by : (b : Bool) → Paired (cond b [] (gained c j (share lost loads c j) ∷ countered c (share lost loads c j) ∷ []))
+      by : (b : Bool) → Paired (cond b [] (gained c j (gainerShare lost loads c j) ∷ countered c (gainerShare lost loads c j) ∷ []))
       by true = tt
-      by false = (made c j (share lost loads c j), tt)
+      by false = (made c j (gainerShare lost loads c j), tt)
 
   to-paired : (c : Contract) (m : ℕ) → Paired (pairsTo lost loads c m)
   unfolding pairsTo
@@ -73,7 +73,7 @@ module _ (t : Period) (lost : ℕ → ℕ → ℕ) (loads : List ℕ) where
   all-paired [] = tt
   all-paired (c ∷ cs) = paired-append (newFrom lost loads t c) (flatMap (newFrom lost loads t) cs) (from-paired c) (all-paired cs)
 
-  pub migration-keeps : (book : List Contract) → Kept book (newBook lost loads t book)
+  pub migration-keeps : (book : List Contract) → MigrationKept book (newBook lost loads t book)
   unfolding newBook
   migration-keeps book = pairs-keep book (flatMap (newFrom lost loads t) book) (all-paired book)
 
@@ -85,9 +85,9 @@ module _ (t : Period) (lost : ℕ → ℕ → ℕ) (loads : List ℕ) where
   module _ (u : Period) (f : samePeriod t u ≡ false) where
     one-other : (c : Contract) (j : ℕ) → samePeriod (c .period) u ≡ false → ofPeriod u (pairFor lost loads c j) ≡ []
     unfolding pairFor ofPeriod
-    one-other c j e = by (eqb (share lost loads c j) 0)
+    one-other c j e = by (eqb (gainerShare lost loads c j) 0)
       where
-        by : (b : Bool) → ofPeriod u (cond b [] (gained c j (share lost loads c j) ∷ countered c (share lost loads c j) ∷ [])) ≡ []
+        by : (b : Bool) → ofPeriod u (cond b [] (gained c j (gainerShare lost loads c j) ∷ countered c (gainerShare lost loads c j) ∷ [])) ≡ []
         by true = refl
         by false = rw e
 
@@ -115,8 +115,8 @@ module _ (t : Period) (lost : ℕ → ℕ → ℕ) (loads : List ℕ) where
 
   -- ---- shares
   module _ (c : Contract) where
-    by-load : (j : ℕ) → share lost loads c j * load loads (c .holder) ≤ c .quantity .0 * lost (c .holder) j
-    unfolding share
+    by-load : (j : ℕ) → gainerShare lost loads c j * load loads (c .holder) ≤ c .quantity .0 * lost (c .holder) j
+    unfolding gainerShare
     by-load j = by (eqb (lost (c .holder) j) 0)
       where
         by : (b : Bool) → cond b 0 (c .quantity .0 * lost (c .holder) j / load loads (c .holder)) * load loads (c .holder) ≤ c .quantity .0 * lost (c .holder) j
@@ -124,12 +124,12 @@ module _ (t : Period) (lost : ℕ → ℕ → ℕ) (loads : List ℕ) where
         by false = div-mul-le-self (c .quantity .0 * lost (c .holder) j) (load loads (c .holder))
 
     -- nothing is received where nothing is lost
-    pub no-share : (j : ℕ) → lost (c .holder) j ≡ 0 → share lost loads c j ≡ 0
-    unfolding share
+    pub no-share : (j : ℕ) → lost (c .holder) j ≡ 0 → gainerShare lost loads c j ≡ 0
+    unfolding gainerShare
     no-share j e = rw e
 
-    pub share-at-most : (j : ℕ) → lost (c .holder) j ≤ load loads (c .holder) → share lost loads c j ≤ c .quantity .0
-    unfolding share
+    pub share-at-most : (j : ℕ) → lost (c .holder) j ≤ load loads (c .holder) → gainerShare lost loads c j ≤ c .quantity .0
+    unfolding gainerShare
     share-at-most j l = by (eqb (lost (c .holder) j) 0)
       where
         by : (b : Bool) → cond b 0 (c .quantity .0 * lost (c .holder) j / load loads (c .holder)) ≤ c .quantity .0
@@ -146,7 +146,7 @@ module _ (t : Period) (lost : ℕ → ℕ → ℕ) (loads : List ℕ) where
           together m,
           by-load (suc m),
           mul-add (c .quantity .0) (lossesTo lost (c .holder) m) (lost (c .holder) (suc m)),
-          add-mul (sharesTo lost loads c m) (share lost loads c (suc m)) (load loads (c .holder)),
+          add-mul (sharesTo lost loads c m) (gainerShare lost loads c (suc m)) (load loads (c .holder)),
         )
 
     none-lost : (m : ℕ) → lossesTo lost (c .holder) m ≡ 0 → sharesTo lost loads c m ≡ 0
@@ -171,12 +171,12 @@ module _ (t : Period) (lost : ℕ → ℕ → ℕ) (loads : List ℕ) where
     module _ (c : Contract) (is : Base t (length loads) c) (each : EachPair c) where
       one-each : (j : ℕ) → 0 < j → j ≤ length loads → Each P (pairFor lost loads c j)
       unfolding pairFor
-      one-each j some most = by (eqb (share lost loads c j) 0) refl
+      one-each j some most = by (eqb (gainerShare lost loads c j) 0) refl
         where
-          by : (b : Bool) → eqb (share lost loads c j) 0 ≡ b → Each P (cond b [] (gained c j (share lost loads c j) ∷ countered c (share lost loads c j) ∷ []))
+          by : (b : Bool) → eqb (gainerShare lost loads c j) 0 ≡ b → Each P (cond b [] (gained c j (gainerShare lost loads c j) ∷ countered c (gainerShare lost loads c j) ∷ []))
           by true e = tt
           by false e =
-              let p = each j (share lost loads c j) some most (omega (arith, eqb-false (share lost loads c j) 0 e))
+              let p = each j (gainerShare lost loads c j) some most (omega (arith, eqb-false (gainerShare lost loads c j) 0 e))
               (share-at-most c j (ok .within (c .holder) j (is .numbered) (is .listed) some most)) in
               (p .0, (p .1, tt))
 

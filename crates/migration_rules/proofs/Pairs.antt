@@ -18,7 +18,7 @@ use Rattle.tariff.specs.Feasibility.{flow, totalFlow}
 use Rattle.tariff.proofs.Periods.{ofPeriod-append}
 use Rattle.test_rules.proofs.Figures.{same-test}
 use Rattle.migration_rules.specs.Contracts.{gained, countered}
-use Rattle.migration_rules.specs.Theorems.{Cancels, Kept}
+use Rattle.migration_rules.specs.Theorems.{Cancels, MigrationKept}
 
 -- an obligation and the equal one with source and sink exchanged. Holders are free.
 pub record Opposite (c d : Contract) : Type 0 where
@@ -89,7 +89,7 @@ module _ (old new : List Contract) (h : Paired new) where
   unfolding exactTotal
   amount-kept f p u = sum-kept (amount f p) (λ c d o. cancels-amount c d o f p) u old new h
 
-  pub pairs-keep : Kept old (old ++ new)
+  pub pairs-keep : MigrationKept old (old ++ new)
   pairs-keep =
       record {
         flows-kept = flow-kept;

@@ -1,5 +1,5 @@
 -- THE THEOREMS of load migration (document 02, paper 5), of every list of rows, every list of loads and every book. Statements only: the proofs are in Nets.antt,
--- Pairs.antt and Books.antt. That the new book is accepted stands with the code (load_migration).
+-- Pairs.antt and Books.antt. That the new book is accepted stands with the code (migration_book).
 use mathlib.Core.Path.{_≡_}
 use mathlib.Core.Bool.{false}
 use mathlib.Core.List.{List}
@@ -10,16 +10,16 @@ use lib.Signed.{_≤ℤ_}
 use Rattle.tariff.specs.declared.contracts.Contract.{Contract}
 use Rattle.tariff.specs.declared.contracts.Period.{Period}
 use Rattle.tariff.specs.Contracts.{samePeriod, ofPeriod}
-use Rattle.migration_rules.specs.Transfers.{Row, net, loss, lossesTo, load}
-use Rattle.migration_rules.specs.Contracts.{gained, countered, share, newBook}
-use Rattle.migration_rules.specs.Theorems.{manualRows, netsOf, manualNets, Cancels, Kept, sharesTo}
+use Rattle.migration_rules.specs.Transfers.{MigrationRow, net, loss, lossesTo, load}
+use Rattle.migration_rules.specs.Contracts.{gained, countered, gainerShare, newBook}
+use Rattle.migration_rules.specs.Theorems.{manualRows, netsOf, manualNets, Cancels, MigrationKept, sharesTo}
 use Rattle.migration_rules.proofs.Nets.{no-loss}
 use Rattle.migration_rules.proofs.Pairs.{made, cancels}
 use Rattle.migration_rules.proofs.Books as B
 use Rattle.migration_rules.proofs.Nets as N
 
 -- "each the opposite of its mirror"
-pub net-opposite : (rows : List Row) (i j : ℕ) → net rows i j ≡ negℤ (net rows j i)
+pub net-opposite : (rows : List MigrationRow) (i j : ℕ) → net rows i j ≡ negℤ (net rows j i)
 net-opposite = N.net-opposite
 
 -- "001's example nets 3,600 from LSE 2 to LSE 3", and so the others of its matrix
@@ -29,9 +29,9 @@ manual-nets = N.manual-nets
 pub pair-cancels : (c : Contract) (gainer q : ℕ) → Cancels (gained c gainer q) (countered c q)
 pair-cancels c gainer q = cancels (gained c gainer q) (countered c q) (made c gainer q)
 
-module _ (t : Period) (rows : List Row) (loads : List ℕ) where
+module _ (t : Period) (rows : List MigrationRow) (loads : List ℕ) where
   -- "Every constraint's flow is unchanged, so the new book passes exactly when the old one did": flows, figures, verdicts and exact totals, in both periods
-  pub migration-keeps : (book : List Contract) → Kept book (newBook (loss rows) loads t book)
+  pub migration-keeps : (book : List Contract) → MigrationKept book (newBook (loss rows) loads t book)
   migration-keeps = B.migration-keeps t (loss rows) loads
 
   -- in the other period nothing is added at all
@@ -43,7 +43,7 @@ module _ (t : Period) (rows : List Row) (loads : List ℕ) where
   old-stay = B.old-stay t (loss rows) loads
 
   -- a share is at most the base's quantity, and so are the shares of all gainers together, where 23 does not turn the loser's load down
-  pub share-at-most : (c : Contract) (j : ℕ) → loss rows (c .holder) j ≤ load loads (c .holder) → share (loss rows) loads c j ≤ c .quantity .0
+  pub share-at-most : (c : Contract) (j : ℕ) → loss rows (c .holder) j ≤ load loads (c .holder) → gainerShare (loss rows) loads c j ≤ c .quantity .0
   share-at-most = B.share-at-most t (loss rows) loads
 
   pub shares-at-most : (c : Contract) (m : ℕ) → lossesTo (loss rows) (c .holder) m ≤ load loads (c .holder) → sharesTo (loss rows) loads c m ≤ c .quantity .0

@@ -9,7 +9,7 @@ use Rattle.integers.specs.Sums.{max0}
 use Rattle.tariff.specs.declared.contracts.Contract.{Contract}
 use Rattle.tariff.specs.Units.{maxLoad, maxQuantity}
 use Rattle.migration_rules.specs.Transfers.{load}
-use Rattle.load_transfers.specs.Inner.{maxNet}
+use Rattle.migration_transfers.specs.Inner.{maxNet}
 
 -- a holder that is one of n LSEs
 abbrev pub entityNumber : ℕ → ℕ → Bool

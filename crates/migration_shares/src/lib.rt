@@ -4,8 +4,8 @@ ghost use mathlib.Core.Bool.{cond};
 ghost use Prim.Native.Nat.{_≤_};
 ghost use lib.Dec.{eqb};
 ghost use Rattle.lists.specs.Lent.{before};
-ghost use Rattle.migration_rules.specs.Contracts.{obliges, migrates as migratesBy, share};
-ghost use Rattle.load_transfers.specs.Squares.{ofNet};
+ghost use Rattle.migration_rules.specs.Contracts.{obliges, migrates as migratesBy, gainerShare};
+ghost use Rattle.migration_transfers.specs.Squares.{ofNet};
 ghost use Rattle.migration_shares.specs.Inner.{NetReady, Held, entityNumber};
 use tariff::Contract;
 use tariff::Kind;
@@ -50,7 +50,7 @@ pub fn migrates(c: Contract, period: Period, entities: usize) -> bool
 // What a gainer receives of a base contract: its proportion by the loser's load, rounded down. The net is the loser's to it.
 pub fn share_of(c: Contract, net: Transfer, loads: &[u64]) -> Quantity
     requires { ⌜ Held (now loads) c × NetReady (net .0) (now loads) c ⌝ }
-    ensures { λ r. ⌜ (r .0 ≡ share (ofNet (net .0)) (before loads) c 1) × (r .0 ≤ c .quantity .0) ⌝ }
+    ensures { λ r. ⌜ (r .0 ≡ gainerShare (ofNet (net .0)) (before loads) c 1) × (r .0 ≤ c .quantity .0) ⌝ }
 {
     let lost = net.lost();
     if lost.is_zero() {

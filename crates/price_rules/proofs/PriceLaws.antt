@@ -1,4 +1,4 @@
--- What holds where no check of the price file's reader or writer refuses, and what the pen has written at the end.
+-- What holds where no check of the price file's reader or writer refuses, and what the writer has written at the end.
 use mathlib.Core.Path.{_≡_, _∙_}
 use mathlib.Core.Bool.{false}
 use mathlib.Core.List.{List, [], _∷_, _++_, map}
@@ -7,7 +7,7 @@ use native.Mathlib.Omega.{arith}
 use borrow.Author.Tests.{ltb-false, le-ltb}
 use lib.ListN.{length, take}
 use Rattle.bits.specs.Fields.{bits}
-use Rattle.bits.specs.declared.Pen.{Pen}
+use Rattle.bits.specs.declared.BitWriter.{BitWriter}
 use Rattle.bits.proofs.Numbers.{Below}
 use Rattle.bits.proofs.Files.{total-append, total-run, length-file}
 use Rattle.tariff.specs.declared.refusals.Checked.the-variants.{Passed}
@@ -18,11 +18,11 @@ use Rattle.tariff.specs.Checks.{shortTable, priceRange}
 use Rattle.tariff.proofs.Checks.{first-passes, same-of}
 use Rattle.layouts.specs.Files.{padFor}
 use Rattle.layouts.specs.PriceFile.{priceWidth, priceBits, priceBytes, priceFields, priceFile, priceCountIn, pricePadIn}
-use Rattle.runs.specs.Inner.{Penned}
-use Rattle.runs.proofs.Penned.{penned-end}
-use Rattle.tables.specs.Inner.{GoodCells}
-use Rattle.tables.proofs.Cells.{good-cells}
-use Rattle.tables.proofs.Passing.{passed-all}
+use Rattle.runs.specs.Inner.{WrittenFields}
+use Rattle.runs.proofs.Written.{written-end}
+use Rattle.grid_tables.specs.Inner.{GoodCells}
+use Rattle.grid_tables.proofs.Cells.{good-cells}
+use Rattle.grid_tables.proofs.Passing.{passed-all}
 use Rattle.price_rules.specs.ReadPrices.{readPricesCall, priceFileChecks, readPricesChecks, readPricesChecked}
 use Rattle.price_rules.specs.WritePrices.{writePricesCall, writePricesChecks, writePricesChecked}
 
@@ -74,10 +74,10 @@ file-length t k ps long =
     length-file _ (priceBytes k) (rw (total-append (map (bits priceWidth) ps) (bits (padFor (priceBits k)) 0 ∷ []), total-run priceWidth ps, long) (omega arith))
 
 -- the period, the count, the prices and the padding, one after the other
-pub prices-penned : (t k : ℕ) (ps first buf : List ℕ) (p : Pen) → length ps ≡ k
-    → Penned (((bits 1 t ∷ bits 7 k ∷ []) ++ map (bits priceWidth) ps) ++ bits (padFor (priceBits k)) 0 ∷ []) first buf p → p .held ≤ 7 → Below 8 buf → priceBytes k ≤ length buf
+pub prices-filled : (t k : ℕ) (ps first buf : List ℕ) (p : BitWriter) → length ps ≡ k
+    → WrittenFields (((bits 1 t ∷ bits 7 k ∷ []) ++ map (bits priceWidth) ps) ++ bits (padFor (priceBits k)) 0 ∷ []) first buf p → p .held ≤ 7 → Below 8 buf → priceBytes k ≤ length buf
     → buf ≡ overwrite (priceFile t k ps) first
 unfolding priceFile priceFields
-prices-penned t k ps first buf p long h few b le =
-    penned-end _ first buf p (priceBytes k) h few b
+prices-filled t k ps first buf p long h few b le =
+    written-end _ first buf p (priceBytes k) h few b
     (rw (total-append (map (bits priceWidth) ps) (bits (padFor (priceBits k)) 0 ∷ []), total-run priceWidth ps, long) (omega arith)) le

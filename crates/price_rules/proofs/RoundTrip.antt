@@ -13,7 +13,7 @@ use Rattle.bits.proofs.Numbers.{Below}
 use Rattle.tariff.specs.declared.refusals.Checked.the-variants.{Passed}
 use Rattle.tariff.proofs.Checks.{first-passes, passed-cons, same, last-passes}
 use Rattle.tariff.specs.Units.{maxPrice}
-use Rattle.tables.proofs.Cells.{cut-sized}
+use Rattle.grid_tables.proofs.Cells.{cut-sized}
 use Rattle.layouts.specs.PriceFile.{priceWidth, priceFile, periodIn, pricesIn}
 use Rattle.layouts.proofs.PriceFile.{PriceWritten, prices-written, prices-read}
 use Rattle.price_rules.specs.ReadPrices.{readPricesCall, priceFileChecks, readPricesChecks, readPricesChecked}

@@ -7,7 +7,7 @@ use borrow.Author.Tests.{ltb-false, le-ltb}
 use lib.ListN.{length, take}
 use lib.IntN.{pos}
 use mathlib.Core.Bool.{false}
-use Rattle.lists.specs.Lists.{some, above}
+use Rattle.lists.specs.Lists.{anyOf, above}
 use Rattle.lists.specs.Lent.{overwrite}
 use Rattle.lists.proofs.Fronts.{front-is, front-room}
 use Rattle.tariff.specs.declared.refusals.Checked.the-variants.{Passed}
@@ -18,8 +18,8 @@ use Rattle.tariff.proofs.Checks.{passed-cons, passed-append, last-passes, first
 use Rattle.tariff.proofs.Answers.{given-told}
 use Rattle.layouts.specs.PriceFile.{periodIn, pricesIn}
 use Rattle.layouts.proofs.PriceFile.{length-pricesIn}
-use Rattle.tables.specs.Inner.{GoodCells}
-use Rattle.tables.proofs.Cells.{good-cells}
+use Rattle.grid_tables.specs.Inner.{GoodCells}
+use Rattle.grid_tables.proofs.Cells.{good-cells}
 use Rattle.price_rules.specs.declared.PriceAnswer.the-variants.{Read}
 use Rattle.price_rules.specs.ReadPrices.{readPricesCall, priceFileChecks, readPricesChecks, readPricesChecked, ReadsPrices}
 
@@ -35,7 +35,7 @@ module _ (k : ℕ) (s table₀ : List ℕ) where
   front-prices : take k (overwrite (pricesIn k s) table₀) ≡ pricesIn k s
   front-prices = front-is (pricesIn k s) table₀ k (length-pricesIn k s)
 
-  fifteen : first (priceFileChecks k s) ≡ Passed → some (above maxPrice) (pricesIn k s) ≡ false
+  fifteen : first (priceFileChecks k s) ≡ Passed → anyOf (above maxPrice) (pricesIn k s) ≡ false
   unfolding priceFileChecks
   fifteen e = passed-cons _ _ (passed-cons _ _ (passed-cons _ _ (passed-cons _ _ (passed-cons _ _ e .1) .1) .1) .1) .0
 

@@ -6,9 +6,9 @@ ghost use lib.ListN.{length, take};
 ghost use Rattle.lists.specs.Lent.{before, after, overwrite};
 ghost use Rattle.tariff.specs.Units.{maxConstraints, maxPrice};
 ghost use Rattle.layouts.specs.PriceFile.{priceBytes, priceFile};
-ghost use Rattle.tables.specs.Inner.{GoodCells};
+ghost use Rattle.grid_tables.specs.Inner.{GoodCells};
 ghost use Rattle.price_rules.specs.WritePrices.{writePricesCall, writePricesChecked, WritesPrices};
-use bits::Pen;
+use bits::BitWriter;
 use layouts::PRICE_HEADER_BITS;
 use layouts::PRICE_WIDTH;
 use layouts::WriteAnswer;
@@ -30,7 +30,7 @@ fn check_write(period: u64, constraints: usize, prices: &[u64], bytes: usize) ->
     if prices.len() < constraints {
         return Checked::Refused(Refusal::ShortTable);
     }
-    if tables::cell_above(prices, constraints, MAX_PRICE) {
+    if grid_tables::cell_above(prices, constraints, MAX_PRICE) {
         return Checked::Refused(Refusal::PriceRange);
     }
     if bytes < price_rules::file_bytes(constraints) {
@@ -47,7 +47,7 @@ fn fill(period: u64, constraints: usize, prices: &[u64], file: &mut [u8]) -> usi
 {
     let used = PRICE_HEADER_BITS + PRICE_WIDTH * constraints;
     let size = (used + 7) / 8;
-    let start = Pen {
+    let start = BitWriter {
         at: 0,
         held: 0,
         bits: 0,

@@ -16,10 +16,10 @@ fn check_lists(form: Form, nodes: usize, old: &[u64], new: &[u64]) -> Checked
     requires { ⌜ 0 < nodes ⌝ }
     ensures { λ r. ⌜ r ≡ first (listChecks form nodes (before old) (before new)) ⌝ }
 {
-    if tables::listed_outside(nodes, old) {
+    if grid_tables::listed_outside(nodes, old) {
         return Checked::Refused(Refusal::NodeNumber);
     }
-    if tables::listed_outside(form.ends_below(nodes), new) {
+    if grid_tables::listed_outside(form.ends_below(nodes), new) {
         return Checked::Refused(Refusal::NodeNumber);
     }
     if old.len() != new.len() {

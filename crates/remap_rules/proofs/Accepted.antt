@@ -7,7 +7,7 @@ use native.Mathlib.Omega.{arith}
 use borrow.Author.Tests.{ltb-false, lt-leb}
 use lib.Dec.{leb}
 use lib.ListN.{length}
-use Rattle.lists.specs.Lists.{some, listTo}
+use Rattle.lists.specs.Lists.{anyOf, listTo}
 use Rattle.lists.proofs.Lists.{length-listTo, listTo-cong, map-listTo, each-listTo}
 use Rattle.lists.proofs.Search.{all-below}
 use Rattle.tariff.specs.declared.contracts.Contract.{Contract}
@@ -30,7 +30,7 @@ use Rattle.remap_rules.proofs.Moving.{moved-below}
 pub record Remappable (q : RemapBookCall) : Type 0 where
   pub accepted : first (bookChecks (q .nodes) (q .book)) ≡ Passed
   pub listed : Listed (q .nodes) (q .olds) (q .news)
-  pub new-good : some (leb (endsBelow (bookFormIn (q .book)) (q .nodes))) (q .news) ≡ false
+  pub new-good : anyOf (leb (endsBelow (bookFormIn (q .book)) (q .nodes))) (q .news) ≡ false
   pub room : bookBytes (bookFormIn (q .book)) (contractCountIn (q .book)) ≤ length (q .place)
 
 pub remappable : (q : RemapBookCall) → remapBookChecked q ≡ Passed → Remappable q

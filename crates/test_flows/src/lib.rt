@@ -11,9 +11,9 @@ ghost use Rattle.tariff.specs.Refusals.{first};
 ghost use Rattle.tariff.specs.Units.{Factors, factorsOf, maxConstraints};
 ghost use Rattle.tariff.specs.Contracts.{ofPeriod};
 ghost use Rattle.layouts.specs.BookFile.{bookIn, contractCountIn, bookFormIn, contractAt};
-ghost use Rattle.tables.specs.Inner.{GoodFactors};
+ghost use Rattle.grid_tables.specs.Inner.{GoodFactors};
 ghost use Rattle.book_rules.specs.BookChecks.{bookChecks};
-ghost use Rattle.test_rules.specs.Inner.{Adds, Ends, Room};
+ghost use Rattle.test_rules.specs.Inner.{Adds, Ends, FlowRoom};
 ghost use Rattle.test_rules.specs.Carried.{Carries};
 use layouts::Form;
 use tariff::Contract;
@@ -73,7 +73,7 @@ pub fn add_flow(
     constraints: usize,
     factors: &[i64],
 )
-    requires { ⌜ Ends constraints (now factors) c × Room constraints (now flows) ⌝ }
+    requires { ⌜ Ends constraints (now factors) c × FlowRoom constraints (now flows) ⌝ }
     ensures { λ r. ⌜ Adds constraints (before factors) c (before flows) (after flows) ⌝ }
 {
     let source = c.source * constraints;

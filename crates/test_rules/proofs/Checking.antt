@@ -13,10 +13,10 @@ use Rattle.tariff.specs.Refusals.{Check, first}
 use Rattle.tariff.specs.Contracts.{InRange}
 use Rattle.tariff.proofs.Checks.{first-append, passed-append}
 use Rattle.tariff.proofs.Answers.{answer-refused, answer-passed}
-use Rattle.tables.specs.TableChecks.{gridTableChecks}
-use Rattle.tables.specs.Inner.{GoodFactors}
-use Rattle.tables.proofs.Passing.{GridTables, grid-tables}
-use Rattle.tables.proofs.Factors.{row-in, factor-cell-sized}
+use Rattle.grid_tables.specs.TableChecks.{gridTableChecks}
+use Rattle.grid_tables.specs.Inner.{GoodFactors}
+use Rattle.grid_tables.proofs.Passing.{GridTables, grid-tables}
+use Rattle.grid_tables.proofs.Factors.{row-in, factor-cell-sized}
 use Rattle.book_rules.specs.BookChecks.{bookChecks}
 use Rattle.test_rules.specs.declared.TestAnswer.{TestAnswer}
 use Rattle.test_rules.specs.declared.TestAnswer.the-variants.{Refused as NotTested}

@@ -31,8 +31,8 @@ use Rattle.layouts.specs.BookFile.{bookIn, contractCountIn, contractAt}
 use Rattle.lists.proofs.Lists.{listTo-more, length-listTo, each-listTo}
 use Rattle.tariff.specs.declared.refusals.Checked.the-variants.{Passed}
 use Rattle.tariff.specs.Refusals.{first}
-use Rattle.tables.specs.Inner.{GoodFactors, GoodCells}
-use Rattle.tables.proofs.Factors.{place-in}
+use Rattle.grid_tables.specs.Inner.{GoodFactors, GoodCells}
+use Rattle.grid_tables.proofs.Factors.{place-in}
 use Rattle.book_rules.specs.BookChecks.{bookChecks}
 use Rattle.book_rules.proofs.Accepted.{book-accepted}
 use Rattle.test_rules.specs.declared.Flows.{Flows}

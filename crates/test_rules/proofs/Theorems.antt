@@ -16,7 +16,7 @@ use Rattle.layouts.specs.declared.forms.Form.{Form}
 use Rattle.layouts.specs.declared.forms.Form.the-variants.{Narrow, Wide}
 use Rattle.layouts.specs.BookFile.{bookFile, bookIn}
 use Rattle.layouts.specs.BookTable.{ContractFits}
-use Rattle.tables.specs.TableChecks.{gridTableChecks}
+use Rattle.grid_tables.specs.TableChecks.{gridTableChecks}
 use Rattle.book_rules.specs.BookChecks.{bookChecks}
 use Rattle.book_rules.proofs.Theorems.{both-forms-alike, both-forms-checked-alike}
 use Rattle.test_rules.specs.declared.TestAnswer.{TestAnswer}

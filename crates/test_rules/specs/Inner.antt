@@ -10,7 +10,7 @@ use Rattle.tariff.specs.Units.{Factors, Grid, factorsOf, maxConstraints, maxCon
 use Rattle.tariff.specs.Refusals.{given}
 use Rattle.tariff.specs.Feasibility.{flow, totalFlow}
 use Rattle.tariff.specs.Contracts.{InRange}
-use Rattle.tables.specs.Inner.{GoodCells}
+use Rattle.grid_tables.specs.Inner.{GoodCells}
 use Rattle.test_rules.specs.declared.Flows.{Flows}
 use Rattle.test_rules.specs.declared.TestAnswer.{TestAnswer}
 use Rattle.test_rules.specs.TestBook.{testOutcome, testValues, Demand3}
@@ -25,7 +25,7 @@ pub record Ends (k : ℕ) (table : List ℤ) (c : Contract) : Type 0 where
   pub quantity-sized : c .quantity .0 ≤ maxQuantity
 
 -- flows on k constraints to which a contract's can be added
-pub record Room (k : ℕ) (flows : List ℤ) : Type 0 where
+pub record FlowRoom (k : ℕ) (flows : List ℤ) : Type 0 where
   pub few : k ≤ maxConstraints
   pub all : length flows ≡ maxConstraints
   pub flows-sized : (j : ℕ) → j < k → natAbs (getD flows j (pos 0)) ≤ maxFlow * maxContracts

@@ -20,7 +20,7 @@ use Rattle.tariff.specs.Refusals.{Check, first, Outcome, given, refusedBy, answ
 use Rattle.tariff.specs.Feasibility.{excess, overloadSet, overloadCount, lowestOverload}
 use Rattle.tariff.specs.Shortfall.{PriceList, shortfall, oneCent, IsWorst}
 use Rattle.layouts.specs.BookFile.{bookIn}
-use Rattle.tables.specs.TableChecks.{gridTableChecks}
+use Rattle.grid_tables.specs.TableChecks.{gridTableChecks}
 use Rattle.book_rules.specs.BookChecks.{bookChecks}
 use Rattle.test_rules.specs.declared.TestAnswer.{TestAnswer}
 use Rattle.test_rules.specs.declared.TestAnswer.the-variants as is

@@ -19,14 +19,14 @@ use Rattle.tariff.proofs.Checks.{first-append}
 use Rattle.layouts.specs.BookTable.{contractCells}
 use Rattle.book_rules.specs.BookChecks.{contractChecks}
 use Rattle.book_rules.specs.WriteBook.{rowChecks}
-use Rattle.reorder_rules.specs.Reordering.{Reordered}
-use Rattle.reorder_rules.specs.Relief.{Raised, OptionMore}
+use Rattle.order_rules.specs.Reordering.{Reordered}
+use Rattle.order_rules.specs.Relief.{Raised, OptionMore}
 use Rattle.tier_rules.specs.declared.RunningAnswer.{RunningAnswer}
 use Rattle.tier_rules.specs.Tiers.{Tiers, withAward}
 use Rattle.tier_rules.specs.Checks.{runningChecks, awardChecks, awardOver, addChecks}
 use Rattle.tier_rules.specs.Cells.{awardsCells, stateNumbers, stateFlows, StateCells, stateCells, stateBuffers, runningOutcome, MarkIs}
-use Rattle.running_rules.specs.AddAward.{AddAwardCall, addGrid, addProcess, addPeriod, awarded, addListed, addAwardChecked, addAwardChecks, AddGoesOn, AddsAward}
-use Rattle.running_rules.specs.OpenRunning.{OpenRunningCall}
+use Rattle.tier_running_rules.specs.AddAward.{AddAwardCall, addGrid, addProcess, addPeriod, awarded, addListed, addAwardChecked, addAwardChecks, AddGoesOn, AddsAward}
+use Rattle.tier_running_rules.specs.OpenRunning.{OpenRunningCall}
 use Rattle.tier_reordering.proofs.Theorems.{awards-held}
 use Rattle.tier_calls.specs.Runs.{CellRun, addOn}
 use Rattle.tier_calls.specs.Adding.{StateIn, stateAfter, openInto, addInto, addUnder, SameRoom, LimitsRaised, AddedAlike, TierAnswers}

@@ -23,8 +23,8 @@ use Rattle.tier_rules.specs.Checks.{maxTier, runningChecks, returnChecks}
 use Rattle.tier_rules.specs.Cells.{awardsCells, stateNumbers, stateFlows, stateCells, flowWith, withAwardRow, withAwardNumbers, withAwardFlows}
 use Rattle.tier_rules.specs.Cells.{openedNumbers, openedFlows, markedNumbers, markedFlows, returnedNumbers, returnedFlows}
 use Rattle.tier_rules.proofs.Cells.{length-drop-marks}
-use Rattle.running_rules.specs.OpenRunning.{OpenRunningCall, openRunningChecks, openRunningChecked}
-use Rattle.mark_rules.specs.ReturnToTier.{ReturnToTierCall, returnListed, returnToTierChecked}
+use Rattle.tier_running_rules.specs.OpenRunning.{OpenRunningCall, openRunningChecks, openRunningChecked}
+use Rattle.tier_mark_rules.specs.ReturnToTier.{ReturnToTierCall, returnListed, returnToTierChecked}
 use Rattle.tier_calls.specs.Runs.{LongEnough}
 
 -- a buffer at exit, refused or not

@@ -16,8 +16,8 @@ use Rattle.layouts.specs.declared.forms.Form.the-variants.{Wide}
 use Rattle.layouts.specs.Forms.{endWidth}
 use Rattle.layouts.specs.BookFile.{bookFile}
 use Rattle.layouts.specs.BookTable.{ContractFits}
-use Rattle.tables.specs.TableChecks.{gridTableChecks}
-use Rattle.tables.proofs.Passing.{grid-tables}
+use Rattle.grid_tables.specs.TableChecks.{gridTableChecks}
+use Rattle.grid_tables.proofs.Passing.{grid-tables}
 use Rattle.book_rules.specs.BookChecks.{bookChecks}
 use Rattle.book_rules.proofs.Accepted.{contract-in-range}
 use Rattle.book_rules.proofs.Making.{Made, in-range-fits, book-made}

@@ -23,21 +23,21 @@ use Rattle.tier_rules.specs.declared.RunningAnswer.{RunningAnswer}
 use Rattle.tier_rules.specs.declared.RunningAnswer.the-variants as is
 use Rattle.tier_rules.specs.Tiers.{Tiers, Reached}
 use Rattle.tier_rules.specs.Checks.{maxTier, tierNumber, isUnset}
-use Rattle.tier_rules.specs.Cells.{flagCell, StateCells, runningOutcome, MarkIs, Holds, Running, GoesOn}
+use Rattle.tier_rules.specs.Cells.{flagCell, StateCells, runningOutcome, MarkIs, HoldsTiers, Running, GoesOn}
 use Rattle.tier_rules.proofs.States.{reached-worst, reached-values}
 
 module _ (g : Grid) (process : Process) (t : Period) where
-  pub running : (s : Tiers) (cells : StateCells) → Reached g process t s → Holds g t s cells → Running g process t s cells
+  pub running : (s : Tiers) (cells : StateCells) → Reached g process t s → HoldsTiers g t s cells → Running g process t s cells
   running s cells r h = record { reached = r; holds = h; worst-zero = reached-worst g process t s r; passes = reached-values g process t s r }
 
   -- the cells at exit, by what the checks found: as at entry where one refuses
   module _ (checked : Checked) (checks : Tiers → List Check) (next : Tiers → Tiers) (entry : StateCells) (exit : Checked → StateCells) (keeps : (q : Refusal) → exit (Refused q) ≡ entry) where
-    pub goes-on : ((s : Tiers) → Reached g process t s → Holds g t s entry → checked ≡ first (checks s))
-        → ((s : Tiers) → Reached g process t s → Holds g t s entry → checked ≡ Passed → Reached g process t (next s) × Holds g t (next s) (exit Passed))
+    pub goes-on : ((s : Tiers) → Reached g process t s → HoldsTiers g t s entry → checked ≡ first (checks s))
+        → ((s : Tiers) → Reached g process t s → HoldsTiers g t s entry → checked ≡ Passed → Reached g process t (next s) × HoldsTiers g t (next s) (exit Passed))
         → GoesOn g process t checked checks next entry (exit checked)
     goes-on are then = record { checks-are = are; runs-on = λ s r h. by s r h checked refl }
       where
-        by : (s : Tiers) → Reached g process t s → Holds g t s entry → (x : Checked) → checked ≡ x → Running g process t (decided x (λ q. s) (next s)) (exit x)
+        by : (s : Tiers) → Reached g process t s → HoldsTiers g t s entry → (x : Checked) → checked ≡ x → Running g process t (decided x (λ q. s) (next s)) (exit x)
         by s r h Passed e = let n = then s r h e in running (next s) (exit Passed) (n .0) (n .1)
         by s r h (Refused q) e = rw (keeps q) (running s entry r h)
 
@@ -83,7 +83,7 @@ pub a-tier : (i : ℕ) → tierNumber i .fails ≡ false → (1 ≤ i) × (i ≤
 a-tier i e = let n = neither (eqb i 0) (ltb maxTier i) e in (pos-of-ne-zero (eqb-false i 0 (n .0)), ltb-false maxTier i (n .1))
 
 -- the flag of a tier says whether it is marked
-pub flag-told : (g : Grid) (t : Period) (s : Tiers) (cells : StateCells) → Holds g t s cells → (i : ℕ) → 1 ≤ i → i ≤ maxTier
+pub flag-told : (g : Grid) (t : Period) (s : Tiers) (cells : StateCells) → HoldsTiers g t s cells → (i : ℕ) → 1 ≤ i → i ≤ maxTier
     → eqb (getD (cells .numbers) (flagCell i) 0) 0 ≡ isUnset (s .mark i)
 flag-told g t s cells h i a b = by (s .mark i) (h .marks i a b)
   where

@@ -21,7 +21,7 @@ use Rattle.tariff.specs.Shortfall.{IsWorst}
 use Rattle.layouts.specs.declared.forms.Form.the-variants.{Narrow, Wide}
 use Rattle.layouts.specs.BookFile.{bookFile}
 use Rattle.layouts.specs.BookTable.{rowAt}
-use Rattle.tables.specs.TableChecks.{gridTableChecks}
+use Rattle.grid_tables.specs.TableChecks.{gridTableChecks}
 use Rattle.test_rules.specs.TestBook.{testCall, testValues}
 use Rattle.tier_rules.specs.Tiers.{Tiers, opened, withAward, marked, returned, Reached}
 use Rattle.tier_rules.specs.Checks.{tierNumber, awardOver, addChecks}

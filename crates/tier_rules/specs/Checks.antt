@@ -6,7 +6,7 @@ use Prim.Native.Nat.{ℕ, _+_}
 use lib.Dec.{ltb, eqb}
 use lib.ListN.{length}
 use lib.IntN.{ℤ}
-use Rattle.tables.specs.TableChecks.{gridTablesWith}
+use Rattle.grid_tables.specs.TableChecks.{gridTablesWith}
 use Rattle.tariff.specs.declared.contracts.Contract.{Contract}
 use Rattle.tariff.specs.declared.contracts.Period.{Period}
 use Rattle.tariff.specs.declared.processes.Process.{Process}

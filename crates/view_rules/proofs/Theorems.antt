@@ -11,7 +11,7 @@ use Rattle.layouts.specs.declared.WriteAnswer.{WriteAnswer}
 use Rattle.layouts.specs.Forms.{recordBytes}
 use Rattle.layouts.specs.BookFile.{bookBytes, contractCountIn, bookFormIn, contractAt}
 use Rattle.book_rules.specs.BookChecks.{ownChecks}
-use Rattle.view_rules.specs.Views.{numbered, heldIn, viewRow}
+use Rattle.view_rules.specs.Views.{numbered, heldInBook, viewRow}
 use Rattle.view_rules.specs.MarketView.{marketViewCall, WritesMarketView}
 use Rattle.view_rules.specs.HolderView.{holderViewCall, WritesHolderView}
 use Rattle.view_rules.specs.Theorems.{OnlyHoldersDiffer, Alike, MarketBook, ViewsSplit}
@@ -34,12 +34,12 @@ market-blind = B.market-blind
 
 module _ (n h : ℕ) (s t : List ℕ) (accepted-s : first (ownChecks n s) ≡ Passed) (accepted-t : first (ownChecks n t) ≡ Passed) where
   -- the view depends on the width and on the holder's contracts with their numbers, not on the book's length
-  pub holder-blind : bookFormIn s ≡ bookFormIn t → heldIn h s ≡ heldIn h t → (e f : List ℕ) → length e ≡ length f → (a b : WriteAnswer) (x y : List ℕ)
+  pub holder-blind : bookFormIn s ≡ bookFormIn t → heldInBook h s ≡ heldInBook h t → (e f : List ℕ) → length e ≡ length f → (a b : WriteAnswer) (x y : List ℕ)
       → WritesHolderView (holderViewCall n s h e) a x → WritesHolderView (holderViewCall n t h f) b y → Alike e f a b x y
   holder-blind width held = holder-calls n h s t width held accepted-s accepted-t
 
   -- "There too, holder views of two accepted books of one width agree whenever that holder's contracts, their numbers and the book's length agree."
-  pub holder-views-agree : bookFormIn s ≡ bookFormIn t → heldIn h s ≡ heldIn h t → length s ≡ length t → (e f : List ℕ) → length e ≡ length f
+  pub holder-views-agree : bookFormIn s ≡ bookFormIn t → heldInBook h s ≡ heldInBook h t → length s ≡ length t → (e f : List ℕ) → length e ≡ length f
       → (a b : WriteAnswer) (x y : List ℕ) → WritesHolderView (holderViewCall n s h e) a x → WritesHolderView (holderViewCall n t h f) b y → Alike e f a b x y
   holder-views-agree width held as-long = holder-blind width held
 

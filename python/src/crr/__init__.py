@@ -26,7 +26,7 @@ from .files import (
     write_book,
     write_grid,
     write_prices,
-    write_settled_book,
+    write_canonical_book,
 )
 from .hours import PriceFile, Settled, settle_hours
 from .interface import MEANINGS
@@ -127,6 +127,6 @@ __all__ = [
     "write_market_view",
     "write_prices",
     "write_report",
-    "write_settled_book",
+    "write_canonical_book",
     "write_statement",
 ]

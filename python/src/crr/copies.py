@@ -1,4 +1,4 @@
-"""Copies of a book: its settled form, and whether two copies with rows shuffled or split are the same book.
+"""Copies of a book: its canonical form, and whether two copies with rows shuffled or split are the same book.
 
 Holders and nodes are compared by name, since two folders may number them differently; the CRR_IDs of rows do
 not count.
@@ -14,14 +14,14 @@ from .case import Case
 from .command import FAILS, FOLDER, FORCE, PASSES, Answer, a_path, argument, command, counted, objects, writes
 from .decimals import decimal
 from .faults import Fault, Faults, raise_any
-from .files import Contract, read_book, write_book, write_settled_book
+from .files import Contract, read_book, write_book, write_canonical_book
 from .interface import HOLDER, QUANTITY, WIDE
 from .opening import opened, write_beside
 from .to_csv import csv_text
 from .words import HEDGE_TYPES, TIMES_OF_USE
 
-SETTLED = ("OWNER", "HEDGE_TYPE", "TIME_OF_USE", "SOURCE", "SINK", "MW")
-DIFFERENCES = (*SETTLED[:-1], "FIRST_MW", "SECOND_MW", "CHANGE_MW")
+CANONICAL = ("OWNER", "HEDGE_TYPE", "TIME_OF_USE", "SOURCE", "SINK", "MW")
+DIFFERENCES = (*CANONICAL[:-1], "FIRST_MW", "SECOND_MW", "CHANGE_MW")
 Five = Tuple[int, int, int, int, int]
 
 
@@ -48,26 +48,26 @@ class Numbers(NamedTuple):
 
 
 @command(
-    "settled",
-    "the settled form of a book: sorted, equal contracts added together; "
+    "canonical",
+    "the canonical form of a book: sorted, equal contracts added together; "
     "one for all copies with rows shuffled or split",
     FOLDER,
-    writes("a file for the settled book, as the library reads it"),
+    writes("a file for the canonical book, as the library reads it"),
     FORCE,
 )
-def settled(folder: Path, out: Optional[Path], force: bool) -> Answer:
-    """The settled form of a folder's book as a table; with `out` as the library's file."""
+def canonical(folder: Path, out: Optional[Path], force: bool) -> Answer:
+    """The canonical form of a folder's book as a table; with `out` as the library's file."""
     case = opened(folder, prices=False)
     names, nodes = case.names, len(case.names.nodes)
-    form = write_settled_book(nodes, case.book_file())
+    form = write_canonical_book(nodes, case.book_file())
     book = read_book(nodes, form)
     numbers = Numbers([names.holder(holder) for holder in range(HOLDER.high + 1)], names.nodes)
     rows = [(*numbers.words(row[:5]), _megawatts(row.quantity)) for row in book]
-    text = f"{counted(len(case.book), 'contract')}, {counted(len(book), 'row')} in the settled form\n"
-    data: Dict[str, object] = {"contracts": len(case.book), "rows": objects(SETTLED, rows)}
+    text = f"{counted(len(case.book), 'contract')}, {counted(len(book), 'row')} in the canonical form\n"
+    data: Dict[str, object] = {"contracts": len(case.book), "rows": objects(CANONICAL, rows)}
     data["sha256"] = hashlib.sha256(form).hexdigest()
     if not out:
-        return Answer(PASSES, csv_text(SETTLED, rows), data, text)
+        return Answer(PASSES, csv_text(CANONICAL, rows), data, text)
     write_beside(folder, out, form, force)
     return Answer(PASSES, f"{out}: {text}", {"out": str(out), **data})
 
@@ -97,13 +97,13 @@ def _renumbered(case: Case, numbers: Numbers) -> List[Contract]:
 
 
 def _equal(books: Sequence[List[Contract]], numbers: Numbers) -> bool:
-    """Whether the settled forms, wide and for one grid, have equal bytes, which is proved to mean equal
+    """Whether the canonical forms, wide and for one grid, have equal bytes, which is proved to mean equal
     totals. 1,000 contracts have at most 2,000 nodes, so two books never have too many. With more holders than
     a book can number, one of the books has a holder that the other lacks."""
     if len(numbers.holders) > HOLDER.high + 1:
         return False
     nodes = max(1, len(numbers.nodes))
-    first, second = (write_settled_book(nodes, write_book(nodes, book, WIDE)) for book in books)
+    first, second = (write_canonical_book(nodes, write_book(nodes, book, WIDE)) for book in books)
     return first == second
 
 
@@ -116,7 +116,7 @@ def _totals(book: Sequence[Contract]) -> Dict[Five, int]:
 
 
 def _differences(books: Sequence[List[Contract]], numbers: Numbers) -> List[Tuple[str, ...]]:
-    """A row for each holder, kind, period, source and sink whose totals differ, as the settled form sorts."""
+    """A row for each holder, kind, period, source and sink whose totals differ, as the canonical form sorts."""
     firsts, seconds = (_totals(book) for book in books)
     fives = [five for five in sorted({**firsts, **seconds}) if firsts.get(five) != seconds.get(five)]
     both = [(five, firsts.get(five, 0), seconds.get(five, 0)) for five in fives]

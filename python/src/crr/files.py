@@ -1,4 +1,4 @@
-"""The three files, grid, book and prices: bytes to tables and back; a book remapped, settled, and grown.
+"""The three files, grid, book and prices: bytes to tables and back; a book remapped, made canonical, and grown.
 Figures are whole numbers in the units of crr.h."""
 
 from __future__ import annotations
@@ -24,7 +24,7 @@ _write_grid = Entry("crr_write_grid")
 _read_book = Entry("crr_read_book")
 _write_book = Entry("crr_write_book")
 _remap_book = Entry("crr_remap_book")
-_write_settled_book = Entry("crr_write_settled_book")
+_write_canonical_book = Entry("crr_write_canonical_book")
 _add_hub_contract = Entry("crr_add_hub_contract")
 _read_prices = Entry("crr_read_prices")
 _write_prices = Entry("crr_write_prices")
@@ -176,10 +176,10 @@ def remap_book(nodes: int, book: Bytes, old_nodes: Cells, new_nodes: Cells) -> b
     return written(_remap_book, MAX_BOOK_BYTES, (nodes, book, old_nodes, new_nodes))
 
 
-def write_settled_book(nodes: int, book: Bytes) -> bytes:
-    """The settled form of a book's file, which copies with rows shuffled or split have in common: sorted by
+def write_canonical_book(nodes: int, book: Bytes) -> bytes:
+    """The canonical form of a book's file, which copies with rows shuffled or split have in common: sorted by
     kind, period, holder, source and sink, equal ones added together and cut into rows of 1,000,000."""
-    return written(_write_settled_book, MAX_BOOK_BYTES, (nodes, book))
+    return written(_write_canonical_book, MAX_BOOK_BYTES, (nodes, book))
 
 
 def add_hub_contract(

@@ -137,7 +137,7 @@ DECLARATIONS: Dict[str, str] = {
     "size_t file_len, size_t *bytes",
     "crr_write_holder_view": "size_t nodes, const uint8_t *book, size_t book_len, uint64_t holder, "
     "uint8_t *view, size_t view_len, size_t *bytes",
-    "crr_write_settled_book": "size_t nodes, const uint8_t *book, size_t book_len, uint8_t *file, "
+    "crr_write_canonical_book": "size_t nodes, const uint8_t *book, size_t book_len, uint8_t *file, "
     "size_t file_len, size_t *bytes",
     "crr_add_hub_contract": "size_t nodes, const uint8_t *book, size_t book_len, uint64_t kind, "
     "uint64_t period, uint64_t holder, const uint64_t *hub_nodes, size_t hub_nodes_len, "

@@ -1,7 +1,7 @@
 -- `crr_find_mcc`.
 use mathlib.Core.Path.{sym, ap, _∙_}
-use Rattle.congestion.specs.FindMcc.{mccOutcome}
-use Rattle.congestion.specs.declared.MccAnswer.{MccAnswer}
+use Rattle.hour_mcc.specs.FindMcc.{mccOutcome}
+use Rattle.hour_mcc.specs.declared.MccAnswer.{MccAnswer}
 use borrow.Author.Needs.{needs}
 use Rattle.c_hour.proofs.crr_find_mcc.Statement.{statement}
 use Rattle.c_hour.proofs.crr_find_mcc.Tie as tie

@@ -1,7 +1,7 @@
 -- `crr_net_transfers`.
 use mathlib.Core.Path.{sym, ap, _∙_}
-use Rattle.transfer_square.specs.NetTransfers.{netsOutcome}
-use Rattle.transfer_square.specs.declared.NetsAnswer.{NetsAnswer}
+use Rattle.migration_square.specs.NetTransfers.{netsOutcome}
+use Rattle.migration_square.specs.declared.NetsAnswer.{NetsAnswer}
 use borrow.Author.Needs.{needs}
 use Rattle.c_transfers.proofs.crr_net_transfers.Statement.{statement}
 use Rattle.c_transfers.proofs.crr_net_transfers.Tie as tie

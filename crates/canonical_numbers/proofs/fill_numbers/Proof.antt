@@ -9,14 +9,14 @@ use Rattle.lists.specs.Lists.{listTo}
 use Rattle.lists.proofs.Lists.{listTo-more}
 use Rattle.layouts.specs.BookFile.{contractIn}
 use Rattle.layouts.proofs.BookFile.{record-room}
-use Rattle.settled_rules.specs.Inner.{numberOf}
+use Rattle.canonical_rules.specs.Inner.{rowNumber}
 use borrow.Author.Needs.{needs}
 use Rattle.canonical_numbers.proofs.fill_numbers.Statement.{statement}
 use Rattle.canonical_numbers.proofs.fill_numbers.Tie as tie
 
 abbrev Inv-loop : tie.InvT-loop
 Inv-loop book form count cells₀ i₀ cells i =
-    (i ≤ count) × (length cells ≡ length cells₀) × (take i cells ≡ listTo i (λ j. numberOf (contractIn form book j)))
+    (i ≤ count) × (length cells ≡ length cells₀) × (take i cells ≡ listTo i (λ j. rowNumber (contractIn form book j)))
 
 abbrev μ-loop : tie.MeasureT-loop
 μ-loop book form count cells₀ i₀ cells i = count - i
@@ -37,7 +37,7 @@ loop-again c =
     let l = c .before .before .loop in (
       omega arith,
       simp length-set (l .inv .1),
-      rw (listTo-more (l .i) (λ j. numberOf (contractIn (a .form) (a .book .now) j)), add-one, take-suc-set (l .cells) (l .i) _ (omega arith), l .inv .2, ← c .number-at .ensures),
+      rw (listTo-more (l .i) (λ j. rowNumber (contractIn (a .form) (a .book .now) j)), add-one, take-suc-set (l .cells) (l .i) _ (omega arith), l .inv .2, ← c .number-at .ensures),
     )
 
 returns : tie.Need-returns Inv-loop μ-loop

@@ -14,7 +14,7 @@ use Rattle.layouts.specs.BookFile.{contractCountIn, contractIn, contractAt}
 use Rattle.book_rules.proofs.Accepted.{Accepted, book-accepted, accepted-room}
 use Rattle.tariff.specs.Contracts.{InRange}
 use Rattle.test_rules.proofs.Checking.{ends-of}
-use Rattle.cut_rules.specs.Inner.{keyOf, keysTo}
+use Rattle.cut_rules.specs.Inner.{cutKey, keysTo}
 use Rattle.cut_keys.specs.Inner.{periodCut}
 use Rattle.cut_keys.proofs.Collecting.{keys-more}
 use Rattle.cut_keys.proofs.collect_keys.Statement.{statement}
@@ -88,7 +88,7 @@ loop-again c =
     let l = r .before .before .loop in
     let cutOf : ℕ → ℕ = λ j. periodCut (s r .args .constraints) (s r .args .factors .now) (s r .args .excesses .now) (s r .args .period) (contractAt (s r .args .book .now) j) in
     let cut : Contract → ℕ = periodCut (s r .args .constraints) (s r .args .factors .now) (s r .args .excesses .now) (s r .args .period) in
-    let more : List ℕ → ℕ → List ℕ = λ keys x. keys ++ cond (ltb 0 x) (keyOf x (l .i) ∷ []) [] in
+    let more : List ℕ → ℕ → List ℕ = λ keys x. keys ++ cond (ltb 0 x) (cutKey x (l .i) ∷ []) [] in
     (omega arith, omega (arith, k .ensures .0 .0, l .inv .1), k .ensures .0 .1 ∙ l .inv .2, k .ensures .1 ∙ ap₂ more (l .inv .3) (ap cut (read r)) ∙ sym (keys-more cutOf (l .i)))
 
 same-length : tie.Need-same-length Inv-loop μ-loop

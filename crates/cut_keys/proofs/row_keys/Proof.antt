@@ -7,7 +7,7 @@ use borrow.Author.Needs.{needs}
 use Rattle.sorting.proofs.Callers.{cells-long}
 use Rattle.test_rules.specs.Inner.{Judgeable}
 use Rattle.test_rules.proofs.Flowing.{carried-judgeable}
-use Rattle.contract_cuts.specs.Inner.{Excesses}
+use Rattle.cut_needs.specs.Inner.{Excesses}
 use Rattle.cut_keys.proofs.Listing.{passes, fails, excesses, listed-keys}
 use Rattle.cut_keys.proofs.row_keys.Statement.{statement}
 use Rattle.cut_keys.proofs.row_keys.Tie as tie

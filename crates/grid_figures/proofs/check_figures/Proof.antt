@@ -5,7 +5,7 @@ use Prim.Native.Nat.{ℕ}
 use borrow.Author.Needs.{needs}
 use borrow.Author.Tests.{lt-ltb, le-ltb}
 use lib.ListN.{drop}
-use Rattle.lists.specs.Lists.{some}
+use Rattle.lists.specs.Lists.{anyOf}
 use Rattle.tariff.specs.Refusals.{Check, first}
 use Rattle.tariff.specs.Checks.{limitBad}
 use Rattle.tariff.proofs.Checks.{first-passes, first-refuses, differs, same, last-passes}
@@ -16,7 +16,7 @@ use Rattle.grid_figures.proofs.check_figures.Statement.{statement}
 use Rattle.grid_figures.proofs.check_figures.Tie as tie
 
 -- the limits searched are the file's, and the bits behind the factors its padding
-limit : (c : tie.After-field-above) → c .field-above .result ≡ some limitBad (limitsIn (c .before .before .before .before .args .file .now))
+limit : (c : tie.After-field-above) → c .field-above .result ≡ anyOf limitBad (limitsIn (c .before .before .before .before .args .file .now))
 limit c =
     let s = c .before .before .before .before in
     rw (limits-are (s .args .file .now) (s .args .header) (s .args .nodes) (s .args .constraints) (s .pre)) at (c .field-above .ensures)

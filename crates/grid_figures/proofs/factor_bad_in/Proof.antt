@@ -8,12 +8,12 @@ use native.Mathlib.Omega.{arith}
 use borrow.Author.Needs.{needs}
 use lib.ListN.{length, getD, take}
 use lib.IntN.{ℤ}
-use Rattle.lists.specs.Lists.{some}
-use Rattle.lists.proofs.Search.{some-start, some-end}
+use Rattle.lists.specs.Lists.{anyOf}
+use Rattle.lists.proofs.Search.{anyOf-start, anyOf-end}
 use Rattle.bits.specs.Signed.{toInt}
 use Rattle.bits.proofs.Fields.{within}
 use Rattle.tariff.specs.Checks.{factorBad}
-use Rattle.tables.proofs.Factors.{place-in, bad-so-far, bad-found, bad-turn}
+use Rattle.grid_tables.proofs.Factors.{place-in, bad-so-far, bad-found, bad-turn}
 use Rattle.layouts.specs.GridFile.{limitWidth, factorWidth, factorsFrom}
 use Rattle.layouts.proofs.GridFile.{length-factors}
 use Rattle.grid_rules.proofs.Factors.{factor-from}
@@ -31,7 +31,7 @@ all = factorsFrom
 abbrev Inv-loop : tie.InvT-loop
 Inv-loop file header nodes constraints found₀ at₀ node constraint₀ found at constraint =
     (constraint ≤ constraints) × (found ≡ false) × (at ≡ start header constraints + factorWidth * (node * constraints + constraint))
-    × (some factorBad (take (node * constraints + constraint) (all file header nodes constraints)) ≡ false)
+    × (anyOf factorBad (take (node * constraints + constraint) (all file header nodes constraints)) ≡ false)
 
 abbrev μ-loop : tie.MeasureT-loop
 μ-loop file header nodes constraints found₀ at₀ node constraint₀ found at constraint = constraints - constraint
@@ -39,7 +39,7 @@ abbrev μ-loop : tie.MeasureT-loop
 abbrev Inv-nodes : tie.InvT-nodes
 Inv-nodes file header nodes constraints found₀ at₀ node₀ found at node =
     (node ≤ nodes) × (found ≡ false) × (at ≡ start header constraints + factorWidth * (node * constraints))
-    × (some factorBad (take (node * constraints) (all file header nodes constraints)) ≡ false)
+    × (anyOf factorBad (take (node * constraints) (all file header nodes constraints)) ≡ false)
 
 abbrev μ-nodes : tie.MeasureT-nodes
 μ-nodes file header nodes constraints found₀ at₀ node₀ found at node = nodes - node
@@ -73,12 +73,12 @@ same c =
     let a = c .before .before .before .before .before .before .before .args in
     let l = c .before .before in
     c .bits-bad .ensures
-    ∙ ap factorBad (factor-from (a .file .now) (a .header) (a .nodes) (a .constraints) (next l) (l .before .loop .at) _ (inside l) (fits l) (l .before .loop .inv .2) (c .before .late-field .ensures .0))
+    ∙ ap factorBad (factor-from (a .file .now) (a .header) (a .nodes) (a .constraints) (next l) (l .before .loop .at) _ (inside l) (fits l) (l .before .loop .inv .2) (c .before .load-field .ensures .0))
 
 nodes-holds : tie.Need-nodes-holds Inv-loop μ-loop Inv-nodes μ-nodes
 nodes-holds c = let k = c .before .args .constraints in
     let fs = all (c .before .args .file .now) (c .before .args .header) (c .before .args .nodes) (c .before .args .constraints) in
-    (search needs, search needs, omega arith, bad-so-far fs 0 (0 * k) (omega arith) (some-start factorBad))
+    (search needs, search needs, omega arith, bad-so-far fs 0 (0 * k) (omega arith) (anyOf-start factorBad))
 
 loop-holds : tie.Need-loop-holds Inv-loop μ-loop Inv-nodes μ-nodes
 loop-holds c =
@@ -87,8 +87,8 @@ loop-holds c =
     let fs = all (a .file .now) (a .header) (a .nodes) (a .constraints) in
     (omega arith, n .inv .1, omega arith, bad-so-far fs (n .node * a .constraints) (n .node * a .constraints + 0) (omega arith) (n .inv .3))
 
-late-field-requires : tie.Need-late-field-requires Inv-loop μ-loop Inv-nodes μ-nodes
-late-field-requires c κs =
+load-field-requires : tie.Need-load-field-requires Inv-loop μ-loop Inv-nodes μ-nodes
+load-field-requires c κs =
     let s = c .before .before .before .before .before in
     let a = s .args in
     let late = late-factors (a .file .now) (a .header) (a .nodes) (a .constraints) (s .pre) (next c) (inside c) in
@@ -129,7 +129,7 @@ returns c =
     let n = c .before .nodes in
     let past : a .nodes * a .constraints ≤ n .node * a .constraints = mul-le-mul-right (a .constraints) (c .nodes-test .left) in
     rw (factors-are (a .file .now) (a .header) (a .nodes) (a .constraints) (s .pre)) at
-    (n .inv .1 ∙ some-end factorBad (all (a .file .now) (a .header) (a .nodes) (a .constraints)) (n .node * a .constraints) (rw length-factors past) (n .inv .3))
+    (n .inv .1 ∙ anyOf-end factorBad (all (a .file .now) (a .header) (a .nodes) (a .constraints)) (n .node * a .constraints) (rw length-factors past) (n .inv .3))
 
 returns-2 : tie.Need-returns-2 Inv-loop μ-loop Inv-nodes μ-nodes
 returns-2 c =
@@ -142,5 +142,5 @@ returns-2 c =
 pub factor-bad-in-spec : {M : Type 1} → statement M
 factor-bad-in-spec =
     tie.close (tie.spec
-    Inv-loop μ-loop Inv-nodes μ-nodes (λ c. search needs) (λ c. search needs) nodes-holds loop-holds late-field-requires (λ c κs. search needs) add-at-2
+    Inv-loop μ-loop Inv-nodes μ-nodes (λ c. search needs) (λ c. search needs) nodes-holds loop-holds load-field-requires (λ c κs. search needs) add-at-2
     (λ c. search needs) (λ c. search needs) loop-again (λ c. search needs) (λ c. search needs) nodes-again returns returns-2)

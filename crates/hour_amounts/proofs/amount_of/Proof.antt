@@ -4,7 +4,7 @@ use native.Mathlib.Omega.{arith}
 use lib.IntN.{natAbs}
 use Rattle.integers.proofs.Sizes.{natAbs-sub}
 use Rattle.tariff.specs.Inner.{maxMcc, maxSpread}
-use Rattle.congestion.proofs.Products.{node-sized}
+use Rattle.hour_mcc.proofs.Products.{node-sized}
 use Rattle.hour_rules.proofs.Amounts.{product-fits, counted-fits, amount-end}
 use Rattle.hour_amounts.proofs.amount_of.Statement.{statement}
 use Rattle.hour_amounts.proofs.amount_of.Tie as tie

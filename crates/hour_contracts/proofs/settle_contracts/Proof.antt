@@ -20,20 +20,20 @@ use Rattle.layouts.specs.BookFile.{contractIn}
 use Rattle.layouts.proofs.BookFile.{record-room}
 use Rattle.hour_rules.specs.SettleHour.{pricedOf}
 use Rattle.hour_rules.specs.declared.PricedHour.{PricedHour}
-use Rattle.hour_rules.specs.Inner.{factorsIn, pricesIn, hourAmount, exactOf, Bounded}
+use Rattle.hour_rules.specs.Inner.{hourFactorsIn, hourPricesIn, hourAmount, exactOf, Bounded}
 use Rattle.hour_rules.proofs.HourSums.{sum-start, sum-more, bounded-most}
 use Rattle.hour_contracts.proofs.settle_contracts.Statement.{statement}
 use Rattle.hour_contracts.proofs.settle_contracts.Tie as tie
 
 -- what contract i adds, its cents, and what priced it
 abbrev amountAt : PricedHour → List ℤ → List ℕ → Form → List ℕ → ℕ → ℤ
-amountAt hour fs ps f s i = hourAmount (factorsIn hour fs) (pricesIn hour ps) (hour .period) (contractIn f s i)
+amountAt hour fs ps f s i = hourAmount (hourFactorsIn hour fs) (hourPricesIn hour ps) (hour .period) (contractIn f s i)
 
 abbrev centsAt : PricedHour → List ℤ → List ℕ → Form → List ℕ → ℕ → ℤ
 centsAt hour fs ps f s i = centsOf (amountAt hour fs ps f s i)
 
 abbrev setAt : PricedHour → List ℤ → List ℕ → Form → List ℕ → ℕ → ℕ
-setAt hour fs ps f s i = pricedOf (factorsIn hour fs) (pricesIn hour ps) (hour .period) (contractIn f s i)
+setAt hour fs ps f s i = pricedOf (hourFactorsIn hour fs) (hourPricesIn hour ps) (hour .period) (contractIn f s i)
 
 abbrev Inv-loop : tie.InvT-loop
 Inv-loop hour factors prices book form count cents₀ sets₀ mccs totals₀ i₀ cents sets totals i =
@@ -125,8 +125,8 @@ loop-again c =
     let h : l .i < a .count = c .before .before .before .before .before .before .before .loop-test .taken in
     let o = c .before .before .before .hour-amount .ensures in
     let is = contract-is (c .before .before .before .before .before .before) in
-    let amount = o .amount-is ∙ ap (hourAmount (factorsIn (a .hour) (a .factors .now)) (pricesIn (a .hour) (a .prices .now)) (a .hour .period)) is in
-    let set = o .priced-is ∙ ap (pricedOf (factorsIn (a .hour) (a .factors .now)) (pricesIn (a .hour) (a .prices .now)) (a .hour .period)) is ∙ sym (getD-listTo (a .count) G (l .i) 0 h) in
+    let amount = o .amount-is ∙ ap (hourAmount (hourFactorsIn (a .hour) (a .factors .now)) (hourPricesIn (a .hour) (a .prices .now)) (a .hour .period)) is in
+    let set = o .priced-is ∙ ap (pricedOf (hourFactorsIn (a .hour) (a .factors .now)) (hourPricesIn (a .hour) (a .prices .now)) (a .hour .period)) is ∙ sym (getD-listTo (a .count) G (l .i) 0 h) in
     let v = toZ-ofZ {w = w64} (record { sfits = c .before .cents .ok }) ∙ c .before .cents .ensures .0 ∙ ap centsOf amount ∙ sym (getD-listTo (a .count) F (l .i) (pos 0) h) in (
       omega arith,
       simp length-set (l .inv .1),

@@ -5,7 +5,7 @@ use native.Mathlib.Omega.{arith}
 use borrow.Author.Needs.{needs}
 use lib.ListN.{length}
 use Rattle.migration_rules.specs.Contracts.{migrates}
-use Rattle.load_transfers.specs.Squares.{rowLosses}
+use Rattle.migration_transfers.specs.Squares.{rowLosses}
 use Rattle.migration_pairs.proofs.Pairs.{new-some, new-none, base-held}
 use Rattle.migration_pairs.proofs.new_count.Statement.{statement}
 use Rattle.migration_pairs.proofs.new_count.Tie as tie

@@ -6,7 +6,7 @@ use native.Mathlib.Omega.{arith}
 use borrow.Author.Needs.{needs}
 use lib.ListN.{length}
 use Rattle.migration_rules.specs.Contracts.{pairsTo}
-use Rattle.load_transfers.specs.Squares.{rowLosses}
+use Rattle.migration_transfers.specs.Squares.{rowLosses}
 use Rattle.migration_pairs.proofs.Pairs.{share-by-net, net-ready, no-pairs, length-more, pair-length, pairs-few}
 use Rattle.migration_pairs.proofs.pair_count.Statement.{statement}
 use Rattle.migration_pairs.proofs.pair_count.Tie as tie

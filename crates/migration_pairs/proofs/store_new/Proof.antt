@@ -4,7 +4,7 @@ use mathlib.Core.Bool.{true}
 use borrow.Author.Needs.{needs}
 use lib.ListN.{length}
 use Rattle.migration_rules.specs.Contracts.{migrates}
-use Rattle.load_transfers.specs.Squares.{rowLosses}
+use Rattle.migration_transfers.specs.Squares.{rowLosses}
 use Rattle.migration_pairs.proofs.Pairs.{new-some, new-none, base-held, none-appended}
 use Rattle.migration_pairs.proofs.store_new.Statement.{statement}
 use Rattle.migration_pairs.proofs.store_new.Tie as tie

@@ -6,8 +6,8 @@ use native.Mathlib.Nat.{le-trans}
 use native.Mathlib.Omega.{arith}
 use borrow.Author.Needs.{needs}
 use lib.ListN.{length}
-use Rattle.migration_rules.specs.Contracts.{share, pairsTo}
-use Rattle.load_transfers.specs.Squares.{rowLosses}
+use Rattle.migration_rules.specs.Contracts.{gainerShare, pairsTo}
+use Rattle.migration_transfers.specs.Squares.{rowLosses}
 use Rattle.migration_pairs.specs.Inner.{pairOf, Appended}
 use Rattle.migration_pairs.proofs.Pairs.{share-by-net, net-ready, no-pairs, pairs-more, length-more, pairs-grow, none-appended, more-appended, room-fewer}
 use Rattle.migration_pairs.proofs.store_pairs.Statement.{statement}
@@ -34,7 +34,7 @@ share-of-requires c κs =
     (s .pre .0 .1, net-ready (s .args .t5) (s .args .loads .now) (s .args .c) (c .before .before .loop .j) (s .pre .0 .0) (s .pre .0 .1) (omega arith))
 
 -- the share, by the row
-share-is : (c : tie.After-share-of Inv-loop μ-loop) → let a = c .before .before .before .before .before .before .args in c .share-of .result .0 ≡ share (rowLosses (a .t5)) (a .loads .now) (a .c) (suc (c .before .before .before .loop .j))
+share-is : (c : tie.After-share-of Inv-loop μ-loop) → let a = c .before .before .before .before .before .before .args in c .share-of .result .0 ≡ gainerShare (rowLosses (a .t5)) (a .loads .now) (a .c) (suc (c .before .before .before .loop .j))
 share-is c =
     let a = c .before .before .before .before .before .before .args in
     share-by-net (a .t5) (a .loads .now) (a .c) (c .before .before .before .loop .j) (c .share-of .result .0) (c .share-of .ensures .0)

@@ -3,12 +3,12 @@ use mathlib.Core.Path.{_≡_, sym, _∙_}
 use native.Mathlib.Omega.{arith}
 use borrow.Author.Needs.{needs}
 use borrow.Author.Tests.{eq-eqb, ne-eqb, eqb-true, eqb-false}
-use Rattle.migration_rules.specs.Contracts.{share}
+use Rattle.migration_rules.specs.Contracts.{gainerShare}
 use Rattle.migration_shares.proofs.share_of.Statement.{statement}
 use Rattle.migration_shares.proofs.share_of.Tie as tie
 
 returns : tie.Need-returns
-unfolding share
+unfolding gainerShare
 returns c =
     let lost = c .before .before .lost in
     (rw (eq-eqb _ 0 (sym (lost .ensures) ∙ eqb-true (lost .result .0) 0 (sym (c .before .is-zero .ensures) ∙ c .if1 .taken))), omega arith)
@@ -26,7 +26,7 @@ moved-requires c κs =
     (s .pre .0 .quantity-most, rw (l .lost .ensures) (ready .losses), omega (arith, ready .losses, l .lost .ensures, lost-some e), ready .most)
 
 returns-2 : tie.Need-returns-2
-unfolding share
+unfolding gainerShare
 returns-2 c =
     let e = c .before .before .before .before in
     let lost = e .before .before .lost in

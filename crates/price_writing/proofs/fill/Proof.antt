@@ -4,9 +4,9 @@ use native.Mathlib.Omega.{arith}
 use lib.ListN.{length, take}
 use lib.Seq.{length-take-le}
 use lib.Pow.{pow-pos}
-use Rattle.runs.proofs.Penned.{penned-start, penned-put, penned-last, penned-run}
+use Rattle.runs.proofs.Written.{written-start, written-put, written-last, written-run}
 use Rattle.layouts.specs.PriceFile.{priceWidth}
-use Rattle.price_rules.proofs.PriceLaws.{file-length, prices-penned}
+use Rattle.price_rules.proofs.PriceLaws.{file-length, prices-filled}
 use borrow.Author.Needs.{needs}
 use Rattle.price_writing.proofs.fill.Statement.{statement}
 use Rattle.price_writing.proofs.fill.Tie as tie
@@ -46,12 +46,12 @@ returns c =
     let z = c .before .before .put-last in
     let ps = take (a .constraints) (a .prices .now) in
     let long : length ps ≡ a .constraints = length-take-le (a .constraints) (a .prices .now) (omega (arith, s .pre .0, s .pre .1, s .pre .2 .long, s .pre .3)) in
-    let one = penned-put (penned-start (a .file .now) _ (omega arith) refl) 1 _ _ (a .period) (e .ensures) in
-    let two = penned-put one 7 _ _ (a .constraints) (g .ensures) in
-    let three = penned-run two priceWidth _ _ ps (a .constraints) long (w .ensures) in
-    let four = penned-last three _ _ _ 0 (z .ensures) in (
+    let one = written-put (written-start (a .file .now) _ (omega arith) refl) 1 _ _ (a .period) (e .ensures) in
+    let two = written-put one 7 _ _ (a .constraints) (g .ensures) in
+    let three = written-run two priceWidth _ _ ps (a .constraints) long (w .ensures) in
+    let four = written-last three _ _ _ 0 (z .ensures) in (
       sym (file-length (a .period) (a .constraints) ps long),
-      prices-penned (a .period) (a .constraints) ps (a .file .now) _ _ long four (z .ensures .1 .0 .1) (λ i. c .slice-known5 .given i .fits)
+      prices-filled (a .period) (a .constraints) ps (a .file .now) _ _ long four (z .ensures .1 .0 .1) (λ i. c .slice-known5 .given i .fits)
           (omega (arith, s .pre .3, e .kept .0, g .kept .0, w .kept .0, z .kept .0)),
     )
 

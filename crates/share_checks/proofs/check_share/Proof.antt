@@ -9,7 +9,7 @@ use lib.IntN.{ℤ}
 use mir.Syntax.{w64}
 use mir.ValLaws.{toZ-ofZ}
 use Rattle.tariff.specs.Checks.{coordinatorCount, balanceRange, demandRange}
-use Rattle.share_rules.specs.ShareBalance.{shareCall, totalOf}
+use Rattle.share_rules.specs.ShareBalance.{shareCall, totalDemand}
 use Rattle.share_rules.proofs.Passing.{all-cells, demands-in, count-refuses, balance-refuses, demand-refuses, none-refuses, room-refuses, all-pass}
 use Rattle.share_checks.proofs.check_share.Statement.{statement}
 use Rattle.share_checks.proofs.check_share.Tie as tie
@@ -33,7 +33,7 @@ searched c = sym (all-cells (c .before .before .before .before .before .before .
 three : (c : tie.Else3) → demandRange (c .before .before .before .before .before .before .before .args .demands .now) .fails ≡ false
 three c = searched (c .before) ∙ c .if3 .left
 
-four : (c : tie.Else4) → eqb (totalOf (c .before .before .before .before .before .before .before .before .before .args .demands .now)) 0 ≡ false
+four : (c : tie.Else4) → eqb (totalDemand (c .before .before .before .before .before .before .before .before .before .args .demands .now)) 0 ≡ false
 four c = ne-eqb _ 0 (λ e. c .if4 .left (c .before .total-of .ensures .0 ∙ e))
 
 returns : tie.Need-returns

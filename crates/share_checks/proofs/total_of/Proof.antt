@@ -5,7 +5,7 @@ use native.Mathlib.Omega.{arith}
 use lib.ListN.{length}
 use borrow.Author.Needs.{needs}
 use Rattle.largest_remainders.specs.Ranks.{addTo}
-use Rattle.largest_remainders.specs.Shares.{total}
+use Rattle.largest_remainders.specs.Shares.{totalWeight}
 use Rattle.largest_remainders.proofs.Counting.{addTo-more, addTo-none}
 use Rattle.share_rules.specs.ShareBalance.{demandOf}
 use Rattle.share_checks.proofs.total_of.Statement.{statement}
@@ -31,7 +31,7 @@ loop-again c =
     (omega arith, omega (arith, addTo-more (l .i) (demandOf (a .args .demands .now))), omega (arith, a .pre .small (l .i) (omega arith)))
 
 returns : tie.Need-returns Inv-loop μ-loop
-unfolding total
+unfolding totalWeight
 returns c =
     let a = c .before .before in
     let l = c .before .loop in

@@ -6,8 +6,8 @@ use borrow.Author.Needs.{needs}
 use Rattle.tariff.specs.declared.refusals.Checked.the-variants.{Passed}
 use Rattle.tier_rules.specs.Cells.{markedNumbers, markedFlows}
 use Rattle.tier_rules.proofs.Going.{both-kept, both-made}
-use Rattle.mark_rules.specs.MarkTier.{MarkTierCall, markTierCall, markTierChecked, MarksTier}
-use Rattle.mark_rules.proofs.Marks.{AtTier, at-tier, marks-tier}
+use Rattle.tier_mark_rules.specs.MarkTier.{MarkTierCall, markTierCall, markTierChecked, MarksTier}
+use Rattle.tier_mark_rules.proofs.Marks.{AtTier, at-tier, marks-tier}
 use Rattle.tier_marks.proofs.mark_tier.Statement.{statement}
 use Rattle.tier_marks.proofs.mark_tier.Tie as tie
 

@@ -8,9 +8,9 @@ use lib.Dec.{eqb}
 use lib.ListN.{getD}
 use Rattle.tier_rules.specs.Cells.{flagCell, returnedNumbers, returnedFlows}
 use Rattle.tier_rules.proofs.Going.{both-kept, both-made}
-use Rattle.mark_rules.specs.MarkTier.{markTierCall}
-use Rattle.mark_rules.specs.ReturnToTier.{ReturnToTierCall, returnToTierCall, returnToTierChecked, ReturnsToTier}
-use Rattle.mark_rules.proofs.Marks.{AtTier, at-tier, return-parts, returns-to-tier}
+use Rattle.tier_mark_rules.specs.MarkTier.{markTierCall}
+use Rattle.tier_mark_rules.specs.ReturnToTier.{ReturnToTierCall, returnToTierCall, returnToTierChecked, ReturnsToTier}
+use Rattle.tier_mark_rules.proofs.Marks.{AtTier, at-tier, return-parts, returns-to-tier}
 use Rattle.tier_marks.proofs.return_to_tier.Statement.{statement}
 use Rattle.tier_marks.proofs.return_to_tier.Tie as tie
 

@@ -18,7 +18,7 @@ pub mod refusals;
 pub mod remap;
 pub mod reordering;
 pub mod running;
-pub mod settled;
+pub mod canonical;
 pub mod settlement;
 pub mod shares;
 pub mod test;

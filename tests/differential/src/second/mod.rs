@@ -13,7 +13,7 @@ pub mod prices;
 pub mod refusals;
 pub mod remap;
 pub mod running;
-pub mod settled;
+pub mod canonical;
 pub mod settlement;
 pub mod shares;
 pub mod test;

@@ -21,8 +21,8 @@ Inv-loop file offset count out₀ at₀ i₀ out at i =
 abbrev μ-loop : tie.MeasureT-loop
 μ-loop file offset count out₀ at₀ i₀ out at i = count - i
 
-late-field-requires : tie.Need-late-field-requires Inv-loop μ-loop
-late-field-requires c κs =
+load-field-requires : tie.Need-load-field-requires Inv-loop μ-loop
+load-field-requires c κs =
     let s = c .before .before .before in
     let l = c .before .loop in
     let late : 39 ≤ s .args .offset = s .pre .1 .2 (l .i) (omega arith) in
@@ -34,7 +34,7 @@ loop-again c =
     let a = s .args in
     let l = c .before .before .before .loop in
     let fs = factorsAt (a .file .now) (a .offset) (a .count) in
-    let read = factor-at (a .file .now) (a .offset) (a .count) (l .i) (l .at) _ (omega arith) (s .pre .0) (l .inv .2) (c .before .late-field .ensures .0) in
+    let read = factor-at (a .file .now) (a .offset) (a .count) (l .i) (l .at) _ (omega arith) (s .pre .0) (l .inv .2) (c .before .load-field .ensures .0) in
     let v = toZ-ofZ {w = w64} (record { sfits = c .signed .ok }) ∙ c .signed .ensures ∙ read in (
       omega arith,
       simp length-set (omega arith),
@@ -52,5 +52,5 @@ returns c =
 pub read-factors-spec : {M : Type 1} → statement M
 read-factors-spec =
     tie.close (tie.spec
-    Inv-loop μ-loop (λ c. search needs) late-field-requires (λ c κs. search needs) (λ c. search needs) (λ c. search needs) (λ c. search needs)
+    Inv-loop μ-loop (λ c. search needs) load-field-requires (λ c κs. search needs) (λ c. search needs) (λ c. search needs) (λ c. search needs)
     (λ c. search needs) (λ c. search needs) loop-again (λ c. search needs) returns)

@@ -1,4 +1,0 @@
-pub mod Settled
-pub mod SettledBook
-pub mod Theorems
-pub mod Inner
