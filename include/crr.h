@@ -174,7 +174,7 @@ extern "C" {
 #endif
 
 /* The number of this interface. */
-#define CRR_INTERFACE 1
+#define CRR_INTERFACE 2
 
 /* Stack that is enough: for crr_write_report and crr_write_statement, and for any other. */
 #define CRR_TEXT_STACK_BYTES 200000

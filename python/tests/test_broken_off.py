@@ -205,6 +205,7 @@ class Interrupted(FolderTest):
         """The installed command, interrupted while it imports the package."""
         code = (
             "import os, signal, sys\n"
+            "signal.signal(signal.SIGINT, signal.default_int_handler)\n"  # a job behind `&` ignores it
             "class Finder:\n"
             "    def find_spec(self, name, *_):\n"
             "        if name == 'crr.native':\n"

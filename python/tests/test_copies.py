@@ -19,6 +19,9 @@ class Canonical(FolderTest):
         (folder / "book.csv").write_text(self.BOOK + rows)
         return folder
 
+    def test_former_name(self):
+        self.assertEqual(command("settled", CASE_L), command("canonical", CASE_L))
+
     def test_table(self):
         rows = (
             "a,Fir,OPT,ON,Bus 1,Bus 2,700\nb,Elm,OBL,ON,Bus 2,Bus 1,0.001\nc,Fir,OPT,ON,Bus 1,Bus 2,600.5\n"
@@ -61,7 +64,8 @@ class Canonical(FolderTest):
 
     def test_empty(self):
         self.assertEqual(
-            command("canonical", self.case("")), (0, self.HEADING, "0 contracts, 0 rows in the canonical form\n")
+            command("canonical", self.case("")),
+            (0, self.HEADING, "0 contracts, 0 rows in the canonical form\n"),
         )
 
     def test_faults(self):

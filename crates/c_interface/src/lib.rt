@@ -4,7 +4,7 @@ ghost use Rattle.text_refusals.specs.RefusalText.{textCall, WritesTextForC};
 ghost use Rattle.c_interface.specs.Interface.{TellsInterface};
 
 // The number of this interface: include/crr.h has it as CRR_INTERFACE.
-const INTERFACE: u64 = 1;
+const INTERFACE: u64 = 2;
 
 // Gives the number of the interface that the library has.
 #[no_mangle]

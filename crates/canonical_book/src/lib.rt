@@ -54,7 +54,12 @@ pub fn write_canonical_book(nodes: usize, book: &[u8], file: &mut [u8]) -> Write
     }
     let form = book_bits::book_form(book);
     let mut cells = [0u64; MAX_CONTRACTS];
-    let rows = canonical_numbers::canonical_rows(book, form, book_bits::contract_count(book), &mut cells);
+    let rows = canonical_numbers::canonical_rows(
+        book,
+        form,
+        book_bits::contract_count(book),
+        &mut cells,
+    );
     let bytes = form.book_bytes(rows);
     if file.len() < bytes {
         return WriteAnswer::Refused(Refusal::ShortTable);

@@ -51,7 +51,7 @@ module _ (keys : List ℕ) (listed : ℕ) (numbers cuts : List ℕ) where
 -- ---- the entry: behind the test's checks, where the keys are those of the rows
 
 pub finds : (keys : List ℕ) (listed : ℕ) (numbers cuts : Lent (List ℕ)) (test : TestCall) (answer : CutsAnswer) → let q = cutsCall test numbers cuts in
-    findCutsChecked q ≡ first (roomChecks q) → listed ≡ length (listedRows q) → numbersOf keys listed ≡ numberCells q → cutsOf keys listed ≡ cutCells q
+    findCutsChecked q ≡ first (cutRoomChecks q) → listed ≡ length (listedRows q) → numbersOf keys listed ≡ numberCells q → cutsOf keys listed ≡ cutCells q
     → ListsRows keys listed (before numbers) (before cuts) answer (after numbers) (after cuts) → FindsCuts test numbers cuts answer
 finds keys listed numbers cuts test answer room many en ec rows = promised test numbers cuts answer
     (rows .listed-given ∙ ap₂ (λ (x : Checked) (n : ℕ). answered x (pos n ∷ [])) checked many)

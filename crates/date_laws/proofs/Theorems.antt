@@ -7,7 +7,7 @@ use Rattle.lists.specs.Sets.{countOf}
 use Rattle.date_rules.specs.Dates.{leap, monthLength, lengthBefore, monthDays, dayNumber, weekdayOf, monthExists}
 use Rattle.date_rules.specs.OnPeak.{weekdaysTo, nth, last, holiday, observed, onPeakDay, onPeakHours}
 use Rattle.date_rules.specs.Theorems.{sundays, shortHours, nextWeekday}
-use Rattle.date_rules.proofs.Months.{MonthIn, month-in}
+use Rattle.date_rules.proofs.Months.{month-in}
 use Rattle.date_laws.proofs.AllMonths.{all-months}
 
 -- ---- one day less in each month with a holiday
@@ -23,6 +23,6 @@ pub next-month : (y m : ℕ) → monthExists y m ≡ true → weekdayOf (y + m /
 unfolding leap monthLength lengthBefore dayNumber weekdayOf
 next-month y m e = eqb→eq _ _ (all-months (λ y m. eqb (weekdayOf (y + m / 12) (m % 12 + 1) 1) (nextWeekday (weekdayOf y m (monthDays y m)))) tt y m (month-in y m e))
 
-pub month-long : (y m : ℕ) → MonthIn y m → 28 ≤ monthDays y m
+pub month-long : (y m : ℕ) → monthExists y m ≡ true → 28 ≤ monthDays y m
 unfolding leap monthLength
-month-long y m i = leb→le 28 (monthDays y m) (all-months (λ y m. leb 28 (monthDays y m)) tt y m i)
+month-long y m e = leb→le 28 (monthDays y m) (all-months (λ y m. leb 28 (monthDays y m)) tt y m (month-in y m e))

@@ -30,7 +30,7 @@ month-step date e h =
     let k : MonthIn (laterYear date) (laterMonth date) =
     record { year-low = omega (arith, j); year-high = omega (arith, j); month-low = omega arith; month-high = omega arith } in
     let last = monthDays (laterYear date) (laterMonth date) in
-    let b = cut last (date .day) (omega (arith, month-long (laterYear date) (laterMonth date) k)) (i .day-low) in
+    let b = cut last (date .day) (omega (arith, month-long (laterYear date) (laterMonth date) (month-of _ _ k))) (i .day-low) in
     record {
       exists = date-of (laterYear date) (laterMonth date) (laterDay date) k (b .0) (b .1);
       in-the-following-month = omega (arith, j);

@@ -44,7 +44,13 @@ pub fn read_run(s: &[u8], offset: usize, width: usize, count: usize, out: &mut [
 }
 
 // Writes each of the first `count` cells as the next `width` bits.
-pub fn write_run(buf: &mut [u8], from: BitWriter, cells: &[u64], count: usize, width: usize) -> BitWriter
+pub fn write_run(
+    buf: &mut [u8],
+    from: BitWriter,
+    cells: &[u64],
+    count: usize,
+    width: usize,
+) -> BitWriter
     requires { ⌜ WriterReady from ⌝ }
     requires { ⌜ (width ≤ 32) × (count ≤ length (now cells)) × ((k : ℕ) → k < count → getD (now cells) k 0 < 2 ^ width) ⌝ }
     requires { ⌜ bitsWritten from + width * count ≤ 8 * length (now buf) ⌝ }

@@ -76,7 +76,14 @@ pub fn check_test(
 ) -> Checked
     ensures { λ r. ⌜ r ≡ testChecked (testCall nodes constraints process period (before limits) (before factors) (before book)) ⌝ }
 {
-    let in_tables = grid_tables::check_grid_tables(nodes, constraints, process, period, limits, factors);
+    let in_tables = grid_tables::check_grid_tables(
+        nodes,
+        constraints,
+        process,
+        period,
+        limits,
+        factors,
+    );
     if let Checked::Refused(refusal) = in_tables {
         return Checked::Refused(refusal);
     }

@@ -13,10 +13,10 @@ use grid_rules::GridAnswer;
 use layouts::PROGRAM_FACTORS;
 use layouts::PROGRAM_GRID_BYTES;
 use layouts::WriteAnswer;
-use text_report_lines::put_lines;
 use tariff::Checked;
 use tariff::MAX_CONSTRAINTS;
 use tariff::Refusal;
+use text_report_lines::put_lines;
 
 // Every report fits into so many bytes.
 pub const REPORT_ROOM: usize = 2048;

@@ -12,10 +12,10 @@ ghost use Rattle.test_rules.specs.Carried.{Carries};
 ghost use Rattle.text_report_rules.specs.Report.{periodWord, processWord, line, periodLines, reportLines};
 ghost use Rattle.text_report_rules.specs.WriteReport.{reportRoom};
 ghost use Rattle.text_report_rules.specs.Inner.{Reportable, periodRoom, processRoom, lineRoom, periodLinesRoom};
-use text_report_figures::put_figures;
 use tariff::Period;
 use tariff::Process;
 use test_rules::Flows;
+use text_report_figures::put_figures;
 
 // The period's word and a comma.
 fn put_period(buf: &mut [u8], at: usize, period: Period) -> usize

@@ -20,12 +20,12 @@ use layouts::PROGRAM_FACTORS;
 use layouts::PROGRAM_GRID_BYTES;
 use layouts::WriteAnswer;
 use price_rules::PriceAnswer;
-use text_statement_lines::LONGEST_STATEMENT;
 use tariff::Checked;
 use tariff::MAX_CONSTRAINTS;
 use tariff::MAX_CONTRACTS;
 use tariff::Period;
 use tariff::Refusal;
+use text_statement_lines::LONGEST_STATEMENT;
 
 // The lines of an hour whose tables and book no check refuses.
 fn put_settled(

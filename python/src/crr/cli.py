@@ -25,6 +25,9 @@ from .writing import is_output
 _ORDER = (commands, report, book_commands, copies, hubs, tiers, migrate, plain_commands, help_commands)
 _MODULES = [module.__name__ for module in _ORDER]
 
+# Commands that had another name: it still works, and no help lists it.
+_FORMER = {"settled": "canonical"}
+
 
 class Usage(Exception):
     """A command line that is none: how it goes, and what is wrong."""
@@ -138,10 +141,16 @@ def main(arguments: Optional[List[str]] = None) -> int:
         return INTERRUPTED
 
 
+def _by_present_names(given: List[str]) -> List[str]:
+    """The command line with the present name of its command, the first word that is no option."""
+    at = next((at for at, word in enumerate(given) if not word.startswith("-")), 0)
+    return [_FORMER.get(word, word) if place == at else word for place, word in enumerate(given)]
+
+
 def _run(given: List[str]) -> int:
     as_json, aside = _asks_json(given), False
     try:
-        options = parser().parse_args(given)
+        options = parser().parse_args(_by_present_names(given))
         as_json, answer = options.json, _answer(options)
         aside = is_output(getattr(options, "out", None))  # which has bytes of another kind
     except Shown as shown:

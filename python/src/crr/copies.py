@@ -116,7 +116,7 @@ def _totals(book: Sequence[Contract]) -> Dict[Five, int]:
 
 
 def _differences(books: Sequence[List[Contract]], numbers: Numbers) -> List[Tuple[str, ...]]:
-    """A row for each holder, kind, period, source and sink whose totals differ, as the canonical form sorts."""
+    """A row for each holder, kind, period, source and sink whose totals differ, in the canonical order."""
     firsts, seconds = (_totals(book) for book in books)
     fives = [five for five in sorted({**firsts, **seconds}) if firsts.get(five) != seconds.get(five)]
     both = [(five, firsts.get(five, 0), seconds.get(five, 0)) for five in fives]

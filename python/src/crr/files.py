@@ -1,4 +1,4 @@
-"""The three files, grid, book and prices: bytes to tables and back; a book remapped, made canonical, and grown.
+"""The three files, grid, book and prices: bytes to tables and back; a book remapped, canonical, and grown.
 Figures are whole numbers in the units of crr.h."""
 
 from __future__ import annotations

@@ -10,7 +10,7 @@ import re
 from typing import Dict, List, NamedTuple
 
 # The number of the interface that the declarations below are of: a library of another is not loaded.
-INTERFACE = 1
+INTERFACE = 2
 
 # Stack that is enough, for the two texts and for any other function.
 TEXT_STACK_BYTES = 200000

@@ -16,7 +16,7 @@ mod vectors;
 
 use draw::{Draw, EXTREMES};
 use rounds::{
-    calendar, cuts, demand, forms, headers, hub_book, hub_mcc, hubs, migration, priced, refusals, reordering, running, canonical, shares,
+    calendar, canonical, cuts, demand, forms, headers, hub_book, hub_mcc, hubs, migration, priced, refusals, reordering, running, shares,
     text, view_pairs, views,
 };
 use std::env;

@@ -5,8 +5,8 @@ use crate::draw::{self, ends_below, Size, EXTREMES};
 use crate::lent::Lent;
 use crate::library;
 use crate::second::book::{self, largest_end, record, Contract};
+use crate::second::canonical::{canonical, canonical_file, five, totals, Five, FULL};
 use crate::second::grid::Grid;
-use crate::second::canonical::{five, canonical_file, canonical, totals, Five, FULL};
 use crate::tally::Round;
 
 /// What a book and its canonical form show, what was compared on grids, and what places show.

@@ -7,7 +7,8 @@ use crate::second::cuts::{placed, Row, Tested};
 use crate::second::hubs::Hub;
 use crate::second::running::{add_by_cells, mark_by_cells, return_by_cells, Running};
 use crate::second::{
-    book, calendar, flows, grid, hubs, migration, prices, refusals, remap, set_of, canonical, settlement, shares, test, text, views, Answer, Form,
+    book, calendar, canonical, flows, grid, hubs, migration, prices, refusals, remap, set_of, settlement, shares, test, text, views,
+    Answer, Form,
 };
 use std::collections::HashMap;
 
