@@ -129,7 +129,7 @@
  * 5 for a grid of more than 32,768 bytes. Writers are told the form by a number: 0
  * (CRR_NARROW) is narrow, any other number is wide (CRR_WIDE is 1). Readers give 0 or
  * 1, so that what was read can be written again, byte for byte; a book made from a book
- * (remapped, settled, for the market, grown by a hub's contract or by load migration)
+ * (remapped, canonical, for the market, grown by a hub's contract or by load migration)
  * keeps its form. Write the wide form where a node number needs it, and otherwise the
  * narrow one: it is shorter, and it is the one that libraries without forms take, which
  * refuse every wide file. The layouts are in crates/layouts/specs.
@@ -174,7 +174,7 @@ extern "C" {
 #endif
 
 /* The number of this interface. */
-#define CRR_INTERFACE 1
+#define CRR_INTERFACE 2
 
 /* Stack that is enough: for crr_write_report and crr_write_statement, and for any other. */
 #define CRR_TEXT_STACK_BYTES 200000
@@ -439,7 +439,8 @@ uint64_t crr_write_holder_view(size_t nodes,
                                size_t *bytes);
 
 /*
- * Writes the settled form of a book's file, for a grid of so many nodes: one form for
+ * Writes the canonical form of a book's file, for a grid of so many nodes: what
+ * document 02 calls its "settled form", one for
  * all copies of a book, whatever the order of their rows and however they are split.
  * Contracts are sorted by kind, period, holder, source and sink, each by its number;
  * those that agree in all five are added together, and their total is cut into rows
@@ -449,20 +450,21 @@ uint64_t crr_write_holder_view(size_t nodes,
  * form stays. There are never more rows than the book has, so book_len bytes are
  * enough, and fewer often are. The rows are sorted in 16,000 bytes of stack.
  *
- * Two books of one form have equal bytes in the settled form exactly when, for each
- * kind, period, holder, source and sink, their total quantities are equal. The settled
- * form of a settled form is itself. For a book and its settled form crr_test_book and
- * crr_find_flows give the same but for *counted, and crr_settle_hour the same *whole
- * and *parts. Cents are rounded row by row, so they and their *sum may differ.
+ * Two books of one form have equal bytes in the canonical form exactly when, for each
+ * kind, period, holder, source and sink, their total quantities are equal. The
+ * canonical form of a canonical form is itself. For a book and its canonical form
+ * crr_test_book and crr_find_flows give the same but for *counted, and crr_settle_hour
+ * the same *whole and *parts. Cents are rounded row by row, so they and their *sum may
+ * differ.
  *
  * Refusals, in this order: 2 NODE_COUNT, 1 SHORT_FILE, 10 CONTRACT_COUNT,
  * 4 SPARE_BITS, 5 FILE_LENGTH, then contract by contract 11 NODE_NUMBER,
- * 13 QUANTITY_RANGE, and 9 SHORT_TABLE if the bytes of the settled form don't fit.
+ * 13 QUANTITY_RANGE, and 9 SHORT_TABLE if the bytes of the canonical form don't fit.
  */
-uint64_t crr_write_settled_book(size_t nodes,
-                                const uint8_t *book, size_t book_len,
-                                uint8_t *file, size_t file_len,
-                                size_t *bytes);
+uint64_t crr_write_canonical_book(size_t nodes,
+                                  const uint8_t *book, size_t book_len,
+                                  uint8_t *file, size_t file_len,
+                                  size_t *bytes);
 
 /*
  * Adds a contract from a hub to a sink to a book's file, for a grid of so many nodes,

@@ -19,9 +19,9 @@ pub const ENTRIES: [Entry; 20] = [
     Entry { name: "write_book", run: write_book },
     Entry { name: "remap_book", run: remap_book },
     Entry { name: "write_market_view", run: write_market_view },
-    Entry { name: "write_settled_book", run: write_settled_book },
-    Entry { name: "settled, of split rows", run: settled_of_split },
-    Entry { name: "settled again", run: settled_again },
+    Entry { name: "write_canonical_book", run: write_canonical_book },
+    Entry { name: "canonical, of split rows", run: canonical_of_split },
+    Entry { name: "canonical again", run: canonical_again },
     Entry { name: "add_hub_contract", run: add_hub_contract },
     Entry { name: "read_prices", run: read_prices },
     Entry { name: "write_prices", run: write_prices },
@@ -163,36 +163,36 @@ fn write_market_view(inputs: &Inputs) -> Result<Times, String> {
     ))
 }
 
-fn settled(nodes: usize, book: &[u8]) -> Result<Times, String> {
+fn canonical(nodes: usize, book: &[u8]) -> Result<Times, String> {
     let (mut file, mut plain_file, mut bytes) = (vec![0; BOOK_BYTES], vec![0; BOOK_BYTES], 0);
-    let proved = library::write_settled_book(nodes, book, &mut file, &mut bytes);
-    let plain = plain::write_settled_book(nodes, book, &mut plain_file);
+    let proved = library::write_canonical_book(nodes, book, &mut file, &mut bytes);
+    let plain = plain::write_canonical_book(nodes, book, &mut plain_file);
     agree(&(proved, Ok(bytes)), &(0, plain))?;
     agree(&file, &plain_file)?;
     Ok(side_by_side(
         &mut || {
-            black_box(library::write_settled_book(nodes, black_box(book), &mut file, &mut bytes));
+            black_box(library::write_canonical_book(nodes, black_box(book), &mut file, &mut bytes));
         },
         &mut || {
-            let _ = black_box(plain::write_settled_book(nodes, black_box(book), &mut plain_file));
+            let _ = black_box(plain::write_canonical_book(nodes, black_box(book), &mut plain_file));
         },
     ))
 }
 
-fn write_settled_book(inputs: &Inputs) -> Result<Times, String> {
-    settled(inputs.size.nodes, &inputs.book_file)
+fn write_canonical_book(inputs: &Inputs) -> Result<Times, String> {
+    canonical(inputs.size.nodes, &inputs.book_file)
 }
 
 /// The same entry on a book of split rows, four for each contract.
-fn settled_of_split(inputs: &Inputs) -> Result<Times, String> {
-    settled(inputs.size.nodes, &inputs.split_book())
+fn canonical_of_split(inputs: &Inputs) -> Result<Times, String> {
+    canonical(inputs.size.nodes, &inputs.split_book())
 }
 
 /// The same entry on what it gave.
-fn settled_again(inputs: &Inputs) -> Result<Times, String> {
+fn canonical_again(inputs: &Inputs) -> Result<Times, String> {
     let (nodes, mut file) = (inputs.size.nodes, vec![0; BOOK_BYTES]);
-    let length = plain::write_settled_book(nodes, &inputs.book_file, &mut file).map_err(|number| format!("refused {number}"))?;
-    settled(nodes, &file[..length])
+    let length = plain::write_canonical_book(nodes, &inputs.book_file, &mut file).map_err(|number| format!("refused {number}"))?;
+    canonical(nodes, &file[..length])
 }
 
 /// As many contracts as leave room for all that is added.

@@ -1,4 +1,5 @@
-"""What the tests share: inputs drawn at random and packed by a second, plain implementation; the rules by fractions; the command run in this process."""
+"""What the tests share: inputs drawn at random and packed by a second, plain implementation; the rules by
+fractions; the command run in this process."""
 
 from __future__ import annotations
 
@@ -38,7 +39,11 @@ def draw_grid(rng, nodes, constraints):
     limits = [rng.randint(0, 100_000_000) for _ in range(constraints)]
     factors = [rng.randint(-100_000, 100_000) for _ in range(nodes * constraints)]
     header = [(8, nodes), (7, constraints), (1, 0)]
-    return bits(header + [(27, limit) for limit in limits] + [(18, factor) for factor in factors]), limits, factors
+    return (
+        bits(header + [(27, limit) for limit in limits] + [(18, factor) for factor in factors]),
+        limits,
+        factors,
+    )
 
 
 def draw_book(rng, nodes, contracts):
@@ -46,7 +51,16 @@ def draw_book(rng, nodes, contracts):
     rows = []
     for _ in range(contracts):
         source, sink = rng.sample(range(nodes), 2)
-        rows.append((rng.randint(0, 1), rng.randint(0, 1), rng.randint(0, 1023), source, sink, rng.randint(1, 1_000_000)))
+        rows.append(
+            (
+                rng.randint(0, 1),
+                rng.randint(0, 1),
+                rng.randint(0, 1023),
+                source,
+                sink,
+                rng.randint(1, 1_000_000),
+            )
+        )
     fields = [field for row in rows for field in zip((1, 1, 10, 8, 8, 20), row)]
     return bits([(10, contracts), (6, 0)] + fields), rows
 
@@ -66,13 +80,18 @@ def half_away(number):
 
 
 def amounts(rows, factors, constraints, period, prices):
-    """The exact amount in cents of each contract in an hour; 0 for the other period's. Sums are in 10^-8 cents, and nothing is lost in them."""
-    nodes = len(factors) // constraints if constraints else 1 + max([0] + [end for row in rows for end in row[3:5]])
+    """The exact amount in cents of each contract in an hour; 0 for the other period's. Sums are in 10^-8
+    cents, and nothing is lost in them."""
+    nodes = (
+        len(factors) // constraints
+        if constraints
+        else 1 + max([0] + [end for row in rows for end in row[3:5]])
+    )
     posted = [k for k in range(constraints) if prices[k]]
     mcc = [-sum(factors[n * constraints + k] * prices[k] for k in posted) for n in range(nodes)]
     out = []
-    for kind, own, _, source, sink, quantity in rows:
-        amount = (mcc[sink] - mcc[source]) * quantity if own == period else 0
+    for kind, time_of_use, _, source, sink, quantity in rows:
+        amount = (mcc[sink] - mcc[source]) * quantity if time_of_use == period else 0
         out.append(Fraction(max(0, amount) if kind else amount, 10**8))
     return out
 
@@ -80,10 +99,10 @@ def amounts(rows, factors, constraints, period, prices):
 def flows(rows, factors, constraints, period):
     """The flow on each constraint in 10^-8 MW, as contracts count."""
     out = [0] * constraints
-    for kind, own, _, source, sink, quantity in rows:
+    for kind, time_of_use, _, source, sink, quantity in rows:
         for k in range(constraints):
             flow = (factors[source * constraints + k] - factors[sink * constraints + k]) * quantity
-            if own == period and (flow > 0 or not kind):
+            if time_of_use == period and (flow > 0 or not kind):
                 out[k] += flow
     return out
 
@@ -104,25 +123,30 @@ def command(*arguments):
 def started(*arguments, **options):
     """The command in a process of its own."""
     given = dict(stdout=subprocess.PIPE, stderr=subprocess.PIPE, env=ENVIRONMENT)
-    given["preexec_fn"] = lambda: signal.signal(signal.SIGINT, signal.SIG_DFL)  # a job in the background ignores it
+    # a job in the background ignores it
+    given["preexec_fn"] = lambda: signal.signal(signal.SIGINT, signal.SIG_DFL)
     return subprocess.Popen([sys.executable, "-m", "crr", *map(str, arguments)], **{**given, **options})
 
 
 def everything(folder):
     """What stands below a folder, with what it is: a link's text, a file's bytes."""
-    found = {}
+    contents_of = {}
     for path in sorted(folder.rglob("*")):
         name = str(path.relative_to(folder))
         if path.is_symlink():
-            found[name] = ("link", os.readlink(path))
+            contents_of[name] = ("link", os.readlink(path))
         else:
-            found[name] = path.read_bytes() if path.is_file() else stat.S_IFMT(path.stat().st_mode)
-    return found
+            contents_of[name] = path.read_bytes() if path.is_file() else stat.S_IFMT(path.stat().st_mode)
+    return contents_of
 
 
 def contents(folder):
     """Every file below a folder, by name."""
-    return {str(path.relative_to(folder)): path.read_bytes() for path in sorted(Path(folder).rglob("*")) if path.is_file()}
+    return {
+        str(path.relative_to(folder)): path.read_bytes()
+        for path in sorted(Path(folder).rglob("*"))
+        if path.is_file()
+    }
 
 
 class FolderTest(unittest.TestCase):

@@ -40,7 +40,7 @@ class Broken:
         return call
 
     def __enter__(self):
-        self.patches = [mock.patch.object(*own, self._counting(getattr(*own))) for own in self.CALLS]
+        self.patches = [mock.patch.object(*call, self._counting(getattr(*call))) for call in self.CALLS]
         for patch in self.patches:
             patch.start()
         return self
@@ -164,12 +164,12 @@ class Interrupted(FolderTest):
     SAID = "crr: interrupted; nothing is left half written\n"
 
     def test_every_command(self):
-        def interrupted(own):
-            @wraps(own.function)
+        def interrupted(one):
+            @wraps(one.function)
             def function(**_):
                 raise KeyboardInterrupt
 
-            return own._replace(function=function)
+            return one._replace(function=function)
 
         given = {
             "remap": "case pairs -o out",
@@ -187,19 +187,37 @@ class Interrupted(FolderTest):
             "man": "",
         }
         self.assertGreaterEqual(len(COMMANDS), 18)
-        for name, own in COMMANDS.items():
-            with mock.patch.dict(COMMANDS, {name: interrupted(own)}):
+        for name, one in COMMANDS.items():
+            with mock.patch.dict(COMMANDS, {name: interrupted(one)}):
                 try:
                     got = command(name, *given.get(name, "case").split())
                 except KeyboardInterrupt:
                     self.fail(f"{name} ends in a traceback")
             self.assertEqual(got, (130, "", self.SAID), name)
 
-    def told(self, process):
+    def said_by(self, process):
         """(status, what it said) of a process that is interrupted now."""
         os.killpg(process.pid, signal.SIGINT)
         out, err = process.communicate(timeout=30)
         return process.returncode, out.decode(), err.decode()
+
+    def test_importing(self):
+        """The installed command, interrupted while it imports the package."""
+        code = (
+            "import os, signal, sys\n"
+            "signal.signal(signal.SIGINT, signal.default_int_handler)\n"  # a job behind `&` ignores it
+            "class Finder:\n"
+            "    def find_spec(self, name, *_):\n"
+            "        if name == 'crr.native':\n"
+            "            os.kill(os.getpid(), signal.SIGINT)\n"
+            "sys.meta_path.insert(0, Finder())\n"
+            "from crr_command import main\n"
+            "sys.exit(main())\n"
+        )
+        done = subprocess.run(
+            [sys.executable, "-c", code, "hours", "2026"], env=ENVIRONMENT, capture_output=True
+        )
+        self.assertEqual((done.returncode, done.stdout, done.stderr), (130, b"", b"crr: interrupted\n"))
 
     def test_reading(self):
         shutil.copytree(IEEE14, self.folder / "case")
@@ -208,7 +226,7 @@ class Interrupted(FolderTest):
         for arguments in (("check",), ("settle",), ("pack", "-o", self.folder / "packed"), ("report",)):
             process = started(arguments[0], self.folder / "case", *arguments[1:], start_new_session=True)
             with open(self.folder / "case" / "book.csv", "wb"):  # opens when it is read
-                self.assertEqual(self.told(process), (130, "", self.SAID), arguments)
+                self.assertEqual(self.said_by(process), (130, "", self.SAID), arguments)
         self.assertEqual(sorted(os.listdir(self.folder)), ["case"])
         self.assertEqual(len(os.listdir(self.folder / "case")), len(os.listdir(IEEE14)))
 
@@ -222,7 +240,7 @@ class Interrupted(FolderTest):
             "settle", self.folder / "case", "-j", 2, "-o", self.folder / "out", start_new_session=True
         )
         with open(hour, "wb"):
-            self.assertEqual(self.told(process), (130, "", self.SAID))
+            self.assertEqual(self.said_by(process), (130, "", self.SAID))
         with self.assertRaises(ProcessLookupError):
             os.killpg(process.pid, 0)
         self.assertFalse((self.folder / "out").exists())
@@ -231,7 +249,9 @@ class Interrupted(FolderTest):
 class Workers(FolderTest):
     def test_a_worker_that_is_killed(self):
         with mock.patch("crr.opening._end_at_once", os.abort):
-            self.assertEqual(crr.cli.main(["settle", str(IEEE14), "-j", "2", "-o", str(self.folder / "out")]), 2)
+            self.assertEqual(
+                crr.cli.main(["settle", str(IEEE14), "-j", "2", "-o", str(self.folder / "out")]), 2
+            )
         self.assertFalse((self.folder / "out").exists())
 
 

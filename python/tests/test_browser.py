@@ -17,7 +17,7 @@ SHELL = ["--headless", "--no-sandbox", "--disable-gpu", "--hide-scrollbars", "--
 # What is measured in each frame: its width and the page's, how many cards stand in the first row, colours,
 # how high the rows are that unfold, before and after, and where the figures of broken bars stand in them.
 MEASURE = """
-const told = {};
+const measures = {};
 for (const frame of document.querySelectorAll("iframe")) {
   const page = frame.contentDocument, root = page.documentElement;
   const box = element => element.getBoundingClientRect();
@@ -29,18 +29,18 @@ for (const frame of document.querySelectorAll("iframe")) {
   const wide = root.scrollWidth;
   page.querySelectorAll("details").forEach(part => part.open = true);
   const breaks = [...page.querySelectorAll(".broken text")].map(text => {
-    const own = box(text), bar = box(text.closest("td").querySelector("svg"));
-    const room = [own.left - bar.left, bar.right - own.right, own.top - bar.top, bar.bottom - own.bottom];
-    return [...room, text.textContent];
+    const label = box(text), bar = box(text.closest("td").querySelector("svg"));
+    const sides = [label.left - bar.left, bar.right - label.right];
+    return [...sides, label.top - bar.top, bar.bottom - label.bottom, text.textContent];
   });
   const style = page.defaultView.getComputedStyle(page.body);
-  told[frame.id] = {
+  measures[frame.id] = {
     width: frame.clientWidth, wide, unfolded: root.scrollWidth,
     columns: cards.filter(top => top == cards[0]).length, page: style.backgroundColor, text: style.color,
     before, after: height(), breaks,
   };
 }
-document.getElementById("told").textContent = JSON.stringify(told);
+document.getElementById("measures").textContent = JSON.stringify(measures);
 """
 
 
@@ -92,30 +92,34 @@ class Browser(FolderTest):
         ]
         harness = self.folder / "harness.html"
         script = f"<script>window.onload = () => {{ {MEASURE} }};</script>"
-        harness.write_text(f"<!doctype html><body>{''.join(frames)}<pre id=told></pre>{script}")
-        told = self.run_browser(*arguments, "--window-size=1400,1000", "--dump-dom", harness.as_uri())
-        return json.loads(unescape(re.search(r"<pre id=\"told\">(.*?)</pre>", told, re.S)[1]))
+        harness.write_text(f"<!doctype html><body>{''.join(frames)}<pre id=measures></pre>{script}")
+        page = self.run_browser(*arguments, "--window-size=1400,1000", "--dump-dom", harness.as_uri())
+        return json.loads(unescape(re.search(r"<pre id=\"measures\">(.*?)</pre>", page, re.S)[1]))
 
     def test_light(self):
-        told = self.measured()
-        self.assertEqual(sorted(told), ["failing-1280", "failing-390", "passing-1280", "passing-390"])
-        for name, own in told.items():
+        measures = self.measured()
+        self.assertEqual(sorted(measures), ["failing-1280", "failing-390", "passing-1280", "passing-390"])
+        for name, measured in measures.items():
             with self.subTest(page=name):
-                self.assertEqual(own["width"], int(name.rpartition("-")[2]))
-                self.assertLessEqual(max(own["wide"], own["unfolded"]), own["width"])
-                self.assertEqual(own["columns"], 3 if own["width"] == 1280 else 1)
-                self.assertEqual((own["page"], own["text"]), ("rgb(255, 255, 255)", "rgb(26, 28, 32)"))
-                self.assertEqual(set(own["before"]), {0})
-                self.assertGreater(min(own["after"]), 20)
-                self.assertEqual(len(own["breaks"]) > 20, name.startswith("failing"))
-                for left, right, top, bottom, figure in own["breaks"]:
+                self.assertEqual(measured["width"], int(name.rpartition("-")[2]))
+                self.assertLessEqual(max(measured["wide"], measured["unfolded"]), measured["width"])
+                self.assertEqual(measured["columns"], 3 if measured["width"] == 1280 else 1)
+                self.assertEqual(
+                    (measured["page"], measured["text"]), ("rgb(255, 255, 255)", "rgb(26, 28, 32)")
+                )
+                self.assertEqual(set(measured["before"]), {0})
+                self.assertGreater(min(measured["after"]), 20)
+                self.assertEqual(len(measured["breaks"]) > 20, name.startswith("failing"))
+                for left, right, top, bottom, figure in measured["breaks"]:
                     self.assertGreater(left, 100, figure)
                     self.assertGreaterEqual(min(right, top, bottom), -1, figure)
                     self.assertRegex(figure, r"^[0-9,]+\.[0-9]%$")
 
     def test_dark(self):
-        for name, own in self.measured("--blink-settings=preferredColorScheme=0").items():
-            self.assertEqual((own["page"], own["text"]), ("rgb(21, 23, 28)", "rgb(232, 234, 240)"), name)
+        for name, measured in self.measured("--blink-settings=preferredColorScheme=0").items():
+            self.assertEqual(
+                (measured["page"], measured["text"]), ("rgb(21, 23, 28)", "rgb(232, 234, 240)"), name
+            )
 
     def test_print(self):
         """On paper all is unfolded."""

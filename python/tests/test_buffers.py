@@ -64,7 +64,8 @@ class Lending(unittest.TestCase):
         with self.assertRaises(OverflowError):
             entry(-1, ctypes.c_uint64())
         with self.assertRaises(TypeError):
-            Entry("crr_write_prices")(1, 1, lend_cells([1], "Q"), Lent(b"123", "B"), ctypes.c_uint64())  # to be written, and read-only
+            # to be written, and read-only
+            Entry("crr_write_prices")(1, 1, lend_cells([1], "Q"), Lent(b"123", "B"), ctypes.c_uint64())
 
     def test_sequences(self):
         self.assertEqual(crr.write_prices(1, [1]), b"\x81\0\0\x20")
@@ -77,17 +78,24 @@ class Lending(unittest.TestCase):
 class Numpy(unittest.TestCase):
     def test_no_copy(self):
         table = numpy.array([[60_000, -20_000], [0, 0], [-10_000, 40_000]])
-        self.assertEqual((lend_cells(table, "q").address, lend_cells(table, "q").cells), (table.ctypes.data, 6))
+        self.assertEqual(
+            (lend_cells(table, "q").address, lend_cells(table, "q").cells), (table.ctypes.data, 6)
+        )
         grid = crr.Grid(3, 2, numpy.array([100_000, 50_000], dtype=numpy.uint64), table)
         self.assertEqual(crr.write_grid(grid), (support.CASE_L / "grid.bin").read_bytes())
-        self.assertEqual(numpy.asarray(crr.find_mcc(grid, numpy.array([1000, 2550], dtype=numpy.uint64))).tolist(), [-9_000_000, 0, -92_000_000])
+        self.assertEqual(
+            numpy.asarray(crr.find_mcc(grid, numpy.array([1000, 2550], dtype=numpy.uint64))).tolist(),
+            [-9_000_000, 0, -92_000_000],
+        )
 
     def test_book_of_six_columns(self):
         rows = numpy.array([[0, 1, 7, 0, 1, 10_000]], dtype=numpy.uint64)
         self.assertEqual(crr.write_book(3, rows), bytes.fromhex("0040407000102710"))
 
     def test_wrong_types_are_refused_not_copied(self):
-        for wrong in (numpy.zeros(2), numpy.zeros(2, dtype=numpy.int32), numpy.zeros((4, 4), dtype=numpy.int64)[:, ::2]):
+        for wrong in (
+            numpy.zeros(2), numpy.zeros(2, dtype=numpy.int32), numpy.zeros((4, 4), dtype=numpy.int64)[:, ::2]
+        ):
             with self.assertRaises((TypeError, BufferError, ValueError)):
                 lend_cells(wrong, "q")
 

@@ -2,6 +2,7 @@
 
 import shutil
 import unittest
+from pathlib import Path
 
 from support import CASE_L, IEEE14, FolderTest, command, contents, draw_book, draw_grid, draw_prices
 import crr
@@ -14,6 +15,7 @@ from crr.migration_csv import LOADS, ROWS
 from crr.names_csv import HEADING
 from crr.sheet import ALIASES
 
+BIN = ("grid.bin", "book.bin")
 CSV = ("book.csv", "constraints.csv", "factors.csv", "prices.csv")
 
 
@@ -27,6 +29,8 @@ class RoundTrips(FolderTest):
         packed = contents(self.folder / "bin")
         for name, data in contents(source).items():
             self.assertEqual(packed.pop(name), data, name)
+        files = crr.packed.read_packed(source)  # made anew of what was read
+        self.assertEqual((files.grid, files.book), tuple((source / name).read_bytes() for name in BIN))
         return packed
 
     def test_case_l(self):
@@ -46,19 +50,30 @@ class RoundTrips(FolderTest):
         case, rounded = crr.from_csv.load(str(IEEE14))
         self.assertEqual((case, rounded), load(IEEE14))
         crr.packed.write_packed(case, str(self.folder / "bin"))
-        self.assertEqual(crr.packed.unpacked(crr.packed.read_packed(str(self.folder / "bin"))), case)
+        self.assertEqual(crr.packed.unpacked(str(self.folder / "bin")), case)
+        files = crr.packed.read_packed(str(self.folder / "bin"))
+        self.assertEqual(files.grid, (self.folder / "bin" / "grid.bin").read_bytes())
+        self.assertEqual(files.book, (self.folder / "bin" / "book.bin").read_bytes())
+        self.assertTrue(all(Path(hour.file).is_file() for hour in files.hours))
+        self.assertEqual(crr.settle_hours(*files), crr.settle_hours(*crr.packed.packed(case)))
         crr.to_csv.write_csv(case, str(self.folder / "csv"))
         self.assertEqual(load(self.folder / "csv"), (case, 0))
 
     def test_drawn(self):
-        for nodes, constraints, contracts, hours in ((1, 0, 0, 0), (2, 0, 3, 1), (200, 64, 1000, 3), (7, 5, 9, 30)):
+        for nodes, constraints, contracts, hours in (
+            (1, 0, 0, 0), (2, 0, 3, 1), (200, 64, 1000, 3), (7, 5, 9, 30)
+        ):
             with self.subTest(nodes=nodes):
                 source = self.folder / f"source-{nodes}"
                 source.mkdir()
                 (source / "grid.bin").write_bytes(draw_grid(self.rng, nodes, constraints)[0])
                 (source / "book.bin").write_bytes(draw_book(self.rng, nodes, contracts)[0])
                 for hour in range(hours):
-                    path = source / "prices.bin" if hours == 1 else source / "prices" / f"2026-11-{1 + hour // 25:02}" / f"HE{1 + hour % 25:02}.bin"
+                    path = (
+                        source / "prices.bin"
+                        if hours == 1
+                        else source / "prices" / f"2026-11-{1 + hour // 25:02}" / f"HE{1 + hour % 25:02}.bin"
+                    )
                     path.parent.mkdir(parents=True, exist_ok=True)
                     path.write_bytes(draw_prices(self.rng, constraints)[0])
                 self.assertEqual(list(self.there_and_back(source)), ["names.csv"])
@@ -93,7 +108,10 @@ class RoundTrips(FolderTest):
         status, _, err = command("pack", self.folder / "csv", "-o", self.folder)
         self.assertEqual(status, 2)
         self.assertIn("prices/2026-08-01/HE24.bin: ", err)
-        self.assertEqual({name: data for name, data in contents(self.folder).items() if not name.startswith("csv/")}, before)
+        self.assertEqual(
+            {name: data for name, data in contents(self.folder).items() if not name.startswith("csv/")},
+            before,
+        )
 
     def test_unpack_spares_other_work(self):
         command("unpack", CASE_L, "-o", self.folder)
@@ -118,7 +136,15 @@ class Habits(FolderTest):
         return text
 
     def test_spreadsheets(self):
-        text = self.change("book.csv", (",", ";"), ("TIME_OF_USE", "Time of use"), ("OWNER", "AccountHolder"), ("OBL", " obl "), ("ON;", "Peak;"), ("\n", "\r\n"))
+        text = self.change(
+            "book.csv",
+            (",", ";"),
+            ("TIME_OF_USE", "Time of use"),
+            ("OWNER", "AccountHolder"),
+            ("OBL", " obl "),
+            ("ON;", "Peak;"),
+            ("\n", "\r\n"),
+        )
         (self.folder / "book.csv").write_bytes(b"\xef\xbb\xbf" + text.encode())
         self.assertEqual(load(self.folder)[0].book, self.book)
 
@@ -130,7 +156,9 @@ class Habits(FolderTest):
 
     def test_factors_in_another_order(self):
         rows = [line.split(",") for line in (self.folder / "factors.csv").read_text().splitlines()]
-        (self.folder / "factors.csv").write_text("\n".join(",".join((row[0], row[2], row[1])) for row in rows) + "\n")
+        (self.folder / "factors.csv").write_text(
+            "\n".join(",".join((row[0], row[2], row[1])) for row in rows) + "\n"
+        )
         self.assertEqual(list(load(self.folder)[0].factors), [60_000, -20_000, 0, 0, -10_000, 40_000])
 
     def test_a_constraint_may_be_called_node(self):
@@ -139,15 +167,23 @@ class Habits(FolderTest):
         self.assertEqual(load(self.folder)[0].names.constraints, ["Node", "K1"])
 
     def test_no_alias_twice(self):
-        """No heading has two meanings in one file; CLASS, OLD, NEW and MW have another one in the files of load migration."""
+        """No heading has two meanings in one file; CLASS, OLD, NEW and MW have another one in the files of
+        load migration."""
         for need in (("CONSTRAINT_ID", "LIMIT_MW"), BOOK, PRICES, DEMANDS, HUBS, HEADING, ROWS, LOADS):
-            names = [name for ours in need for name in (ours, *ALIASES[ours])]
+            names = [name for column in need for name in (column, *ALIASES[column])]
             self.assertEqual(len(names), len(set(names)), need)
-        names = [name for ours, others in ALIASES.items() if ours not in ROWS + LOADS for name in (ours, *others)]
+        names = [
+            name
+            for column, others in ALIASES.items()
+            if column not in ROWS + LOADS
+            for name in (column, *others)
+        ]
         self.assertEqual(len(names), len(set(names)))
 
     def test_rounded_prices(self):
-        (self.folder / "prices.csv").write_text(self.change("prices.csv", ("10.00", "9.99500"), ("25.50", "25.5000")))
+        (self.folder / "prices.csv").write_text(
+            self.change("prices.csv", ("10.00", "9.99500"), ("25.50", "25.5000"))
+        )
         self.assertEqual(command("check", self.folder)[0], 2)
         status, out, _ = command("check", self.folder, "--round-prices")
         self.assertEqual((status, out.strip().endswith("1 price rounded to cents")), (0, True))
@@ -155,9 +191,14 @@ class Habits(FolderTest):
         self.assertEqual((list(case.hours[0].prices), rounded), ([1000, 2550], 1))
 
     def test_an_hour_without_congestion(self):
-        (self.folder / "prices.csv").write_text("OPR_DT,OPR_HR,TIME_OF_USE,CONSTRAINT_ID,SHADOW_PRICE\n2026-01-02,3,OFF,,\n2026-01-02,2,ON,K1,1\n")
+        (self.folder / "prices.csv").write_text(
+            "OPR_DT,OPR_HR,TIME_OF_USE,CONSTRAINT_ID,SHADOW_PRICE\n2026-01-02,3,OFF,,\n2026-01-02,2,ON,K1,1\n"
+        )
         hours = load(self.folder)[0].hours
-        self.assertEqual([(hour.hour, hour.period, list(hour.prices)) for hour in hours], [(2, 1, [0, 100]), (3, 0, [0, 0])])
+        self.assertEqual(
+            [(hour.hour, hour.period, list(hour.prices)) for hour in hours],
+            [(2, 1, [0, 100]), (3, 0, [0, 0])],
+        )
 
 
 class Owners(unittest.TestCase):
@@ -174,10 +215,15 @@ class KeptNumbers(FolderTest):
         source = self.folder / "source"
         source.mkdir()
         (source / "grid.bin").write_bytes(draw_grid(self.rng, 2, 1)[0])
-        (source / "book.bin").write_bytes(crr.write_book(2, [(0, 1, holder, 0, 1, 1) for holder in (900, 3, 900, 12)]))
+        (source / "book.bin").write_bytes(
+            crr.write_book(2, [(0, 1, holder, 0, 1, 1) for holder in (900, 3, 900, 12)])
+        )
         (source / "names.csv").write_text("TABLE,NUMBER,NAME\nholder,900,Ash\nholder,3,Beech\nnode,1,Hub\n")
         command("unpack", source, "-o", self.folder / "csv")
-        self.assertEqual([line.split(",")[1] for line in (self.folder / "csv" / "book.csv").read_text().splitlines()[1:]], ["Ash", "Beech", "Ash", "12"])
+        self.assertEqual(
+            [line.split(",")[1] for line in (self.folder / "csv" / "book.csv").read_text().splitlines()[1:]],
+            ["Ash", "Beech", "Ash", "12"],
+        )
         self.assertIn("N0,Hub", (self.folder / "csv" / "book.csv").read_text())
         self.assertEqual(command("pack", self.folder / "csv", "-o", self.folder / "bin")[0], 0)
         self.assertEqual((self.folder / "bin" / "book.bin").read_bytes(), (source / "book.bin").read_bytes())

@@ -1,4 +1,5 @@
-"""The documents: every command of the tutorial, its further pages and the README's first section is run, and what it prints is compared with the page."""
+"""The documents: every command of the tutorial, its further pages and the README's first section is run, and
+what it prints is compared with the page."""
 
 import os
 import re
@@ -31,7 +32,9 @@ class Documents(FolderTest):
         steps = commands(text)
         self.assertGreaterEqual(len(steps), at_least)
         for command, expected in steps:
-            done = subprocess.run(["bash", "-c", command], cwd=self.folder, stdout=subprocess.PIPE, stderr=subprocess.STDOUT)
+            done = subprocess.run(
+                ["bash", "-c", command], cwd=self.folder, stdout=subprocess.PIPE, stderr=subprocess.STDOUT
+            )
             self.assertEqual(done.stdout.decode(), expected, f"after $ {command}")
 
     def test_tutorial(self):
@@ -46,7 +49,9 @@ class Documents(FolderTest):
     def test_readme(self):
         text = (ROOT / "README.md").read_text()
         files = re.findall(r"`(\w+\.csv)`[^\n]*\n\n```csv\n(.*?)```", text, re.S)
-        self.assertEqual([name for name, _ in files], ["constraints.csv", "factors.csv", "book.csv", "prices.csv"])
+        self.assertEqual(
+            [name for name, _ in files], ["constraints.csv", "factors.csv", "book.csv", "prices.csv"]
+        )
         (self.folder / "first").mkdir()
         for name, content in files:
             (self.folder / "first" / name).write_text(content)
@@ -54,7 +59,7 @@ class Documents(FolderTest):
 
     def test_readme_quotes_demand_3(self):
         quoted = re.search(r"^```antt\n(.*?)^```$", (ROOT / "README.md").read_text(), re.S | re.M)
-        contract = (ROOT / "crates/feasibility_test/specs/TestBook.antt").read_text()
+        contract = (ROOT / "crates/test_rules/specs/TestBook.antt").read_text()
         self.assertIn(" ".join(quoted.group(1).split()), " ".join(contract.split()))
 
     def test_links(self):

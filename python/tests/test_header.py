@@ -14,11 +14,11 @@ SIZES, REFUSALS = HEADER.split("Refusals, by number.")
 
 class Header(unittest.TestCase):
     def test_declarations(self):
-        found = {}
+        declared = {}
         for name, parameters in re.findall(r"\buint64_t (crr_\w+)\(([^;]*)\);", CODE):
-            found[name] = re.sub(r"\s+", " ", parameters)
-        self.assertGreater(len(found), 10)
-        self.assertEqual(found, interface.DECLARATIONS)
+            declared[name] = re.sub(r"\s+", " ", parameters)
+        self.assertGreater(len(declared), 10)
+        self.assertEqual(declared, interface.DECLARATIONS)
 
     def test_every_entry_has_a_function(self):
         for name in interface.DECLARATIONS:
@@ -27,20 +27,30 @@ class Header(unittest.TestCase):
             self.assertTrue(callable(getattr(crr, name[len("crr_") :], None)), name)
 
     def test_constants(self):
-        found = {name: int(value) for name, value in re.findall(r"#define CRR_(\w+) +(\d+)", SIZES)}
-        ours = {name: value for name, value in vars(interface).items() if name.isupper() and isinstance(value, int) and not name.endswith("_PLACES")}
-        self.assertEqual(found, ours)
+        defined = {name: int(value) for name, value in re.findall(r"#define CRR_(\w+) +(\d+)", SIZES)}
+        sizes = {
+            name: value
+            for name, value in vars(interface).items()
+            if name.isupper() and isinstance(value, int) and not name.endswith("_PLACES")
+        }
+        self.assertEqual(defined, sizes)
 
     def test_meanings(self):
-        found = {int(number): meaning for number, meaning in re.findall(r"#define CRR_\w+ +(\d+) +/\* (.*?) \*/", REFUSALS)}
-        self.assertEqual(sorted(found), sorted(map(int, re.findall(r"#define CRR_\w+ +(\d+)", REFUSALS))))  # none without its meaning
-        self.assertEqual(found.pop(0), "no refusal")
-        self.assertEqual(found, interface.MEANINGS)
+        meanings = {
+            int(number): meaning
+            for number, meaning in re.findall(r"#define CRR_\w+ +(\d+) +/\* (.*?) \*/", REFUSALS)
+        }
+        # none without its meaning
+        self.assertEqual(sorted(meanings), sorted(map(int, re.findall(r"#define CRR_\w+ +(\d+)", REFUSALS))))
+        self.assertEqual(meanings.pop(0), "no refusal")
+        self.assertEqual(meanings, interface.MEANINGS)
 
     def test_meanings_are_the_library_s(self):
-        told = {number: crr.refusal_text(number) for number in [*range(300), (1 << 64) - 1]}
-        self.assertEqual(told.pop(0), "no refusal")
-        self.assertEqual({number: meaning for number, meaning in told.items() if meaning}, interface.MEANINGS)
+        texts = {number: crr.refusal_text(number) for number in [*range(300), (1 << 64) - 1]}
+        self.assertEqual(texts.pop(0), "no refusal")
+        self.assertEqual(
+            {number: meaning for number, meaning in texts.items() if meaning}, interface.MEANINGS
+        )
         self.assertLessEqual(max(map(len, interface.MEANINGS.values())), interface.REFUSAL_TEXT_BYTES)
 
     def test_refusals_are_listed_by_number_and_name(self):
@@ -54,8 +64,8 @@ class Header(unittest.TestCase):
             plain = re.sub(r"\([^()]*\)", "", words)
             listed = re.search(r"Refusals(?:, in this order)?: (.*?)\.(?: |$)", plain)
             self.assertIsNotNone(listed, name)
-            for number, told in re.findall(r"(?<![\w,])(\d+)(?: ([A-Z_]+))?", listed.group(1)):
-                self.assertEqual(told, names[number], f"{name}: {number}")
+            for number, called in re.findall(r"(?<![\w,])(\d+)(?: ([A-Z_]+))?", listed.group(1)):
+                self.assertEqual(called, names[number], f"{name}: {number}")
 
     def test_units(self):
         for unit, words, places in (
@@ -72,7 +82,11 @@ class Header(unittest.TestCase):
             (interface.LOAD, "load +thousandths of a MW", 3),
         ):
             low, high = re.search(words + r"(?:, | \()(-?[\d,]*\d) to ([\d,]*\d)", HEADER).groups()
-            self.assertEqual((unit.places, unit.low, unit.high), (places, int(low.replace(",", "")), int(high.replace(",", ""))), words)
+            self.assertEqual(
+                (unit.places, unit.low, unit.high),
+                (places, int(low.replace(",", "")), int(high.replace(",", ""))),
+                words,
+            )
             self.assertIn(unit.refusal, interface.MEANINGS)
         self.assertRegex(HEADER, r"flow, excess +10\^-8 MW")
         self.assertRegex(HEADER, r"parts +10\^-8 cents")
@@ -83,7 +97,9 @@ class Header(unittest.TestCase):
     def test_processes_and_periods(self):
         self.assertRegex(HEADER, r"period +0 off-peak, 1 on-peak")
         self.assertRegex(HEADER, r"process +0 annual, 1 Tier LT, 2 monthly")
-        self.assertEqual((crr.PERIODS, crr.PROCESSES), (("off-peak", "on-peak"), ("annual", "Tier LT", "monthly")))
+        self.assertEqual(
+            (crr.PERIODS, crr.PROCESSES), (("off-peak", "on-peak"), ("annual", "Tier LT", "monthly"))
+        )
 
 
 if __name__ == "__main__":

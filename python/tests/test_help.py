@@ -1,5 +1,5 @@
-"""Help, shell completion and the manual page, all made of the commands; and that each command's function takes
-its arguments."""
+"""Help, shell completion and the manual page, all made of the commands; and that each command's function
+takes its arguments."""
 
 import inspect
 import json
@@ -26,8 +26,8 @@ class Commands(unittest.TestCase):
         self.assertGreater(len(listed()), 18)
         for one in listed():
             names = {
-                own.settings.get("dest") or own.names[-1].lstrip("-").replace("-", "_")
-                for own in one.arguments
+                each.settings.get("dest") or each.names[-1].lstrip("-").replace("-", "_")
+                for each in one.arguments
             }
             self.assertEqual(names, set(inspect.signature(one.function).parameters), one.name)
 
@@ -69,7 +69,7 @@ class Completion(FolderTest):
         self.assertLessEqual({"--json", "--help"}, set(before))
         self.assertEqual(sorted(completed(["crr", ""])), sorted([one.name for one in listed()] + before))
         for one in listed():
-            options = [name for own in one.arguments for name in own.names if name.startswith("--")]
+            options = [name for each in one.arguments for name in each.names if name.startswith("--")]
             self.assertEqual(
                 sorted(completed(["crr", one.name, "-"])), sorted(["--json", "--help", *options])
             )
@@ -85,12 +85,13 @@ class Completion(FolderTest):
 
     @unittest.skipUnless(shutil.which("zsh"), "zsh is not installed")
     def test_zsh(self):
-        """zsh reads the script and offers what it says; _describe and _arguments tell what they are handed."""
+        """zsh reads the script and offers what it says; _describe and _arguments tell what they are
+        handed."""
         script = command("completion", "zsh")[1]
         subprocess.run(["zsh", "-n", "-c", script], check=True)
-        told = '_describe() { print -l -- "${commands[@]}" }\n'
-        told += '_arguments() { [[ $1 == -C ]] && { state=$STATE; line=($LINE) } || print -rl -- "$@" }'
-        run = f"compdef() {{ }}\n{script}\n{told}\n_crr"
+        stubs = '_describe() { print -l -- "${commands[@]}" }\n'
+        stubs += '_arguments() { [[ $1 == -C ]] && { state=$STATE; line=($LINE) } || print -rl -- "$@" }'
+        run = f"compdef() {{ }}\n{script}\n{stubs}\n_crr"
         out = {}
         for state, line in (("command", ""), ("argument", "tiers"), ("argument", "help")):
             done = subprocess.run(
@@ -118,8 +119,8 @@ class Manual(FolderTest):
         for one in listed():
             self.assertIn(f".SS {one.name}\n", plain)
             self.assertIn(f"\n{one.help}.\n", plain)
-            for own in one.arguments:
-                self.assertIn(own.settings["help"], plain)
+            for each in one.arguments:
+                self.assertIn(each.settings["help"], plain)
         self.assertIn(parser().epilog.replace("Exit status: ", ""), plain)
 
     @unittest.skipUnless(shutil.which("groff"), "groff is not installed")

@@ -31,8 +31,8 @@ class OtherLibrary(FolderTest):
 
     def test_another_number(self):
         other = interface.INTERFACE + 1
-        told = self.refused(f"unsigned long crr_interface(void) {{ return {other}; }} {NEVER_CALLED}")
-        self.assertIn(f"has interface {other}, and this package is for {interface.INTERFACE}", told)
+        reason = self.refused(f"unsigned long crr_interface(void) {{ return {other}; }} {NEVER_CALLED}")
+        self.assertIn(f"has interface {other}, and this package is for {interface.INTERFACE}", reason)
 
     def test_no_number(self):
         self.assertIn("does not tell its interface", self.refused(NEVER_CALLED))

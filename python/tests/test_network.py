@@ -13,7 +13,14 @@ from crr.network import Line, both_directions, factor, ptdf
 def ieee14():
     with open(IEEE14 / "branches.csv", newline="") as file:
         rows = list(csv.DictReader(file))
-    return [Line(int(row["FROM_BUS"]) - 1, int(row["TO_BUS"]) - 1, Fraction(row["REACTANCE"]) * Fraction(row["TAP_RATIO"])) for row in rows]
+    return [
+        Line(
+            int(row["FROM_BUS"]) - 1,
+            int(row["TO_BUS"]) - 1,
+            Fraction(row["REACTANCE"]) * Fraction(row["TAP_RATIO"]),
+        )
+        for row in rows
+    ]
 
 
 class Matrix(FolderTest):
@@ -33,7 +40,12 @@ class Matrix(FolderTest):
         matrix = ptdf(lines, 14)
         loop = {(0, 1): 1, (1, 4): 1, (0, 4): -1}  # 1-2-5-1
         for at in range(14):
-            drops = [sign * row[at] * line.reactance for line, row in zip(lines, matrix) for ends, sign in loop.items() if (line.start, line.end) == ends]
+            drops = [
+                sign * row[at] * line.reactance
+                for line, row in zip(lines, matrix)
+                for ends, sign in loop.items()
+                if (line.start, line.end) == ends
+            ]
             self.assertEqual((len(drops), sum(drops)), (3, 0))
 
     def test_the_slack_changes_no_flow_between_two_nodes(self):
@@ -56,7 +68,10 @@ class Matrix(FolderTest):
             factor(1.00001)
 
     def test_both_directions(self):
-        self.assertEqual(both_directions([[0.5, 0], [0.25, -1]]), [[50_000, -50_000, 25_000, -25_000], [0, 0, -100_000, 100_000]])
+        self.assertEqual(
+            both_directions([[0.5, 0], [0.25, -1]]),
+            [[50_000, -50_000, 25_000, -25_000], [0, 0, -100_000, 100_000]],
+        )
 
 
 class Example(FolderTest):
@@ -68,7 +83,10 @@ class Example(FolderTest):
     def test_known_factor(self):
         with open(IEEE14 / "factors.csv", newline="") as file:
             rows = {row["NODE_ID"]: row for row in csv.DictReader(file)}
-        self.assertEqual((rows["Bus 2"]["1-2"], rows["Bus 2"]["1-2 reverse"], rows["Bus 8"]["7-8 reverse"]), ("-0.83802", "0.83802", "1.00000"))
+        self.assertEqual(
+            (rows["Bus 2"]["1-2"], rows["Bus 2"]["1-2 reverse"], rows["Bus 8"]["7-8 reverse"]),
+            ("-0.83802", "0.83802", "1.00000"),
+        )
 
 
 if __name__ == "__main__":

@@ -207,11 +207,11 @@ class Page(FolderTest):
                 files["prices"] = b"".join(
                     files.pop(name) for name in sorted(files) if name.startswith("prices/")
                 )
-            told = re.findall(r"<td class=figure>([0-9,]+) bytes</td><td><code>([0-9a-f]{64})</code>", text)
+            hashes = re.findall(r"<td class=figure>([0-9,]+) bytes</td><td><code>([0-9a-f]{64})</code>", text)
             expected = {(f"{len(data):,}", hashlib.sha256(data).hexdigest()) for data in files.values()}
             library = library_path().read_bytes()
-            self.assertEqual(set(told[:-1]), expected)
-            self.assertEqual(told[-1], (f"{len(library):,}", hashlib.sha256(library).hexdigest()))
+            self.assertEqual(set(hashes[:-1]), expected)
+            self.assertEqual(hashes[-1], (f"{len(library):,}", hashlib.sha256(library).hexdigest()))
             self.says(text, "<td>names.csv</td>", f"<td>libcrr.so, version {crr.__version__}</td>")
 
     def test_worst(self):
@@ -233,15 +233,15 @@ class Page(FolderTest):
                 name: total - 10 * percent * 1000
                 for name, percent in (("annual", 65), ("Tier LT", 60), ("monthly", 100))
             }
-            told = "".join(
+            words = "".join(
                 f" <small>over {name} by {exact_megawatts(excess)} MW</small>"
                 for name, excess in over.items()
                 if excess > 0
             )
-            if told:
+            if words:
                 shown += 1
-                row = rf"<th scope=row>{re.escape(names[k])}</th>(?:(?!</tr>).)*{re.escape(told)}</td></tr>"
-                self.assertEqual(len(re.findall(row, text)), 1, (period, names[k], told))
+                row = rf"<th scope=row>{re.escape(names[k])}</th>(?:(?!</tr>).)*{re.escape(words)}</td></tr>"
+                self.assertEqual(len(re.findall(row, text)), 1, (period, names[k], words))
         self.assertGreater(shown, 30)
 
     def test_bars_that_leave_the_scale(self):
@@ -296,9 +296,9 @@ class Page(FolderTest):
             "all": Decimal("11034.2220770875"),
         }
         for month, rent in rents.items():
-            told = re.search(rf"<th scope=row>{month}</th>(.*?)</tr>", text)[1]
+            row = re.search(rf"<th scope=row>{month}</th>(.*?)</tr>", text)[1]
             self.says(
-                told,
+                row,
                 f">{exact_money(str(exact[month]))}<",
                 f">{exact_money(str(rent))}<",
                 f">{exact_money(str(rent - exact[month]))}<",

@@ -346,7 +346,7 @@ class Pickled(unittest.TestCase):
         running = crr.RunningTest(self.GRID, crr.MONTHLY, crr.ON_PEAK)
         running.add((0, 1, 7, 0, 1, 1_000))
         running.mark(1)
-        for make in (lambda own: pickle.loads(pickle.dumps(own)), copy.copy, copy.deepcopy):
+        for make in (lambda before: pickle.loads(pickle.dumps(before)), copy.copy, copy.deepcopy):
             before = self.state(running)
             other = make(running)
             self.assertEqual(self.state(other), before)

@@ -1,5 +1,5 @@
-"""Status and streams: output that can't be written is status 2 and no traceback, names that a terminal can't show
-are escaped; JSON."""
+"""Status and streams: output that can't be written is status 2 and no traceback, names that a terminal can't
+show are escaped; JSON."""
 
 import json
 import os
@@ -119,7 +119,11 @@ class Json(FolderTest):
         self.assertEqual(holder, {"owner": "7", "month": None, "amount": "8.99"})
         answer = json.loads(command("tiers", IEEE14, "--period", "on", "--process", "monthly", "--json")[1])
         self.assertEqual(
-            (answer["out"], answer["operations"][0]["overloaded"], answer["operations"][0]["lowest_numbered"]),
+            (
+                answer["out"],
+                answer["operations"][0]["overloaded"],
+                answer["operations"][0]["lowest_numbered"],
+            ),
             (None, None, None),
         )
         fault = json.loads(command("test", self.folder, "--json")[1])["faults"][0]

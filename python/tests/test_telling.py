@@ -1,5 +1,5 @@
-"""What is told, and how: equal faults once, huge fields in few words, files under other names, links that lead
-nowhere, what check says beside faults."""
+"""What is told, and how: equal faults once, huge fields in few words, files under other names, links that
+lead nowhere, what check says beside faults."""
 
 import json
 import os
@@ -146,7 +146,7 @@ class Huge(Case):
 
 class OtherNames(Case):
     def test_csv(self):
-        for ours, other in (
+        for name, other in (
             ("prices.csv", "Prices.CSV"),
             ("prices.csv", "price.csv"),
             ("prices.csv", "prices.csv.txt"),
@@ -155,15 +155,15 @@ class OtherNames(Case):
             ("constraints.csv", "constraint.csv"),
             ("factors.csv", "Factors.CSV"),
         ):
-            if ours == "names.csv":
-                (self.case / ours).write_text("TABLE,NUMBER,NAME\n")
-            os.rename(self.case / ours, self.case / other)
+            if name == "names.csv":
+                (self.case / name).write_text("TABLE,NUMBER,NAME\n")
+            os.rename(self.case / name, self.case / other)
             said = self.said("check", self.case)
             self.assertEqual(
-                said[0], f"{ours}: not there, and {other} is: it is read under the name {ours} alone"
+                said[0], f"{name}: not there, and {other} is: it is read under the name {name} alone"
             )
             self.assertEqual(self.said("settle", self.case)[0], said[0])
-            os.rename(self.case / other, self.case / ours)
+            os.rename(self.case / other, self.case / name)
         self.assertEqual(command("check", self.case)[0], 0)
 
     def test_all_of_them(self):

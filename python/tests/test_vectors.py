@@ -136,8 +136,8 @@ def play(line: str, states: Dict[str, State], salt: int) -> List[str]:
         if parameter.form == "number":
             words.append(int(given.pop(parameter.name)))
             continue
-        own = lent[parameter.name] = Lent(parameter, beforehand(name, parameter, given, state, salt), salt)
-        words += [own.address] if parameter.form == "figure" else [own.address, own.length]
+        buffer = lent[parameter.name] = Lent(parameter, beforehand(name, parameter, given, state, salt), salt)
+        words += [buffer.address] if parameter.form == "figure" else [buffer.address, buffer.length]
     wrong = [f"{name} has no {key}" for key in given]
     for key, value in written:
         key, _, at = key.rstrip("]").partition("[")
@@ -151,8 +151,8 @@ def play(line: str, states: Dict[str, State], salt: int) -> List[str]:
     got = ENTRIES["crr_" + name].function(*words)
     if got != int(answer):
         wrong.append(f"answers {got}, not {answer}")
-    state.update({key: own.expected[MARGIN:-MARGIN] for key, own in lent.items() if key in STATE})
-    return wrong + [difference for own in lent.values() for difference in own.differences()]
+    state.update({key: buffer.expected[MARGIN:-MARGIN] for key, buffer in lent.items() if key in STATE})
+    return wrong + [difference for buffer in lent.values() for difference in buffer.differences()]
 
 
 class Vectors(unittest.TestCase):

@@ -100,9 +100,9 @@ class Targets(FolderTest):
         (self.place / "page.html").write_text("<!doctype html>\n<title>x: congestion revenue rights</title>")
         os.chmod(self.place / "page.html", 0o640)
         self.assertEqual(command("report", CASE_L, "-o", self.place / "page.html")[0], 0)
-        found = everything(self.place)
+        files = everything(self.place)
         self.assertEqual(
-            (found["page.html.new"], found[".page.html.new"], len(found)), (b"mine", b"mine too", 3)
+            (files["page.html.new"], files[".page.html.new"], len(files)), (b"mine", b"mine too", 3)
         )
         self.assertEqual(stat.S_IMODE((self.place / "page.html").stat().st_mode), 0o640)
         (self.place / "book.csv.new").write_text("mine")
@@ -145,18 +145,18 @@ class Spared(FolderTest):
     def refused(self, *arguments, count=1):
         before = everything(self.folder)
         status, out, err = command(*arguments)
-        told = err.count("is there and differs: choose another ")
-        self.assertEqual((status, out, told, everything(self.folder)), (2, "", count, before))
+        faults = err.count("is there and differs: choose another ")
+        self.assertEqual((status, out, faults, everything(self.folder)), (2, "", count, before))
         self.assertEqual(command(*arguments, "--force")[0], 0)
 
     def test_every_command_has_it(self):
-        def names(own):
-            return {name for argument in own.arguments for name in argument.names}
+        def names(one):
+            return {name for argument in one.arguments for name in argument.names}
 
-        writing = {name for name, own in COMMANDS.items() if "-o" in names(own)}
-        expected = "pack unpack settle report remap market holder settled hub-add tiers migrate"
+        writing = {name for name, one in COMMANDS.items() if "-o" in names(one)}
+        expected = "pack unpack settle report remap market holder canonical hub-add tiers migrate"
         self.assertEqual(writing, set(expected.split()))
-        self.assertEqual({name for name, own in COMMANDS.items() if "--force" in names(own)}, writing)
+        self.assertEqual({name for name, one in COMMANDS.items() if "--force" in names(one)}, writing)
 
     def test_remap_onto_itself(self):
         command("pack", IEEE14, "-o", self.folder / "case")
@@ -205,7 +205,7 @@ class Spared(FolderTest):
         self.assertEqual(command("settle", IEEE14, "-o", self.folder)[0], 0)
 
     def test_views(self):
-        for arguments in (("market",), ("holder", 7), ("settled",)):
+        for arguments in (("market",), ("holder", 7), ("canonical",)):
             place = self.folder / arguments[0]
             place.write_text("mine")
             self.refused(arguments[0], CASE_L, *arguments[1:], "-o", place)
@@ -221,7 +221,7 @@ class Spared(FolderTest):
         before = everything(self.folder)
         for case, names in places.items():
             for name in names:
-                for arguments in (("report",), ("settled",), ("market",), ("report", "--force")):
+                for arguments in (("report",), ("canonical",), ("market",), ("report", "--force")):
                     place = self.folder / case / name
                     status, _, err = command(*arguments, self.folder / case, "-o", place)
                     said = f"{place}: that is a file of the case itself: choose another"
@@ -252,7 +252,7 @@ class Copied(FolderTest):
             "migrate": [files["rows"], files["loads"], "--period", "on"],
         }
 
-    def told(self, damage):
+    def refusal(self, damage):
         """What each command says to a price file that was damaged."""
         hour = "prices/2026-08-01/HE24.bin"
         said = set()
@@ -271,13 +271,13 @@ class Copied(FolderTest):
         return said.pop()
 
     def test_one_byte_more(self):
-        told = self.told(lambda path: path.write_bytes(path.read_bytes() + b"\0"))
-        self.assertIn("length differs", told)
+        refusal = self.refusal(lambda path: path.write_bytes(path.read_bytes() + b"\0"))
+        self.assertIn("length differs", refusal)
 
     def test_a_price_too_large(self):
         self.assertIn(
             "a price above 500,000",
-            self.told(lambda path: path.write_bytes(path.read_bytes()[:1] + b"\xff" * 95)),
+            self.refusal(lambda path: path.write_bytes(path.read_bytes()[:1] + b"\xff" * 95)),
         )
 
     def test_gone(self):
@@ -285,7 +285,7 @@ class Copied(FolderTest):
             path.unlink()
             path.mkdir()
 
-        self.assertIn("Is a directory", self.told(damage))
+        self.assertIn("Is a directory", self.refusal(damage))
 
     def test_without_out(self):
         """Where nothing is copied, price files are not read."""

@@ -1,4 +1,5 @@
-"""Times a year of hours of the largest case on one core, from bin files and from CSV, and a larger book by slices. Not a test: run it by hand.
+"""Times a year of hours of the largest case on one core, from bin files and from CSV, and a larger book by
+slices. Not a test: run it by hand.
 
 Usage: year.py [FOLDER]   where the year's files are made and kept (a temporary folder, if none is named)
 """
@@ -51,7 +52,11 @@ def larger(nodes, constraints, contracts, hours, priced):
         source, sink = rng.sample(range(nodes), 2)
         if rng.random() < 0.7:
             sink = rng.choice([hub for hub in hubs if hub != source])
-        book.append(Contract(int(rng.random() < 0.1), int(rng.random() < 0.6), 0, source, sink, rng.randint(1, 50_000)))
+        book.append(
+            Contract(
+                int(rng.random() < 0.1), int(rng.random() < 0.6), 0, source, sink, rng.randint(1, 50_000)
+            )
+        )
     factors = array("q", [rng.randint(-60_000, 60_000) for _ in range(nodes * constraints)])
     out = []
     for hour in range(hours):
@@ -59,13 +64,20 @@ def larger(nodes, constraints, contracts, hours, priced):
         for k in rng.sample(range(constraints), priced):
             prices[k] = rng.randint(1, 20_000)
         out.append(PricedHour("2026-01-01", 1 + hour, 1, prices))
-    names = Names([str(n) for n in range(nodes)], [str(k) for k in range(constraints)], [str(i) for i in range(contracts)], {})
+    names = Names(
+        [str(n) for n in range(nodes)],
+        [str(k) for k in range(constraints)],
+        [str(i) for i in range(contracts)],
+        {},
+    )
     return Case(names, array("Q", bytes(8 * constraints)), factors, book, out)
 
 
 def main(folder):
     case = larger(2000, 500, 20_000, 24, 40)
-    print(f"20,000 contracts, 2,000 nodes, 500 constraints of which 40 are priced: {len(cut(case.book))} slices")
+    print(
+        f"20,000 contracts, 2,000 nodes, 500 constraints of which 40 are priced: {len(cut(case.book))} slices"
+    )
     timed("settle_sliced on 24 hours of these", lambda: settle_sliced(case), 3)
     if not (folder / "grid.bin").exists():
         make(folder)
@@ -81,7 +93,11 @@ def main(folder):
     rows = sum(1 for _ in open(folder / "csv" / "prices.csv")) - 1
     timed(f"crr check on CSV files with {rows:,} rows of prices", lambda: command("check", folder / "csv"), 2)
     timed("crr settle on these CSV files", lambda: command("settle", folder / "csv"), 2)
-    timed("crr pack on these CSV files, read back and compared", lambda: command("pack", folder / "csv", "-o", folder / "bin"), 1)
+    timed(
+        "crr pack on these CSV files, read back and compared",
+        lambda: command("pack", folder / "csv", "-o", folder / "bin"),
+        1,
+    )
 
 
 if __name__ == "__main__":

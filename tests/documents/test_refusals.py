@@ -32,8 +32,8 @@ UNFIT = (
     " is still open",
     "`walk-spec`: expected type `tie.Need-mul-cents Inv-loop μ-loop`, but this has type `(c : tie.After-cents"
     " Inv-loop μ-loop) → c .before .loop .i < 1000`",
-    "`bad-spec`: expected type `Rattle.tables.proofs.bad.Lts.Closed ?0`\n  but this has type"
-    " `tie.Need-returns-2 → Rattle.tables.proofs.bad.Lts.Closed ?1`",
+    "`bad-spec`: expected type `Rattle.grid_tables.proofs.bad.Lts.Closed ?0`\n  but this has type"
+    " `tie.Need-returns-2 → Rattle.grid_tables.proofs.bad.Lts.Closed ?1`",
     "`four`: a dimension (`0`, `1` or an interval variable) is expected here",
     "`walk-spec`: `close` was not admitted (it has holes or undetermined implicits, or was rejected), so this"
     " cannot be checked",

@@ -57,8 +57,8 @@ static void books(void) {
     expect("no book for the market", crr_write_market_view(1, NULL, 0, NULL, 0, &bytes) == CRR_SHORT_FILE);
     expect("a holder's view of nothing", crr_write_holder_view(1, book_file, 2, 7, NULL, 0, &bytes) == CRR_OK && bytes == 0);
     expect("no book for a holder", crr_write_holder_view(1, NULL, 0, 7, NULL, 0, &bytes) == CRR_SHORT_FILE);
-    expect("no place for a settled book", crr_write_settled_book(1, book_file, 2, NULL, 0, &bytes) == CRR_SHORT_TABLE);
-    expect("no book to settle", crr_write_settled_book(1, NULL, 0, NULL, 0, &bytes) == CRR_SHORT_FILE);
+    expect("no place for a canonical book", crr_write_canonical_book(1, book_file, 2, NULL, 0, &bytes) == CRR_SHORT_TABLE);
+    expect("no book for the canonical form", crr_write_canonical_book(1, NULL, 0, NULL, 0, &bytes) == CRR_SHORT_FILE);
     expect("an empty hub", crr_add_hub_contract(1, book_file, 2, 0, 0, 0, NULL, 0, NULL, 0, 0, 1, NULL, 0, &bytes) == CRR_HUB_SHAPE);
     expect("no row of migration",
            crr_migrate_load(1, CRR_ON_PEAK, book_file, 2, NULL, 0, NULL, 0, NULL, 0, NULL, 0, NULL, 0, loads, 1, file, sizeof file, &bytes) == CRR_OK && bytes == 2);

@@ -1,7 +1,7 @@
 /*
  * Calls every function of crr.h, on case L of document 01: each file read and written
  * again, the grid and the book in both forms, a node retired, the market's view and a
- * holder's, the book settled, a contract from a hub added, the test, the flows, the
+ * holder's, the canonical book, a contract from a hub added, the test, the flows, the
  * cuts, the released shares, the MCC, that of a hub, the hour, the two texts; the
  * calendar; a balance shared; load migrated; a running test with a tier to come back
  * to; the interface's number and a refusal's sentence. Each is called on a thread whose
@@ -34,8 +34,8 @@ static const uint8_t market[] = {0x01, 0x00, 0x40, 0x00, 0x00, 0x10, 0x27, 0x10,
 static const uint8_t view_7[] = {0x00, 0x00, 0x40, 0x70, 0x00, 0x10, 0x27, 0x10, 0x00, 0x02, 0x40, 0x70, 0x00, 0x20, 0x00, 0x01, 7};
 static const uint8_t wide_view_7[] = {0x00, 0x00, 0x40, 0x70, 0x00, 0x00, 0x10, 0x27, 0x10, 0x00, 0x02, 0x40, 0x70, 0x00, 0x00, 0x20, 0x00, 0x01, 7};
 static uint8_t view[CRR_MAX_HOLDER_VIEW_BYTES];
-/* Case L's book in the settled form, and the cell after it. */
-static const uint8_t settled[] = {0x01, 0x00, 0x00, 0x90, 0x00, 0x10, 0x00, 0x05, 0x40, 0x70, 0x00, 0x10, 0x27, 0x10,
+/* Case L's book in the canonical form, and the cell after it. */
+static const uint8_t canonical[] = {0x01, 0x00, 0x00, 0x90, 0x00, 0x10, 0x00, 0x05, 0x40, 0x70, 0x00, 0x10, 0x27, 0x10,
                                   0x40, 0x70, 0x00, 0x20, 0x00, 0x01, 0xc0, 0x80, 0x00, 0x20, 0x01, 0xf4, 7};
 /* Two rows of one contract, wide, and their sum; the cell after it. */
 static const uint8_t split[] = {0x00, 0xbf, 0x40, 0x70, 0x00, 0x00, 0x10, 0x00, 0x05, 0x40, 0x70, 0x00, 0x00, 0x10, 0x00, 0x05};
@@ -140,14 +140,14 @@ static void *others(void *nothing) {
                                                        && bytes == 18 && memcmp(view, wide_view_7, sizeof wide_view_7) == 0);
     expect("crr_write_holder_view, no such holder", crr_write_holder_view(nodes, book_file, book_len, 1024, view, 0, &bytes) == CRR_HOLDER_RANGE && bytes == 18);
     expect("crr_write_holder_view, no contract", crr_write_holder_view(nodes, book_file, book_len, 0, view, 0, &bytes) == CRR_OK && bytes == 0);
-    expect("crr_write_settled_book", crr_write_settled_book(nodes, book_file, book_len, copy, sizeof copy, &bytes) == CRR_OK
-                                         && bytes == 26 && memcmp(copy, settled, sizeof settled) == 0);
-    expect("crr_write_settled_book, again", crr_write_settled_book(nodes, settled, 26, copy, 26, &bytes) == CRR_OK
-                                                && bytes == 26 && memcmp(copy, settled, sizeof settled) == 0);
+    expect("crr_write_canonical_book", crr_write_canonical_book(nodes, book_file, book_len, copy, sizeof copy, &bytes) == CRR_OK
+                                         && bytes == 26 && memcmp(copy, canonical, sizeof canonical) == 0);
+    expect("crr_write_canonical_book, again", crr_write_canonical_book(nodes, canonical, 26, copy, 26, &bytes) == CRR_OK
+                                                && bytes == 26 && memcmp(copy, canonical, sizeof canonical) == 0);
     copy[9] = bytes = 7;
-    expect("crr_write_settled_book, too few bytes", crr_write_settled_book(nodes, split, 16, copy, 8, &bytes) == CRR_SHORT_TABLE
-                                                        && bytes == 7 && memcmp(copy, settled, 9) == 0);
-    expect("crr_write_settled_book, fewer rows, wide", crr_write_settled_book(nodes, split, 16, copy, 9, &bytes) == CRR_OK
+    expect("crr_write_canonical_book, too few bytes", crr_write_canonical_book(nodes, split, 16, copy, 8, &bytes) == CRR_SHORT_TABLE
+                                                        && bytes == 7 && memcmp(copy, canonical, 9) == 0);
+    expect("crr_write_canonical_book, fewer rows, wide", crr_write_canonical_book(nodes, split, 16, copy, 9, &bytes) == CRR_OK
                                                            && bytes == 9 && memcmp(copy, added, sizeof added) == 0);
     copy[44] = 7;
     expect("crr_add_hub_contract", crr_add_hub_contract(nodes, book_file, book_len, 0, CRR_ON_PEAK, 7, hub_nodes, 3, hub_weights, 3, 2, 1000, copy, sizeof copy, &bytes) == CRR_OK

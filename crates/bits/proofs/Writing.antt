@@ -1,4 +1,4 @@
--- Laws of a pen, which writes one field after the other: a turn of its loop, and what it has written after many fields.
+-- Laws of a writer, which writes one field after the other: a turn of its loop, and what it has written after many fields.
 use mathlib.Core.Path.{_≡_, refl, sym, ap, ap₂, _∙_}
 use Prim.Native.Nat.{ℕ, _+_, _-_, _*_, _/_, _%_, _^_, _≤_, _<_}
 use native.Mathlib.Nat.{add-zero, mul-zero, mod-mod, mod-one, mod-lt}
@@ -9,9 +9,9 @@ use lib.Seq.{take-all, take-at, drop-at, length-take-le}
 use lib.Pow.{shl-shr, high, low, mod-pow-add, mod-mod-pow, pow-add, pow-pos}
 use lib.Arith.{digits-lt}
 use Rattle.bits.specs.Bits.{number, digits}
-use Rattle.bits.specs.Fields.{Field, bits, total, packed, fileOf}
-use Rattle.bits.specs.Inner.{written, place, Ready, GoesOn}
-use Rattle.bits.specs.declared.Pen.{Pen}
+use Rattle.bits.specs.Fields.{Field, bits, totalWidth, packed, fileOf}
+use Rattle.bits.specs.Inner.{written, bitsWritten, WriterReady, WritesOn}
+use Rattle.bits.specs.declared.BitWriter.{BitWriter}
 use Rattle.bits.proofs.Numbers.{Below, number-append, number-more, length-digits, digits-number, number-digits, below-take}
 use Rattle.lists.proofs.Fill.{drop-later}
 use Rattle.bits.proofs.Files.{packed-append, total-run, packed-run}
@@ -38,7 +38,7 @@ module _ (a v w : ℕ) (few : w ≤ 32) (fit : v < 2 ^ w) where
       let lost : a % 2 ^ (64 - w) % 2 ^ held ≡ a % 2 ^ held = ap (λ (x : ℕ). a % 2 ^ x % 2 ^ held) most ∙ mod-mod-pow a (64 - w - held) held in
       rw (shifted a w (omega arith)) (mod-pow-add (a % 2 ^ (64 - w) * 2 ^ w + v) held w ∙ rw (high (a % 2 ^ (64 - w)) w fit, low (a % 2 ^ (64 - w)) w fit, lost))
 
--- ---- bytes that leave the pen
+-- ---- bytes that leave the writer
 
 -- n bytes, the highest that are held: what is written does not change, nor do the bytes behind them
 module _ (n : ℕ) (s t : List ℕ) (at w : ℕ) (room : at + n ≤ length s) (is : t ≡ take at s ++ digits 8 n w ++ drop (at + n) s) where
@@ -67,43 +67,43 @@ module _ (n : ℕ) (s t : List ℕ) (at w : ℕ) (room : at + n ≤ length s) (i
 pub put-more : (n held k bits v w : ℕ) → bits ≡ k * 2 ^ w + v → n * 2 ^ (held + w) + bits ≡ (n * 2 ^ held + k) * 2 ^ w + v
 put-more n held k bits v w e = rw (e, pow-add) (omega arith)
 
--- ---- a pen that goes on
+-- ---- a writer that goes on
 
-pub stays : (buf : List ℕ) (p : Pen) → GoesOn buf p buf p
+pub stays : (buf : List ℕ) (p : BitWriter) → WritesOn buf p buf p
 stays buf p = record { onward = omega arith; rest = refl }
 
-pub goes-on : {a b c : List ℕ} {p q r : Pen} → GoesOn a p b q → GoesOn b q c r → GoesOn a p c r
+pub goes-on : {a b c : List ℕ} {p q r : BitWriter} → WritesOn a p b q → WritesOn b q c r → WritesOn a p c r
 goes-on {a} {b} {c} {p} {q} {r} x y = record { onward = omega (arith, x .onward, y .onward); rest = y .rest ∙ drop-later b a (q .at) (r .at) (y .onward) (x .rest) }
 
--- ---- a pen that started at the beginning and put the fields one by one
+-- ---- a writer that started at the beginning and put the fields one by one
 
 -- at the beginning nothing is written
-pub pen-start : (buf : List ℕ) (p : Pen) → Ready p → place p ≡ 0 → written buf p ≡ packed []
+pub writer-start : (buf : List ℕ) (p : BitWriter) → WriterReady p → bitsWritten p ≡ 0 → written buf p ≡ packed []
 unfolding written
-pen-start buf p ok at =
+writer-start buf p ok at =
     let h : p .held ≡ 0 = omega arith in
     let a : p .at ≡ 0 = omega arith in
     rw (h, a, mod-one (p .bits)) (omega arith)
 
 -- one field more: Y was written before it, Z after it
-pub pen-step : (fs : List Field) (w v Y Z : ℕ) → Y ≡ packed fs → Z ≡ Y * 2 ^ w + v → Z ≡ packed (fs ++ bits w v ∷ [])
-pen-step fs w v Y Z y z = z ∙ rw (y, packed-append, add-zero w) (omega arith)
+pub writer-step : (fs : List Field) (w v Y Z : ℕ) → Y ≡ packed fs → Z ≡ Y * 2 ^ w + v → Z ≡ packed (fs ++ bits w v ∷ [])
+writer-step fs w v Y Z y z = z ∙ rw (y, packed-append, add-zero w) (omega arith)
 
--- what stands before a pen between two bytes
-pub pen-bytes : (buf : List ℕ) (r : Pen) (m : ℕ) → Ready r → r .held ≤ 7 → place r ≡ 8 * m → written buf r ≡ number 8 (take m buf)
+-- what stands before a writer between two bytes
+pub writer-bytes : (buf : List ℕ) (r : BitWriter) (m : ℕ) → WriterReady r → r .held ≤ 7 → bitsWritten r ≡ 8 * m → written buf r ≡ number 8 (take m buf)
 unfolding written
-pen-bytes buf r m ok few end =
+writer-bytes buf r m ok few end =
     let h : r .held ≡ 0 = omega arith in
     let a : r .at ≡ m = omega arith in
     rw (h, a, mod-one (r .bits)) (omega arith)
 
 -- at the end the bytes are the file of the fields
-pub pen-end : (fs : List Field) (m : ℕ) (buf : List ℕ) (r : Pen) → Below 8 buf → m ≤ length buf → Ready r → r .held ≤ 7 → place r ≡ total fs → total fs ≡ 8 * m
+pub writer-end : (fs : List Field) (m : ℕ) (buf : List ℕ) (r : BitWriter) → Below 8 buf → m ≤ length buf → WriterReady r → r .held ≤ 7 → bitsWritten r ≡ totalWidth fs → totalWidth fs ≡ 8 * m
     → written buf r ≡ packed fs → take m buf ≡ fileOf fs
 unfolding fileOf
-pen-end fs m buf r b le ok few at end is =
-    let n : length (take m buf) ≡ total fs / 8 = omega (arith, length-take-le m buf le) in
-    sym (digits-number 8 (take m buf) (below-take 8 m buf b)) ∙ ap₂ (digits 8) n (sym (pen-bytes buf r m ok few (at ∙ end)) ∙ is)
+writer-end fs m buf r b le ok few at end is =
+    let n : length (take m buf) ≡ totalWidth fs / 8 = omega (arith, length-take-le m buf le) in
+    sym (digits-number 8 (take m buf) (below-take 8 m buf b)) ∙ ap₂ (digits 8) n (sym (writer-bytes buf r m ok few (at ∙ end)) ∙ is)
 
 -- ---- a run t of fields of w bits, behind what was written before, X
 

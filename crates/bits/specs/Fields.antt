@@ -12,15 +12,15 @@ abbrev pub bits : ℕ → ℕ → Field
 bits w v = record { width = w; value = v }
 
 -- how many bits the fields take
-abbrev pub total : List Field → ℕ
-total [] = 0
-total (f ∷ fs) = f .width + total fs
+abbrev pub totalWidth : List Field → ℕ
+totalWidth [] = 0
+totalWidth (f ∷ fs) = f .width + totalWidth fs
 
 -- the fields as one number
 abbrev pub packed : List Field → ℕ
 packed [] = 0
-packed (f ∷ fs) = f .value * 2 ^ total fs + packed fs
+packed (f ∷ fs) = f .value * 2 ^ totalWidth fs + packed fs
 
 -- the fields as bytes, where they fill whole bytes
 unfoldable pub fileOf : List Field → List ℕ
-fileOf fs = digits 8 (total fs / 8) (packed fs)
+fileOf fs = digits 8 (totalWidth fs / 8) (packed fs)

@@ -1,11 +1,11 @@
--- What inner functions and proofs say: fields that fit and fields that bytes hold; a pen that writes fields one after the other; digits the other way round.
+-- What inner functions and proofs say: fields that fit and fields that bytes hold; a writer that writes fields one after the other; digits the other way round.
 use mathlib.Core.Path.{_≡_}
 use Prim.Native.Nat.{ℕ, zero, suc, _+_, _*_, _/_, _%_, _^_, _≤_, _<_}
 use mathlib.Core.List.{List, [], _∷_}
 use lib.ListN.{take, drop}
 use Rattle.bits.specs.Bits.{number, field}
 use Rattle.bits.specs.Fields.{Field}
-use Rattle.bits.specs.declared.Pen.{Pen}
+use Rattle.bits.specs.declared.BitWriter.{BitWriter}
 
 -- ---- fields
 
@@ -15,26 +15,26 @@ Fit [] = Unit
 Fit (f ∷ fs) = (f .value < 2 ^ f .width) × Fit fs
 
 -- the bytes s hold the fields from bit o on
-abbrev pub Holds : List ℕ → ℕ → List Field → Type 0
-Holds s o [] = Unit
-Holds s o (f ∷ fs) = (field s o (f .width) ≡ f .value) × Holds s (o + f .width) fs
+abbrev pub HoldsFields : List ℕ → ℕ → List Field → Type 0
+HoldsFields s o [] = Unit
+HoldsFields s o (f ∷ fs) = (field s o (f .width) ≡ f .value) × HoldsFields s (o + f .width) fs
 
--- ---- a pen
+-- ---- a writer
 
 -- the bytes before its place, and the bits that it holds, its lowest, which are not stored yet
-unfoldable pub written : List ℕ → Pen → ℕ
+unfoldable pub written : List ℕ → BitWriter → ℕ
 written s p = number 8 (take (p .at) s) * 2 ^ (p .held) + p .bits % 2 ^ (p .held)
 
--- how many bits a pen has written
-abbrev pub place : Pen → ℕ
-place p = 8 * p .at + p .held
+-- how many bits a writer has written
+abbrev pub bitsWritten : BitWriter → ℕ
+bitsWritten p = 8 * p .at + p .held
 
--- a pen between two fields holds less than four bytes
-abbrev pub Ready : Pen → Type 0
-Ready p = p .held ≤ 31
+-- a writer between two fields holds less than four bytes
+abbrev pub WriterReady : BitWriter → Type 0
+WriterReady p = p .held ≤ 31
 
--- a pen that goes on: it never goes back, and the bytes from its new place on stay as they are
-pub record GoesOn (entry : List ℕ) (p : Pen) (exit : List ℕ) (r : Pen) : Type 0 where
+-- a writer that goes on: it never goes back, and the bytes from its new place on stay as they are
+pub record WritesOn (entry : List ℕ) (p : BitWriter) (exit : List ℕ) (r : BitWriter) : Type 0 where
   pub onward : p .at ≤ r .at
   pub rest : drop (r .at) exit ≡ drop (r .at) entry
 

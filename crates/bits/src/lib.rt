@@ -5,7 +5,7 @@ ghost use Prim.Native.Nat.{ℕ, _+_, _-_, _*_, _/_, _%_, _^_, _≤_, _<_};
 ghost use lib.Signed.{mag};
 ghost use lib.ListN.{length, take, drop};
 ghost use Rattle.bits.specs.Bits.{number, digits, field as fieldOf};
-ghost use Rattle.bits.specs.Inner.{written, place, Ready, GoesOn, numberUp, digitsUp};
+ghost use Rattle.bits.specs.Inner.{written, bitsWritten, WriterReady, WritesOn, numberUp, digitsUp};
 ghost use Rattle.bits.specs.Signed.{ofInt, toInt};
 ghost use Rattle.lists.specs.Lent.{before, after};
 
@@ -69,7 +69,7 @@ pub fn part(v: u64, low: usize, width: usize) -> u64
 }
 
 // Eight bytes from `first` on as one number, the first the lowest. In this order the compiler makes one load of the sum before it sees what is taken from it.
-fn rising8(s: &[u8], first: usize) -> u64
+fn load8_le(s: &[u8], first: usize) -> u64
     requires { ⌜ first + 8 ≤ length (now s) ⌝ }
     ensures { λ r. ⌜ r ≡ numberUp 8 (take 8 (drop first (before s))) ⌝ }
 {
@@ -86,7 +86,7 @@ fn rising8(s: &[u8], first: usize) -> u64
 }
 
 // The eight bytes of `v` in the other order: one instruction.
-fn turned(v: u64) -> u64
+fn swap_bytes(v: u64) -> u64
     ensures { λ r. ⌜ r ≡ number 8 (digitsUp 8 8 v) ⌝ }
 {
     let a = part(v, 0, 8);
@@ -106,7 +106,7 @@ pub fn window8(s: &[u8], first: usize) -> u64
     requires { ⌜ first + 8 ≤ length (now s) ⌝ }
     ensures { λ r. ⌜ r ≡ number 8 (take 8 (drop first (before s))) ⌝ }
 {
-    turned(rising8(s, first))
+    swap_bytes(load8_le(s, first))
 }
 
 // The field out of the `count` bytes from its first on, of which `acc` is the number. `s` is here for the contract alone.
@@ -136,7 +136,7 @@ pub fn field(s: &[u8], offset: usize, width: usize) -> u64
 }
 
 // The field of `width` bits at bit `offset`, where it ends behind the first seven bytes: the eight bytes that end with it are there, and nothing is asked.
-pub fn late_field(s: &[u8], offset: usize, width: usize) -> u64
+pub fn load_field(s: &[u8], offset: usize, width: usize) -> u64
     requires { ⌜ (57 ≤ offset + width) × (offset + width ≤ 8 * length (now s)) ⌝ }
     requires { ⌜ (offset < 2 ^ 32) × (1 ≤ width) × (width ≤ 32) ⌝ }
     ensures { λ r. ⌜ (r ≡ fieldOf (before s) offset width) × (r < 2 ^ width) ⌝ }
@@ -146,7 +146,7 @@ pub fn late_field(s: &[u8], offset: usize, width: usize) -> u64
 }
 
 // Where a writer stands: `at` whole bytes are written, and `held` bits more wait, the lowest of `bits`.
-pub struct Pen {
+pub struct BitWriter {
     pub at: usize,
     pub held: usize,
     pub bits: u64,
@@ -187,7 +187,7 @@ fn store4(buf: &mut [u8], at: usize, v: u64)
 }
 
 // Stores the two lowest bytes of `v` from place `at` on, the lowest first.
-fn lay2(buf: &mut [u8], at: usize, v: u64)
+fn store2_le(buf: &mut [u8], at: usize, v: u64)
     requires { ⌜ at + 2 ≤ length (now buf) ⌝ }
     ensures { λ r. ⌜ after buf ≡ take at (before buf) ++ digitsUp 8 2 v ++ drop (at + 2) (before buf) ⌝ }
 {
@@ -196,22 +196,22 @@ fn lay2(buf: &mut [u8], at: usize, v: u64)
 }
 
 // Stores the four lowest bytes of `v` from place `at` on, the lowest first.
-fn lay4(buf: &mut [u8], at: usize, v: u64)
+fn store4_le(buf: &mut [u8], at: usize, v: u64)
     requires { ⌜ at + 4 ≤ length (now buf) ⌝ }
     ensures { λ r. ⌜ after buf ≡ take at (before buf) ++ digitsUp 8 4 v ++ drop (at + 4) (before buf) ⌝ }
 {
-    lay2(buf, at, v);
-    lay2(buf, at + 2, v >> 16);
+    store2_le(buf, at, v);
+    store2_le(buf, at + 2, v >> 16);
 }
 
-// Stores the six lowest bytes of `v` from place `at` on: a record of 48 bits. Turned first, the number stays one for the compiler, which makes two stores.
+// Stores the six lowest bytes of `v` from place `at` on: a record of 48 bits. Swapped first, the number stays one for the compiler, which makes two stores.
 pub fn store6(buf: &mut [u8], at: usize, v: u64)
     requires { ⌜ at + 6 ≤ length (now buf) ⌝ }
     ensures { λ r. ⌜ after buf ≡ take at (before buf) ++ digits 8 6 v ++ drop (at + 6) (before buf) ⌝ }
 {
-    let up = turned(v) >> 16;
-    lay4(buf, at, up);
-    lay2(buf, at + 4, up >> 32);
+    let up = swap_bytes(v) >> 16;
+    store4_le(buf, at, up);
+    store2_le(buf, at + 4, up >> 32);
 }
 
 // Stores the seven lowest bytes of `v` from place `at` on: a record of 56 bits.
@@ -223,60 +223,60 @@ pub fn store7(buf: &mut [u8], at: usize, v: u64)
     store1(buf, at, v >> 48);
 }
 
-// Writes `v` as the next `width` bits: four bytes leave the pen at once, as soon as it holds them.
-pub fn put(buf: &mut [u8], pen: Pen, v: u64, width: usize) -> Pen
-    requires { ⌜ Ready pen ⌝ }
+// Writes `v` as the next `width` bits: four bytes leave the writer at once, as soon as it holds them.
+pub fn put(buf: &mut [u8], writer: BitWriter, v: u64, width: usize) -> BitWriter
+    requires { ⌜ WriterReady writer ⌝ }
     requires { ⌜ (v < 2 ^ width) × (width ≤ 32) ⌝ }
-    requires { ⌜ place pen + width ≤ 8 * length (now buf) ⌝ }
-    ensures { λ r. ⌜ written (after buf) r ≡ written (before buf) pen * 2 ^ width + v ⌝ }
-    ensures { λ r. ⌜ (place r ≡ place pen + width) × Ready r ⌝ }
-    ensures { λ r. ⌜ GoesOn (before buf) pen (after buf) r ⌝ }
+    requires { ⌜ bitsWritten writer + width ≤ 8 * length (now buf) ⌝ }
+    ensures { λ r. ⌜ written (after buf) r ≡ written (before buf) writer * 2 ^ width + v ⌝ }
+    ensures { λ r. ⌜ (bitsWritten r ≡ bitsWritten writer + width) × WriterReady r ⌝ }
+    ensures { λ r. ⌜ WritesOn (before buf) writer (after buf) r ⌝ }
 {
-    let at = pen.at;
-    let held = pen.held + width;
-    let bits = join(pen.bits, v, width);
+    let at = writer.at;
+    let held = writer.held + width;
+    let bits = join(writer.bits, v, width);
     if held < 32 {
-        return Pen { at, held, bits };
+        return BitWriter { at, held, bits };
     }
     let rest = held - 32;
     store4(buf, at, part(bits, rest, 32));
-    Pen {
+    BitWriter {
         at: at + 4,
         held: rest,
         bits,
     }
 }
 
-// Stores the whole bytes that a pen holds.
-fn shed(buf: &mut [u8], pen: Pen) -> Pen
-    requires { ⌜ Ready pen ⌝ }
-    requires { ⌜ place pen ≤ 8 * length (now buf) ⌝ }
-    ensures { λ r. ⌜ written (after buf) r ≡ written (before buf) pen ⌝ }
-    ensures { λ r. ⌜ (place r ≡ place pen) × (r .held ≤ 7) × Ready r ⌝ }
-    ensures { λ r. ⌜ GoesOn (before buf) pen (after buf) r ⌝ }
+// Stores the whole bytes that a writer holds.
+fn flush(buf: &mut [u8], writer: BitWriter) -> BitWriter
+    requires { ⌜ WriterReady writer ⌝ }
+    requires { ⌜ bitsWritten writer ≤ 8 * length (now buf) ⌝ }
+    ensures { λ r. ⌜ written (after buf) r ≡ written (before buf) writer ⌝ }
+    ensures { λ r. ⌜ (bitsWritten r ≡ bitsWritten writer) × (r .held ≤ 7) × WriterReady r ⌝ }
+    ensures { λ r. ⌜ WritesOn (before buf) writer (after buf) r ⌝ }
 {
-    let mut at = pen.at;
-    let mut held = pen.held;
-    let bits = pen.bits;
+    let mut at = writer.at;
+    let mut held = writer.held;
+    let bits = writer.bits;
     while 8 <= held {
         held -= 8;
         store1(buf, at, part(bits, held, 8));
         at += 1;
     }
-    Pen { at, held, bits }
+    BitWriter { at, held, bits }
 }
 
-// Writes `v` as the last `width` bits: no whole byte stays in the pen.
-pub fn put_last(buf: &mut [u8], pen: Pen, v: u64, width: usize) -> Pen
-    requires { ⌜ Ready pen ⌝ }
+// Writes `v` as the last `width` bits: no whole byte stays in the writer.
+pub fn put_last(buf: &mut [u8], writer: BitWriter, v: u64, width: usize) -> BitWriter
+    requires { ⌜ WriterReady writer ⌝ }
     requires { ⌜ (v < 2 ^ width) × (width ≤ 32) ⌝ }
-    requires { ⌜ place pen + width ≤ 8 * length (now buf) ⌝ }
-    ensures { λ r. ⌜ written (after buf) r ≡ written (before buf) pen * 2 ^ width + v ⌝ }
-    ensures { λ r. ⌜ (place r ≡ place pen + width) × (r .held ≤ 7) × Ready r ⌝ }
-    ensures { λ r. ⌜ GoesOn (before buf) pen (after buf) r ⌝ }
+    requires { ⌜ bitsWritten writer + width ≤ 8 * length (now buf) ⌝ }
+    ensures { λ r. ⌜ written (after buf) r ≡ written (before buf) writer * 2 ^ width + v ⌝ }
+    ensures { λ r. ⌜ (bitsWritten r ≡ bitsWritten writer + width) × (r .held ≤ 7) × WriterReady r ⌝ }
+    ensures { λ r. ⌜ WritesOn (before buf) writer (after buf) r ⌝ }
 {
-    let last = put(buf, pen, v, width);
-    shed(buf, last)
+    let last = put(buf, writer, v, width);
+    flush(buf, last)
 }
 
 // 2 to the power of `k`.

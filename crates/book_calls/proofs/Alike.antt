@@ -9,33 +9,30 @@ use Rattle.lists.specs.Lists.{listTo}
 use Rattle.lists.specs.Lent.{Lent, before, after}
 use Rattle.lists.proofs.Lists.{length-listTo}
 use Rattle.lists.proofs.Fronts.{front-is}
-use Rattle.tariff.specs.declared.processes.Process.{Process}
-use Rattle.tariff.specs.declared.contracts.Contract.{Contract}
 use Rattle.tariff.specs.declared.refusals.Checked.{Checked}
 use Rattle.tariff.specs.declared.refusals.Checked.the-variants.{Passed, Refused}
-use Rattle.tariff.specs.Units.{Grid, factorsOf}
+use Rattle.tariff.specs.Units.{factorsOf}
 use Rattle.tariff.specs.Contracts.{periodOf}
 use Rattle.tariff.specs.Refusals.{Check, Outcome, first, decided, answered, cellsAfter, numberAfter}
 use Rattle.tariff.specs.Checks.{nodeCount, constraintCount, periodNumber, shortTable, limitRange, factorRange, priceRange}
-use Rattle.tariff.specs.Feasibility.{totalFlow, lowestOverload}
 use Rattle.tariff.specs.Settlement.{wholeCents, parts}
 use Rattle.tariff.proofs.Answers.{given-told, number-of, none-refused, figure-is}
 use Rattle.tariff.proofs.Checks.{first-append, append-passes, first-passes, last-passes}
 use Rattle.layouts.specs.BookFile.{contractCountIn}
-use Rattle.tables.specs.TableChecks.{gridTableChecks}
-use Rattle.books.specs.BookChecks.{bookChecks}
-use Rattle.books.proofs.Accepted.{own-parts}
-use Rattle.feasibility_test.specs.declared.TestAnswer.{TestAnswer}
-use Rattle.feasibility_test.specs.declared.TestAnswer.the-variants.{Pass}
-use Rattle.feasibility_test.specs.TestBook.{TestCall, testCall, testOutcome, TestsBook, testChecks, testChecked, testedGrid, testedProcess, testedContracts, testValues, TestCells, testCells, testedCells}
-use Rattle.feasibility_test.proofs.Judging.{passed-told}
-use Rattle.flows.specs.declared.FlowsAnswer.{FlowsAnswer}
-use Rattle.flows.specs.FindFlows.{FlowsCall, flowsCall, findFlowsChecks, findFlowsChecked, countedContracts, flowCells, flowsOutcome, FindsFlows}
-use Rattle.settlement.specs.declared.SettleAnswer.{SettleAnswer}
-use Rattle.settlement.specs.declared.SettleAnswer.the-variants.{Settled}
-use Rattle.settlement.specs.SettleHour.{HourCall, hourCall, settleOutcome, SettlesHour, SettlesForC, settleChecks, settleChecked, hourTotal, hourFactors, hourPrices, hourPeriod, sumGiven, exactGiven}
-use Rattle.reorder_rules.proofs.Figures.{overloads-by}
-use Rattle.reordering.specs.ForC.{HourFigures}
+use Rattle.grid_tables.specs.TableChecks.{gridTableChecks}
+use Rattle.book_rules.specs.BookChecks.{bookChecks}
+use Rattle.book_rules.proofs.Accepted.{own-parts}
+use Rattle.test_rules.specs.declared.TestAnswer.{TestAnswer}
+use Rattle.test_rules.specs.declared.TestAnswer.the-variants.{Pass}
+use Rattle.test_rules.specs.TestBook.{TestCall, testCall, testOutcome, TestsBook, testChecks, testChecked, testedGrid, testedProcess, testedContracts, testValues, TestCells, testedCells}
+use Rattle.test_rules.proofs.Figures.{same-test, same-cells}
+use Rattle.test_rules.proofs.Judging.{passed-told}
+use Rattle.test_loading.specs.declared.FlowsAnswer.{FlowsAnswer}
+use Rattle.test_loading.specs.FindFlows.{FlowsCall, flowsCall, findFlowsChecks, findFlowsChecked, countedContracts, flowCells, flowsOutcome, FindsFlows}
+use Rattle.hour_rules.specs.declared.SettleAnswer.{SettleAnswer}
+use Rattle.hour_rules.specs.declared.SettleAnswer.the-variants.{Settled}
+use Rattle.hour_rules.specs.SettleHour.{HourCall, hourCall, settleOutcome, SettlesHour, SettlesForC, settleChecks, settleChecked, hourTotal, hourFactors, hourPrices, hourPeriod, sumGiven, exactGiven}
+use Rattle.order_calls.specs.ForC.{HourFigures}
 use Rattle.book_calls.specs.Alike.{AlikeBooks, FlowsAlike, RoomFor, AnsweredAlike}
 
 -- the number of each answer is its checks'
@@ -70,16 +67,6 @@ pub around : (xs : List Check) (bs cs ys zs : List Check) → first bs ≡ Passe
 around xs bs cs ys zs b c e =
     first-append xs (bs ++ ys) ∙ ap (decided (first xs) Refused) (append-passes bs ys b ∙ e ∙ sym (append-passes cs zs c)) ∙ sym (first-append xs (cs ++ zs))
 
--- the figures are those of the flows
-module _ (g : Grid) (process : Process) (cs ds : List Contract) (e : (k : ℕ) → totalFlow (g .factors) cs k ≡ totalFlow (g .factors) ds k) where
-  values-same : testValues g process cs ≡ testValues g process ds
-  unfolding testValues
-  values-same = let o = overloads-by g process cs ds e in rw (o .set-same, o .count-same, o .lowest-same, o .excess-same (lowestOverload g process ds))
-
-  cells-same : testCells g process cs ≡ testCells g process ds
-  unfolding testCells
-  cells-same = let o = overloads-by g process cs ds e in rw (o .set-same, o .count-same, o .lowest-same, o .excess-same (lowestOverload g process ds))
-
 module _ (n : ℕ) (s t : List ℕ) (h : AlikeBooks n s t) where
   own-s : first (bookChecks n s) ≡ Passed
   own-s = own-parts n s (h .accepted) .1
@@ -103,10 +90,10 @@ module _ (n : ℕ) (s t : List ℕ) (h : AlikeBooks n s t) where
         first-append tables (bookChecks n s) ∙ ap (decided (first tables) Refused) (own-s ∙ sym own-t) ∙ sym (first-append tables (bookChecks n t))
 
     test-values : testValues (testedGrid onS) (testedProcess onS) (testedContracts onS) ≡ testValues (testedGrid onT) (testedProcess onT) (testedContracts onT)
-    test-values = values-same (testedGrid onS) (testedProcess onS) (testedContracts onS) (testedContracts onT) (h .flows-same (testedGrid onS .factors) (periodOf period))
+    test-values = same-test (testedGrid onS) (testedProcess onS) (testedContracts onS) (testedContracts onT) (h .flows-same (testedGrid onS .factors) (periodOf period)) .figures-same
 
     test-cells : testedCells onS ≡ testedCells onT
-    test-cells = cells-same (testedGrid onS) (testedProcess onS) (testedContracts onS) (testedContracts onT) (h .flows-same (testedGrid onS .factors) (periodOf period))
+    test-cells = same-cells (testedGrid onS) (testedProcess onS) (testedContracts onS) (testedContracts onT) (h .flows-same (testedGrid onS .factors) (periodOf period))
 
     test-same : (a b : TestAnswer) → TestsBook onS a → TestsBook onT b → testOutcome a ≡ testOutcome b
     test-same a b p q = p .figures ∙ (λ i. answered (test-checks i) (test-values i)) ∙ sym (q .figures)

@@ -14,13 +14,13 @@ use Rattle.tariff.proofs.Checks.{passed-append}
 use Rattle.layouts.specs.declared.WriteAnswer.the-variants.{Written}
 use Rattle.layouts.specs.BookFile.{bookBytes, contractCountIn, bookFormIn}
 use Rattle.layouts.proofs.Writing.{writes-told, size-told, written-by}
-use Rattle.books.specs.BookChecks.{ownChecks, bookChecks}
-use Rattle.books.proofs.Accepted.{own-parts}
+use Rattle.book_rules.specs.BookChecks.{ownChecks, bookChecks}
+use Rattle.book_rules.proofs.Accepted.{own-parts}
 use Rattle.view_rules.specs.Views.{marketFile}
 use Rattle.view_rules.specs.MarketView.{marketViewCall, marketViewChecks, marketViewChecked, WritesMarketView}
 use Rattle.view_rules.proofs.Theorems.{market-is-a-book}
-use Rattle.market_figures.proofs.Theorems.{market-figures}
-use Rattle.settlement.specs.SettleHour.{HourCall, hourCall, hourTotal, settleChecks, settleChecked, hourFactors, hourPrices, hourPeriod, centsCells, pricedCells, sumGiven, exactGiven}
+use Rattle.view_figures.proofs.Theorems.{market-figures}
+use Rattle.hour_rules.specs.SettleHour.{HourCall, hourCall, hourTotal, settleChecks, settleChecked, hourFactors, hourPrices, hourPeriod, centsCells, pricedCells, sumGiven, exactGiven}
 use Rattle.book_calls.specs.Alike.{AnsweredAlike}
 use Rattle.book_calls.specs.Market.{EqualRoom, SamePlaces, HourAlike, MarketCalls}
 use Rattle.book_calls.proofs.Alike.{around, answered-alike}

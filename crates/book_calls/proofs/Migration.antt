@@ -9,10 +9,10 @@ use Rattle.tariff.specs.Refusals.{first}
 use Rattle.tariff.proofs.Checks.{passed-append}
 use Rattle.layouts.specs.declared.WriteAnswer.the-variants.{Written}
 use Rattle.layouts.proofs.Writing.{writes-told, written-by}
-use Rattle.books.specs.BookChecks.{ownChecks}
-use Rattle.load_migration.specs.MigrateLoad.{MigrateLoadCall, migrateLoadChecked, bookMigrated, MigratesLoad}
-use Rattle.load_migration.proofs.Passing.{inputOf, split, input-own}
-use Rattle.load_migration.proofs.Theorems.{new-book-accepted, new-book-keeps}
+use Rattle.book_rules.specs.BookChecks.{ownChecks}
+use Rattle.migration_book.specs.MigrateLoad.{MigrateLoadCall, migrateLoadChecked, bookMigrated, MigratesLoad}
+use Rattle.migration_book.proofs.Passing.{inputOf, split, input-own}
+use Rattle.migration_book.proofs.Theorems.{new-book-accepted, new-book-keeps}
 use Rattle.book_calls.specs.Alike.{AnsweredAlike}
 use Rattle.book_calls.specs.Migration.{MigrationCalls}
 use Rattle.book_calls.proofs.Alike.{answered-alike}

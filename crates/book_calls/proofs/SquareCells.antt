@@ -14,8 +14,8 @@ use Rattle.lists.specs.Lists.{listTo}
 use Rattle.lists.specs.Lent.{overwrite}
 use Rattle.lists.proofs.Lists.{length-listTo, getD-listTo, map-listTo, flatMap-last}
 use Rattle.lists.proofs.Fronts.{front-at}
-use Rattle.migration_rules.specs.Transfers.{Row, net}
-use Rattle.transfer_square.specs.NetTransfers.{squareCells}
+use Rattle.migration_rules.specs.Transfers.{MigrationRow, net}
+use Rattle.migration_square.specs.NetTransfers.{squareCells}
 
 module _ (n : ℕ) (F : ℕ → List ℤ) (wide : (i : ℕ) → length (F i) ≡ n) where
   rows-long : (m : ℕ) → length (flatMap F (listTo m suc)) ≡ m * n
@@ -45,7 +45,7 @@ module _ (n : ℕ) (F : ℕ → List ℤ) (wide : (i : ℕ) → length (F i) ≡
           let last : i ≡ m = omega (arith, ltb-false i m e) in
           rw last (ap (λ (a : ℕ). getD (flatMap F (listTo m suc) ++ F (suc m)) (a + j) d) (sym (rows-long m)) ∙ getD-append-add (flatMap F (listTo m suc)) (F (suc m)) j d)
 
-module _ (n : ℕ) (rows : List Row) where
+module _ (n : ℕ) (rows : List MigrationRow) where
   abbrev rowOf : ℕ → List ℤ
   rowOf i = map (net rows i) (listTo n suc)
 

@@ -1,5 +1,5 @@
 -- Two books that a market can't tell apart by flows and exact totals, and what the entries and the C functions answer on them. Statements only; papers 5 and 11 of
--- document 02 are instances (Migration.antt, Settled.antt), and the market's view of paper 10 is another (Market.antt).
+-- document 02 are instances (Migration.antt, Canonical.antt), and the market's view of paper 10 is another (Market.antt).
 use mathlib.Core.Path.{_≡_}
 use mathlib.Core.Logic.{_↔_}
 use mathlib.Core.List.{List}
@@ -15,16 +15,16 @@ use Rattle.tariff.specs.Refusals.{first}
 use Rattle.tariff.specs.Feasibility.{totalFlow}
 use Rattle.tariff.specs.Settlement.{exactTotal}
 use Rattle.layouts.specs.BookFile.{contractCountIn, bookIn}
-use Rattle.books.specs.BookChecks.{ownChecks}
-use Rattle.feasibility_test.specs.declared.TestAnswer.{TestAnswer}
-use Rattle.feasibility_test.specs.declared.TestAnswer.the-variants.{Pass}
-use Rattle.feasibility_test.specs.TestBook.{testCall, testOutcome, TestsBook, TestsBookForC}
-use Rattle.flows.specs.declared.FlowsAnswer.{FlowsAnswer}
-use Rattle.flows.specs.FindFlows.{flowsCall, flowsOutcome, FindsFlows, FindsFlowsForC}
-use Rattle.settlement.specs.declared.SettleAnswer.{SettleAnswer}
-use Rattle.settlement.specs.declared.SettleAnswer.the-variants.{Settled}
-use Rattle.settlement.specs.SettleHour.{hourCall, settleOutcome, SettlesHour, SettlesForC}
-use Rattle.reordering.specs.ForC.{TestFigures, SameFigures, HourFigures}
+use Rattle.book_rules.specs.BookChecks.{ownChecks}
+use Rattle.test_rules.specs.declared.TestAnswer.{TestAnswer}
+use Rattle.test_rules.specs.declared.TestAnswer.the-variants.{Pass}
+use Rattle.test_rules.specs.TestBook.{testCall, testOutcome, TestsBook, TestsBookForC}
+use Rattle.test_loading.specs.declared.FlowsAnswer.{FlowsAnswer}
+use Rattle.test_loading.specs.FindFlows.{flowsCall, flowsOutcome, FindsFlows, FindsFlowsForC}
+use Rattle.hour_rules.specs.declared.SettleAnswer.{SettleAnswer}
+use Rattle.hour_rules.specs.declared.SettleAnswer.the-variants.{Settled}
+use Rattle.hour_rules.specs.SettleHour.{hourCall, settleOutcome, SettlesHour, SettlesForC}
+use Rattle.order_calls.specs.ForC.{TestFigures, SameTestGiven, HourFigures}
 
 -- both are accepted for n nodes, and have the same flow on every constraint and the same exact total, on every grid, at all prices, in either period
 pub record AlikeBooks (n : ℕ) (s t : List ℕ) : Type 0 where
@@ -66,7 +66,7 @@ pub record AnsweredAlike (n : ℕ) (s t : List ℕ) : Type 0 where
   -- the same of the C functions
   pub crr-test-alike : (k process period : ℕ) (limits : List ℕ) (factors : List ℤ) (a b : ℕ) (c d : TestFigures)
       → TestsBookForC (testCall n k process period limits factors s) a (c .set) (c .count) (c .lowest) (c .excess)
-      → TestsBookForC (testCall n k process period limits factors t) b (d .set) (d .count) (d .lowest) (d .excess) → (a ≡ b) × (a ≡ 0 → SameFigures c d)
+      → TestsBookForC (testCall n k process period limits factors t) b (d .set) (d .count) (d .lowest) (d .excess) → (a ≡ b) × (a ≡ 0 → SameTestGiven c d)
   pub crr-flows-alike : (k period : ℕ) (limits : List ℕ) (factors : List ℤ) (e f : List ℤ) → length e ≡ length f → (a b : ℕ) (x y : List ℤ) (u v : Lent ℕ)
       → FindsFlowsForC (flowsCall n k period limits factors s e) a x u → FindsFlowsForC (flowsCall n k period limits factors t f) b y v → FlowsAlike k e f a b x y
   pub crr-settle-refused-alike : (k period : ℕ) (factors : List ℤ) (prices : List ℕ) (a b : ℕ) (c d : HourFigures)

@@ -8,9 +8,9 @@ use lib.IntN.{ℤ}
 use Rattle.lists.specs.Lent.{Lent, before, after}
 use Rattle.layouts.specs.declared.WriteAnswer.the-variants.{Written}
 use Rattle.view_rules.specs.MarketView.{marketViewCall, WritesMarketView, WritesMarketViewForC}
-use Rattle.settlement.specs.declared.SettleAnswer.{SettleAnswer}
-use Rattle.settlement.specs.SettleHour.{hourCall, settleOutcome, SettlesHour, SettlesForC}
-use Rattle.reordering.specs.ForC.{HourFigures, SameTotalsGiven}
+use Rattle.hour_rules.specs.declared.SettleAnswer.{SettleAnswer}
+use Rattle.hour_rules.specs.SettleHour.{hourCall, settleOutcome, SettlesHour, SettlesForC}
+use Rattle.order_calls.specs.ForC.{HourFigures, SameTotalsGiven}
 use Rattle.book_calls.specs.Alike.{AnsweredAlike}
 
 -- places for cents and sets of equal length; and the same cells there

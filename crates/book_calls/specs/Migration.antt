@@ -4,7 +4,7 @@ use Prim.Native.Nat.{ℕ}
 use lib.ListN.{take}
 use Rattle.lists.specs.Lent.{Lent, after}
 use Rattle.layouts.specs.declared.WriteAnswer.the-variants.{Written}
-use Rattle.load_migration.specs.MigrateLoad.{MigrateLoadCall, MigratesLoad, MigratesLoadForC}
+use Rattle.migration_book.specs.MigrateLoad.{MigrateLoadCall, MigratesLoad, MigratesLoadForC}
 use Rattle.book_calls.specs.Alike.{AnsweredAlike}
 
 -- THE STATEMENTS. m bytes are given and x is left in the place.

@@ -10,10 +10,10 @@ use Rattle.tariff.specs.Contracts.{periodOf}
 use Rattle.layouts.specs.declared.WriteAnswer.the-variants.{Written}
 use Rattle.layouts.specs.BookFile.{bookFile, bookFormIn, bookIn}
 use Rattle.migration_rules.specs.Contracts.{newBook}
-use Rattle.transfer_square.specs.declared.NetsAnswer.{NetsAnswer}
-use Rattle.transfer_square.specs.declared.NetsAnswer.the-variants.{Netted}
-use Rattle.transfer_square.specs.NetTransfers.{NetTransfersCall, NetsTransfers, NetsTransfersForC}
-use Rattle.load_migration.specs.MigrateLoad.{MigrateLoadCall, MigratesLoad, MigratesLoadForC}
+use Rattle.migration_square.specs.declared.NetsAnswer.{NetsAnswer}
+use Rattle.migration_square.specs.declared.NetsAnswer.the-variants.{Netted}
+use Rattle.migration_square.specs.NetTransfers.{NetTransfersCall, NetsTransfers, NetsTransfersForC}
+use Rattle.migration_book.specs.MigrateLoad.{MigrateLoadCall, MigratesLoad, MigratesLoadForC}
 
 -- calls for the same rows and as many LSEs
 pub record SameRows (q : MigrateLoadCall) (s : NetTransfersCall) : Type 0 where

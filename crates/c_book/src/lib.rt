@@ -1,9 +1,9 @@
 // The book's two operations for C: figures go into lent cells, and the answer is the refusal's number, 0 for none.
 ghost use Rattle.lists.specs.Lent.{before, after};
 ghost use Rattle.layouts.specs.Forms.{formOf};
-ghost use Rattle.book_file.specs.ReadBook.{readBookCall, ReadsBookForC};
-ghost use Rattle.book_file.specs.WriteBook.{writeBookCall, WritesBookForC};
-use book_file::BookAnswer;
+ghost use Rattle.book_rules.specs.ReadBook.{readBookCall, ReadsBookForC};
+ghost use Rattle.book_rules.specs.WriteBook.{writeBookCall, WritesBookForC};
+use book_rules::BookAnswer;
 use layouts::Form;
 
 // Reads a book's file for a grid of `nodes` nodes into a table of six cells a contract, and gives how many contracts it has and the form's number.
@@ -17,7 +17,7 @@ pub extern "C" fn crr_read_book(
 ) -> u64
     ensures { λ r. ⌜ ReadsBookForC (readBookCall nodes (before file) (before book)) r (after book) contracts form ⌝ }
 {
-    match book_file::read_book(nodes, file, book) {
+    match book_reading::read_book(nodes, file, book) {
         BookAnswer::Refused(refusal) => refusal.number(),
         BookAnswer::Read {
             contracts: m,
@@ -43,6 +43,6 @@ pub extern "C" fn crr_write_book(
     ensures { λ r. ⌜ WritesBookForC (writeBookCall (formOf form) nodes contracts (before book) (before file)) r (after file) bytes ⌝ }
 {
     let told = Form::from_number(form);
-    let answer = book_file::write_book(told, nodes, contracts, book, file);
+    let answer = book_writing::write_book(told, nodes, contracts, book, file);
     answer.into_cell(bytes)
 }

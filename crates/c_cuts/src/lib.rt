@@ -1,8 +1,8 @@
 // The least cuts that clear a book, for C: the rows go into lent cells, and the answer is the refusal's number, 0 for none.
 ghost use Rattle.lists.specs.Lent.{before};
-ghost use Rattle.feasibility_test.specs.TestBook.{testCall};
-ghost use Rattle.least_cuts.specs.FindCuts.{FindsCutsForC};
-use least_cuts::CutsAnswer;
+ghost use Rattle.test_rules.specs.TestBook.{testCall};
+ghost use Rattle.cut_rules.specs.FindCuts.{FindsCutsForC};
+use cut_rules::CutsAnswer;
 
 // Lists each contract of the period whose quantity, lowered alone, makes a failing book pass, with the least such cut, and gives how many there are.
 #[no_mangle]
@@ -20,7 +20,7 @@ pub extern "C" fn crr_find_cuts(
 ) -> u64
     ensures { λ r. ⌜ FindsCutsForC (testCall nodes constraints process period (before limits) (before factors) (before book)) numbers cuts r listed ⌝ }
 {
-    match least_cuts::find_cuts(
+    match cut_list::find_cuts(
         nodes,
         constraints,
         process,

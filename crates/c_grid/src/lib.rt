@@ -18,7 +18,7 @@ pub extern "C" fn crr_read_grid(
 ) -> u64
     ensures { λ r. ⌜ ReadsGridForC (readGridCall (before file) (before limits) (before factors)) r (after limits) (after factors) nodes constraints form ⌝ }
 {
-    match grid_file::read_grid(file, limits, factors) {
+    match grid_reading::read_grid(file, limits, factors) {
         GridAnswer::Refused(refusal) => refusal.number(),
         GridAnswer::Read {
             nodes: n,

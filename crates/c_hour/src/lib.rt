@@ -1,9 +1,9 @@
 // Finding the MCC and settling an hour for C: figures go into lent cells, and the answer is the refusal's number, 0 for none.
 ghost use Rattle.lists.specs.Lent.{before, after};
-ghost use Rattle.congestion.specs.FindMcc.{findMccCall, FindsMccForC};
-ghost use Rattle.settlement.specs.SettleHour.{hourCall, SettlesForC};
-use congestion::MccAnswer;
-use settlement::SettleAnswer;
+ghost use Rattle.hour_mcc.specs.FindMcc.{findMccCall, FindsMccForC};
+ghost use Rattle.hour_rules.specs.SettleHour.{hourCall, SettlesForC};
+use hour_mcc::MccAnswer;
+use hour_rules::SettleAnswer;
 
 // Finds the MCC of all nodes, one cell each.
 #[no_mangle]
@@ -16,7 +16,7 @@ pub extern "C" fn crr_find_mcc(
 ) -> u64
     ensures { λ r. ⌜ FindsMccForC (findMccCall nodes constraints (before factors) (before prices) (before mcc)) r (after mcc) ⌝ }
 {
-    match congestion::find_mcc(nodes, constraints, factors, prices, mcc) {
+    match hour_mcc::find_mcc(nodes, constraints, factors, prices, mcc) {
         MccAnswer::Refused(refusal) => refusal.number(),
         MccAnswer::Found => 0,
     }
@@ -40,7 +40,7 @@ pub extern "C" fn crr_settle_hour(
 ) -> u64
     ensures { λ r. ⌜ SettlesForC (hourCall nodes constraints period (before factors) (before prices) (before book)) r cents priced sum whole part ⌝ }
 {
-    match settlement::settle_hour(
+    match hour_settlement::settle_hour(
         nodes,
         constraints,
         period,

@@ -4,7 +4,7 @@ use mathlib.Core.Path.{_≡_}
 use Prim.Native.Nat.{ℕ}
 
 abbrev pub interface : ℕ
-interface = 1
+interface = 2
 
 -- the promise: the number is the interface's
 pub record TellsInterface (number : ℕ) : Type 0 where

@@ -1,10 +1,10 @@
 // The interface for C by its number, and a refusal by its sentence: the length goes into a lent cell, and the answer is the refusal's number, 0 for none.
 ghost use Rattle.lists.specs.Lent.{before, after};
-ghost use Rattle.refusal_texts.specs.RefusalText.{textCall, WritesTextForC};
+ghost use Rattle.text_refusals.specs.RefusalText.{textCall, WritesTextForC};
 ghost use Rattle.c_interface.specs.Interface.{TellsInterface};
 
 // The number of this interface: include/crr.h has it as CRR_INTERFACE.
-const INTERFACE: u64 = 1;
+const INTERFACE: u64 = 2;
 
 // Gives the number of the interface that the library has.
 #[no_mangle]
@@ -19,6 +19,6 @@ pub extern "C" fn crr_interface() -> u64
 pub extern "C" fn crr_refusal_text(number: u64, text: &mut [u8], bytes: &mut usize) -> u64
     ensures { λ r. ⌜ WritesTextForC (textCall number (before text)) r (after text) bytes ⌝ }
 {
-    let answer = refusal_texts::refusal_text(number, text);
+    let answer = text_refusals::refusal_text(number, text);
     answer.into_cell(bytes)
 }

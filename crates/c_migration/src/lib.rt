@@ -1,7 +1,7 @@
 // Migrating load for C: the length goes into a lent cell, and the answer is the refusal's number, 0 for none.
 ghost use Rattle.lists.specs.Lent.{after};
 ghost use Rattle.migration_rules.specs.Transfers.{rowLists};
-ghost use Rattle.load_migration.specs.MigrateLoad.{migrateLoadCall, MigratesLoadForC};
+ghost use Rattle.migration_book.specs.MigrateLoad.{migrateLoadCall, MigratesLoadForC};
 
 // Migrates the contracts of LSEs that lost load, in a book's file for a grid of `nodes` nodes, and gives the new file's length.
 #[no_mangle]
@@ -20,7 +20,7 @@ pub extern "C" fn crr_migrate_load(
 ) -> u64
     ensures { λ r. ⌜ MigratesLoadForC (migrateLoadCall nodes period book (rowLists classes customers rates olds news) loads file) r (after file) bytes ⌝ }
 {
-    let answer = load_migration::migrate_load(
+    let answer = migration_book::migrate_load(
         nodes,
         period,
         book,

@@ -1,8 +1,8 @@
 // The price file's two operations for C: figures go into lent cells, and the answer is the refusal's number, 0 for none.
 ghost use Rattle.lists.specs.Lent.{before, after};
-ghost use Rattle.price_file.specs.ReadPrices.{readPricesCall, ReadsPricesForC};
-ghost use Rattle.price_file.specs.WritePrices.{writePricesCall, WritesPricesForC};
-use price_file::PriceAnswer;
+ghost use Rattle.price_rules.specs.ReadPrices.{readPricesCall, ReadsPricesForC};
+ghost use Rattle.price_rules.specs.WritePrices.{writePricesCall, WritesPricesForC};
+use price_rules::PriceAnswer;
 
 // Reads a price file of `constraints` constraints into the first cells of `prices`, and gives its period.
 #[no_mangle]
@@ -14,7 +14,7 @@ pub extern "C" fn crr_read_prices(
 ) -> u64
     ensures { λ r. ⌜ ReadsPricesForC (readPricesCall constraints (before file) (before prices)) r (after prices) period ⌝ }
 {
-    match price_file::read_prices(constraints, file, prices) {
+    match price_reading::read_prices(constraints, file, prices) {
         PriceAnswer::Refused(refusal) => refusal.number(),
         PriceAnswer::Read { period: t } => {
             *period = t;
@@ -34,6 +34,6 @@ pub extern "C" fn crr_write_prices(
 ) -> u64
     ensures { λ r. ⌜ WritesPricesForC (writePricesCall period constraints (before prices) (before file)) r (after file) bytes ⌝ }
 {
-    let answer = price_file::write_prices(period, constraints, prices, file);
+    let answer = price_writing::write_prices(period, constraints, prices, file);
     answer.into_cell(bytes)
 }

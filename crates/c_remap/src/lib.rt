@@ -14,6 +14,6 @@ pub extern "C" fn crr_remap_book(
 ) -> u64
     ensures { λ r. ⌜ RemapsBookForC (remapBookCall nodes (before book) (before old) (before new) (before file)) r (after file) bytes ⌝ }
 {
-    let answer = book_remap::remap_book(nodes, book, old, new, file);
+    let answer = remap_book::remap_book(nodes, book, old, new, file);
     answer.into_cell(bytes)
 }

@@ -1,6 +1,6 @@
 // Adding for C.
 ghost use Rattle.tier_rules.specs.Cells.{leftIn};
-ghost use Rattle.running_rules.specs.AddAward.{addAwardCall, AddsAwardForC};
+ghost use Rattle.tier_running_rules.specs.AddAward.{addAwardCall, AddsAwardForC};
 
 // Adds an award to a running test.
 #[no_mangle]
@@ -18,7 +18,7 @@ pub extern "C" fn crr_add_award(
 ) -> u64
     ensures { λ r. ⌜ AddsAwardForC (addAwardCall nodes constraints process period limits factors award awards numbers flows) r (leftIn awards numbers flows) ⌝ }
 {
-    let answer = running_test::add_award(
+    let answer = tier_running_test::add_award(
         nodes,
         constraints,
         process,

@@ -1,6 +1,6 @@
 // Opening for C.
 ghost use Rattle.lists.specs.Lent.{after};
-ghost use Rattle.running_rules.specs.OpenRunning.{openRunningCall, OpensRunningForC};
+ghost use Rattle.tier_running_rules.specs.OpenRunning.{openRunningCall, OpensRunningForC};
 
 // Opens a running test of a grid, a process and a period in three lent buffers.
 #[no_mangle]
@@ -17,7 +17,7 @@ pub extern "C" fn crr_open_running(
 ) -> u64
     ensures { λ r. ⌜ OpensRunningForC (openRunningCall nodes constraints process period limits factors awards numbers flows) r (after numbers) (after flows) ⌝ }
 {
-    let answer = running_test::open_running(
+    let answer = tier_running_test::open_running(
         nodes,
         constraints,
         process,

@@ -8,7 +8,7 @@ use share_rules::ShareAnswer;
 pub extern "C" fn crr_share_balance(balance: i64, demands: &[u64], shares: &mut [i64]) -> u64
     ensures { λ r. ⌜ SharesBalanceForC (shareCall balance (before demands) (before shares)) r (after shares) ⌝ }
 {
-    match balancing_account::share_balance(balance, demands, shares) {
+    match share_balance::share_balance(balance, demands, shares) {
         ShareAnswer::Refused(refusal) => refusal.number(),
         ShareAnswer::Shared => 0,
     }

@@ -13,9 +13,9 @@ use Rattle.tariff.specs.declared.processes.Process.{Process}
 use Rattle.tariff.specs.Units.{Grid}
 use Rattle.tariff.specs.Refusals.{Outcome}
 use Rattle.tariff.specs.Feasibility.{excess, overloadSet, overloadCount, lowestOverload}
-use Rattle.feasibility_test.specs.declared.TestAnswer.{TestAnswer}
-use Rattle.feasibility_test.specs.declared.TestAnswer.the-variants.{Pass, Fail}
-use Rattle.feasibility_test.specs.TestBook.{testOutcome, testValues, Demand3, TestCells, passCells, failCells, testCells, Demand3OfCells}
+use Rattle.test_rules.specs.declared.TestAnswer.{TestAnswer}
+use Rattle.test_rules.specs.declared.TestAnswer.the-variants.{Pass, Fail}
+use Rattle.test_rules.specs.TestBook.{testOutcome, testValues, Demand3, TestCells, passCells, failCells, testCells, Demand3OfCells}
 
 module _ (g : Grid) (process : Process) (cs : List Contract) where
   abbrev cellsOf : ℕ → ℕ → ℕ → ℤ → TestCells

@@ -1,7 +1,7 @@
 // The test for C: its figures go into lent cells, and the answer is the refusal's number, 0 for none.
 ghost use Rattle.lists.specs.Lent.{before};
-ghost use Rattle.feasibility_test.specs.TestBook.{testCall, TestsBookForC};
-use feasibility_test::TestAnswer;
+ghost use Rattle.test_rules.specs.TestBook.{testCall, TestsBookForC};
+use test_rules::TestAnswer;
 
 // Tests a book's bytes against grid tables for a process and a period, and gives the test's figures: on a pass all are 0, and only then is the set.
 #[no_mangle]
@@ -20,7 +20,7 @@ pub extern "C" fn crr_test_book(
 ) -> u64
     ensures { λ r. ⌜ TestsBookForC (testCall nodes constraints process period (before limits) (before factors) (before book)) r set count lowest excess ⌝ }
 {
-    match feasibility_test::test_book(nodes, constraints, process, period, limits, factors, book) {
+    match test_verdict::test_book(nodes, constraints, process, period, limits, factors, book) {
         TestAnswer::Refused(refusal) => refusal.number(),
         TestAnswer::Pass => {
             *set = 0;

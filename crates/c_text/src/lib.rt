@@ -1,7 +1,7 @@
 // The two texts for C: the length goes into a lent cell, and the answer is the refusal's number, 0 for none.
 ghost use Rattle.lists.specs.Lent.{before, after};
-ghost use Rattle.report_rules.specs.WriteReport.{reportCall, WritesReportForC};
-ghost use Rattle.statement_text.specs.WriteStatement.{statementCall, WritesStatementForC};
+ghost use Rattle.text_report_rules.specs.WriteReport.{reportCall, WritesReportForC};
+ghost use Rattle.text_statement.specs.WriteStatement.{statementCall, WritesStatementForC};
 
 // Writes the feasibility report of a grid's file and a book's file into the first bytes of `text`, and gives its length.
 #[no_mangle]
@@ -13,7 +13,7 @@ pub extern "C" fn crr_write_report(
 ) -> u64
     ensures { λ r. ⌜ WritesReportForC (reportCall (before «grid_file») (before «book_file») (before text)) r (after text) bytes ⌝ }
 {
-    let answer = feasibility_report::write_report(grid_file, book_file, text);
+    let answer = text_report::write_report(grid_file, book_file, text);
     answer.into_cell(bytes)
 }
 
@@ -28,6 +28,6 @@ pub extern "C" fn crr_write_statement(
 ) -> u64
     ensures { λ r. ⌜ WritesStatementForC (statementCall (before «grid_file») (before «book_file») (before «price_file») (before text)) r (after text) bytes ⌝ }
 {
-    let answer = statement_text::write_statement(grid_file, book_file, price_file, text);
+    let answer = text_statement::write_statement(grid_file, book_file, price_file, text);
     answer.into_cell(bytes)
 }

@@ -1,7 +1,7 @@
 // Marks of a running test for C: the answer is the refusal's number, 0 for none.
 ghost use Rattle.lists.specs.Lent.{before, after};
-ghost use Rattle.mark_rules.specs.MarkTier.{markTierCall, MarksTierForC};
-ghost use Rattle.mark_rules.specs.ReturnToTier.{returnToTierCall, ReturnsToTierForC};
+ghost use Rattle.tier_mark_rules.specs.MarkTier.{markTierCall, MarksTierForC};
+ghost use Rattle.tier_mark_rules.specs.ReturnToTier.{returnToTierCall, ReturnsToTierForC};
 
 // Marks a tier of a running test.
 #[no_mangle]

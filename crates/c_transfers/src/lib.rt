@@ -1,8 +1,8 @@
 // The square of net transfers for C: the answer is the refusal's number, 0 for none.
 ghost use Rattle.lists.specs.Lent.{before, after};
 ghost use Rattle.migration_rules.specs.Transfers.{rowLists};
-ghost use Rattle.transfer_square.specs.NetTransfers.{netTransfersCall, NetsTransfersForC};
-use transfer_square::NetsAnswer;
+ghost use Rattle.migration_square.specs.NetTransfers.{netTransfersCall, NetsTransfersForC};
+use migration_square::NetsAnswer;
 
 // Nets the rows' transfers between so many LSEs: the square, row by row, into the first cells of `nets`.
 #[no_mangle]
@@ -17,7 +17,7 @@ pub extern "C" fn crr_net_transfers(
 ) -> u64
     ensures { λ r. ⌜ NetsTransfersForC (netTransfersCall lses (rowLists classes customers rates olds news) (before nets)) r (after nets) ⌝ }
 {
-    match transfer_square::net_transfers(lses, classes, customers, rates, olds, news, nets) {
+    match migration_square::net_transfers(lses, classes, customers, rates, olds, news, nets) {
         NetsAnswer::Refused(refusal) => refusal.number(),
         NetsAnswer::Netted => 0,
     }

@@ -13,7 +13,7 @@ pub extern "C" fn crr_write_market_view(
 ) -> u64
     ensures { λ r. ⌜ WritesMarketViewForC (marketViewCall nodes (before book) (before file)) r (after file) bytes ⌝ }
 {
-    let answer = market_view::write_market_view(nodes, book, file);
+    let answer = view_market::write_market_view(nodes, book, file);
     answer.into_cell(bytes)
 }
 
@@ -28,6 +28,6 @@ pub extern "C" fn crr_write_holder_view(
 ) -> u64
     ensures { λ r. ⌜ WritesHolderViewForC (holderViewCall nodes (before book) holder (before view)) r (after view) bytes ⌝ }
 {
-    let answer = holder_view::write_holder_view(nodes, book, holder, view);
+    let answer = view_holder::write_holder_view(nodes, book, holder, view);
     answer.into_cell(bytes)
 }

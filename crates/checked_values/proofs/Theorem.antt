@@ -9,9 +9,9 @@ use Rattle.lists.specs.Sets.{setOf, countOf, lowestOf}
 use Rattle.tariff.specs.Feasibility.{flow, totalFlow, released, excess, overloaded, overloadSet, overloadCount, lowestOverload}
 use Rattle.layouts.specs.BookFile.{contractFields, packedBook, bookFile}
 use Rattle.layouts.specs.PriceFile.{priceFields, priceFile}
-use Rattle.checked_values.specs.Table.{Row, table}
+use Rattle.checked_values.specs.Table.{CheckedRow, table}
 
-pub checked-values : map (λ (r : Row). r .given) table ≡ map (λ (r : Row). r .expected) table
+pub checked-values : map (λ (r : CheckedRow). r .given) table ≡ map (λ (r : CheckedRow). r .expected) table
 unfolding table sumTo sumOver flatMap fileOf ofPeriod congestion mcc amount setOf countOf lowestOf
     flow totalFlow released excess overloaded overloadSet overloadCount lowestOverload
     contractFields packedBook bookFile priceFields priceFile

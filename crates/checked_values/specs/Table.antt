@@ -16,7 +16,7 @@ use Rattle.layouts.specs.BookFile.{bookFile}
 use Rattle.layouts.specs.PriceFile.{priceFile}
 use Rattle.checked_values.specs.Cases.{minus, factorsL, gridL, pricesL, bookL, gridP, bookP}
 
-pub record Row : Type 0 where
+pub record CheckedRow : Type 0 where
   pub given : List ℤ
   pub expected : List ℤ
 
@@ -24,8 +24,8 @@ abbrev onPeak : List Contract → List Contract
 onPeak = ofPeriod OnPeak
 
 -- the set of overloaded constraints, and the excess at constraint 0
-abbrev passing : Grid → Process → List Contract → List ℤ
-passing g process cs = pos (overloadSet g process cs) ∷ excess g process cs 0 ∷ []
+abbrev setAndExcess : Grid → Process → List Contract → List ℤ
+setAndExcess g process cs = pos (overloadSet g process cs) ∷ excess g process cs 0 ∷ []
 
 -- the set, how many, the lowest, and the excess there
 abbrev failing : Grid → Process → List Contract → List ℤ
@@ -39,7 +39,7 @@ empties period = map (λ (process : Process). pos (overloadSet gridL process (of
 abbrev bytes : List ℕ → List ℤ
 bytes = map pos
 
-unfoldable pub table : List Row
+unfoldable pub table : List CheckedRow
 table =
     -- P1 MCC in L
     record { given = map (mcc factorsL pricesL) (0 ∷ 1 ∷ 2 ∷ []); expected = minus 9000000 ∷ pos 0 ∷ minus 92000000 ∷ [] }
@@ -49,7 +49,7 @@ table =
     ∷ record { given = totalFlow factorsL (onPeak bookL) 0 ∷ totalFlow factorsL (onPeak bookL) 1 ∷ []; expected = pos 635070000 ∷ minus 200060000 ∷ [] }
     ∷ record { given = pos (overloadSet gridL Monthly (onPeak bookL)) ∷ []; expected = pos 0 ∷ [] }
     -- P4 first limit 6,000, monthly: passes with equality
-    ∷ record { given = passing (gridP 6000) Monthly (onPeak (bookP 10000)); expected = pos 0 ∷ pos 0 ∷ [] }
+    ∷ record { given = setAndExcess (gridP 6000) Monthly (onPeak (bookP 10000)); expected = pos 0 ∷ pos 0 ∷ [] }
     -- P5 quantity 10,001: fails at constraint 0 by 60,000
     ∷ record { given = failing (gridP 6000) Monthly (onPeak (bookP 10001)); expected = pos 1 ∷ pos 1 ∷ pos 0 ∷ pos 60000 ∷ [] }
     -- P6 annual, quantity 10,000, limit 8,000: fails by 80,000,000 (02, paper 2)

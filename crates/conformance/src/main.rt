@@ -1,10 +1,10 @@
 // The edges that document 01 lists behind P11, and those that paper 9 of document 02 sets for wide files and narrow writers, asked of the proved entries.
 // A line each: what was asked, then 0 or the number of the refusal. All other vectors are lines of tests/vectors.
-use book_file::BookAnswer;
+use book_rules::BookAnswer;
 use grid_rules::GridAnswer;
 use layouts::Form;
 use libc::STDOUT_FILENO;
-use price_file::PriceAnswer;
+use price_rules::PriceAnswer;
 
 // A line: what was asked, of which number, and the answer.
 fn line(asked: &[u8], number: u64, answer: u64) {
@@ -19,7 +19,7 @@ fn line(asked: &[u8], number: u64, answer: u64) {
 fn grid_read(file: &[u8]) -> u64 {
     let mut limits = [0u64; 64];
     let mut factors = [0i64; 12800];
-    match grid_file::read_grid(file, &mut limits, &mut factors) {
+    match grid_reading::read_grid(file, &mut limits, &mut factors) {
         GridAnswer::Refused(refusal) => refusal.number(),
         GridAnswer::Read {
             nodes: _,
@@ -75,7 +75,7 @@ fn price(price: u64) {
     let middle = (price / 8 % 256) as u8;
     let low = (price % 8 * 32) as u8;
     let mut prices = [0u64; 1];
-    let answer = price_file::read_prices(1, &[129, high, middle, low], &mut prices);
+    let answer = price_reading::read_prices(1, &[129, high, middle, low], &mut prices);
     match answer {
         PriceAnswer::Refused(refusal) => line(b"price ", price, refusal.number()),
         PriceAnswer::Read { period: _ } => line(b"price ", price, 0),
@@ -86,7 +86,7 @@ fn price(price: u64) {
 fn stated_nodes(nodes: usize) {
     let mut book = [0u64; 6];
     let file = b"\x00\x7f\xbf\xff\x9f\x10\x0f\x42\x40";
-    let answer = match book_file::read_book(nodes, file, &mut book) {
+    let answer = match book_reading::read_book(nodes, file, &mut book) {
         BookAnswer::Refused(refusal) => refusal.number(),
         BookAnswer::Read {
             contracts: _,
@@ -105,7 +105,7 @@ fn book_written(source: u64) {
     let mut file = [0u8; 8];
     let mut bytes = 0;
     let row = [0, 1, 7, source, 1, 5];
-    let answer = book_file::write_book(Form::Narrow, 4000, 1, &row, &mut file);
+    let answer = book_writing::write_book(Form::Narrow, 4000, 1, &row, &mut file);
     line(
         b"narrow book written, source ",
         source,

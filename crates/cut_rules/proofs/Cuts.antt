@@ -15,12 +15,12 @@ use Rattle.tariff.specs.declared.processes.Process.{Process}
 use Rattle.tariff.specs.Units.{Grid}
 use Rattle.tariff.specs.Contracts.{ofPeriod}
 use Rattle.tariff.specs.Feasibility.{totalFlow, released, excess, overloadSet}
-use Rattle.tariff.proofs.Overloads.{passes-empty}
-use Rattle.cut_rules.specs.Cuts.{contractOf, quantityOf, lowered, passing, clears, leastCut}
+use Rattle.tariff.proofs.Overloads.{pass-is-empty-set}
+use Rattle.cut_rules.specs.Cuts.{nthContract, quantityOf, lowered, passing, clears, leastCut}
 use Rattle.cut_rules.specs.Theorems.{BookPasses, CutPasses}
-use Rattle.cut_rules.specs.Inner.{need, slope, closedCut}
+use Rattle.cut_rules.specs.Inner.{slope, closedCut}
 use Rattle.cut_rules.proofs.Lowest.{lowest-has, lowest-least}
-use Rattle.cut_rules.proofs.Needs.{need-found, closed-form}
+use Rattle.cut_rules.proofs.Needs.{closed-form}
 use Rattle.cut_rules.proofs.Flows.{same, lowered-flow, cut-times, cut-none}
 
 -- a flow of x − c is within r exactly where the excess less the cut's flow is not above 0
@@ -33,7 +33,7 @@ module _ (g : Grid) (process : Process) (period : Period) where
   unfolding passing
   passing-is cs =
       let own = ofPeriod period cs in
-      (λ h. passes-empty g process own .1 (eqb-true (overloadSet g process own) 0 h), λ p. eq-eqb (overloadSet g process own) 0 (passes-empty g process own .0 p))
+      (λ h. pass-is-empty-set g process own .1 (eqb-true (overloadSet g process own) 0 h), λ p. eq-eqb (overloadSet g process own) 0 (pass-is-empty-set g process own .0 p))
 
   module _ (cs : List Contract) (i : ℕ) where
     -- the period's contracts with contract i cut by t
@@ -44,7 +44,7 @@ module _ (g : Grid) (process : Process) (period : Period) where
     e = excess g process (ofPeriod period cs)
 
     abbrev w : ℕ → ℤ
-    w = slope (g .factors) period (contractOf cs i)
+    w = slope (g .factors) period (nthContract cs i)
 
     abbrev K : ℕ
     K = g .factors .constraints
@@ -58,7 +58,7 @@ module _ (g : Grid) (process : Process) (period : Period) where
     within-is : (t k : ℕ) → t ≤ quantityOf cs i → (totalFlow (g .factors) (cutBook t) k ≤ℤ pos (released (g .limits) process k)) ↔ ((e k -ℤ w k *ℤ pos t) ≤ℤ pos 0)
     unfolding excess
     within-is t k h =
-        rw (lowered-flow (g .factors) period i t cs k h, cut-times (g .factors) period (contractOf cs i) t k)
+        rw (lowered-flow (g .factors) period i t cs k h, cut-times (g .factors) period (nthContract cs i) t k)
         (within-less (totalFlow (g .factors) (ofPeriod period cs) k) (pos (released (g .limits) process k)) (w k *ℤ pos t))
 
     -- CLEARS-IS
@@ -69,11 +69,6 @@ module _ (g : Grid) (process : Process) (period : Period) where
     pub least-is-closed : leastCut g process period cs i ≡ closedCut g process period cs i
     unfolding leastCut closedCut
     least-is-closed = closed-form e w K (quantityOf cs i) (clears g process period cs i) clears-is
-
-    -- the need is the least cut where it is no more than the quantity and clears the book
-    pub need-is-least : need K e w ≤ quantityOf cs i → clears g process period cs i (need K e w) ≡ true → leastCut g process period cs i ≡ need K e w
-    unfolding leastCut
-    need-is-least b c = need-found e w K (quantityOf cs i) (clears g process period cs i) clears-is b (clears-is (need K e w) b .0 c)
 
     -- ---- the least cut clears the book where it is no more than the quantity, and none smaller does
     fails : (t : ℕ) → clears g process period cs i t ≡ false → CutPasses g process period cs i t → ⊥
@@ -98,7 +93,7 @@ module _ (g : Grid) (process : Process) (period : Period) where
         alike : (k : ℕ) → totalFlow (g .factors) (cutBook t) k ≡ totalFlow (g .factors) (ofPeriod period cs) k
         alike k =
             lowered-flow (g .factors) period i t cs k b
-            ∙ sym (same (totalFlow (g .factors) (ofPeriod period cs) k) _ (cut-times (g .factors) period (contractOf cs i) t k ∙ z k))
+            ∙ sym (same (totalFlow (g .factors) (ofPeriod period cs) k) _ (cut-times (g .factors) period (nthContract cs i) t k ∙ z k))
 
     -- where the book fails, the least cut is at least 1
     pub least-positive : (BookPasses g process period cs → ⊥) → 0 < leastCut g process period cs i
@@ -107,4 +102,4 @@ module _ (g : Grid) (process : Process) (period : Period) where
         zero-out : leastCut g process period cs i ≤ 0 → ⊥
         zero-out l =
             let z : leastCut g process period cs i ≡ 0 = omega arith in
-            out (idle 0 (omega arith) (λ k. sym (cut-times (g .factors) period (contractOf cs i) 0 k) ∙ cut-none (g .factors) period (contractOf cs i) k) (rw z at (least-clears (omega arith))))
+            out (idle 0 (omega arith) (λ k. sym (cut-times (g .factors) period (nthContract cs i) 0 k) ∙ cut-none (g .factors) period (nthContract cs i) k) (rw z at (least-clears (omega arith))))

@@ -14,9 +14,9 @@ use Rattle.tariff.specs.declared.contracts.Period.{Period}
 use Rattle.tariff.specs.Units.{Factors}
 use Rattle.tariff.specs.Contracts.{samePeriod, ofPeriod}
 use Rattle.tariff.specs.Feasibility.{flow, totalFlow}
-use Rattle.flow_laws.specs.Quantities.{withQuantity}
-use Rattle.flow_laws.proofs.Additive.{flow-plus, flow-times}
-use Rattle.cut_rules.specs.Cuts.{noContract, contractOf, quantityOf, lowered}
+use Rattle.test_flow_laws.specs.Quantities.{withQuantity}
+use Rattle.test_flow_laws.proofs.Additive.{flow-plus, flow-times}
+use Rattle.cut_rules.specs.Cuts.{noContract, nthContract, quantityOf, lowered}
 use Rattle.cut_rules.specs.Inner.{cutFlow, slope}
 
 -- ---- the steps of the induction, over plain whole numbers
@@ -73,7 +73,7 @@ module _ (f : Factors) where
 
     -- THE FLOW OF A LOWERED BOOK, for every cut up to the contract's quantity, of either period
     pub lowered-flow : (i t : ℕ) (cs : List Contract) (k : ℕ) → t ≤ quantityOf cs i
-        → totalFlow f (ofPeriod period (lowered i t cs)) k ≡ totalFlow f (ofPeriod period cs) k -ℤ cutFlow f period (contractOf cs i) t k
+        → totalFlow f (ofPeriod period (lowered i t cs)) k ≡ totalFlow f (ofPeriod period cs) k -ℤ cutFlow f period (nthContract cs i) t k
     unfolding lowered cutFlow
     lowered-flow i t [] k h =
         same (total [] k) (cutFlow f period noContract t k) (ap (λ (x : ℕ). cutFlow f period noContract x k) {x = t} {y = 0} (omega arith) ∙ cut-none noContract k)
@@ -92,7 +92,7 @@ module _ (f : Factors) where
             let cut = cutFlow f period c t k in
             remove cut (total cs k) ∙ ap (λ (x : ℕ). cutFlow f period c x k +ℤ total cs k -ℤ cut) {y = c .quantity .0} (omega arith)
     lowered-flow (suc i) t (c ∷ cs) k h =
-        let cut = cutFlow f period (contractOf cs i) t k in
+        let cut = cutFlow f period (nthContract cs i) t k in
         total-cons c (lowered i t cs) k
         ∙ keep (cutFlow f period c (c .quantity .0) k) (total cs k) (total (lowered i t cs) k) cut (lowered-flow i t cs k h)
         ∙ ap (λ (z : ℤ). z -ℤ cut) (sym (total-cons c cs k))

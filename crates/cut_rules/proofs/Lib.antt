@@ -6,3 +6,4 @@ pub mod Cuts
 pub mod Rows
 pub mod Theorems
 pub mod Keys
+pub mod Entry

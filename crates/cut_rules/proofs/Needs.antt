@@ -11,6 +11,7 @@ use lib.IntN.{ℤ, pos, negsuc, _-ℤ_, _*ℤ_}
 use lib.Signed.{_≤ℤ_, leZ, leZ-yes}
 use Rattle.integers.proofs.Linear.{⊖of, ⊖s}
 use Rattle.lists.specs.Sets.{lowestOf}
+use Rattle.lists.proofs.Search.{both}
 use Rattle.cut_rules.specs.Inner.{needAt, need, Enough, enough, closed}
 use Rattle.cut_rules.proofs.Lowest.{lowest-is, lowest-none}
 
@@ -46,10 +47,6 @@ between (pos e) (pos zero) m t a b h = pos-enough e 0 m .1 (omega (arith, pos-en
 between (pos e) (pos (suc w)) m t a b h = pos-enough e (suc w) m .1 (ceil-enough e (suc w) m (omega arith) a)
 
 -- ---- all constraints below n
-pub and-both : (a b : Bool) → (a && b) ≡ true → (a ≡ true) × (b ≡ true)
-and-both true true e = (refl, refl)
-and-both true false e = (refl, e)
-and-both false b e = (e, absurd (true≢false (sym e)))
 
 pub is-true : (a : Bool) → T a → a ≡ true
 is-true true h = refl
@@ -80,7 +77,7 @@ module _ (e w : ℕ → ℤ) where
   unfolding enough
   enough-all zero t h k b = absurd (omega arith)
   enough-all (suc n) t h k b =
-      let p = and-both (enough n e w t) (leZ (e n -ℤ w n *ℤ pos t) (pos 0)) h in
+      let p = both (enough n e w t) (leZ (e n -ℤ w n *ℤ pos t) (pos 0)) h in
       ⊎-elim (λ q. rw (ap (λ (j : ℕ). e j -ℤ w j *ℤ pos t) {x = k} {y = n} (omega arith)) (leZ-yes (rw (p .1) tt))) (λ q. enough-all n t (p .0) k (omega arith)) (eq-or-lt-of-le b)
 
   all-enough : (n t : ℕ) → Enough n e w t → enough n e w t ≡ true

@@ -9,32 +9,27 @@ use borrow.Author.Tests.{leb-true, le-leb}
 use lib.Dec.{leb}
 use lib.ListN.{length}
 use lib.IntN.{ℤ, pos, _*ℤ_, zero-*ℤ}
-use Rattle.lists.specs.Lists.{some, Each}
+use Rattle.lists.specs.Lists.{anyOf, Each}
+use Rattle.lists.proofs.Search.{both}
 use Rattle.tariff.specs.declared.contracts.Contract.{Contract}
 use Rattle.tariff.specs.declared.contracts.Period.{Period}
-use Rattle.tariff.specs.declared.contracts.Period.the-variants.{OffPeak, OnPeak}
 use Rattle.tariff.specs.declared.processes.Process.{Process}
 use Rattle.tariff.specs.Units.{Grid}
 use Rattle.tariff.specs.Contracts.{samePeriod}
-use Rattle.cut_rules.specs.Cuts.{contractOf, quantityOf, Row, precedes, inOrder, passing, leastCut, hasCut, rowOf, rowsTo, leastCuts}
-use Rattle.cut_rules.specs.Theorems.{Absent, rowAt, BookPasses, CutPasses, IsLeastCut, LeastCuts}
-use Rattle.cut_rules.proofs.Needs.{and-both, is-false}
+use Rattle.tariff.proofs.Periods.{same-is}
+use Rattle.cut_rules.specs.Cuts.{nthContract, quantityOf, CutRow, precedes, inOrder, passing, leastCut, hasCut, rowOf, cutRowsTo, leastCuts}
+use Rattle.cut_rules.specs.Theorems.{Absent, cutRowAt, BookPasses, CutPasses, IsLeastCut, LeastCuts}
+use Rattle.cut_rules.proofs.Needs.{is-false}
 use Rattle.cut_rules.proofs.Flows.{cut-out}
 use Rattle.cut_rules.proofs.Cuts.{passing-is, least-clears, smaller-fails, least-most, idle, least-positive}
-use Rattle.cut_rules.proofs.Rows.{is, each-inOrder, some-inOrder, inOrder-at, each-row, numbers-rise, row-there}
-
-same-period : (a b : Period) → samePeriod a b ≡ true → a ≡ b
-same-period OffPeak OffPeak e = refl
-same-period OffPeak OnPeak e = absurd (true≢false (sym e))
-same-period OnPeak OffPeak e = absurd (true≢false (sym e))
-same-period OnPeak OnPeak e = refl
+use Rattle.cut_rules.proofs.Rows.{is, each-inOrder, anyOf-inOrder, inOrder-at, each-row, numbers-rise, row-there}
 
 module _ (g : Grid) (process : Process) (period : Period) (cs : List Contract) where
-  abbrev listed : List Row
+  abbrev listed : List CutRow
   listed = leastCuts g process period cs
 
-  abbrev own : List Row
-  own = rowsTo g process period cs (length cs)
+  abbrev own : List CutRow
+  own = cutRowsTo g process period cs (length cs)
 
   -- a book that fails, and one that passes
   fails-false : (BookPasses g process period cs → ⊥) → passing g process period cs ≡ false
@@ -52,11 +47,11 @@ module _ (g : Grid) (process : Process) (period : Period) (cs : List Contract) w
     row-least : (i : ℕ) → i < length cs → hasCut g process period cs i ≡ true → IsLeastCut g process period cs (rowOf g process period cs i)
     unfolding hasCut
     row-least i b h =
-        let both = and-both (samePeriod (contractOf cs i .period) period) (leb (leastCut g process period cs i) (quantityOf cs i)) h in
-        let most = leb-true (leastCut g process period cs i) (quantityOf cs i) (both .1) in
+        let r = both (samePeriod (nthContract cs i .period) period) (leb (leastCut g process period cs i) (quantityOf cs i)) h in
+        let most = leb-true (leastCut g process period cs i) (quantityOf cs i) (r .1) in
         record {
           in-book = b;
-          of-period = same-period (contractOf cs i .period) period (both .0);
+          of-period = same-is (nthContract cs i .period) period (r .0);
           some-cut = least-positive g process period cs i out;
           at-most-all = most;
           clears-book = least-clears g process period cs i most;
@@ -66,17 +61,17 @@ module _ (g : Grid) (process : Process) (period : Period) (cs : List Contract) w
     -- a contract that a cut of it clears has a row
     found : (i t : ℕ) → t ≤ quantityOf cs i → CutPasses g process period cs i t → hasCut g process period cs i ≡ true
     unfolding hasCut
-    found i t b p = by (samePeriod (contractOf cs i .period) period) refl
+    found i t b p = by (samePeriod (nthContract cs i .period) period) refl
       where
         least : leb (leastCut g process period cs i) (quantityOf cs i) ≡ true
         least = le-leb (leastCut g process period cs i) (quantityOf cs i) (omega (arith, least-most g process period cs i t p))
 
-        by : (s : Bool) → samePeriod (contractOf cs i .period) period ≡ s → (s && leb (leastCut g process period cs i) (quantityOf cs i)) ≡ true
+        by : (s : Bool) → samePeriod (nthContract cs i .period) period ≡ s → (s && leb (leastCut g process period cs i) (quantityOf cs i)) ≡ true
         by true e = least
-        by false e = absurd (out (idle g process period cs i t b (λ k. ap (λ (z : ℤ). z *ℤ pos t) (cut-out (g .factors) period (contractOf cs i) 1 k e) ∙ zero-*ℤ (pos t)) p))
+        by false e = absurd (out (idle g process period cs i t b (λ k. ap (λ (z : ℤ). z *ℤ pos t) (cut-out (g .factors) period (nthContract cs i) 1 k e) ∙ zero-*ℤ (pos t)) p))
 
-    absent-is : (i : ℕ) → i < length cs → some (is i) listed ≡ hasCut g process period cs i
-    absent-is i b = ap (some (is i)) (failing-rows (fails-false out)) ∙ some-inOrder (is i) own ∙ row-there g process period cs i (length cs) b
+    absent-is : (i : ℕ) → i < length cs → anyOf (is i) listed ≡ hasCut g process period cs i
+    absent-is i b = ap (anyOf (is i)) (failing-rows (fails-false out)) ∙ anyOf-inOrder (is i) own ∙ row-there g process period cs i (length cs) b
 
     absent : (i : ℕ) → i < length cs → Absent i listed ↔ ((t : ℕ) → t ≤ quantityOf cs i → CutPasses g process period cs i t → ⊥)
     absent i b = (
@@ -87,10 +82,10 @@ module _ (g : Grid) (process : Process) (period : Period) (cs : List Contract) w
     each : Each (IsLeastCut g process period cs) listed
     each = rw (failing-rows (fails-false out)) (each-inOrder (IsLeastCut g process period cs) own (each-row g process period cs (IsLeastCut g process period cs) (length cs) row-least))
 
-  in-order : (j k : ℕ) → j < k → k < length listed → precedes (rowAt listed j) (rowAt listed k) ≡ true
+  in-order : (j k : ℕ) → j < k → k < length listed → precedes (cutRowAt listed j) (cutRowAt listed k) ≡ true
   in-order = by (passing g process period cs) refl
     where
-      by : (b : Bool) → passing g process period cs ≡ b → (j k : ℕ) → j < k → k < length listed → precedes (rowAt listed j) (rowAt listed k) ≡ true
+      by : (b : Bool) → passing g process period cs ≡ b → (j k : ℕ) → j < k → k < length listed → precedes (cutRowAt listed j) (cutRowAt listed k) ≡ true
       by true e = rw (passing-rows e) (λ j k l h. absurd (omega arith))
       by false e = rw (failing-rows e) (inOrder-at own (numbers-rise g process period cs (length cs)))
 

@@ -11,8 +11,8 @@ use Rattle.tariff.specs.declared.processes.Process.{Process}
 use Rattle.tariff.specs.Units.{Grid, Factors}
 use Rattle.tariff.specs.Contracts.{samePeriod, ofPeriod}
 use Rattle.tariff.specs.Feasibility.{flow, excess}
-use Rattle.flow_laws.specs.Quantities.{withQuantity}
-use Rattle.cut_rules.specs.Cuts.{contractOf, quantityOf, Row}
+use Rattle.test_flow_laws.specs.Quantities.{withQuantity}
+use Rattle.cut_rules.specs.Cuts.{nthContract, quantityOf, CutRow}
 
 -- ---- over plain whole numbers: e k is the excess at constraint k, w k the contract's flow of one thousandth (its slope there), k below n
 
@@ -56,7 +56,7 @@ slope f period c k = cutFlow f period c 1 k
 module _ (g : Grid) (process : Process) (period : Period) (cs : List Contract) where
   -- contract i's cut by the closed form, with what is said for none
   abbrev pub closedOr : ℕ → ℕ → ℕ
-  closedOr none i = closed (g .factors .constraints) (excess g process (ofPeriod period cs)) (slope (g .factors) period (contractOf cs i)) (quantityOf cs i) none
+  closedOr none i = closed (g .factors .constraints) (excess g process (ofPeriod period cs)) (slope (g .factors) period (nthContract cs i)) (quantityOf cs i) none
 
   -- one more than its quantity for none, as the search says
   unfoldable pub closedCut : ℕ → ℕ
@@ -64,17 +64,17 @@ module _ (g : Grid) (process : Process) (period : Period) (cs : List Contract) w
 
   -- as code gives it: 0 for none, which no cut from a failing book is, and for a contract of the other period
   unfoldable pub cutOr0 : ℕ → ℕ
-  cutOr0 i = cond (samePeriod (contractOf cs i .period) period) (closedOr 0 i) 0
+  cutOr0 i = cond (samePeriod (nthContract cs i .period) period) (closedOr 0 i) 0
 
 -- ---- a row as one number, which compares as rows are ordered: numbers are below 1,024
 
-abbrev pub keyOf : ℕ → ℕ → ℕ
-keyOf cut number = cut * 1024 + number
+abbrev pub cutKey : ℕ → ℕ → ℕ
+cutKey cut number = cut * 1024 + number
 
-abbrev pub rowKey : Row → ℕ
-rowKey r = keyOf (r .cut) (r .number)
+abbrev pub rowKey : CutRow → ℕ
+rowKey r = cutKey (r .cut) (r .number)
 
 -- those of the numbers below m that have a cut
 unfoldable pub keysTo : (ℕ → ℕ) → ℕ → List ℕ
 keysTo cutOf zero = []
-keysTo cutOf (suc m) = keysTo cutOf m ++ cond (ltb 0 (cutOf m)) (keyOf (cutOf m) m ∷ []) []
+keysTo cutOf (suc m) = keysTo cutOf m ++ cond (ltb 0 (cutOf m)) (cutKey (cutOf m) m ∷ []) []

@@ -1,3 +1,4 @@
 pub mod Cuts
 pub mod Theorems
+pub mod FindCuts
 pub mod Inner

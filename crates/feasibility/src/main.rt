@@ -1,9 +1,9 @@
 // Writes the feasibility report of grid.bin and book.bin, in the folder that it is started in, to standard output.
 // A file is looked at only when those before it were taken. Where it is there and can't be read, nothing is printed: `files` has told it on standard error.
-use feasibility_report::REPORT_ROOM;
 use layouts::MAX_BOOK_BYTES;
 use layouts::PROGRAM_GRID_BYTES;
 use layouts::WriteAnswer;
+use text_report::REPORT_ROOM;
 
 // The buffers hold one byte more than the longest file taken, so that the length of a longer one is refused.
 fn main() {
@@ -16,11 +16,7 @@ fn main() {
     let book_file = files::read_behind(0 < nodes, b"book.bin", &mut book);
     let book_bytes = book_file.bytes;
     if grid_file.readable && book_file.readable {
-        let answer = feasibility_report::write_report(
-            &grid[..grid_bytes],
-            &book[..book_bytes],
-            &mut text,
-        );
+        let answer = text_report::write_report(&grid[..grid_bytes], &book[..book_bytes], &mut text);
         if let WriteAnswer::Written { bytes } = answer {
             files::print(&text[..bytes]);
         }

@@ -29,9 +29,9 @@ use Rattle.grid_rules.proofs.Passing.{sized, writable, written-fits}
 
 -- ---- the former reader
 
-pub former-refuses : (q : ReadGridCall) → 2 ≤ length (q .file) → gridFormIn (q .file) ≡ Wide → formerFirst (formerGridChecks q) ≡ 2
+pub old-grid-reader-refuses-wide : (q : ReadGridCall) → 2 ≤ length (q .file) → gridFormIn (q .file) ≡ Wide → formerFirst (formerGridChecks q) ≡ 2
 unfolding formerFirst formerGridChecks
-former-refuses q le e = rw (le-ltb (length (q .file)) 2 le, wide-header (q .file) e .0)
+old-grid-reader-refuses-wide q le e = rw (le-ltb (length (q .file)) 2 le, wide-header (q .file) e .0)
 
 -- the same lists where the form is narrow
 narrow-list : (q : ReadGridCall) → gridFormIn (q .file) ≡ Narrow → map byNumber (readGridChecks q) ≡ formerGridChecks q
@@ -44,15 +44,15 @@ short-number q lt =
     let f = gridFormIn (q .file) in
     rw (lt-ltb (length (q .file)) 2 lt, lt-ltb (length (q .file)) (gridHeaderBytes f) (omega (arith, lt, header-least f)))
 
-pub former-number : (q : ReadGridCall) → (2 ≤ length (q .file) → gridFormIn (q .file) ≡ Narrow) → numberAfter (readGridChecked q) ≡ formerFirst (formerGridChecks q)
-former-number q narrow = by (ltb (length (q .file)) 2) refl
+pub narrow-grids-as-before : (q : ReadGridCall) → (2 ≤ length (q .file) → gridFormIn (q .file) ≡ Narrow) → numberAfter (readGridChecked q) ≡ formerFirst (formerGridChecks q)
+narrow-grids-as-before q narrow = by (ltb (length (q .file)) 2) refl
   where
     by : (b : Bool) → ltb (length (q .file)) 2 ≡ b → numberAfter (readGridChecked q) ≡ formerFirst (formerGridChecks q)
     by true e = short-number q (ltb-true (length (q .file)) 2 e)
     by false e = first-number (readGridChecks q) ∙ ap formerFirst (narrow-list q (narrow (ltb-false (length (q .file)) 2 e)))
 
-pub read-as-before : (s : List ℕ) → gridFormIn s ≡ Narrow → ReadAsBefore s
-read-as-before s e = record { nodes-as-before = rw e; limits-as-before = rw e; factors-as-before = rw e }
+pub narrow-values-as-before : (s : List ℕ) → gridFormIn s ≡ Narrow → ReadAsBefore s
+narrow-values-as-before s e = record { nodes-as-before = rw e; limits-as-before = rw e; factors-as-before = rw e }
 
 -- ---- both forms
 
@@ -87,7 +87,7 @@ few-factors : (h n k : ℕ) → 16 ≤ h → h + 27 * k + 18 * (n * k) ≤ 8 * p
 few-factors h n zero least le = rw (mul-zero n) (omega arith)
 few-factors h n (suc k) least le = omega arith
 
-pub factors-fit : (s : List ℕ) → first (gridSizeChecks s) ≡ Passed → length s ≤ programBytes → nodesIn s * constraintsIn s ≤ programFactors
-factors-fit s e le =
+pub fits-the-program : (s : List ℕ) → first (gridSizeChecks s) ≡ Passed → length s ≤ programBytes → nodesIn s * constraintsIn s ≤ programFactors
+fits-the-program s e le =
     let c = sized s e .counted in
     few-factors (headerIn s) (nodesIn s) (constraintsIn s) (omega (arith, header-whole (gridFormIn s), header-least (gridFormIn s))) (omega (arith, c .size))

@@ -17,8 +17,8 @@ use Rattle.bits.proofs.Fields.{field-of-run, length-fields}
 use Rattle.bits.proofs.SignedLaws.{to-low, to-high}
 use Rattle.tariff.specs.Units.{maxFactor}
 use Rattle.tariff.specs.Checks.{factorBad}
-use Rattle.tables.specs.Inner.{GoodFactors}
-use Rattle.tables.proofs.Factors.{factor-cell-sized}
+use Rattle.grid_tables.specs.Inner.{GoodFactors}
+use Rattle.grid_tables.proofs.Factors.{factor-cell-sized}
 use Rattle.layouts.specs.GridFile.{limitWidth, factorWidth, factorsFrom}
 use Rattle.grid_rules.specs.Inner.{factorsAt, coded}
 

@@ -22,10 +22,10 @@ use Rattle.tariff.specs.Units.{gridOf, maxNodes, maxLimit}
 use Rattle.tariff.specs.Refusals.{Check, first, decided}
 use Rattle.tariff.specs.Checks.{nodeCount, nodesOutside, constraintCount, limitRange, factorRange, shortTable}
 use Rattle.tariff.proofs.Checks.{passed-cons, first-append, first-passes, passed-append, nodes-within, same-of}
-use Rattle.tables.specs.TableChecks.{gridTableChecks}
-use Rattle.tables.proofs.Factors.{count-fits}
-use Rattle.tables.proofs.Cells.{cut-sized}
-use Rattle.tables.proofs.Passing.{passed-all, grid-tables}
+use Rattle.grid_tables.specs.TableChecks.{gridTableChecks}
+use Rattle.grid_tables.proofs.Factors.{count-fits}
+use Rattle.grid_tables.proofs.Cells.{cut-sized}
+use Rattle.grid_tables.proofs.Passing.{passed-all, grid-tables}
 use Rattle.layouts.specs.declared.forms.Form.{Form}
 use Rattle.layouts.specs.declared.forms.Form.the-variants.{Narrow, Wide}
 use Rattle.layouts.specs.Files.{bytesFor}

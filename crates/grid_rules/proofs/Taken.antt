@@ -19,14 +19,14 @@ use Rattle.layouts.specs.declared.forms.Form.{Form}
 use Rattle.layouts.specs.Forms.{formNumber}
 use Rattle.layouts.specs.GridFile.{gridFormIn, headerIn, nodesIn, constraintsIn, limitsIn, factorsIn, gridIn}
 use Rattle.layouts.proofs.GridFile.{length-limits, length-factors}
-use Rattle.tables.specs.Inner.{GoodFactors, GoodCells}
-use Rattle.tables.proofs.Cells.{good-cells}
-use Rattle.tables.proofs.Factors.{factors-in-range}
+use Rattle.grid_tables.specs.Inner.{GoodFactors, GoodCells}
+use Rattle.grid_tables.proofs.Cells.{good-cells}
+use Rattle.grid_tables.proofs.Factors.{factors-in-range}
 use Rattle.grid_rules.specs.declared.GridAnswer.the-variants.{Read}
 use Rattle.grid_rules.specs.ReadGrid.{readGridCall, gridSizeChecks, gridFigureChecks, gridFileChecks, cappedChecks, readGridChecks, withinChecks, gridValues}
 use Rattle.grid_rules.specs.ReadGrid.{ReadsBy, ReadsGrid, ReadsWithin, programBytes, programFactors}
 use Rattle.grid_rules.proofs.Passing.{sized}
-use Rattle.grid_rules.proofs.BothForms.{factors-fit}
+use Rattle.grid_rules.proofs.BothForms.{fits-the-program}
 
 -- ---- read
 
@@ -117,4 +117,4 @@ program-room s ls fs cells places = first-room (cappedChecks programBytes s) _ r
         let both = passed-append (gridSizeChecks s) _ e in
         let short : length s ≤ programBytes = ltb-false programBytes (length s) (passed-cons _ _ (both .1) .0) in
         first-passes _ _ (le-ltb (length ls) (constraintsIn s) (omega (arith, sized s (both .0) .counted .good .few)))
-        ∙ last-passes _ (le-ltb (length fs) (nodesIn s * constraintsIn s) (omega (arith, factors-fit s (both .0) short)))
+        ∙ last-passes _ (le-ltb (length fs) (nodesIn s * constraintsIn s) (omega (arith, fits-the-program s (both .0) short)))

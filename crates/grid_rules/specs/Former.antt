@@ -5,7 +5,7 @@ use mathlib.Core.List.{List, [], _∷_}
 use Prim.Native.Nat.{ℕ, _*_}
 use lib.Dec.{ltb, eqb}
 use lib.ListN.{length}
-use Rattle.lists.specs.Lists.{some}
+use Rattle.lists.specs.Lists.{anyOf}
 use Rattle.bits.specs.Bits.{field}
 use Rattle.tariff.specs.Checks.{limitBad, factorBad}
 use Rattle.tariff.specs.Former.{FormerCheck, formerly}
@@ -33,8 +33,8 @@ formerGridChecks q =
     ∷ formerly (ltb 64 (formerConstraints (q .file))) 3
     ∷ formerly (not (eqb (field (q .file) 15 1) 0)) 4
     ∷ formerly (not (eqb (length (q .file)) (bytesFor (formerBits (q .file))))) 5
-    ∷ formerly (some limitBad (limitsFrom (q .file) 16 (formerConstraints (q .file)))) 6
-    ∷ formerly (some factorBad (factorsFrom (q .file) 16 (formerNodes (q .file)) (formerConstraints (q .file)))) 7
+    ∷ formerly (anyOf limitBad (limitsFrom (q .file) 16 (formerConstraints (q .file)))) 6
+    ∷ formerly (anyOf factorBad (factorsFrom (q .file) 16 (formerNodes (q .file)) (formerConstraints (q .file)))) 7
     ∷ formerly (not (eqb (field (q .file) (formerBits (q .file)) (padFor (formerBits (q .file)))) 0)) 8
     ∷ formerly (ltb (length (q .limits)) (formerConstraints (q .file))) 9
     ∷ formerly (ltb (length (q .factors)) (formerNodes (q .file) * formerConstraints (q .file))) 9

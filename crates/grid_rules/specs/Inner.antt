@@ -9,7 +9,7 @@ use Rattle.bits.specs.Signed.{ofInt, toInt}
 use Rattle.tariff.specs.Units.{maxNodes, maxConstraints, maxLimit}
 use Rattle.tariff.specs.Refusals.{Check}
 use Rattle.tariff.specs.Checks.{limitRange, factorRange, shortTable}
-use Rattle.tables.specs.Inner.{GoodCells, GoodFactors}
+use Rattle.grid_tables.specs.Inner.{GoodCells, GoodFactors}
 use Rattle.layouts.specs.declared.forms.Form.{Form}
 use Rattle.layouts.specs.Files.{bytesFor, padding}
 use Rattle.layouts.specs.Forms.{mostNodes}

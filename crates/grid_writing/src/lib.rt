@@ -4,15 +4,15 @@ ghost use Prim.Native.Nat.{ℕ, _+_, _*_, _^_, _≤_, _<_};
 ghost use lib.ListN.{length, getD};
 ghost use lib.IntN.{pos, natAbs};
 ghost use Rattle.bits.specs.Bits.{number};
-ghost use Rattle.bits.specs.Inner.{written, place, Ready, GoesOn};
+ghost use Rattle.bits.specs.Inner.{written, bitsWritten, WriterReady, WritesOn};
 ghost use Rattle.lists.specs.Lent.{before, after, overwrite};
 ghost use Rattle.tariff.specs.Units.{gridOf, maxConstraints, maxFactor};
 ghost use Rattle.layouts.specs.Forms.{mostNodes, gridHeaderBytes};
 ghost use Rattle.layouts.specs.GridFile.{factorWidth, gridHeader, gridFile};
-ghost use Rattle.runs.specs.Inner.{Penned};
+ghost use Rattle.runs.specs.Inner.{WrittenFields};
 ghost use Rattle.grid_rules.specs.WriteGrid.{writeGridCall, writeGridChecked, WritesGrid};
 ghost use Rattle.grid_rules.specs.Inner.{Writable, coded};
-use bits::Pen;
+use bits::BitWriter;
 use layouts::FACTOR_WIDTH;
 use layouts::Form;
 use layouts::LIMIT_WIDTH;
@@ -34,7 +34,7 @@ fn check_write(
     if tariff::nodes_outside(form.most_nodes(), nodes) {
         return Checked::Refused(Refusal::NodeCount);
     }
-    match tables::check_grid_tables(nodes, constraints, 0, 0, limits, factors) {
+    match grid_tables::check_grid_tables(nodes, constraints, 0, 0, limits, factors) {
         Checked::Refused(refusal) => Checked::Refused(refusal),
         Checked::Passed => {
             if file.len() < grid_checks::file_bytes(form.grid_header_bits(), nodes, constraints) {
@@ -46,34 +46,34 @@ fn check_write(
 }
 
 // Writes each of the first `count` factors as the next bits.
-fn write_factors(buf: &mut [u8], from: Pen, factors: &[i64], count: usize) -> Pen
-    requires { ⌜ Ready from ⌝ }
+fn write_factors(buf: &mut [u8], from: BitWriter, factors: &[i64], count: usize) -> BitWriter
+    requires { ⌜ WriterReady from ⌝ }
     requires { ⌜ (count ≤ length (now factors)) × ((k : ℕ) → k < count → natAbs (getD (now factors) k (pos 0)) ≤ maxFactor) ⌝ }
-    requires { ⌜ place from + factorWidth * count ≤ 8 * length (now buf) ⌝ }
+    requires { ⌜ bitsWritten from + factorWidth * count ≤ 8 * length (now buf) ⌝ }
     ensures { λ r. ⌜ written (after buf) r ≡ written (before buf) from * 2 ^ (factorWidth * count) + number factorWidth (coded count (before factors)) ⌝ }
-    ensures { λ r. ⌜ (place r ≡ place from + factorWidth * count) × Ready r ⌝ }
-    ensures { λ r. ⌜ GoesOn (before buf) from (after buf) r ⌝ }
+    ensures { λ r. ⌜ (bitsWritten r ≡ bitsWritten from + factorWidth * count) × WriterReady r ⌝ }
+    ensures { λ r. ⌜ WritesOn (before buf) from (after buf) r ⌝ }
 {
-    let mut pen = from;
+    let mut writer = from;
     let mut i = 0;
     while i < count {
-        pen = bits::put(
+        writer = bits::put(
             buf,
-            pen,
+            writer,
             bits::unsigned(factors[i], FACTOR_WIDTH),
             FACTOR_WIDTH,
         );
         i += 1;
     }
-    pen
+    writer
 }
 
 // Writes the header in its form.
-fn put_header(file: &mut [u8], form: Form, nodes: usize, constraints: usize) -> Pen
+fn put_header(file: &mut [u8], form: Form, nodes: usize, constraints: usize) -> BitWriter
     requires { ⌜ (nodes ≤ mostNodes form) × (constraints ≤ maxConstraints) × (gridHeaderBytes form ≤ length (now file)) ⌝ }
-    ensures { λ r. ⌜ Penned (gridHeader form nodes constraints) (before file) (after file) r ⌝ }
+    ensures { λ r. ⌜ WrittenFields (gridHeader form nodes constraints) (before file) (after file) r ⌝ }
 {
-    let start = Pen {
+    let start = BitWriter {
         at: 0,
         held: 0,
         bits: 0,

@@ -3,23 +3,19 @@ use mathlib.Core.Path.{_≡_, sym, _∙_}
 use mathlib.Core.Bool.{true, false}
 use mathlib.Core.List.{List, [], _∷_}
 use Prim.Native.Nat.{ℕ, _≤_, _<_}
-use native.Mathlib.Omega.{arith}
 use borrow.Author.Tests.{lt-ltb, le-ltb, le-leb, lt-leb}
-use lib.ListN.{length}
-use Rattle.lists.specs.Lists.{some}
+use Rattle.lists.specs.Lists.{anyOf}
 use Rattle.tariff.specs.declared.refusals.Refusal.{Refusal}
 use Rattle.tariff.specs.declared.refusals.Refusal.the-variants.{PeriodOrKind, HolderRange, NodeNumber, QuantityRange}
 use Rattle.tariff.specs.declared.refusals.Checked.the-variants.{Passed, Refused}
 use Rattle.tariff.specs.Refusals.{Check, first}
-use Rattle.tariff.specs.Checks.{kindAndPeriod, contractCount, quantityRange}
+use Rattle.tariff.specs.Checks.{kindAndPeriod, quantityRange, listedNodes}
 use Rattle.tariff.specs.Units.{maxHolder}
 use Rattle.tariff.proofs.Checks.{first-passes, first-refuses, last-passes, append-refuses, append-passes}
 use Rattle.layouts.specs.Forms.{endsBelow}
-use Rattle.layouts.specs.BookFile.{contractCountIn, bookFormIn}
-use Rattle.layouts.proofs.BookFile.{book-bytes-least}
-use Rattle.books.specs.BookChecks.{ownChecks}
-use Rattle.books.proofs.Accepted.{own-accepted}
-use Rattle.hub_rules.specs.Hubs.{hubNodeNumber, hubShape, hubTwice}
+use Rattle.layouts.specs.BookFile.{bookFormIn}
+use Rattle.book_rules.specs.BookChecks.{ownChecks}
+use Rattle.hub_rules.specs.Hubs.{hubShape, hubTwice}
 use Rattle.hub_book.specs.declared.Terms.{Terms}
 use Rattle.hub_book.specs.Inner.{termChecks, givenChecks}
 
@@ -44,19 +40,19 @@ module _ (below : ℕ) (t : Terms) (ns : List ℕ) (q : ℕ) where
       holder-refused h = sym (first-passes _ _ both ∙ first-refuses _ _ (lt-ltb maxHolder (t .holder) h))
 
       module _ (held : t .holder ≤ maxHolder) where
-        pub nodes-refused : hubNodeNumber below ns .fails ≡ true → Refused NodeNumber ≡ first (termChecks below t ns q)
+        pub nodes-refused : listedNodes below ns .fails ≡ true → Refused NodeNumber ≡ first (termChecks below t ns q)
         unfolding termChecks
         nodes-refused h = sym (first-passes _ _ both ∙ first-passes _ _ (le-ltb maxHolder (t .holder) held) ∙ first-refuses _ _ h)
 
-        module _ (listed : hubNodeNumber below ns .fails ≡ false) where
+        module _ (listed : listedNodes below ns .fails ≡ false) where
           pub sink-refused : below ≤ t .sink → Refused NodeNumber ≡ first (termChecks below t ns q)
-          unfolding termChecks some
+          unfolding termChecks anyOf
           sink-refused h =
               sym (first-passes _ _ both ∙ first-passes _ _ (le-ltb maxHolder (t .holder) held) ∙ first-passes _ _ listed ∙ first-refuses _ _ (rw (le-leb below (t .sink) h)))
 
           module _ (sunk : t .sink < below) where
             ends-good : first (termChecks below t ns q) ≡ first (quantityRange q ∷ [])
-            unfolding termChecks some
+            unfolding termChecks anyOf
             ends-good = first-passes _ _ both ∙ first-passes _ _ (le-ltb maxHolder (t .holder) held) ∙ first-passes _ _ listed ∙ first-passes _ _ (rw (lt-leb below (t .sink) sunk))
 
             pub quantity-refused : quantityRange q .fails ≡ true → Refused QuantityRange ≡ first (termChecks below t ns q)
@@ -66,10 +62,6 @@ module _ (below : ℕ) (t : Terms) (ns : List ℕ) (q : ℕ) where
             terms-pass h = sym (ends-good ∙ last-passes _ h)
 
 -- ---- all that does not ask how many contracts are made
-
--- an accepted book has its header
-pub header-there : (n : ℕ) (s : List ℕ) → first (ownChecks n s) ≡ Passed → 2 ≤ length s
-header-there n s e = book-bytes-least (bookFormIn s) (contractCountIn s) (length s) (omega (arith, own-accepted n s e .size))
 
 module _ (n : ℕ) (s : List ℕ) (t : Terms) (ns ws : List ℕ) (q : ℕ) where
   abbrev ends : ℕ

@@ -12,8 +12,8 @@ use Rattle.layouts.specs.declared.forms.Form.the-variants.{Narrow, Wide}
 use Rattle.layouts.specs.Forms.{sparePattern}
 use Rattle.layouts.specs.BookFile.{bookBytes, contractCountIn, bookSpareIn, bookFormIn, bookIn}
 use Rattle.layouts.proofs.BookFile.{book-read, book-fits, length-bookIn}
-use Rattle.books.specs.Inner.{headerBytes, contractBytes, bookFront}
-use Rattle.books.proofs.Bytes.{length-header, book-bytes, length-front}
+use Rattle.book_rules.specs.Inner.{headerBytes, contractBytes, bookFront}
+use Rattle.book_rules.proofs.Bytes.{length-header, book-bytes, length-front}
 use Rattle.hub_book.specs.Inner.{Whole}
 
 module _ (s : List ℕ) (bytes : Below 8 s) (size : length s ≡ bookBytes (bookFormIn s) (contractCountIn s)) (spare : bookSpareIn s ≡ sparePattern (bookFormIn s)) where

@@ -7,7 +7,7 @@ use native.Mathlib.Omega.{arith}
 use borrow.Author.Tests.{lt-ltb, le-ltb, ltb-false, leb-false, lt-leb}
 use lib.Dec.{leb, ltb, eqb}
 use lib.ListN.{length, length-append}
-use Rattle.lists.specs.Lists.{some, Each, listTo}
+use Rattle.lists.specs.Lists.{anyOf, Each, listTo}
 use Rattle.lists.proofs.Lists.{length-listTo, getD-listTo, each-append, each-listTo, each-at}
 use Rattle.lists.proofs.Search.{neither}
 use Rattle.tariff.specs.declared.contracts.Contract.{Contract}
@@ -23,17 +23,17 @@ use Rattle.layouts.specs.Forms.{endWidth}
 use Rattle.layouts.specs.BookFile.{bookBytes, contractCountIn, bookFormIn, contractAt, bookIn}
 use Rattle.layouts.specs.BookTable.{ContractFits}
 use Rattle.layouts.proofs.BookFile.{book-fits, length-bookIn, ends-fewer}
-use Rattle.books.specs.BookChecks.{contractChecks, ownChecks}
-use Rattle.books.specs.Inner.{bookFront}
-use Rattle.books.proofs.Accepted.{Accepted, own-parts, own-accepted, contracts-pass}
-use Rattle.books.proofs.Bytes.{book-bytes}
-use Rattle.books.proofs.Making.{Made, book-made, in-range-fits}
-use Rattle.hub_rules.specs.Hubs.{hubShape, hubTwice, shareOf, hubContract, hubContracts}
-use Rattle.hub_rules.specs.Inner.{IsHub}
+use Rattle.book_rules.specs.BookChecks.{contractChecks, ownChecks}
+use Rattle.book_rules.specs.Inner.{bookFront}
+use Rattle.book_rules.proofs.Accepted.{Accepted, own-parts, own-accepted, contracts-pass}
+use Rattle.book_rules.proofs.Bytes.{book-bytes}
+use Rattle.book_rules.proofs.Making.{Made, book-made, in-range-fits}
+use Rattle.hub_rules.specs.Hubs.{hubShape, hubTwice, hubContract}
+use Rattle.hub_rules.specs.Inner.{IsHub, listedShare, listedContracts}
 use Rattle.hub_rules.proofs.Places.{not-same, hub-more}
 use Rattle.hub_rules.proofs.Sharing.{is-hub}
 use Rattle.hub_rules.proofs.Rows.{rows-every, rows-stop}
-use Rattle.hub_rules.proofs.Contracts.{share-most, rows-few}
+use Rattle.hub_rules.proofs.Contracts.{share-most, rows-few, contracts-are}
 use Rattle.hub_shares.specs.Inner.{RowsTo}
 use Rattle.hub_book.specs.declared.Terms.{Terms}
 use Rattle.hub_book.specs.AddHubContract.{HubCall, contractsMade, countGrown, hubEnds, hubContractChecks, hubContractChecked, bookGrown}
@@ -55,7 +55,7 @@ pub record Given (q : HubCall) : Type 0 where
   pub sized : q .quantity ≤ maxQuantity
 
 pub given-is : (q : HubCall) → first (givenOf q) ≡ Passed → Given q
-unfolding givenChecks termChecks some
+unfolding givenChecks termChecks anyOf
 given-is q e =
     let own = passed-append (ownChecks (q .nodes) (q .book)) _ e in
     let terms = passed-cons _ _ (own .1) in
@@ -111,7 +111,7 @@ module _ (q : HubCall) (g : Given q) where
   form = bookFormIn (q .book)
 
   abbrev made : ℕ → Contract
-  made m = hubContract (q .kind) (q .period) (q .holder) (q .sink) m (shareOf (q .hub-nodes) (q .hub-weights) (q .quantity) m)
+  made m = hubContract (q .kind) (q .period) (q .holder) (q .sink) m (listedShare (q .hub-nodes) (q .hub-weights) (q .quantity) m)
 
   pub few-nodes : q .nodes ≤ maxNodes
   few-nodes = nodes-few-of (q .nodes) (own-parts (q .nodes) (q .book) (g .own) .0)
@@ -123,8 +123,14 @@ module _ (q : HubCall) (g : Given q) where
   pub hub-of-nodes : IsHub (q .nodes) (q .hub-nodes) (q .hub-weights)
   hub-of-nodes = hub-more (hubEnds q) (q .nodes) (q .hub-nodes) (q .hub-weights) (ends-fewer form (q .nodes)) (g .hub)
 
-  made-below : contractsMade q ≡ hubContracts (q .kind) (q .period) (q .holder) (q .sink) (q .hub-nodes) (q .hub-weights) (q .quantity) (hubEnds q)
-  made-below = rows-stop (q .kind) (q .period) (q .holder) (q .sink) (q .hub-nodes) (q .hub-weights) (q .quantity) (hubEnds q) (q .nodes) (ends-fewer form (q .nodes)) (g .hub .low)
+  -- the contracts, as the code finds them
+  made-is : contractsMade q ≡ listedContracts (q .kind) (q .period) (q .holder) (q .sink) (q .hub-nodes) (q .hub-weights) (q .quantity) (q .nodes)
+  made-is = contracts-are (q .nodes) (q .hub-nodes) (q .hub-weights) hub-of-nodes (q .quantity) (q .kind) (q .period) (q .holder) (q .sink)
+
+  made-below : contractsMade q ≡ listedContracts (q .kind) (q .period) (q .holder) (q .sink) (q .hub-nodes) (q .hub-weights) (q .quantity) (hubEnds q)
+  made-below =
+      made-is
+      ∙ rows-stop (q .kind) (q .period) (q .holder) (q .sink) (q .hub-nodes) (q .hub-weights) (q .quantity) (hubEnds q) (q .nodes) (ends-fewer form (q .nodes)) (g .hub .low)
 
   -- what holds of the contract of each node with a share holds of all
   each-made : (P : Contract → Type 0) → ((m : ℕ) → m < hubEnds q → 0 < made m .quantity .0 → made m .quantity .0 ≤ maxQuantity → P (made m)) → Each P (contractsMade q)
@@ -172,14 +178,20 @@ module _ (q : HubCall) (g : Given q) where
     rowAt = rowContract (termsOf q) sources quantities
 
     listed-rows : listTo rows rowAt ≡ contractsMade q
-    listed-rows = held (q .kind) (q .period) (q .holder) (q .sink)
+    listed-rows = held (q .kind) (q .period) (q .holder) (q .sink) ∙ sym made-is
 
     pub rows-many : rows ≡ length (contractsMade q)
     rows-many = sym (length-listTo rows rowAt) ∙ ap length listed-rows
 
     pub rows-at-most : rows ≤ maxHubNodes
     rows-at-most =
-        omega (arith, rows-many, rows-few (q .nodes) (q .hub-nodes) (q .hub-weights) hub-of-nodes (q .quantity) (q .kind) (q .period) (q .holder) (q .sink), g .hub .few-nodes)
+        omega (
+          arith,
+          rows-many,
+          ap length made-is,
+          rows-few (q .nodes) (q .hub-nodes) (q .hub-weights) hub-of-nodes (q .quantity) (q .kind) (q .period) (q .holder) (q .sink),
+          g .hub .few-nodes,
+        )
 
     pub count-is : contractCountIn (q .book) + rows ≡ countGrown q
     count-is = ap (λ (n : ℕ). contractCountIn (q .book) + n) rows-many

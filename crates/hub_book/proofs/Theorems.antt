@@ -1,10 +1,8 @@
 -- THE THEOREMS of adding a hub contract (document 02, paper 7), each for every call that the checks accept. What they stand on is in Growing.antt and Sums.antt.
-use mathlib.Core.Path.{_≡_, _∙_}
+use mathlib.Core.Path.{_≡_}
 use Rattle.tariff.specs.declared.refusals.Checked.the-variants.{Passed}
 use Rattle.layouts.specs.BookFile.{bookIn}
-use Rattle.hub_rules.proofs.Sharing.{shares-sum}
-use Rattle.hub_rules.proofs.Rows.{rows-sum}
-use Rattle.hub_rules.proofs.Contracts.{rows-of}
+use Rattle.hub_rules.proofs.Contracts.{add-up, rows-of}
 use Rattle.hub_book.specs.AddHubContract.{HubCall, contractsMade, hubContractChecked, bookGrown}
 use Rattle.hub_book.specs.Theorems.{HubMade, Grown}
 use Rattle.hub_book.proofs.Growing.{passed-parts, given-is, hub-of-nodes, made-fit, grown}
@@ -16,9 +14,7 @@ module _ (q : HubCall) (pass : hubContractChecked q ≡ Passed) where
       let g = given-is q (passed-parts q pass .0) in
       let hub = hub-of-nodes q g in
       record {
-        adds-up =
-            rows-sum (q .kind) (q .period) (q .holder) (q .sink) (q .hub-nodes) (q .hub-weights) (q .quantity) (q .nodes)
-            ∙ shares-sum (q .nodes) (q .hub-nodes) (q .hub-weights) hub (q .quantity);
+        adds-up = add-up (q .nodes) (q .hub-nodes) (q .hub-weights) hub (q .quantity) (q .kind) (q .period) (q .holder) (q .sink);
         rows = rows-of (q .nodes) (q .hub-nodes) (q .hub-weights) hub (q .quantity) (q .kind) (q .period) (q .holder) (q .sink);
         fitting = made-fit q g;
       }

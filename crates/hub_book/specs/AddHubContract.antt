@@ -6,13 +6,13 @@ use Rattle.lists.specs.Lent.{Lent, before, after}
 use Rattle.tariff.specs.declared.contracts.Contract.{Contract}
 use Rattle.tariff.specs.declared.refusals.Checked.{Checked}
 use Rattle.tariff.specs.Refusals.{Check, first}
-use Rattle.tariff.specs.Checks.{kindAndPeriod, holderRange, quantityRange, contractCount, shortTable}
+use Rattle.tariff.specs.Checks.{kindAndPeriod, holderRange, quantityRange, contractCount, shortTable, listedNodes}
 use Rattle.layouts.specs.declared.WriteAnswer.{WriteAnswer}
 use Rattle.layouts.specs.Forms.{endsBelow}
 use Rattle.layouts.specs.BookFile.{bookBytes, bookFile, contractCountIn, bookFormIn, bookIn}
 use Rattle.layouts.specs.Writing.{Writes, WritesForC}
-use Rattle.books.specs.BookChecks.{ownChecks}
-use Rattle.hub_rules.specs.Hubs.{hubNodeNumber, hubShape, hubTwice, hubContracts}
+use Rattle.book_rules.specs.BookChecks.{ownChecks}
+use Rattle.hub_rules.specs.Hubs.{hubShape, hubTwice, hubContracts}
 
 -- the node count, the book's bytes, the contract's numbers, the hub's two lists, and the place for the new book's bytes as it is at entry
 pub record HubCall : Type 0 where
@@ -61,8 +61,8 @@ module _ (q : HubCall) where
       ownChecks (q .nodes) (q .book)
       ++ kindAndPeriod (q .kind) (q .period)
       ∷ holderRange (q .holder)
-      ∷ hubNodeNumber hubEnds (q .hub-nodes)
-      ∷ hubNodeNumber hubEnds (q .sink ∷ [])
+      ∷ listedNodes hubEnds (q .hub-nodes)
+      ∷ listedNodes hubEnds (q .sink ∷ [])
       ∷ quantityRange (q .quantity)
       ∷ hubShape (q .hub-nodes) (q .hub-weights)
       ∷ hubTwice (q .hub-nodes)

@@ -6,15 +6,15 @@ use lib.ListN.{length, getD}
 use Rattle.lists.specs.Lists.{listTo}
 use Rattle.tariff.specs.declared.contracts.Contract.{Contract}
 use Rattle.tariff.specs.Refusals.{Check}
-use Rattle.tariff.specs.Checks.{kindAndPeriod, holderRange, quantityRange}
+use Rattle.tariff.specs.Checks.{kindAndPeriod, holderRange, quantityRange, listedNodes}
 use Rattle.tariff.specs.Units.{maxContracts}
 use Rattle.layouts.specs.declared.forms.Form.{Form}
 use Rattle.layouts.specs.Forms.{endWidth, sparePattern, endsBelow}
 use Rattle.layouts.specs.BookFile.{bookBytes, contractCountIn, bookSpareIn, bookFormIn, bookIn}
 use Rattle.layouts.specs.BookTable.{ContractFits}
-use Rattle.books.specs.BookChecks.{ownChecks}
-use Rattle.books.specs.Inner.{bookFront}
-use Rattle.hub_rules.specs.Hubs.{hubNodeNumber, hubShape, hubTwice, hubContract}
+use Rattle.book_rules.specs.BookChecks.{ownChecks}
+use Rattle.book_rules.specs.Inner.{bookFront}
+use Rattle.hub_rules.specs.Hubs.{hubShape, hubTwice, hubContract}
 use Rattle.hub_book.specs.declared.Terms.{Terms}
 
 -- 17, 18, 11, 11, 13, ends held to be below a number
@@ -22,8 +22,8 @@ unfoldable pub termChecks : ℕ → Terms → List ℕ → ℕ → List Check
 termChecks below t ns quantity =
     kindAndPeriod (t .kind) (t .period)
     ∷ holderRange (t .holder)
-    ∷ hubNodeNumber below ns
-    ∷ hubNodeNumber below (t .sink ∷ [])
+    ∷ listedNodes below ns
+    ∷ listedNodes below (t .sink ∷ [])
     ∷ quantityRange quantity
     ∷ []
 
@@ -44,7 +44,7 @@ pub record Whole (f : Form) (count : ℕ) (s : List ℕ) : Type 0 where
   pub size : length s ≡ bookBytes f count
 
 -- rows that fit, and room for them
-pub record Room (f : Form) (count : ℕ) (t : Terms) (made : ℕ) (sources quantities : List ℕ) (place : List ℕ) : Type 0 where
+pub record HubRoom (f : Form) (count : ℕ) (t : Terms) (made : ℕ) (sources quantities : List ℕ) (place : List ℕ) : Type 0 where
   pub few : count + made ≤ maxContracts
   pub source-cells : made ≤ length sources
   pub quantity-cells : made ≤ length quantities

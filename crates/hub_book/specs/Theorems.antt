@@ -14,7 +14,7 @@ use Rattle.tariff.specs.Units.{Factors}
 use Rattle.layouts.specs.Forms.{endWidth}
 use Rattle.layouts.specs.BookFile.{bookFormIn, bookIn}
 use Rattle.layouts.specs.BookTable.{ContractFits}
-use Rattle.books.specs.BookChecks.{bookChecks}
+use Rattle.book_rules.specs.BookChecks.{bookChecks}
 use Rattle.hub_rules.specs.Theorems.{quantities, HubRows}
 use Rattle.hub_book.specs.AddHubContract.{HubCall, contractsMade}
 

@@ -5,7 +5,7 @@ ghost use lib.ListN.{length};
 ghost use Rattle.lists.specs.Lent.{before, after, overwrite};
 ghost use Rattle.tariff.specs.Refusals.{first};
 ghost use Rattle.hub_book.specs.AddHubContract.{hubCall, AddsHub};
-ghost use Rattle.hub_book.specs.Inner.{termChecks, givenChecks, rowContract, Whole, Room, grownFront};
+ghost use Rattle.hub_book.specs.Inner.{termChecks, givenChecks, rowContract, Whole, HubRoom, grownFront};
 use layouts::Form;
 use layouts::WriteAnswer;
 use tariff::Checked;
@@ -40,7 +40,7 @@ fn check_terms(below: usize, terms: Terms, hub: &[u64], quantity: u64) -> Checke
     if MAX_HOLDER < terms.holder {
         return Checked::Refused(Refusal::HolderRange);
     }
-    if tables::listed_outside(below, hub) {
+    if grid_tables::listed_outside(below, hub) {
         return Checked::Refused(Refusal::NodeNumber);
     }
     let bound = below as u64;
@@ -64,10 +64,10 @@ fn check_given(
 ) -> Checked
     ensures { λ r. ⌜ r ≡ first (givenChecks nodes (before book) terms (before hub) (before weights) quantity) ⌝ }
 {
-    if let Checked::Refused(refusal) = books::check_own(nodes, book) {
+    if let Checked::Refused(refusal) = book_checks::check_own(nodes, book) {
         return Checked::Refused(refusal);
     }
-    let form = books::book_form(book);
+    let form = book_bits::book_form(book);
     let below = form.ends_below(nodes);
     if let Checked::Refused(refusal) = check_terms(below, terms, hub, quantity) {
         return Checked::Refused(refusal);
@@ -118,15 +118,15 @@ fn write_grown(
     quantities: &[u64],
     file: &mut [u8],
 )
-    requires { ⌜ Whole form count (now book) × Room form count terms made (now sources) (now quantities) (now file) ⌝ }
+    requires { ⌜ Whole form count (now book) × HubRoom form count terms made (now sources) (now quantities) (now file) ⌝ }
     ensures { λ r. ⌜ after file ≡ overwrite (grownFront form count terms made (before sources) (before quantities) (before book)) (before file) ⌝ }
 {
     copy_book(book, file);
-    books::store_header(file, form, count + made);
+    book_bits::store_header(file, form, count + made);
     let mut i = 0;
     while i < made {
         let c = row_at(terms, sources, quantities, i);
-        books::store_contract(file, form, count + i, c);
+        book_bits::store_contract(file, form, count + i, c);
         i += 1;
     }
 }
@@ -166,11 +166,11 @@ pub fn add_hub_contract(
         &mut sources,
         &mut quantities,
     );
-    let count = books::contract_count(book);
+    let count = book_bits::contract_count(book);
     if MAX_CONTRACTS < count + made {
         return WriteAnswer::Refused(Refusal::ContractCount);
     }
-    let form = books::book_form(book);
+    let form = book_bits::book_form(book);
     let bytes = form.book_bytes(count + made);
     if file.len() < bytes {
         return WriteAnswer::Refused(Refusal::ShortTable);

@@ -8,7 +8,7 @@ use lib.ListN.{length, getD, drop, drop-of-length-le}
 use lib.Seq.{drop-cons}
 use borrow.Author.Tests.{ltb-false}
 use lib.Dec.{ltb, eqb}
-use Rattle.lists.specs.Lists.{some}
+use Rattle.lists.specs.Lists.{anyOf}
 use Rattle.lists.proofs.Search.{neither, none-bad}
 use Rattle.tariff.specs.Units.{hubWeight}
 use Rattle.hub_rules.specs.Hubs.{sumBy, weightBad, listed, twice}
@@ -20,19 +20,19 @@ rest-cons xs i d h = rw (add-one) (drop-cons xs i d h)
 -- ---- a search
 
 module _ {A : Type 0} (bad : A → Bool) (xs : List A) (i : ℕ) where
-  some-rest : (d : A) → i < length xs → some bad (drop i xs) ≡ (bad (getD xs i d) || some bad (drop (i + 1) xs))
-  unfolding some
-  some-rest d h = ap (some bad) (rest-cons xs i d h)
+  anyOf-rest : (d : A) → i < length xs → anyOf bad (drop i xs) ≡ (bad (getD xs i d) || anyOf bad (drop (i + 1) xs))
+  unfolding anyOf
+  anyOf-rest d h = ap (anyOf bad) (rest-cons xs i d h)
 
-  pub some-here : (d : A) → i < length xs → bad (getD xs i d) ≡ true → true ≡ some bad (drop i xs)
-  some-here d h e = sym (some-rest d h ∙ rw e)
+  pub anyOf-here : (d : A) → i < length xs → bad (getD xs i d) ≡ true → true ≡ anyOf bad (drop i xs)
+  anyOf-here d h e = sym (anyOf-rest d h ∙ rw e)
 
-  pub some-later : (d : A) → i < length xs → bad (getD xs i d) ≡ false → some bad (drop i xs) ≡ some bad (drop (i + 1) xs)
-  some-later d h e = some-rest d h ∙ rw e
+  pub anyOf-later : (d : A) → i < length xs → bad (getD xs i d) ≡ false → anyOf bad (drop i xs) ≡ anyOf bad (drop (i + 1) xs)
+  anyOf-later d h e = anyOf-rest d h ∙ rw e
 
-  pub some-over : length xs ≤ i → false ≡ some bad (drop i xs)
-  unfolding some
-  some-over h = rw (drop-of-length-le xs h)
+  pub anyOf-over : length xs ≤ i → false ≡ anyOf bad (drop i xs)
+  unfolding anyOf
+  anyOf-over h = rw (drop-of-length-le xs h)
 
 -- ---- a sum
 
@@ -46,7 +46,7 @@ module _ (f : ℕ → ℕ) (ws : List ℕ) (i : ℕ) where
   sum-over h = rw (drop-of-length-le ws h)
 
 -- a weight in range
-pub weight-small : (ws : List ℕ) → some weightBad ws ≡ false → (i : ℕ) → i < length ws → getD ws i 0 ≤ hubWeight
+pub weight-small : (ws : List ℕ) → anyOf weightBad ws ≡ false → (i : ℕ) → i < length ws → getD ws i 0 ≤ hubWeight
 weight-small ws e i h =
     let w = getD ws i 0 in
     ltb-false hubWeight w (neither (eqb w 0) (ltb hubWeight w) (none-bad weightBad ws 0 e i h) .1)

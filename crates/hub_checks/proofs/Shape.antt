@@ -6,7 +6,7 @@ use Prim.Native.Nat.{ℕ, _≤_, _<_}
 use borrow.Author.Tests.{lt-ltb, le-ltb, eq-eqb, ne-eqb}
 use lib.Dec.{eqb}
 use lib.ListN.{length}
-use Rattle.lists.specs.Lists.{some}
+use Rattle.lists.specs.Lists.{anyOf}
 use Rattle.tariff.specs.Units.{maxHubNodes, hubWeight}
 use Rattle.hub_rules.specs.Hubs.{sumBy, weightBad, shapeBad}
 
@@ -23,8 +23,8 @@ module _ (ns ws : List ℕ) where
       shape-unequal h = rw (ne-eqb (length ns) 0 one, le-ltb maxHubNodes (length ns) few, ne-eqb (length ns) (length ws) h)
 
       module _ (equal : length ns ≡ length ws) where
-        pub shape-weight : some weightBad ws ≡ true → true ≡ shapeBad ns ws
+        pub shape-weight : anyOf weightBad ws ≡ true → true ≡ shapeBad ns ws
         shape-weight h = rw (ne-eqb (length ns) 0 one, le-ltb maxHubNodes (length ns) few, eq-eqb (length ns) (length ws) equal, h)
 
-        pub shape-total : some weightBad ws ≡ false → (total : ℕ) → total ≡ sumBy (λ w. w) ws → not (eqb total hubWeight) ≡ shapeBad ns ws
+        pub shape-total : anyOf weightBad ws ≡ false → (total : ℕ) → total ≡ sumBy (λ w. w) ws → not (eqb total hubWeight) ≡ shapeBad ns ws
         shape-total h total e = rw (ne-eqb (length ns) 0 one, le-ltb maxHubNodes (length ns) few, eq-eqb (length ns) (length ws) equal, h, e)

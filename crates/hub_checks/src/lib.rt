@@ -4,11 +4,12 @@ ghost use mathlib.Core.Bool.{false};
 ghost use mathlib.Core.List.{[], _∷_};
 ghost use Prim.Native.Nat.{_≤_, _<_};
 ghost use lib.ListN.{length, drop};
-ghost use Rattle.lists.specs.Lists.{some};
+ghost use Rattle.lists.specs.Lists.{anyOf};
 ghost use Rattle.lists.specs.Lent.{before};
 ghost use Rattle.tariff.specs.Units.{maxHubNodes};
 ghost use Rattle.tariff.specs.Refusals.{first};
-ghost use Rattle.hub_rules.specs.Hubs.{sumBy, weightBad, shapeBad, listed, twice, hubNodeNumber, hubShape, hubTwice};
+ghost use Rattle.tariff.specs.Checks.{listedNodes};
+ghost use Rattle.hub_rules.specs.Hubs.{sumBy, weightBad, shapeBad, listed, twice, hubShape, hubTwice};
 use tariff::Checked;
 use tariff::HUB_WEIGHT;
 use tariff::MAX_HUB_NODES;
@@ -18,15 +19,12 @@ use tariff::Refusal;
 fn weight_bad(weight: u64) -> bool
     ensures { λ r. ⌜ r ≡ weightBad weight ⌝ }
 {
-    if weight == 0 {
-        return true;
-    }
-    HUB_WEIGHT < weight
+    tariff::zero_or_above(weight, HUB_WEIGHT)
 }
 
 // Whether one of the weights is not.
 fn weights_bad(weights: &[u64]) -> bool
-    ensures { λ r. ⌜ r ≡ some weightBad (before weights) ⌝ }
+    ensures { λ r. ⌜ r ≡ anyOf weightBad (before weights) ⌝ }
 {
     let mut i = 0;
     while i < weights.len() {
@@ -40,7 +38,7 @@ fn weights_bad(weights: &[u64]) -> bool
 
 // The weights together. Any 64-bit numbers may be listed: they are added once each is known to be in range.
 fn total_weight(weights: &[u64]) -> u64
-    requires { ⌜ (length (now weights) ≤ maxHubNodes) × (some weightBad (now weights) ≡ false) ⌝ }
+    requires { ⌜ (length (now weights) ≤ maxHubNodes) × (anyOf weightBad (now weights) ≡ false) ⌝ }
     ensures { λ r. ⌜ r ≡ sumBy (λ w. w) (before weights) ⌝ }
 {
     let mut sum = 0;
@@ -115,9 +113,9 @@ pub fn check_shape(nodes: &[u64], weights: &[u64]) -> Checked
 // 11, 24, 25, of a hub of nodes below `bound`.
 pub fn check_hub(bound: usize, nodes: &[u64], weights: &[u64]) -> Checked
     requires { ⌜ 0 < bound ⌝ }
-    ensures { λ r. ⌜ r ≡ first (hubNodeNumber bound (before nodes) ∷ hubShape (before nodes) (before weights) ∷ hubTwice (before nodes) ∷ []) ⌝ }
+    ensures { λ r. ⌜ r ≡ first (listedNodes bound (before nodes) ∷ hubShape (before nodes) (before weights) ∷ hubTwice (before nodes) ∷ []) ⌝ }
 {
-    if tables::listed_outside(bound, nodes) {
+    if grid_tables::listed_outside(bound, nodes) {
         return Checked::Refused(Refusal::NodeNumber);
     }
     check_shape(nodes, weights)

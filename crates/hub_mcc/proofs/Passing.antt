@@ -11,14 +11,14 @@ use Rattle.tariff.specs.declared.units.Mcc.{Mcc}
 use Rattle.tariff.specs.Units.{hubWeight}
 use Rattle.tariff.specs.Inner.{maxMcc}
 use Rattle.tariff.specs.Refusals.{Check, first, given, answered}
-use Rattle.tariff.specs.Checks.{shortTable}
+use Rattle.tariff.specs.Checks.{shortTable, listedNodes}
 use Rattle.tariff.proofs.Checks.{first-under, first-passes, passed-cons, passed-append, nodes-some-of}
 use Rattle.tariff.proofs.Answers.{none-refuses, given-values}
 use Rattle.tariff.proofs.Rounding.{floor-sized}
-use Rattle.tables.specs.Inner.{Hour, hourTableChecks}
-use Rattle.tables.proofs.Passing.{hour-tables, hour-of}
-use Rattle.congestion.proofs.Products.{node-sized}
-use Rattle.hub_rules.specs.Hubs.{hubNodeNumber, hubShape, hubTwice, hubSum, hubQuotient}
+use Rattle.grid_tables.specs.Inner.{Hour, hourTableChecks}
+use Rattle.grid_tables.proofs.Passing.{hour-tables, hour-of}
+use Rattle.hour_mcc.proofs.Products.{node-sized}
+use Rattle.hub_rules.specs.Hubs.{hubShape, hubTwice, hubSum, hubQuotient}
 use Rattle.hub_rules.specs.Inner.{IsHub}
 use Rattle.hub_rules.proofs.Sharing.{is-hub}
 use Rattle.hub_rules.proofs.Theorems.{hub-mcc-exact}
@@ -34,7 +34,7 @@ module _ (q : FindHubMccCall) where
   allNodes = hourTableChecks (q .nodes) (q .constraints) 0 (q .factors) (q .prices) (q .nodes)
 
   abbrev pub theHub : List Check
-  theHub = hubNodeNumber (q .nodes) (q .hub-nodes) ∷ hubShape (q .hub-nodes) (q .hub-weights) ∷ hubTwice (q .hub-nodes) ∷ []
+  theHub = listedNodes (q .nodes) (q .hub-nodes) ∷ hubShape (q .hub-nodes) (q .hub-weights) ∷ hubTwice (q .hub-nodes) ∷ []
 
   -- period 0 is never refused, and those cells suffice
   pub as-for-all : first (allNodes ++ theHub) ≡ findHubMccChecked q

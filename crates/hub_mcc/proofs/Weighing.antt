@@ -8,18 +8,14 @@ use borrow.Author.Tests.{leb-false}
 use lib.Dec.{leb}
 use lib.ListN.{length, getD, drop, drop-of-length-le}
 use lib.IntN.{ℤ, pos, natAbs, _+ℤ_, _*ℤ_, +ℤ-assoc, +ℤ-idr}
-use Rattle.lists.specs.Lists.{some}
-use Rattle.lists.proofs.Search.{neither, none-bad}
+use Rattle.lists.specs.Lists.{anyOf}
+use Rattle.lists.proofs.Search.{neither}
 use Rattle.integers.proofs.Sizes.{natAbs-add, natAbs-times}
 use Rattle.tariff.specs.Units.{Factors, hubWeight}
 use Rattle.tariff.specs.Inner.{maxMcc, maxWeighted}
 use Rattle.tariff.specs.Settlement.{mcc}
 use Rattle.hub_rules.specs.Hubs.{sumBy, hubSum}
 use Rattle.hub_checks.proofs.Rest.{rest-cons, sum-rest}
-
--- a listed node
-pub node-below : (n : ℕ) (ns : List ℕ) → some (leb n) ns ≡ false → (i : ℕ) → i < length ns → getD ns i 0 < n
-node-below n ns low i h = leb-false n (getD ns i 0) (none-bad (leb n) ns 0 low i h)
 
 -- what the weights from place i on may still add
 abbrev pub toCome : List ℕ → ℕ → ℕ
@@ -58,12 +54,12 @@ module _ (f : Factors) (p ns ws : List ℕ) (i : ℕ) where
 -- ---- the whole sum
 
 module _ (f : Factors) (p : List ℕ) (sized : (m : ℕ) → m < f .nodes → natAbs (mcc f p m) ≤ maxMcc) where
-  pub sum-sized : (ns ws : List ℕ) → some (leb (f .nodes)) ns ≡ false → natAbs (hubSum f p ns ws) ≤ maxMcc * sumBy (λ w. w) ws
-  unfolding some hubSum sumBy
+  pub sum-sized : (ns ws : List ℕ) → anyOf (leb (f .nodes)) ns ≡ false → natAbs (hubSum f p ns ws) ≤ maxMcc * sumBy (λ w. w) ws
+  unfolding anyOf hubSum sumBy
   sum-sized [] ws low = omega arith
   sum-sized (x ∷ ns) [] low = omega arith
   sum-sized (x ∷ ns) (w ∷ ws) low =
-      let here = neither (leb (f .nodes) x) (some (leb (f .nodes)) ns) low in
+      let here = neither (leb (f .nodes) x) (anyOf (leb (f .nodes)) ns) low in
       omega (
         arith,
         natAbs-add (pos w *ℤ mcc f p x) (hubSum f p ns ws),

@@ -1,17 +1,18 @@
 -- Finding the MCC of a hub (document 02, paper 7).
 use mathlib.Core.Path.{_≡_}
-use mathlib.Core.List.{List, [], _∷_}
-use Prim.Native.Nat.{ℕ, _*_, _<_}
-use lib.ListN.{length, take}
+use mathlib.Core.List.{List, [], _∷_, _++_}
+use Prim.Native.Nat.{ℕ, _<_}
+use lib.ListN.{take}
 use lib.IntN.{ℤ, pos, _+ℤ_, _*ℤ_}
+use Rattle.grid_tables.specs.TableChecks.{hourTablesWith}
 use Rattle.lists.specs.Lent.{Lent, before, after}
 use Rattle.tariff.specs.declared.refusals.Checked.{Checked}
 use Rattle.tariff.specs.declared.refusals.Checked.the-variants.{Passed}
 use Rattle.tariff.specs.declared.units.Mcc.{Mcc}
 use Rattle.tariff.specs.Units.{Factors, factorsOf, hubWeight}
 use Rattle.tariff.specs.Refusals.{Check, first, Outcome, given, refusedBy, answered, cellAfter, numberAfter}
-use Rattle.tariff.specs.Checks.{nodeCount, constraintCount, shortTable, factorRange, priceRange}
-use Rattle.hub_rules.specs.Hubs.{hubNodeNumber, hubShape, hubTwice, hubSum, hubQuotient, hubRemainder}
+use Rattle.tariff.specs.Checks.{listedNodes}
+use Rattle.hub_rules.specs.Hubs.{hubShape, hubTwice, hubSum, hubQuotient, hubRemainder}
 use Rattle.hub_mcc.specs.declared.HubMccAnswer.{HubMccAnswer}
 use Rattle.hub_mcc.specs.declared.HubMccAnswer.the-variants.{Found, Refused}
 
@@ -37,13 +38,8 @@ module _ (q : FindHubMccCall) where
   -- "it checks as for all nodes, then 11, 24, 25": 2, 3, 9 (tables; the two figures need no place), 7, 15 and these
   unfoldable pub findHubMccChecks : List Check
   findHubMccChecks =
-      nodeCount (q .nodes)
-      ∷ constraintCount (q .constraints)
-      ∷ shortTable (length (q .factors)) (q .nodes * q .constraints)
-      ∷ shortTable (length (q .prices)) (q .constraints)
-      ∷ factorRange (take (q .nodes * q .constraints) (q .factors))
-      ∷ priceRange (take (q .constraints) (q .prices))
-      ∷ hubNodeNumber (q .nodes) (q .hub-nodes)
+      hourTablesWith [] [] (q .nodes) (q .constraints) (q .factors) (q .prices)
+      ++ listedNodes (q .nodes) (q .hub-nodes)
       ∷ hubShape (q .hub-nodes) (q .hub-weights)
       ∷ hubTwice (q .hub-nodes)
       ∷ []

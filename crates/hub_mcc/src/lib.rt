@@ -6,7 +6,7 @@ ghost use lib.IntN.{natAbs};
 ghost use Rattle.lists.specs.Lent.{before};
 ghost use Rattle.tariff.specs.Units.{factorsOf};
 ghost use Rattle.tariff.specs.Inner.{maxWeighted};
-ghost use Rattle.tables.specs.Inner.{Hour};
+ghost use Rattle.grid_tables.specs.Inner.{Hour};
 ghost use Rattle.hub_rules.specs.Hubs.{hubSum};
 ghost use Rattle.hub_rules.specs.Inner.{IsHub};
 ghost use Rattle.hub_mcc.specs.FindHubMcc.{findHubMccCall, findHubMccChecked, FindsHubMcc};
@@ -33,7 +33,7 @@ fn check_hub_mcc(
     ensures { λ r. ⌜ r ≡ findHubMccChecked (findHubMccCall nodes constraints (before factors) (before prices) (before hub) (before weights)) ⌝ }
 {
     // No period is asked for, and no place is lent: 0 is always a period, and as many cells as nodes suffice.
-    match tables::check_hour_tables(nodes, constraints, 0, factors, prices, nodes) {
+    match grid_tables::check_hour_tables(nodes, constraints, 0, factors, prices, nodes) {
         Checked::Refused(refusal) => Checked::Refused(refusal),
         Checked::Passed => hub_checks::check_hub(nodes, hub, weights),
     }
@@ -56,7 +56,7 @@ fn weighted_sum(
     let mut i = 0;
     while i < hub.len() {
         let node = hub[i] as usize;
-        let mcc = congestion::node_mcc(nodes, constraints, factors, prices, node);
+        let mcc = hour_mcc::node_mcc(nodes, constraints, factors, prices, node);
         sum = sum.plus(mcc.weighted(weights[i]));
         i += 1;
     }

@@ -13,7 +13,8 @@ use Rattle.integers.proofs.Linear.{+ℤ-left-comm}
 use Rattle.tariff.specs.Units.{Factors}
 use Rattle.tariff.specs.Settlement.{mcc}
 use Rattle.lists.proofs.Search.{neither}
-use Rattle.hub_rules.specs.Hubs.{addPairs, listed, twice, hubSum, weightOf}
+use Rattle.hub_rules.specs.Hubs.{listed, twice, hubSum, weightOf}
+use Rattle.hub_rules.specs.Inner.{addPairs}
 use Rattle.hub_rules.specs.Theorems.{places}
 use Rattle.hub_rules.proofs.Nodes.{unlisted}
 

@@ -8,11 +8,12 @@ use native.Mathlib.Nat.{eq-or-lt-of-le}
 use native.Mathlib.Omega.{arith}
 use lib.Dec.{T, leb, eqb, eqb→eq, eqb-refl, nleb→lt}
 use lib.ListN.{length}
-use Rattle.lists.specs.Lists.{some}
+use Rattle.lists.specs.Lists.{anyOf}
 use Rattle.lists.proofs.Search.{neither}
 use Rattle.largest_remainders.specs.Ranks.{addTo}
 use Rattle.largest_remainders.proofs.Counting.{addTo-cong, addTo-plus}
-use Rattle.hub_rules.specs.Hubs.{sumBy, addPairs, listed, twice, weightOf}
+use Rattle.hub_rules.specs.Hubs.{sumBy, listed, twice, weightOf}
+use Rattle.hub_rules.specs.Inner.{addPairs}
 
 pub fails : (b : Bool) → b ≡ false → T (not b)
 fails b e = subst (λ (x : Bool). T (not x)) (sym e) tt
@@ -57,7 +58,7 @@ addTo-at (suc n) k c h = ⊎-elim (λ e. here (omega arith)) (λ l. there (λ b.
     there r l = omega (arith, r l, off k n (λ e. omega arith))
 
 pub unlisted : (ns ws : List ℕ) (m : ℕ) → listed ns m ≡ false → weightOf ns ws m ≡ 0
-unfolding some weightOf
+unfolding anyOf weightOf
 unlisted [] ws m e = refl
 unlisted (x ∷ ns) [] m e = refl
 unlisted (x ∷ ns) (w ∷ ws) m e = by (eqb x m) (neither (eqb x m) (listed ns m) e .0) (unlisted ns ws m (neither (eqb x m) (listed ns m) e .1))
@@ -66,8 +67,8 @@ unlisted (x ∷ ns) (w ∷ ws) m e = by (eqb x m) (neither (eqb x m) (listed ns 
     by true e r = cc
     by false e r = r
 
-pub nodes-pairs : (n : ℕ) (ns ws : List ℕ) → twice ns ≡ false → some (leb n) ns ≡ false → (h : ℕ → ℕ → ℕ) → ((m : ℕ) → h m 0 ≡ 0) → addTo n (λ m. h m (weightOf ns ws m)) ≡ addPairs ns ws h
-unfolding some twice weightOf addPairs
+pub nodes-pairs : (n : ℕ) (ns ws : List ℕ) → twice ns ≡ false → anyOf (leb n) ns ≡ false → (h : ℕ → ℕ → ℕ) → ((m : ℕ) → h m 0 ≡ 0) → addTo n (λ m. h m (weightOf ns ws m)) ≡ addPairs ns ws h
+unfolding anyOf twice weightOf addPairs
 nodes-pairs n [] ws once low h z = addTo-zero n z
 nodes-pairs n (x ∷ ns) [] once low h z = addTo-zero n z
 nodes-pairs n (x ∷ ns) (w ∷ ws) once low h z =
@@ -75,8 +76,8 @@ nodes-pairs n (x ∷ ns) (w ∷ ws) once low h z =
       arith,
       addTo-cong n {f = λ m. h m (cond (eqb x m) w (weightOf ns ws m))} {g = λ m. cond (eqb x m) (h x w) 0 + h m (weightOf ns ws m)} (λ m b. point (eqb x m) m (eqb→eq x m)),
       addTo-plus n (λ m. cond (eqb x m) (h x w) 0) (λ m. h m (weightOf ns ws m)),
-      addTo-at n x (h x w) (nleb→lt n x (fails (leb n x) (neither (leb n x) (some (leb n) ns) low .0))),
-      nodes-pairs n ns ws (neither (listed ns x) (twice ns) once .1) (neither (leb n x) (some (leb n) ns) low .1) h z,
+      addTo-at n x (h x w) (nleb→lt n x (fails (leb n x) (neither (leb n x) (anyOf (leb n) ns) low .0))),
+      nodes-pairs n ns ws (neither (listed ns x) (twice ns) once .1) (neither (leb n x) (anyOf (leb n) ns) low .1) h z,
     )
   where
     gone : weightOf ns ws x ≡ 0

@@ -8,17 +8,17 @@ use native.Mathlib.Nat.{eq-zero-or-pos}
 use native.Mathlib.Omega.{arith}
 use lib.Dec.{T, ltb, eqb, ltb→lt, eqb→eq, eqb-refl, nltb→le}
 use lib.ListN.{length}
-use Rattle.lists.specs.Lists.{some}
+use Rattle.lists.specs.Lists.{anyOf}
 use Rattle.lists.proofs.Search.{neither}
 use Rattle.largest_remainders.specs.Ranks.{addTo, rankOf}
-use Rattle.largest_remainders.specs.Shares.{beforeBy, total, whole, rest, leftover, rank, given, share, positives}
+use Rattle.largest_remainders.specs.Shares.{beforeBy, totalWeight, whole, rest, leftover, rank, givenOne, share, positives}
 use Rattle.largest_remainders.proofs.Counting.{bit, addTo-cong, count-is-sum, bit-same}
 use Rattle.largest_remainders.proofs.Sharing.{wholes-le}
 use Rattle.largest_remainders.proofs.Theorems.{adds-up, near, few, to-positive, no-weight}
 use Rattle.tariff.specs.Units.{hubWeight, maxHubNodes}
-use Rattle.hub_rules.specs.Hubs.{sumBy, addPairs, listed, weightBad, downShare, shareRest, leftOver, weightOf, isAhead, aheadOf, shareOf}
+use Rattle.hub_rules.specs.Hubs.{sumBy, listed, weightBad, weightOf}
 use Rattle.hub_rules.specs.Theorems.{Taken}
-use Rattle.hub_rules.specs.Inner.{IsHub}
+use Rattle.hub_rules.specs.Inner.{IsHub, addPairs, downShare, shareRest, leftOver, isAhead, aheadOf, listedShare}
 use Rattle.hub_rules.proofs.Nodes.{fails, unlisted, nodes-pairs, pairs-weights, pairs-mono, pairs-length}
 
 holds : (b : Bool) → not b ≡ false → T b
@@ -27,11 +27,11 @@ holds false e = subst T e tt
 
 pub is-hub : (n : ℕ) (ns ws : List ℕ) → Taken n ns ws → IsHub n ns ws
 is-hub n ns ws t =
-    let total = not (eqb (sumBy (λ w. w) ws) hubWeight) in
-    let s1 = neither (eqb (length ns) 0) (ltb maxHubNodes (length ns) || (not (eqb (length ns) (length ws)) || (some weightBad ws || total))) (t .shaped) in
-    let s2 = neither (ltb maxHubNodes (length ns)) (not (eqb (length ns) (length ws)) || (some weightBad ws || total)) (s1 .1) in
-    let s3 = neither (not (eqb (length ns) (length ws))) (some weightBad ws || total) (s2 .1) in
-    let s4 = neither (some weightBad ws) total (s3 .1) in
+    let totalWeight = not (eqb (sumBy (λ w. w) ws) hubWeight) in
+    let s1 = neither (eqb (length ns) 0) (ltb maxHubNodes (length ns) || (not (eqb (length ns) (length ws)) || (anyOf weightBad ws || totalWeight))) (t .shaped) in
+    let s2 = neither (ltb maxHubNodes (length ns)) (not (eqb (length ns) (length ws)) || (anyOf weightBad ws || totalWeight)) (s1 .1) in
+    let s3 = neither (not (eqb (length ns) (length ws))) (anyOf weightBad ws || totalWeight) (s2 .1) in
+    let s4 = neither (anyOf weightBad ws) totalWeight (s3 .1) in
     record {
       some-nodes = ⊎-elim (λ z. absurd (nonzero (length ns) (s1 .0) z)) (λ p. p) (eq-zero-or-pos (length ns));
       few-nodes = nltb→le maxHubNodes (length ns) (fails (ltb maxHubNodes (length ns)) (s2 .0));
@@ -52,11 +52,11 @@ module _ (n : ℕ) (ns ws : List ℕ) (hub : IsHub n ns ws) (q : ℕ) where
   abbrev W : ℕ → ℕ
   W = weightOf ns ws
 
-  pub total-is : total n W ≡ hubWeight
-  unfolding total
+  pub total-is : totalWeight n W ≡ hubWeight
+  unfolding totalWeight
   total-is = nodes-pairs n ns ws (hub .once) (hub .low) (λ m w. w) (λ m. refl) ∙ pairs-weights ns ws (hub .one-each) (λ w. w) ∙ hub .together
 
-  pub total-some : 0 < total n W
+  pub total-some : 0 < totalWeight n W
   total-some = omega (arith, total-is, weight-some)
 
   pub whole-is : (m : ℕ) → whole n W q m ≡ downShare q (W m)
@@ -96,6 +96,9 @@ module _ (n : ℕ) (ns ws : List ℕ) (hub : IsHub n ns ws) (q : ℕ) where
   pub few-over : leftOver q ws < length ns
   few-over = ⊎-elim (λ e. omega (arith, leftover-is, hub .some-nodes)) (λ l. omega (arith, leftover-is, positives-is, pairs-length ns ws (λ x w. ltb 0 (shareRest q w)))) (few n W q total-some)
 
+  pub leftover-few : leftover n W q < length ns
+  leftover-few = omega (arith, leftover-is, few-over)
+
   -- ahead of a positive remainder stand positive ones only, so all that are ahead are listed
   nothing-ahead : (r : ℕ) → 0 < r → (tie : Bool) → bit (ltb r 0 || (eqb 0 r && tie)) ≡ 0
   nothing-ahead r h tie = by (ltb r 0) (eqb 0 r) (ltb→lt r 0) (eqb→eq 0 r)
@@ -126,11 +129,11 @@ module _ (n : ℕ) (ns ws : List ℕ) (hub : IsHub n ns ws) (q : ℕ) where
       left false b = omega arith
 
   -- so who is given one is the same
-  pub given-is : (m : ℕ) → given n W q m ≡ ltb (aheadOf ns ws q m) (leftOver q ws)
+  pub given-is : (m : ℕ) → givenOne n W q m ≡ ltb (aheadOf ns ws q m) (leftOver q ws)
   given-is m = ⊎-elim zero-rest (λ p. ap₂ ltb (rank-is m p) leftover-is) (eq-zero-or-pos (shareRest q (W m)))
     where
-      zero-rest : shareRest q (W m) ≡ 0 → given n W q m ≡ ltb (aheadOf ns ws q m) (leftOver q ws)
-      zero-rest e = bit-same (given n W q m) (ltb (aheadOf ns ws q m) (leftOver q ws))
+      zero-rest : shareRest q (W m) ≡ 0 → givenOne n W q m ≡ ltb (aheadOf ns ws q m) (leftOver q ws)
+      zero-rest e = bit-same (givenOne n W q m) (ltb (aheadOf ns ws q m) (leftOver q ws))
           (λ t. absurd (no (to-positive n W q total-some m t)))
           (λ t. absurd (never (ltb→lt (aheadOf ns ws q m) (leftOver q ws) t)))
         where
@@ -140,29 +143,28 @@ module _ (n : ℕ) (ns ws : List ℕ) (hub : IsHub n ns ws) (q : ℕ) where
           never : aheadOf ns ws q m < leftOver q ws → ⊥
           never l = omega (arith, zero-behind m e)
 
-  pub share-is : (m : ℕ) → shareOf ns ws q m ≡ share n W q m
-  unfolding shareOf share
+  pub share-is : (m : ℕ) → listedShare ns ws q m ≡ share n W q m
+  unfolding listedShare share
   share-is m = by (listed ns m) (unlisted ns ws m)
     where
-      by : (b : Bool) → (b ≡ false → W m ≡ 0) → cond b (downShare q (W m) + bit (ltb (aheadOf ns ws q m) (leftOver q ws))) 0 ≡ whole n W q m + bit (given n W q m)
+      by : (b : Bool) → (b ≡ false → W m ≡ 0) → cond b (downShare q (W m) + bit (ltb (aheadOf ns ws q m) (leftOver q ws))) 0 ≡ whole n W q m + bit (givenOne n W q m)
       by true f = ap₂ _+_ (sym (whole-is m)) (ap bit (sym (given-is m)))
       by false f = sym (no-weight n W q total-some m (f refl))
 
-  pub shares-sum : addTo n (shareOf ns ws q) ≡ q
+  pub shares-sum : addTo n (listedShare ns ws q) ≡ q
   shares-sum = addTo-cong n (λ m b. share-is m) ∙ adds-up n W q total-some
 
-  pub share-above : (m : ℕ) → hubWeight * shareOf ns ws q m < q * W m + hubWeight
-  share-above m = subst (λ (t : ℕ). t * shareOf ns ws q m < q * W m + t) total-is (omega (arith, near n W q total-some m .0, ap (λ (x : ℕ). x * total n W) (share-is m)))
+  pub share-above : (m : ℕ) → hubWeight * share n W q m < q * W m + hubWeight
+  share-above m = subst (λ (t : ℕ). t * share n W q m < q * W m + t) total-is (omega (arith, near n W q total-some m .0))
 
-  pub share-below : (m : ℕ) → q * W m < hubWeight * shareOf ns ws q m + hubWeight
-  share-below m = subst (λ (t : ℕ). q * W m < t * shareOf ns ws q m + t) total-is (omega (arith, near n W q total-some m .1, ap (λ (x : ℕ). x * total n W) (share-is m)))
+  pub share-below : (m : ℕ) → q * W m < hubWeight * share n W q m + hubWeight
+  share-below m = subst (λ (t : ℕ). q * W m < t * share n W q m + t) total-is (omega (arith, near n W q total-some m .1))
 
   -- a node whose remainder is 0 gets nothing of what is left over
-  pub nothing-over : (m : ℕ) → shareRest q (W m) ≡ 0 → shareOf ns ws q m ≡ downShare q (W m)
-  unfolding shareOf
-  nothing-over m e = by (listed ns m) (unlisted ns ws m) (ltb (aheadOf ns ws q m) (leftOver q ws)) (ltb→lt (aheadOf ns ws q m) (leftOver q ws))
+  pub nothing-over : (m : ℕ) → rest n W q m ≡ 0 → share n W q m ≡ whole n W q m
+  unfolding share
+  nothing-over m e = by (givenOne n W q m) (to-positive n W q total-some m)
     where
-      by : (b : Bool) → (b ≡ false → W m ≡ 0) → (c : Bool) → (T c → aheadOf ns ws q m < leftOver q ws) → cond b (downShare q (W m) + bit c) 0 ≡ downShare q (W m)
-      by true f true g = absurd (omega (arith, g tt, zero-behind m e))
-      by true f false g = omega arith
-      by false f c g = sym (ap (downShare q) (f refl) ∙ down-none)
+      by : (b : Bool) → (T b → 0 < rest n W q m) → whole n W q m + cond b 1 0 ≡ whole n W q m
+      by true f = absurd (omega (arith, f tt))
+      by false f = omega arith

@@ -9,12 +9,13 @@ use Rattle.lists.specs.Lists.{Each}
 use Rattle.tariff.specs.declared.contracts.Contract.{Contract}
 use Rattle.tariff.specs.Contracts.{InRange}
 use Rattle.tariff.specs.Units.{Factors, maxQuantity, maxHubNodes, hubWeight}
-use Rattle.hub_rules.specs.Hubs.{hubNodeNumber, hubShape, hubTwice, hubSum, hubQuotient, hubRemainder}
-use Rattle.hub_rules.specs.Hubs.{downShare, shareRest, leftOver, weightOf, shareOf}
+use Rattle.largest_remainders.specs.Shares.{whole, rest, leftover, share}
+use Rattle.hub_rules.specs.Hubs.{sumBy, hubShape, hubTwice, hubSum, hubQuotient, hubRemainder, weightOf}
+use Rattle.tariff.specs.Checks.{listedNodes}
 
 -- a hub that is not turned down, of nodes below n
 pub record Taken (n : ℕ) (ns ws : List ℕ) : Type 0 where
-  pub below : hubNodeNumber n ns .fails ≡ false
+  pub below : listedNodes n ns .fails ≡ false
   pub shaped : hubShape ns ws .fails ≡ false
   pub once : hubTwice ns .fails ≡ false
 
@@ -24,19 +25,18 @@ pub record MccExact (f : Factors) (p ns ws : List ℕ) : Type 0 where
   pub small : hubRemainder f p ns ws < hubWeight
 
 -- a share is less than a thousandth from its exact proportion, both times 100,000
-pub record Near (ns ws : List ℕ) (q m : ℕ) : Type 0 where
-  pub not-above : hubWeight * shareOf ns ws q m < q * weightOf ns ws m + hubWeight
-  pub not-below : q * weightOf ns ws m < hubWeight * shareOf ns ws q m + hubWeight
+pub record Near (n : ℕ) (ns ws : List ℕ) (q m : ℕ) : Type 0 where
+  pub not-above : hubWeight * share n (weightOf ns ws) q m < q * weightOf ns ws m + hubWeight
+  pub not-below : q * weightOf ns ws m < hubWeight * share n (weightOf ns ws) q m + hubWeight
 
 -- fewer thousandths are left over than the hub has nodes, and a node that rounding cuts nothing off is given none
-pub record FewOver (ns ws : List ℕ) (q : ℕ) : Type 0 where
-  pub few : leftOver q ws < length ns
-  pub to-remainders : (m : ℕ) → shareRest q (weightOf ns ws m) ≡ 0 → shareOf ns ws q m ≡ downShare q (weightOf ns ws m)
+pub record FewOver (n : ℕ) (ns ws : List ℕ) (q : ℕ) : Type 0 where
+  pub few : leftover n (weightOf ns ws) q < length ns
+  pub to-remainders : (m : ℕ) → rest n (weightOf ns ws) q m ≡ 0 → share n (weightOf ns ws) q m ≡ whole n (weightOf ns ws) q m
 
 -- the quantities of contracts together
-unfoldable pub quantities : List Contract → ℕ
-quantities [] = 0
-quantities (c ∷ cs) = c .quantity .0 + quantities cs
+abbrev pub quantities : List Contract → ℕ
+quantities = sumBy (λ (c : Contract). c .quantity .0)
 
 -- sources strictly ascending
 unfoldable pub Ascending : List Contract → Type 0

@@ -1,10 +1,10 @@
 -- Laws of floor division and of rounding by a positive number.
 use mathlib.Core.Path.{_≡_, refl, ap, _∙_, sym}
-use Prim.Native.Nat.{ℕ, zero, suc, _+_, _-_, _*_, _/_, _<_, _≤_}
-use native.Mathlib.Nat.{mod-lt, div-add-mod', le-div-iff-mul-le, div-lt-iff-lt-mul, mul-div-mul-left, mul-add, div-eq-of-lt}
+use Prim.Native.Nat.{ℕ, suc, _+_, _-_, _*_, _/_, _<_}
+use native.Mathlib.Nat.{mod-lt, div-add-mod', mul-div-mul-left, mul-add}
 use native.Mathlib.Omega.{arith}
 use lib.Arith.{digits-div, digits-mod, comp-comp}
-use lib.IntN.{ℤ, pos, negsuc, negℤ, natAbs, negℤ-negℤ, _+ℤ_, _*ℤ_}
+use lib.IntN.{ℤ, pos, negsuc, natAbs, _+ℤ_, _*ℤ_}
 use Rattle.integers.specs.Division.{floorDiv, floorMod, roundUp, roundAway}
 use Rattle.integers.proofs.Linear.{⊖s}
 use Rattle.integers.proofs.Sizes.{natAbs-neg}
@@ -33,22 +33,9 @@ floor-unique (negsuc a) r d h =
 
 -- ---- rounding to the nearest, a half away from zero
 
--- r is n / d to the nearest, a half upwards, exactly where r − 1/2 ≤ n / d < r + 1/2
-pub roundUp-least : (n d : ℕ) → 0 < d → roundUp n d * (2 * d) ≤ 2 * n + d
-roundUp-least n d h = le-div-iff-mul-le {k = 2 * d} {x = roundUp n d} {y = 2 * n + d} (omega arith) .0 (omega arith)
-
-pub roundUp-most : (n d : ℕ) → 0 < d → 2 * n + d < (roundUp n d + 1) * (2 * d)
-roundUp-most n d h = div-lt-iff-lt-mul {k = 2 * d} {x = 2 * n + d} {y = roundUp n d + 1} (omega arith) .0 (omega arith)
-
 -- by an even number, half of it is added first
 pub roundUp-even : (n h : ℕ) → roundUp n (2 * h) ≡ (n + h) / (2 * h)
 roundUp-even n h = ap (λ (x : ℕ). x / (2 * (2 * h))) {x = 2 * n + 2 * h} (sym (mul-add 2 n h)) ∙ mul-div-mul-left {m = 2} (n + h) (2 * h) (omega arith)
-
--- charges round as payments do
-pub roundAway-neg : (z : ℤ) (d : ℕ) → 0 < d → roundAway (negℤ z) d ≡ negℤ (roundAway z d)
-roundAway-neg (pos zero) d h = rw (div-eq-of-lt {n = 2 * 0 + d} {m = 2 * d} (omega arith))
-roundAway-neg (pos (suc n)) d h = refl
-roundAway-neg (negsuc n) d h = sym (negℤ-negℤ (pos (roundUp (suc n) d)))
 
 pub natAbs-roundAway : (z : ℤ) (d : ℕ) → natAbs (roundAway z d) ≡ roundUp (natAbs z) d
 natAbs-roundAway (pos n) d = refl

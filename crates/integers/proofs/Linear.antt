@@ -158,13 +158,6 @@ pub *pos-mono : (n : ℕ) {a b : ℤ} → a ≤ℤ b → (a *ℤ pos n) ≤ℤ (
 pub minus≤0 : {a b : ℤ} → (a ≤ℤ b) ↔ ((a -ℤ b) ≤ℤ pos 0)
 minus≤0 {a} {b} = rw (⊖of a, ⊖of b) (simp ⊖s (omega arith))
 
--- a hypothesis that is bound, and is about integers as they are named by `⊖of`, is read by `omega (arith, read-≤, read-≡)`
-pub read-≤ : {a b : ℤ} → a ≤ℤ b → above a + below b ≤ above b + below a
-read-≤ {a} {b} h = le-⊖ (above a) (below a) (above b) (below b) .0 (subst (λ z. z ≤ℤ (above b ⊖ below b)) (⊖of a) (subst (λ z. a ≤ℤ z) (⊖of b) h))
-
-pub read-≡ : {a b : ℤ} → a ≡ b → above a + below b ≡ above b + below a
-read-≡ e = rw e
-
 -- ---- polynomials: `simp expand (simp monos (omega arith))` multiplies out, takes each monomial for one unknown, and names no integer but those
 -- that stand alone, outside every product: `simp expand (rw (⊖of a) (simp monos (omega arith)))`
 pub up : ℤ → ℤ → ℕ

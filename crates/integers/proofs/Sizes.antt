@@ -1,5 +1,5 @@
 -- The size natAbs of sums, differences, products and finite sums. `omega` takes natAbs z as an unknown natural number.
-use mathlib.Core.Path.{_≡_, refl, sym, ap, ap₂, _∙_}
+use mathlib.Core.Path.{_≡_, refl, sym, ap, _∙_}
 use mathlib.Core.Bool.{Bool, true, false, cond, _&&_}
 use mathlib.Core.List.{List, [], _∷_}
 use Prim.Native.Nat.{ℕ, zero, suc, _+_, _*_, _-_, _<_, _≤_}
@@ -78,12 +78,6 @@ pub natAbs-sumTo : (n B : ℕ) (g : ℕ → ℤ) → ((k : ℕ) → k < n → na
 unfolding sumTo
 natAbs-sumTo zero B g h = omega arith
 natAbs-sumTo (suc n) B g h = rw mul-suc (omega (arith, natAbs-add (sumTo n g) (g n), natAbs-sumTo n B g (λ k b. h k (omega arith)), h n (omega arith)))
-
--- figures that are the same of each such element have the same sum
-pub sumOver-each : {A : Type 0} (P : A → Type 0) (v w : A → ℤ) → ((x : A) → P x → v x ≡ w x) → (xs : List A) → Each P xs → sumOver xs v ≡ sumOver xs w
-unfolding sumOver
-sumOver-each P v w h [] r = refl
-sumOver-each P v w h (x ∷ xs) r = ap₂ _+ℤ_ (h x (r .0)) (sumOver-each P v w h xs (r .1))
 
 pub natAbs-sumOver : {A : Type 0} (B : ℕ) (g : A → ℤ) (xs : List A) → Each (λ x. natAbs (g x) ≤ B) xs → natAbs (sumOver xs g) ≤ B * length xs
 unfolding sumOver

@@ -26,16 +26,6 @@ unfolding sumTo
 sumTo-plus zero g h = refl
 sumTo-plus (suc n) g h = ap (λ z. z +ℤ (g n +ℤ h n)) (sumTo-plus n g h) ∙ swap4 (sumTo n g) (sumTo n h) (g n) (h n)
 
-pub sumTo-times : (n : ℕ) (g : ℕ → ℤ) (c : ℤ) → sumTo n (λ k. g k *ℤ c) ≡ sumTo n g *ℤ c
-unfolding sumTo
-sumTo-times zero g c = sym (zero-*ℤ c)
-sumTo-times (suc n) g c = ap (λ z. z +ℤ g n *ℤ c) (sumTo-times n g c) ∙ sym (+-*ℤ (sumTo n g) (g n) c)
-
-pub sumTo-swap : (m n : ℕ) (g : ℕ → ℕ → ℤ) → sumTo m (λ i. sumTo n (g i)) ≡ sumTo n (λ k. sumTo m (λ i. g i k))
-unfolding sumTo
-sumTo-swap zero n g = sym (sumTo-zero n)
-sumTo-swap (suc m) n g = ap (λ z. z +ℤ sumTo n (g m)) (sumTo-swap m n g) ∙ sym (sumTo-plus n (λ k. sumTo m (λ i. g i k)) (g m))
-
 pub sumTo-mono : (n : ℕ) {g h : ℕ → ℤ} → ((k : ℕ) → k < n → g k ≤ℤ h k) → sumTo n g ≤ℤ sumTo n h
 unfolding sumTo
 sumTo-mono zero e = ≤ℤ-refl (pos 0)
@@ -66,11 +56,6 @@ module _ {A : Type 0} where
   unfolding sumOver
   sumOver-mono [] e = ≤ℤ-refl (pos 0)
   sumOver-mono (x ∷ xs) e = +ℤ-mono (e x) (sumOver-mono xs e)
-
-  pub sumOver-plus : (xs : List A) (g h : A → ℤ) → sumOver xs (λ x. g x +ℤ h x) ≡ sumOver xs g +ℤ sumOver xs h
-  unfolding sumOver
-  sumOver-plus [] g h = refl
-  sumOver-plus (x ∷ xs) g h = ap (λ z. g x +ℤ h x +ℤ z) (sumOver-plus xs g h) ∙ swap4 (g x) (h x) (sumOver xs g) (sumOver xs h)
 
   pub sumOver-append : (xs ys : List A) (g : A → ℤ) → sumOver (xs ++ ys) g ≡ sumOver xs g +ℤ sumOver ys g
   unfolding sumOver

@@ -1,5 +1,5 @@
 -- Laws of sums of naturals and of counts. A count is a sum of bits, so each law of counts is one of sums and a case on a bit.
-use mathlib.Core.Path.{_≡_, refl, sym, ap₂, subst, _∙_}
+use mathlib.Core.Path.{_≡_, refl, sym, ap₂, subst}
 use mathlib.Core.Bool.{Bool, true, false, cond, not}
 use Prim.Native.Nat.{ℕ, zero, suc, _+_, _*_, _≤_, _<_}
 use native.Mathlib.Nat.{add-mul, mul-suc, eq-or-lt-of-le}
@@ -121,9 +121,6 @@ count-more i f = rw add-one
 pub count-start : (f : ℕ → Bool) → countOf 0 f ≡ 0
 unfolding countOf
 count-start f = refl
-
-pub count-le : (n : ℕ) (f : ℕ → Bool) → countOf n f ≤ n
-count-le n f = omega (arith, count-all n, count-mono n f (λ k. true) (λ k b t. tt))
 
 -- what holds of no two places holds of one at most
 pub count-one : (n : ℕ) (f : ℕ → Bool) → ((i j : ℕ) → i < n → j < n → T (f i) → T (f j) → i ≡ j) → countOf n f ≤ 1

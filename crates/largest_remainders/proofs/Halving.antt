@@ -8,9 +8,10 @@ use native.Mathlib.Nat.{eq-or-lt-of-le, eq-zero-or-pos, div-add-mod', mul-le-mul
 use native.Mathlib.Omega.{arith}
 use lib.Dec.{T, leb, eqb, leb→le, le→leb, nleb→lt, eqb→eq, eqb-refl}
 use Rattle.lists.specs.Sets.{countOf}
+use Rattle.lists.proofs.Sets.{count-le}
 use Rattle.largest_remainders.specs.Inner.{keyLimit}
 use Rattle.largest_remainders.specs.Ranks.{Different, keysFrom}
-use Rattle.largest_remainders.proofs.Counting.{bit, addTo-mono, addTo-plus, count-is-sum, count-mono, count-all, count-none, count-le, count-one}
+use Rattle.largest_remainders.proofs.Counting.{bit, addTo-mono, addTo-plus, count-is-sum, count-mono, count-all, count-none, count-one}
 
 -- what is x or above is above it, or it is x
 step-bit : (k x : ℕ) → bit (leb x k) ≤ bit (leb (suc x) k) + bit (eqb k x)

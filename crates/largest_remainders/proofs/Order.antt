@@ -8,7 +8,7 @@ use native.Mathlib.Omega.{arith}
 use lib.Dec.{T, ltb, eqb, ltb→lt, lt→ltb, eqb→eq, eqb-refl, not-T}
 use Rattle.largest_remainders.specs.Ranks.{rankOf, aboveBy, Different}
 use Rattle.largest_remainders.specs.Shares.{beforeBy}
-use Rattle.largest_remainders.specs.Inner.{keyOf}
+use Rattle.largest_remainders.specs.Inner.{remainderKey}
 use Rattle.largest_remainders.proofs.Counting.{bit-same, count-same}
 use Rattle.largest_remainders.proofs.Ranking.{Ordered, tri}
 
@@ -59,10 +59,10 @@ module _ (rest : ℕ → ℕ) where
       either-of i j (inr (inl h)) s = inr (inl (later i j (inl (ltb→lt (rest j) (rest i) h))))
       either-of i j (inr (inr h)) s = inr (inr (later j i (inl (ltb→lt (rest i) (rest j) h))))
 
-  pub by-key : (w j i : ℕ) → j < w → i < w → beforeBy rest j i ≡ aboveBy (keyOf rest w) j i
-  by-key w j i b c = bit-same (beforeBy rest j i) (aboveBy (keyOf rest w) j i)
-      (λ t. lt→ltb (keyOf rest w i) (keyOf rest w j) (there (rest j) (rest i) (earlier j i t)))
-      (λ t. later j i (back (rest j) (rest i) (ltb→lt (keyOf rest w i) (keyOf rest w j) t) (tri (rest j) (rest i))))
+  pub by-key : (w j i : ℕ) → j < w → i < w → beforeBy rest j i ≡ aboveBy (remainderKey rest w) j i
+  by-key w j i b c = bit-same (beforeBy rest j i) (aboveBy (remainderKey rest w) j i)
+      (λ t. lt→ltb (remainderKey rest w i) (remainderKey rest w j) (there (rest j) (rest i) (earlier j i t)))
+      (λ t. later j i (back (rest j) (rest i) (ltb→lt (remainderKey rest w i) (remainderKey rest w j) t) (tri (rest j) (rest i))))
     where
       there : (x y : ℕ) → Earlier x j y i → y * w + (w - suc i) < x * w + (w - suc j)
       there x y (inl h) = omega (arith, mul-le-mul-right w h)
@@ -77,7 +77,7 @@ module _ (rest : ℕ → ℕ) where
       back x y h (inr (inr l)) = inl (ltb→lt y x l)
 
   -- no two places have one key
-  pub keys-apart : (n w : ℕ) → n ≤ w → Different n (keyOf rest w)
+  pub keys-apart : (n w : ℕ) → n ≤ w → Different n (remainderKey rest w)
   keys-apart n w h i j b c e = by (rest i) (rest j) e (tri (rest i) (rest j))
     where
       by : (x y : ℕ) → x * w + (w - suc i) ≡ y * w + (w - suc j) → (x ≡ y) ⊎ (T (ltb x y) ⊎ T (ltb y x)) → i ≡ j
@@ -86,11 +86,11 @@ module _ (rest : ℕ → ℕ) where
       by x y e (inr (inr l)) = absurd (omega (arith, mul-le-mul-right w (ltb→lt y x l)))
 
   -- a key is below the remainders' bound times the places
-  pub key-small : (w top i : ℕ) → i < w → rest i < top → keyOf rest w i < top * w
+  pub key-small : (w top i : ℕ) → i < w → rest i < top → remainderKey rest w i < top * w
   key-small w top i b h = omega (arith, mul-le-mul-right w h)
 
   -- so the rank is that by a table of keys
-  pub rank-by-key : (n w : ℕ) (key : ℕ → ℕ) → n ≤ w → ((j : ℕ) → j < n → key j ≡ keyOf rest w j) → (i : ℕ) → i < n → rankOf n (aboveBy key) i ≡ rankOf n (beforeBy rest) i
+  pub rank-by-key : (n w : ℕ) (key : ℕ → ℕ) → n ≤ w → ((j : ℕ) → j < n → key j ≡ remainderKey rest w j) → (i : ℕ) → i < n → rankOf n (aboveBy key) i ≡ rankOf n (beforeBy rest) i
   unfolding rankOf
   rank-by-key n w key h k i b = count-same n (λ j. aboveBy key j i) (λ j. beforeBy rest j i)
       (λ j c. ap₂ ltb (k i b) (k j c) ∙ sym (by-key w j i (omega arith) (omega arith)))

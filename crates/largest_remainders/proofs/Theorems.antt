@@ -10,7 +10,7 @@ use borrow.Author.Tests.{lt-ltb, le-ltb}
 use lib.Dec.{T, leb, ltb, leb→le, le→leb, nleb→lt, ltb→lt, lt→ltb, nltb→le, not-T}
 use Rattle.lists.specs.Sets.{countOf}
 use Rattle.largest_remainders.specs.Ranks.{addTo, rankOf, aboveBy, Different, keysFrom}
-use Rattle.largest_remainders.specs.Shares.{beforeBy, total, whole, rest, leftover, rank, given, share, positives}
+use Rattle.largest_remainders.specs.Shares.{beforeBy, totalWeight, whole, rest, leftover, rank, givenOne, share, positives}
 use Rattle.largest_remainders.proofs.Counting.{bit, addTo-plus, count-is-sum, count-mono, count-strict}
 use Rattle.largest_remainders.proofs.Ranking.{ranked, rank-first, keys-ordered}
 use Rattle.largest_remainders.proofs.Order.{rests-ordered}
@@ -47,14 +47,14 @@ threshold-law n key x l e i b = by (leb x (key i)) (λ t. leb→le x (key i) t) 
     by true f g = lt-ltb (countOf n (λ j. ltb (key i) (key j))) l (fewer (f tt))
     by false f g = le-ltb (countOf n (λ j. ltb (key i) (key j))) l (enough (g tt))
 
-module _ (n : ℕ) (weight : ℕ → ℕ) (size : ℕ) (some : 0 < total n weight) where
+module _ (n : ℕ) (weight : ℕ → ℕ) (size : ℕ) (some : 0 < totalWeight n weight) where
   pub few : (leftover n weight size ≡ 0) ⊎ (leftover n weight size < positives n weight size)
   few = ⊎-elim (λ e. inl (none e)) inr (eq-or-lt-of-le (leftover-le n weight size some))
     where
       none : leftover n weight size ≡ positives n weight size → leftover n weight size ≡ 0
-      none e = omega (arith, rests-le n weight size some, leftover-rests n weight size some, ap (λ (x : ℕ). x * total n weight) e)
+      none e = omega (arith, rests-le n weight size some, leftover-rests n weight size some, ap (λ (x : ℕ). x * totalWeight n weight) e)
 
-  pub to-positive : (i : ℕ) → T (given n weight size i) → 0 < rest n weight size i
+  pub to-positive : (i : ℕ) → T (givenOne n weight size i) → 0 < rest n weight size i
   to-positive i t = ⊎-elim (λ e. absurd (clash (zero-last n weight size some i e))) (λ p. p) (eq-zero-or-pos (rest n weight size i))
     where
       clash : positives n weight size ≤ rank n weight size i → ⊥
@@ -65,29 +65,29 @@ module _ (n : ℕ) (weight : ℕ → ℕ) (size : ℕ) (some : 0 < total n weigh
   adds-up =
       omega (
         arith,
-        addTo-plus n (whole n weight size) (λ i. bit (given n weight size i)),
-        count-is-sum n (given n weight size),
+        addTo-plus n (whole n weight size) (λ i. bit (givenOne n weight size i)),
+        count-is-sum n (givenOne n weight size),
         ranked n (beforeBy (rest n weight size)) (rests-ordered (rest n weight size) n) (leftover n weight size) (leftover-small n weight size some),
         leftover-is n weight size some,
       )
 
-  pub near : (i : ℕ) → (share n weight size i * total n weight < size * weight i + total n weight) × (size * weight i < share n weight size i * total n weight + total n weight)
+  pub near : (i : ℕ) → (share n weight size i * totalWeight n weight < size * weight i + totalWeight n weight) × (size * weight i < share n weight size i * totalWeight n weight + totalWeight n weight)
   unfolding share
-  near i = by (given n weight size i) (to-positive i)
+  near i = by (givenOne n weight size i) (to-positive i)
     where
       by : (b : Bool) → (T b → 0 < rest n weight size i)
-          → ((whole n weight size i + bit b) * total n weight < size * weight i + total n weight)
-          × (size * weight i < (whole n weight size i + bit b) * total n weight + total n weight)
+          → ((whole n weight size i + bit b) * totalWeight n weight < size * weight i + totalWeight n weight)
+          × (size * weight i < (whole n weight size i + bit b) * totalWeight n weight + totalWeight n weight)
       by true f = omega (arith, f tt, split n weight size some i, rest-lt n weight size some i, some)
       by false f = omega (arith, split n weight size some i, rest-lt n weight size some i, some)
 
   pub no-weight : (i : ℕ) → weight i ≡ 0 → share n weight size i ≡ 0
-  no-weight i e = omega (arith, lt-of-mul-lt-mul-right (total n weight) {m = share n weight size i} {n = 1} (omega (arith, near i .0, ap (λ (x : ℕ). size * x) e)))
+  no-weight i e = omega (arith, lt-of-mul-lt-mul-right (totalWeight n weight) {m = share n weight size i} {n = 1} (omega (arith, near i .0, ap (λ (x : ℕ). size * x) e)))
 
   pub no-size : size ≡ 0 → (i : ℕ) → share n weight size i ≡ 0
-  no-size e i = omega (arith, lt-of-mul-lt-mul-right (total n weight) {m = share n weight size i} {n = 1} (omega (arith, near i .0, ap (λ (x : ℕ). x * weight i) e)))
+  no-size e i = omega (arith, lt-of-mul-lt-mul-right (totalWeight n weight) {m = share n weight size i} {n = 1} (omega (arith, near i .0, ap (λ (x : ℕ). x * weight i) e)))
 
-  pub largest-first : (i j : ℕ) → i < n → j < n → T (given n weight size i) → T (not (given n weight size j)) → T (beforeBy (rest n weight size) i j)
+  pub largest-first : (i j : ℕ) → i < n → j < n → T (givenOne n weight size i) → T (not (givenOne n weight size j)) → T (beforeBy (rest n weight size) i j)
   unfolding rank
   largest-first i j b c p q =
       rank-first n (beforeBy (rest n weight size)) (rests-ordered (rest n weight size) n) i j b c

@@ -9,8 +9,8 @@ use Rattle.lists.specs.Sets.{countOf}
 use Rattle.largest_remainders.specs.Ranks.{Different}
 
 -- remainder and place in one number, for w places at most: the greater number comes before
-abbrev pub keyOf : (ℕ → ℕ) → ℕ → ℕ → ℕ
-keyOf rest w i = rest i * w + (w - suc i)
+abbrev pub remainderKey : (ℕ → ℕ) → ℕ → ℕ → ℕ
+remainderKey rest w i = rest i * w + (w - suc i)
 
 -- the key of place i in a table
 abbrev pub keyAt : List ℕ → ℕ → ℕ

@@ -11,16 +11,16 @@ abbrev pub beforeBy : (ℕ → ℕ) → ℕ → ℕ → Bool
 beforeBy rest j i = ltb (rest i) (rest j) || (eqb (rest j) (rest i) && ltb j i)
 
 module _ (n : ℕ) (weight : ℕ → ℕ) where
-  unfoldable pub total : ℕ
-  total = addTo n weight
+  unfoldable pub totalWeight : ℕ
+  totalWeight = addTo n weight
 
   module _ (size : ℕ) where
     -- size × weight i / total, rounded down, and what that cuts off, in parts of the total
     unfoldable pub whole : ℕ → ℕ
-    whole i = size * weight i / total
+    whole i = size * weight i / totalWeight
 
     unfoldable pub rest : ℕ → ℕ
-    rest i = size * weight i % total
+    rest i = size * weight i % totalWeight
 
     -- what the wholes leave of the size
     unfoldable pub leftover : ℕ
@@ -31,11 +31,11 @@ module _ (n : ℕ) (weight : ℕ → ℕ) where
     rank i = rankOf n (beforeBy rest) i
 
     -- i is given one of what is left over
-    abbrev pub given : ℕ → Bool
-    given i = ltb (rank i) leftover
+    abbrev pub givenOne : ℕ → Bool
+    givenOne i = ltb (rank i) leftover
 
     unfoldable pub share : ℕ → ℕ
-    share i = whole i + cond (given i) 1 0
+    share i = whole i + cond (givenOne i) 1 0
 
     -- of how many places the rounding cuts something off
     unfoldable pub positives : ℕ

@@ -1,17 +1,17 @@
 -- A book's packing over the width w of its ends, B bytes a contract, and the spare bits p: total, fit, written then read, read then written; and the book's
 -- file in either form.
 use mathlib.Core.Path.{_≡_, refl, sym, ap, _∙_}
-use mathlib.Core.Bool.{Bool, true, false, cond}
+use mathlib.Core.Bool.{cond}
 use mathlib.Core.List.{List, [], _∷_, flatMap}
 use Prim.Native.Nat.{ℕ, _+_, _*_, _^_, _≤_, _<_}
 use native.Mathlib.Omega.{arith}
-use borrow.Author.Tests.{eqb-true, ne-eqb}
+use borrow.Author.Tests.{ne-eqb}
 use lib.Dec.{eqb}
 use lib.ListN.{length, getD}
 use Rattle.lists.specs.Lists.{Each, listTo}
 use Rattle.lists.proofs.Lists.{length-listTo, listTo-is, each-listTo}
-use Rattle.bits.specs.Fields.{Field, bits, total, fileOf}
-use Rattle.bits.specs.Inner.{Fit, Holds}
+use Rattle.bits.specs.Fields.{Field, bits, totalWidth, fileOf}
+use Rattle.bits.specs.Inner.{Fit, HoldsFields}
 use Rattle.bits.proofs.Numbers.{Below}
 use Rattle.bits.proofs.Fields.{field-lt}
 use Rattle.bits.proofs.Files.{total-append, fit-append, length-file, below-file, written-holds, holds-written, holds-append}
@@ -41,7 +41,7 @@ pub record Packed (w B p : ℕ) (cs : List Contract) (s : List ℕ) : Type 0 whe
 -- ---- one contract
 
 module _ (w : ℕ) where
-  pub total-contract : (c : Contract) → total (contractFields w c) ≡ contractBits w
+  pub total-contract : (c : Contract) → totalWidth (contractFields w c) ≡ contractBits w
   unfolding contractFields
   total-contract c = omega arith
 
@@ -50,12 +50,12 @@ module _ (w : ℕ) where
   fit-contract c h = (kind-lt (c .kind), (period-lt (c .period), (h .holder-fits, (h .source-fits, (h .sink-fits, (h .quantity-fits, tt))))))
 
   -- where a contract's fields stand, that contract is read
-  pub contract-read : (s : List ℕ) (a : ℕ) (c : Contract) → Holds s a (contractFields w c) → contractFrom w s a ≡ c
+  pub contract-read : (s : List ℕ) (a : ℕ) (c : Contract) → HoldsFields s a (contractFields w c) → contractFrom w s a ≡ c
   unfolding contractFields contractFrom
   contract-read s a c h = contract-is c (h .0) (h .1 .0) (h .1 .1 .0) (h .1 .1 .1 .0) (h .1 .1 .1 .1 .0) (h .1 .1 .1 .1 .1 .0)
 
   -- and the fields of the contract read stand there
-  pub contract-holds : (s : List ℕ) (a : ℕ) → Holds s a (contractFields w (contractFrom w s a))
+  pub contract-holds : (s : List ℕ) (a : ℕ) → HoldsFields s a (contractFields w (contractFrom w s a))
   unfolding contractFields contractFrom
   contract-holds s a = (sym (kind-bit _ (field-lt s a 1)), (sym (period-bit _ (field-lt s (a + 1) 1)), (refl, (refl, (refl, (refl, tt))))))
 
@@ -72,10 +72,6 @@ module _ (w : ℕ) where
   pub length-contractsIn : (s : List ℕ) → length (contractsIn w s) ≡ contractCountIn s
   length-contractsIn s = length-listTo (contractCountIn s) (λ i. contractFrom w s (16 + contractBits w * i))
 
-  -- what is read fits
-  pub contracts-fit : (s : List ℕ) → Each (ContractFits w) (contractsIn w s)
-  contracts-fit s = each-listTo (ContractFits w) (contractCountIn s) (λ i. contractFrom w s (16 + contractBits w * i)) (λ i b. contract-fits s (16 + contractBits w * i))
-
 -- ---- a book
 
 -- past a book's end
@@ -86,7 +82,7 @@ abbrev header : ℕ → ℕ → List Field
 header m p = bits 10 m ∷ bits 6 p ∷ []
 
 module _ (w B p : ℕ) (whole : 8 * B ≡ contractBits w) where
-  pub total-book : (cs : List Contract) → total (packedBook w p cs) ≡ 8 * (2 + B * length cs)
+  pub total-book : (cs : List Contract) → totalWidth (packedBook w p cs) ≡ 8 * (2 + B * length cs)
   unfolding packedBook
   total-book cs =
       rw (total-append (header (length cs) p) (flatMap (contractFields w) cs), total-records (contractFields w) (contractBits w) (total-contract w) cs, ← whole) (omega arith)
@@ -96,14 +92,14 @@ module _ (w B p : ℕ) (whole : 8 * B ≡ contractBits w) where
     unfolding packedBook
     fit-book = fit-append (header (length cs) p) (flatMap (contractFields w) cs) (few, (pattern, tt)) (fit-records (contractFields w) (ContractFits w) (fit-contract w) cs each)
 
-    found : (s : List ℕ) → length s ≡ 2 + B * length cs → Below 8 s → Holds s 0 (packedBook w p cs) → Packed w B p cs s
+    found : (s : List ℕ) → length s ≡ 2 + B * length cs → Below 8 s → HoldsFields s 0 (packedBook w p cs) → Packed w B p cs s
     unfolding packedBook
     found s size b h = record { size = size; bytes = b; count = parts .0 .0; spare = parts .0 .1 .0; contracts = rw (parts .0 .0) (listTo-is cs read none at) }
       where
         read : ℕ → Contract
         read i = contractFrom w s (16 + contractBits w * i)
 
-        parts : Holds s 0 (header (length cs) p) × Holds s 16 (flatMap (contractFields w) cs)
+        parts : HoldsFields s 0 (header (length cs) p) × HoldsFields s 16 (flatMap (contractFields w) cs)
         parts = holds-append s 0 (header (length cs) p) (flatMap (contractFields w) cs) .0 h
 
         at : (i : ℕ) → i < length cs → read i ≡ getD cs i none
@@ -150,15 +146,6 @@ form-is f s e = ap (λ (p : ℕ). cond (eqb p 63) Wide Narrow) e ∙ back f
 pub form-narrow : (s : List ℕ) → (bookSpareIn s ≡ 63 → ⊥) → bookFormIn s ≡ Narrow
 unfolding bookFormIn
 form-narrow s h = rw (ne-eqb (bookSpareIn s) 63 h)
-
--- the wide form is there for all six spare bits alone
-pub wide-spare : (s : List ℕ) → bookFormIn s ≡ Wide → bookSpareIn s ≡ 63
-unfolding bookFormIn
-wide-spare s e = by (eqb (bookSpareIn s) 63) refl e
-  where
-    by : (b : Bool) → eqb (bookSpareIn s) 63 ≡ b → cond b Wide Narrow ≡ Wide → bookSpareIn s ≡ 63
-    by true q e = eqb-true (bookSpareIn s) 63 q
-    by false q e = cc
 
 -- the bytes s are the file of a book in the form f: what each reader finds in them
 pub record Filed (f : Form) (cs : List Contract) (s : List ℕ) : Type 0 where

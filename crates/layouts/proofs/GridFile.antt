@@ -1,33 +1,27 @@
 -- The grid's file, written then read and read then written: its body behind any header of h bits, then the file in either form.
-use mathlib.Core.Path.{_≡_, refl, ap, _∙_}
+use mathlib.Core.Path.{_≡_, refl, _∙_}
 use mathlib.Core.Logic.{_↔_}
 use mathlib.Core.List.{List, [], _∷_, _++_, map, append-assoc}
-use mathlib.Core.Bool.{Bool, true, false, cond}
-use Prim.Native.Nat.{ℕ, zero, suc, _+_, _-_, _*_, _^_, _≤_, _<_}
-use native.Mathlib.Nat.{two-pow-succ}
+use Prim.Native.Nat.{ℕ, _+_, _*_, _^_, _≤_, _<_}
 use native.Mathlib.Omega.{arith}
-use borrow.Author.Tests.{ltb-true, ltb-false}
-use lib.Dec.{ltb}
-use lib.Pow.{pow-pos}
-use lib.Signed.{mag}
 use lib.ListN.{length, length-map}
 use lib.Seq.{take-all}
-use lib.IntN.{ℤ, pos, negsuc}
+use lib.IntN.{ℤ}
 use Rattle.bits.specs.Bits.{field, fields}
 use Rattle.bits.specs.Signed.{ofInt, toInt}
-use Rattle.bits.specs.Fields.{Field, bits, total, fileOf}
-use Rattle.bits.specs.Inner.{Fit, Holds}
+use Rattle.bits.specs.Fields.{Field, bits, totalWidth, fileOf}
+use Rattle.bits.specs.Inner.{Fit, HoldsFields}
 use Rattle.bits.proofs.Numbers.{Below}
-use Rattle.bits.proofs.Fields.{field-lt, length-fields, below-fields}
+use Rattle.bits.proofs.Fields.{length-fields, below-fields}
 use Rattle.bits.proofs.SignedLaws.{Small, to-of-all, of-to-all, of-below}
 use Rattle.bits.proofs.Files.{total-append, total-run, fit-append, fit-run}
 use Rattle.layouts.specs.declared.forms.Form.{Form}
 use Rattle.layouts.specs.Files.{bytesFor, padFor}
 use Rattle.layouts.specs.Forms.{gridSpare, gridHeaderBits}
-use Rattle.layouts.specs.GridFile.{limitWidth, factorWidth, bitsBehind, gridBits, gridBytes, gridHeader, gridBody, gridFields, gridFile}
+use Rattle.layouts.specs.GridFile.{limitWidth, factorWidth, bitsBehind, gridBytes, gridHeader, gridBody, gridFields, gridFile}
 use Rattle.layouts.specs.GridFile.{gridFormIn, nodesIn, constraintsIn, gridSpareIn, headerIn, limitsFrom, factorsFrom, limitsIn, factorsIn, gridPadIn, gridIn}
 use Rattle.layouts.proofs.Padded.{Padded, padded-total, padded-written, padded-read, holds-then-run}
-use Rattle.layouts.proofs.GridHeader.{nodeWidth, header-total, header-fit, HeaderFound, header-found, header-holds, nodes-fit-read}
+use Rattle.layouts.proofs.GridHeader.{nodeWidth, header-total, header-fit, header-found, header-holds}
 
 -- what the fields of a grid's body can hold
 pub record BodyFits (n k : ℕ) (ls : List ℕ) (fs : List ℤ) : Type 0 where
@@ -36,40 +30,22 @@ pub record BodyFits (n k : ℕ) (ls : List ℕ) (fs : List ℤ) : Type 0 where
   pub limits-fit : Below limitWidth ls
   pub factors-fit : Small factorWidth fs
 
--- ---- integers of w bits
-
--- the integer of w bits is one of w bits
-small-to : (w v : ℕ) → 1 ≤ w → v < 2 ^ w → mag (toInt w v) < 2 ^ (w - 1)
-small-to w v p h = by (ltb v (2 ^ (w - 1))) refl
-  where
-    half : 2 ^ w ≡ 2 ^ (w - 1) + 2 ^ (w - 1)
-    half = ap (λ (x : ℕ). 2 ^ x) (omega arith) ∙ two-pow-succ (w - 1)
-
-    by : (b : Bool) → ltb v (2 ^ (w - 1)) ≡ b → mag (cond b (pos v) (negsuc (2 ^ w - suc v))) < 2 ^ (w - 1)
-    by true e = ltb-true v (2 ^ (w - 1)) e
-    by false e = omega (arith, half, ltb-false v (2 ^ (w - 1)) e)
-
-small-to-all : (w : ℕ) (vs : List ℕ) → 1 ≤ w → Below w vs → Small w (map (toInt w) vs)
-small-to-all w [] p h i = pow-pos (w - 1)
-small-to-all w (v ∷ vs) p h zero = small-to w v p (h 0)
-small-to-all w (v ∷ vs) p h (suc i) = small-to-all w vs p (λ j. h (suc j)) i
-
 -- ---- the body, behind a header of o bits
 
 -- with the factors as bits
 unfoldable pub coded : List ℕ → List ℕ → List Field
 coded ls vs = map (bits limitWidth) ls ++ map (bits factorWidth) vs
 
-module _ (hs : List Field) (o n k : ℕ) (ls vs : List ℕ) (starts : total hs ≡ o) (many : length ls ≡ k) (each : length vs ≡ n * k) where
+module _ (hs : List Field) (o n k : ℕ) (ls vs : List ℕ) (starts : totalWidth hs ≡ o) (many : length ls ≡ k) (each : length vs ≡ n * k) where
   -- the header and the limits
   front : List Field
   front = hs ++ map (bits limitWidth) ls
 
-  limits-end : total front ≡ o + limitWidth * k
+  limits-end : totalWidth front ≡ o + limitWidth * k
   unfolding front
   limits-end = rw (total-append hs (map (bits limitWidth) ls), total-run limitWidth ls, many, starts)
 
-  pub body-total : total (hs ++ coded ls vs) ≡ o + limitWidth * k + factorWidth * (n * k)
+  pub body-total : totalWidth (hs ++ coded ls vs) ≡ o + limitWidth * k + factorWidth * (n * k)
   unfolding coded front
   body-total =
       rw (← append-assoc hs (map (bits limitWidth) ls) (map (bits factorWidth) vs), total-append front (map (bits factorWidth) vs), limits-end, total-run factorWidth vs, each)
@@ -82,16 +58,16 @@ module _ (hs : List Field) (o n k : ℕ) (ls vs : List ℕ) (starts : total hs �
 
   module _ (s : List ℕ) (inside : o + limitWidth * k + factorWidth * (n * k) ≤ 8 * length s) where
     -- the body's parts, as the readers find them
-    pub body-parts : Holds s 0 (hs ++ coded ls vs) ↔ (Holds s 0 hs × (fields s o limitWidth k ≡ ls) × (fields s (o + limitWidth * k) factorWidth (n * k) ≡ vs))
+    pub body-parts : HoldsFields s 0 (hs ++ coded ls vs) ↔ (HoldsFields s 0 hs × (fields s o limitWidth k ≡ ls) × (fields s (o + limitWidth * k) factorWidth (n * k) ≡ vs))
     unfolding coded front
     body-parts =
         rw (← append-assoc hs (map (bits limitWidth) ls) (map (bits factorWidth) vs))
         (λ h. let t = second .0 h in let u = first .0 (t .0) in (u .0, u .1, t .1), λ h. second .1 (first .1 (h .0, h .1), h .2))
       where
-        first : Holds s 0 front ↔ (Holds s 0 hs × (fields s o limitWidth k ≡ ls))
+        first : HoldsFields s 0 front ↔ (HoldsFields s 0 hs × (fields s o limitWidth k ≡ ls))
         first = holds-then-run s 0 hs limitWidth ls o k (omega (arith, starts)) many (omega arith)
 
-        second : Holds s 0 (front ++ map (bits factorWidth) vs) ↔ (Holds s 0 front × (fields s (o + limitWidth * k) factorWidth (n * k) ≡ vs))
+        second : HoldsFields s 0 (front ++ map (bits factorWidth) vs) ↔ (HoldsFields s 0 front × (fields s (o + limitWidth * k) factorWidth (n * k) ≡ vs))
         second = holds-then-run s 0 front factorWidth vs (o + limitWidth * k) (n * k) (omega (arith, limits-end)) each (omega arith)
 
 -- what is read from bit o on
@@ -104,29 +80,18 @@ module _ (s : List ℕ) (o n k : ℕ) where
   unfolding factorsFrom
   length-factors = length-map (fields s (o + limitWidth * k) factorWidth (n * k)) (toInt factorWidth) ∙ length-fields s (o + limitWidth * k) factorWidth (n * k)
 
-  -- fits
-  pub body-fits-read : BodyFits n k (limitsFrom s o k) (factorsFrom s o n k)
-  unfolding limitsFrom factorsFrom
-  body-fits-read =
-      record {
-        one-limit-each = length-limits;
-        one-factor-each = length-factors;
-        limits-fit = below-fields s o limitWidth k;
-        factors-fit = small-to-all factorWidth (fields s (o + limitWidth * k) factorWidth (n * k)) (omega arith) (below-fields s (o + limitWidth * k) factorWidth (n * k));
-      }
-
 -- ---- the fields behind a header, and the padding
 
 -- the bytes s hold the header hs, of h bits, and behind it a grid's body
 pub record Behind (hs : List Field) (h n k : ℕ) (ls : List ℕ) (fs : List ℤ) (s : List ℕ) : Type 0 where
   pub size : length s ≡ bytesFor (bitsBehind h n k)
   pub bytes : Below 8 s
-  pub header : Holds s 0 hs
+  pub header : HoldsFields s 0 hs
   pub limits : limitsFrom s h k ≡ ls
   pub factors : factorsFrom s h n k ≡ fs
   pub pad : field s (bitsBehind h n k) (padFor (bitsBehind h n k)) ≡ 0
 
-module _ (hs : List Field) (h n k : ℕ) (starts : total hs ≡ h) where
+module _ (hs : List Field) (h n k : ℕ) (starts : totalWidth hs ≡ h) where
   abbrev whole : List ℕ → List ℤ → List Field
   whole ls fs = hs ++ gridBody ls fs ++ bits (padFor (bitsBehind h n k)) 0 ∷ []
 
@@ -138,10 +103,10 @@ module _ (hs : List Field) (h n k : ℕ) (starts : total hs ≡ h) where
     unfolding vs
     each = length-map fs (ofInt factorWidth) ∙ f .one-factor-each
 
-    used : total (hs ++ coded ls vs) ≡ bitsBehind h n k
+    used : totalWidth (hs ++ coded ls vs) ≡ bitsBehind h n k
     used = body-total hs h n k ls vs starts (f .one-limit-each) each
 
-    pub behind-total : total (hs ++ gridBody ls fs ++ bits (padFor (bitsBehind h n k)) 0 ∷ []) ≡ 8 * bytesFor (bitsBehind h n k)
+    pub behind-total : totalWidth (hs ++ gridBody ls fs ++ bits (padFor (bitsBehind h n k)) 0 ∷ []) ≡ 8 * bytesFor (bitsBehind h n k)
     unfolding gridBody coded vs
     behind-total = padded-total (hs ++ coded ls vs) (bitsBehind h n k) used
 
@@ -157,7 +122,7 @@ module _ (hs : List Field) (h n k : ℕ) (starts : total hs ≡ h) where
           pad = p .pad;
         }
       where
-        parts : Holds s 0 hs × (fields s h limitWidth k ≡ ls) × (fields s (h + limitWidth * k) factorWidth (n * k) ≡ vs)
+        parts : HoldsFields s 0 hs × (fields s h limitWidth k ≡ ls) × (fields s (h + limitWidth * k) factorWidth (n * k) ≡ vs)
         parts = body-parts hs h n k ls vs starts (f .one-limit-each) each s (omega (arith, p .size)) .0 (p .holds)
 
     pub behind-written : Fit hs → Behind hs h n k ls fs (fileOf (hs ++ gridBody ls fs ++ bits (padFor (bitsBehind h n k)) 0 ∷ []))
@@ -211,7 +176,7 @@ pub record GridWritten (f : Form) (n k : ℕ) (ls : List ℕ) (fs : List ℤ) (s
   pub pad : gridPadIn s ≡ 0
 
 module _ (f : Form) (n k : ℕ) (ls : List ℕ) (fs : List ℤ) (fit : GridFits f n k ls fs) where
-  pub total-grid : total (gridFields f n k ls fs) ≡ 8 * gridBytes f n k
+  pub total-grid : totalWidth (gridFields f n k ls fs) ≡ 8 * gridBytes f n k
   unfolding gridFields
   total-grid = behind-total (gridHeader f n k) (gridHeaderBits f) n k (header-total f n k) ls fs (fit .body-fits)
 
@@ -243,10 +208,6 @@ module _ (s : List ℕ) where
 
   abbrev K : ℕ
   K = constraintsIn s
-
-  -- what is read fits
-  pub grid-fits : GridFits F N K (limitsIn s) (factorsIn s)
-  grid-fits = record { nodes-fit = nodes-fit-read s F; constraints-fit = field-lt s 8 7; body-fits = body-fits-read s (headerIn s) N K }
 
   pub grid-read : Below 8 s → length s ≡ gridBytes F N K → gridSpareIn s ≡ gridSpare F → gridPadIn s ≡ 0 → fileOf (gridFields F N K (limitsIn s) (factorsIn s)) ≡ s
   unfolding gridFields

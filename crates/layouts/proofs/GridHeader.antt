@@ -1,14 +1,13 @@
 -- A grid's header in each form: its bits, and what the readers find in it.
-use mathlib.Core.Path.{_≡_, refl, sym, ap, _∙_}
+use mathlib.Core.Path.{_≡_, refl, sym}
 use mathlib.Core.Bool.{Bool, true, false, cond, _&&_}
 use mathlib.Core.List.{List}
 use Prim.Native.Nat.{ℕ, _^_, _<_, _≤_}
 use native.Mathlib.Omega.{arith}
-use borrow.Author.Tests.{eqb-true, eq-eqb, ne-eqb}
+use borrow.Author.Tests.{eqb-true, ne-eqb}
 use lib.Dec.{eqb}
-use Rattle.bits.specs.Fields.{total}
-use Rattle.bits.specs.Inner.{Fit, Holds}
-use Rattle.bits.proofs.Fields.{field-lt}
+use Rattle.bits.specs.Fields.{totalWidth}
+use Rattle.bits.specs.Inner.{Fit, HoldsFields}
 use Rattle.layouts.specs.declared.forms.Form.{Form}
 use Rattle.layouts.specs.declared.forms.Form.the-variants.{Narrow, Wide}
 use Rattle.layouts.specs.Forms.{gridSpare, gridHeaderBits, mostNodes}
@@ -54,11 +53,7 @@ pub most-nodes-fit : (f : Form) (n : ℕ) → n ≤ mostNodes f → n < 2 ^ node
 most-nodes-fit Narrow n h = omega arith
 most-nodes-fit Wide n h = omega arith
 
-pub nodes-fit-read : (s : List ℕ) (f : Form) → nodesOf f s < 2 ^ nodeWidth f
-nodes-fit-read s Narrow = field-lt s 0 8
-nodes-fit-read s Wide = field-lt s 16 16
-
-pub header-total : (f : Form) (n k : ℕ) → total (gridHeader f n k) ≡ gridHeaderBits f
+pub header-total : (f : Form) (n k : ℕ) → totalWidth (gridHeader f n k) ≡ gridHeaderBits f
 unfolding gridHeader
 header-total Narrow n k = refl
 header-total Wide n k = refl
@@ -75,7 +70,7 @@ pub record HeaderFound (f : Form) (n k : ℕ) (s : List ℕ) : Type 0 where
   pub constraints : constraintsIn s ≡ k
   pub spare : gridSpareIn s ≡ gridSpare f
 
-pub header-found : (f : Form) (n k : ℕ) (s : List ℕ) → Holds s 0 (gridHeader f n k) → HeaderFound f n k s
+pub header-found : (f : Form) (n k : ℕ) (s : List ℕ) → HoldsFields s 0 (gridHeader f n k) → HeaderFound f n k s
 unfolding gridHeader
 header-found Narrow n k s h =
     let form : gridFormIn s ≡ Narrow = sym (form-by-spare s (λ e. omega (arith, h .1 .1 .0))) in
@@ -85,10 +80,10 @@ header-found Wide n k s h =
     record { form = form; nodes = rw form (h .1 .1 .1 .0); constraints = h .1 .0; spare = h .1 .1 .0 }
 
 -- and bytes whose spare bit is the form's hold the header
-pub header-holds : (s : List ℕ) → gridSpareIn s ≡ gridSpare (gridFormIn s) → Holds s 0 (gridHeader (gridFormIn s) (nodesIn s) (constraintsIn s))
+pub header-holds : (s : List ℕ) → gridSpareIn s ≡ gridSpare (gridFormIn s) → HoldsFields s 0 (gridHeader (gridFormIn s) (nodesIn s) (constraintsIn s))
 unfolding gridHeader
 header-holds s e = by (gridFormIn s) refl e
   where
-    by : (f : Form) → gridFormIn s ≡ f → gridSpareIn s ≡ gridSpare f → Holds s 0 (gridHeader f (nodesOf f s) (constraintsIn s))
+    by : (f : Form) → gridFormIn s ≡ f → gridSpareIn s ≡ gridSpare f → HoldsFields s 0 (gridHeader f (nodesOf f s) (constraintsIn s))
     by Narrow q p = (refl, (refl, (p, tt)))
     by Wide q p = (wide-header s q .0, (refl, (p, (refl, tt))))

@@ -1,5 +1,4 @@
 pub mod FormLaws
-pub mod Lists
 pub mod ContractBits
 pub mod Records
 pub mod BookFile

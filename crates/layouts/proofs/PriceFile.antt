@@ -2,17 +2,17 @@
 use mathlib.Core.Path.{_≡_, refl}
 use mathlib.Core.Logic.{_↔_}
 use mathlib.Core.List.{List, [], _∷_, _++_, map}
-use Prim.Native.Nat.{ℕ, _*_, _^_, _<_}
+use Prim.Native.Nat.{ℕ, _^_, _<_}
 use native.Mathlib.Omega.{arith}
 use lib.ListN.{length}
 use Rattle.bits.specs.Bits.{fields}
-use Rattle.bits.specs.Fields.{Field, bits, total}
-use Rattle.bits.specs.Inner.{Fit, Holds}
+use Rattle.bits.specs.Fields.{Field, bits, totalWidth}
+use Rattle.bits.specs.Inner.{Fit, HoldsFields}
 use Rattle.bits.proofs.Numbers.{Below}
-use Rattle.bits.proofs.Fields.{field-lt, length-fields, below-fields}
+use Rattle.bits.proofs.Fields.{length-fields}
 use Rattle.bits.proofs.Files.{total-append, total-run, fit-append, fit-run}
 use Rattle.layouts.specs.PriceFile.{priceWidth, priceBits, priceBytes, priceFields, priceFile, periodIn, priceCountIn, pricesIn, pricePadIn}
-use Rattle.layouts.proofs.Padded.{Padded, padded-total, padded-written, padded-read, holds-then-run}
+use Rattle.layouts.proofs.Padded.{Padded, padded-written, padded-read, holds-then-run}
 
 -- what the fields of a prices' file can hold
 pub record PriceFits (t k : ℕ) (ps : List ℕ) : Type 0 where
@@ -39,21 +39,17 @@ body : ℕ → ℕ → List ℕ → List Field
 body t k ps = header t k ++ map (bits priceWidth) ps
 
 module _ (t k : ℕ) (ps : List ℕ) (many : length ps ≡ k) where
-  body-total : total (body t k ps) ≡ priceBits k
+  body-total : totalWidth (body t k ps) ≡ priceBits k
   unfolding body
   body-total = rw (total-append (header t k) (map (bits priceWidth) ps), total-run priceWidth ps, many)
 
-  body-parts : (s : List ℕ) → length s ≡ priceBytes k → (Holds s 0 (body t k ps) ↔ (Holds s 0 (header t k) × (fields s 8 priceWidth k ≡ ps)))
+  body-parts : (s : List ℕ) → length s ≡ priceBytes k → (HoldsFields s 0 (body t k ps) ↔ (HoldsFields s 0 (header t k) × (fields s 8 priceWidth k ≡ ps)))
   unfolding body
   body-parts s size = holds-then-run s 0 (header t k) priceWidth ps 8 k refl many (omega arith)
 
 -- ---- written, then read
 
 module _ (t k : ℕ) (ps : List ℕ) (f : PriceFits t k ps) where
-  pub total-prices : total (priceFields t k ps) ≡ 8 * priceBytes k
-  unfolding priceFields body
-  total-prices = padded-total (body t k ps) (priceBits k) (body-total t k ps (f .one-price-each))
-
   found : (s : List ℕ) → Padded (body t k ps) (priceBits k) s → PriceWritten t k ps s
   unfolding pricesIn
   found s p =
@@ -74,15 +70,6 @@ module _ (k : ℕ) (s : List ℕ) where
   pub length-pricesIn : length (pricesIn k s) ≡ k
   unfolding pricesIn
   length-pricesIn = length-fields s 8 priceWidth k
-
-  pub below-pricesIn : Below priceWidth (pricesIn k s)
-  unfolding pricesIn
-  below-pricesIn = below-fields s 8 priceWidth k
-
-  -- what is read fits
-  pub prices-fit-read : priceCountIn s ≡ k → PriceFits (periodIn s) k (pricesIn k s)
-  prices-fit-read count =
-      record { period-fits = field-lt s 0 1; count-fits = rw count at (field-lt s 1 7); one-price-each = length-pricesIn; prices-fit = below-pricesIn }
 
   pub prices-read : Below 8 s → length s ≡ priceBytes k → priceCountIn s ≡ k → pricePadIn k s ≡ 0 → priceFile (periodIn s) k (pricesIn k s) ≡ s
   unfolding priceFile priceFields pricesIn body

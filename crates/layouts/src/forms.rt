@@ -2,7 +2,7 @@
 ghost use mathlib.Core.Path.{_≡_};
 ghost use Prim.Native.Nat.{_≤_};
 ghost use Rattle.tariff.specs.Units.{maxContracts};
-ghost use Rattle.layouts.specs.Forms.{formNumber, formOf, mostNodes, gridHeaderBits, gridHeaderBytes, gridSpare, endWidth, sparePattern, endsBelow};
+ghost use Rattle.layouts.specs.Forms.{formNumber, formOf, mostNodes, gridHeaderBits, gridHeaderBytes, gridSpare, sparePattern, endsBelow};
 ghost use Rattle.layouts.specs.BookFile.{bookBytes};
 use crate::BOOK_HEADER_BYTES;
 use crate::CONTRACT_BYTES;
@@ -75,16 +75,6 @@ impl Form {
         match self {
             Form::Narrow => 0,
             Form::Wide => 1,
-        }
-    }
-
-    // The bits of a contract's ends.
-    pub fn end_width(self) -> usize
-        ensures { λ r. ⌜ (r ≡ endWidth self) × (r ≤ 12) ⌝ }
-    {
-        match self {
-            Form::Narrow => 8,
-            Form::Wide => 12,
         }
     }
 

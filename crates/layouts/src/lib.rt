@@ -9,8 +9,6 @@ pub use forms::Form;
 use tariff::Refusal;
 
 // The bytes of the largest files.
-pub const MAX_GRID_BYTES: usize = 576220;
-
 pub const MAX_BOOK_BYTES: usize = 7002;
 
 pub const MAX_PRICE_BYTES: usize = 153;

@@ -36,13 +36,6 @@ module _ {A : Type 0} where
   getD-listTo (suc n) f zero d h = rw (listTo-cons n f)
   getD-listTo (suc n) f (suc i) d h = rw (listTo-cons n f) (getD-listTo n (λ j. f (suc j)) i d (omega arith))
 
-  pub take-listTo : (i n : ℕ) (f : ℕ → A) → i ≤ n → take i (listTo n f) ≡ listTo i f
-  unfolding listTo
-  take-listTo zero n f h = refl
-  take-listTo (suc i) zero f h = absurd (omega arith)
-  take-listTo (suc i) (suc n) f h =
-      ap (take (suc i)) (listTo-cons n f) ∙ ap (λ (xs : List A). f 0 ∷ xs) (take-listTo i n (λ j. f (suc j)) (omega arith)) ∙ sym (listTo-cons i f)
-
   -- the first n elements of a list, by index
   pub take-is-listTo : (n : ℕ) (xs : List A) (d : A) → n ≤ length xs → take n xs ≡ listTo n (λ i. getD xs i d)
   unfolding listTo
@@ -73,10 +66,6 @@ module _ {A : Type 0} (P : A → Type 0) where
   each-at [] i d h b = absurd (omega arith)
   each-at (x ∷ xs) zero d h b = h .0
   each-at (x ∷ xs) (suc i) d h b = each-at xs i d (h .1) (omega arith)
-
-  pub each-all : (xs : List A) (d : A) → ((i : ℕ) → i < length xs → P (getD xs i d)) → Each P xs
-  each-all [] d h = tt
-  each-all (x ∷ xs) d h = (h 0 (omega arith), each-all xs d (λ i b. h (suc i) (omega arith)))
 
   -- a cell of a list, or the default past its end
   pub every-cell : (xs : List A) (d : A) → P d → ((i : ℕ) → i < length xs → P (getD xs i d)) → (i : ℕ) → P (getD xs i d)

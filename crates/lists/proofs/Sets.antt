@@ -124,6 +124,15 @@ set-bit (suc n) f (suc k) h =
     sym (ap (λ (x : ℕ). x % 2) (shr-shr (setOf n (λ j. f (suc j)) * 2 + bit (f 0)) 1 k) ∙ ap (λ (x : ℕ). (setOf n (λ j. f (suc j)) * 2 + bit (f 0)) / 2 ^ x % 2) {x = 1 + k} (omega arith))
     ∙ ap (λ (x : ℕ). x / 2 ^ k % 2) (digits-div (setOf n (λ j. f (suc j))) (bit-small (f 0))) ∙ set-bit n (λ j. f (suc j)) k (omega arith))
 
+pub count-le : (n : ℕ) (f : ℕ → Bool) → countOf n f ≤ n
+unfolding countOf
+count-le zero f = omega arith
+count-le (suc n) f = by (f n) (count-le n f)
+  where
+    by : (b : Bool) → countOf n f ≤ n → countOf n f + cond b 1 0 ≤ suc n
+    by true h = omega arith
+    by false h = omega arith
+
 -- the count is the set's count of ones
 pub set-ones : (n : ℕ) (f : ℕ → Bool) → ones (setOf n f) ≡ countOf n f
 unfolding setOf countOf ones bit

@@ -10,9 +10,9 @@ listTo zero f = []
 listTo (suc n) f = listTo n f ++ f n ∷ []
 
 -- whether some element of a list is bad
-unfoldable pub some : {A : Type 0} → (A → Bool) → List A → Bool
-some bad [] = false
-some bad (x ∷ xs) = bad x || some bad xs
+unfoldable pub anyOf : {A : Type 0} → (A → Bool) → List A → Bool
+anyOf bad [] = false
+anyOf bad (x ∷ xs) = bad x || anyOf bad xs
 
 -- a figure above the most that it may be
 abbrev pub above : ℕ → ℕ → Bool

@@ -8,13 +8,13 @@ use native.Mathlib.Nat.{le-trans}
 use borrow.Author.Tests.{ltb-false, le-ltb, lt-ltb, ne-eqb}
 use lib.Dec.{eqb, ltb}
 use lib.ListN.{length, getD}
-use Rattle.lists.specs.Lists.{some, listTo}
+use Rattle.lists.specs.Lists.{anyOf, listTo}
 use Rattle.lists.proofs.Lists.{length-listTo, getD-listTo}
 use Rattle.lists.proofs.Search.{none-bad}
 use Rattle.tariff.specs.declared.contracts.Contract.{Contract}
 use Rattle.tariff.specs.declared.contracts.Period.{Period}
 use Rattle.migration_rules.specs.Transfers.{lossesTo, load, exceeded, loadsExceeded}
-use Rattle.migration_rules.specs.Contracts.{migrates, share, pairFor, pairsTo, newFrom, newBook}
+use Rattle.migration_rules.specs.Contracts.{migrates, gainerShare, pairFor, pairsTo, newFrom, newBook}
 use Rattle.migration_rules.specs.Inner.{Within}
 use Rattle.migration_rules.proofs.Nets.{loss-within}
 use Rattle.migration_rules.proofs.Books.{Base, base}
@@ -43,9 +43,9 @@ loads-within lost loads e = record { within = within }
 module _ (t : Period) (lost other : ℕ → ℕ → ℕ) (loads : List ℕ)
     (same : (i j : ℕ) → 0 < i → i ≤ length loads → 0 < j → j ≤ length loads → lost i j ≡ other i j) where
   module _ (c : Contract) (is : Base t (length loads) c) where
-    share-alike : (j : ℕ) → 0 < j → j ≤ length loads → share lost loads c j ≡ share other loads c j
-    unfolding share
-    share-alike j some most = rw (same (c .holder) j (is .numbered) (is .listed) some most)
+    share-alike : (j : ℕ) → 0 < j → j ≤ length loads → gainerShare lost loads c j ≡ gainerShare other loads c j
+    unfolding gainerShare
+    share-alike j anyOf most = rw (same (c .holder) j (is .numbered) (is .listed) anyOf most)
 
     to-alike : (m : ℕ) → m ≤ length loads → pairsTo lost loads c m ≡ pairsTo other loads c m
     unfolding pairsTo pairFor

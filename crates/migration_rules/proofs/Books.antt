@@ -1,5 +1,5 @@
 -- What migration adds to a book: pairs, in the period alone, of quantities that stay within the base contract's.
-use mathlib.Core.Path.{_≡_, refl, ap}
+use mathlib.Core.Path.{_≡_, refl}
 use mathlib.Core.Bool.{Bool, true, false, cond, _&&_}
 use mathlib.Core.List.{List, [], _∷_, flatMap, append-nil}
 use Prim.Native.Nat.{ℕ, zero, suc, _*_, _/_, _≤_, _<_}
@@ -11,14 +11,15 @@ use lib.ListN.{length, take}
 use lib.Seq.{take-at}
 use Rattle.lists.specs.Lists.{Each}
 use Rattle.lists.proofs.Lists.{each-append}
+use Rattle.lists.proofs.Search.{both}
 use Rattle.tariff.specs.declared.contracts.Contract.{Contract}
 use Rattle.tariff.specs.declared.contracts.Period.{Period}
 use Rattle.tariff.specs.declared.contracts.Period.the-variants.{OffPeak, OnPeak}
 use Rattle.tariff.specs.Contracts.{samePeriod, ofPeriod}
 use Rattle.tariff.proofs.Periods.{ofPeriod-append}
 use Rattle.migration_rules.specs.Transfers.{lossesTo, load}
-use Rattle.migration_rules.specs.Contracts.{gained, countered, obliges, migrates, share, pairFor, pairsTo, newFrom, newBook}
-use Rattle.migration_rules.specs.Theorems.{Kept, sharesTo}
+use Rattle.migration_rules.specs.Contracts.{gained, countered, obliges, migrates, gainerShare, pairFor, pairsTo, newFrom, newBook}
+use Rattle.migration_rules.specs.Theorems.{MigrationKept, sharesTo}
 use Rattle.migration_rules.specs.Inner.{Within}
 use Rattle.migration_rules.proofs.Pairs.{Paired, made, paired-append, pairs-keep}
 
@@ -28,16 +29,10 @@ other OffPeak OnPeak u e f = cc
 other OnPeak OffPeak u e f = cc
 other OnPeak OnPeak u e f = f
 
--- both of two conditions
-pub both : (a b : Bool) → (a && b) ≡ true → (a ≡ true) × (b ≡ true)
-both true b e = (refl, e)
-both false b e = let z : _≡_ {A = ℕ} 0 1 = cc in absurd (omega arith)
-
 -- ---- what is known of a base contract
 
 module _ (t : Period) (n : ℕ) where
   pub record Base (c : Contract) : Type 0 where
-    pub obliged : obliges (c .kind) ≡ true
     pub in-period : samePeriod (c .period) t ≡ true
     pub numbered : 0 < c .holder
     pub listed : c .holder ≤ n
@@ -48,17 +43,17 @@ module _ (t : Period) (n : ℕ) where
       let a = both (obliges (c .kind)) (samePeriod (c .period) t && (ltb 0 (c .holder) && leb (c .holder) n)) e in
       let b = both (samePeriod (c .period) t) (ltb 0 (c .holder) && leb (c .holder) n) (a .1) in
       let d = both (ltb 0 (c .holder)) (leb (c .holder) n) (b .1) in
-      record { obliged = a .0; in-period = b .0; numbered = ltb-true 0 (c .holder) (d .0); listed = leb-true (c .holder) n (d .1) }
+      record { in-period = b .0; numbered = ltb-true 0 (c .holder) (d .0); listed = leb-true (c .holder) n (d .1) }
 
 module _ (t : Period) (lost : ℕ → ℕ → ℕ) (loads : List ℕ) where
   -- ---- pairs
   one-paired : (c : Contract) (j : ℕ) → Paired (pairFor lost loads c j)
   unfolding pairFor
-  one-paired c j = by (eqb (share lost loads c j) 0)
+  one-paired c j = by (eqb (gainerShare lost loads c j) 0)
     where
-      by : (b : Bool) → Paired (cond b [] (gained c j (share lost loads c j) ∷ countered c (share lost loads c j) ∷ []))
+      by : (b : Bool) → Paired (cond b [] (gained c j (gainerShare lost loads c j) ∷ countered c (gainerShare lost loads c j) ∷ []))
       by true = tt
-      by false = (made c j (share lost loads c j), tt)
+      by false = (made c j (gainerShare lost loads c j), tt)
 
   to-paired : (c : Contract) (m : ℕ) → Paired (pairsTo lost loads c m)
   unfolding pairsTo
@@ -78,21 +73,21 @@ module _ (t : Period) (lost : ℕ → ℕ → ℕ) (loads : List ℕ) where
   all-paired [] = tt
   all-paired (c ∷ cs) = paired-append (newFrom lost loads t c) (flatMap (newFrom lost loads t) cs) (from-paired c) (all-paired cs)
 
-  pub new-kept : (book : List Contract) → Kept book (newBook lost loads t book)
+  pub migration-keeps : (book : List Contract) → MigrationKept book (newBook lost loads t book)
   unfolding newBook
-  new-kept book = pairs-keep book (flatMap (newFrom lost loads t) book) (all-paired book)
+  migration-keeps book = pairs-keep book (flatMap (newFrom lost loads t) book) (all-paired book)
 
-  pub old-first : (book : List Contract) → take (length book) (newBook lost loads t book) ≡ book
+  pub old-stay : (book : List Contract) → take (length book) (newBook lost loads t book) ≡ book
   unfolding newBook
-  old-first book = take-at book (flatMap (newFrom lost loads t) book) (length book) refl
+  old-stay book = take-at book (flatMap (newFrom lost loads t) book) (length book) refl
 
   -- ---- the other period
   module _ (u : Period) (f : samePeriod t u ≡ false) where
     one-other : (c : Contract) (j : ℕ) → samePeriod (c .period) u ≡ false → ofPeriod u (pairFor lost loads c j) ≡ []
     unfolding pairFor ofPeriod
-    one-other c j e = by (eqb (share lost loads c j) 0)
+    one-other c j e = by (eqb (gainerShare lost loads c j) 0)
       where
-        by : (b : Bool) → ofPeriod u (cond b [] (gained c j (share lost loads c j) ∷ countered c (share lost loads c j) ∷ [])) ≡ []
+        by : (b : Bool) → ofPeriod u (cond b [] (gained c j (gainerShare lost loads c j) ∷ countered c (gainerShare lost loads c j) ∷ [])) ≡ []
         by true = refl
         by false = rw e
 
@@ -114,14 +109,14 @@ module _ (t : Period) (lost : ℕ → ℕ → ℕ) (loads : List ℕ) where
     all-other [] = refl
     all-other (c ∷ cs) = rw (ofPeriod-append u (newFrom lost loads t c) (flatMap (newFrom lost loads t) cs), all-other cs, from-other c)
 
-    pub nothing-added : (book : List Contract) → ofPeriod u (newBook lost loads t book) ≡ ofPeriod u book
+    pub other-period-untouched : (book : List Contract) → ofPeriod u (newBook lost loads t book) ≡ ofPeriod u book
     unfolding newBook
-    nothing-added book = rw (ofPeriod-append u book (flatMap (newFrom lost loads t) book), all-other book) (append-nil (ofPeriod u book))
+    other-period-untouched book = rw (ofPeriod-append u book (flatMap (newFrom lost loads t) book), all-other book) (append-nil (ofPeriod u book))
 
   -- ---- shares
   module _ (c : Contract) where
-    by-load : (j : ℕ) → share lost loads c j * load loads (c .holder) ≤ c .quantity .0 * lost (c .holder) j
-    unfolding share
+    by-load : (j : ℕ) → gainerShare lost loads c j * load loads (c .holder) ≤ c .quantity .0 * lost (c .holder) j
+    unfolding gainerShare
     by-load j = by (eqb (lost (c .holder) j) 0)
       where
         by : (b : Bool) → cond b 0 (c .quantity .0 * lost (c .holder) j / load loads (c .holder)) * load loads (c .holder) ≤ c .quantity .0 * lost (c .holder) j
@@ -129,13 +124,13 @@ module _ (t : Period) (lost : ℕ → ℕ → ℕ) (loads : List ℕ) where
         by false = div-mul-le-self (c .quantity .0 * lost (c .holder) j) (load loads (c .holder))
 
     -- nothing is received where nothing is lost
-    pub no-share : (j : ℕ) → lost (c .holder) j ≡ 0 → share lost loads c j ≡ 0
-    unfolding share
+    pub no-share : (j : ℕ) → lost (c .holder) j ≡ 0 → gainerShare lost loads c j ≡ 0
+    unfolding gainerShare
     no-share j e = rw e
 
-    pub at-most : (j : ℕ) → lost (c .holder) j ≤ load loads (c .holder) → share lost loads c j ≤ c .quantity .0
-    unfolding share
-    at-most j l = by (eqb (lost (c .holder) j) 0)
+    pub share-at-most : (j : ℕ) → lost (c .holder) j ≤ load loads (c .holder) → gainerShare lost loads c j ≤ c .quantity .0
+    unfolding gainerShare
+    share-at-most j l = by (eqb (lost (c .holder) j) 0)
       where
         by : (b : Bool) → cond b 0 (c .quantity .0 * lost (c .holder) j / load loads (c .holder)) ≤ c .quantity .0
         by true = omega arith
@@ -151,7 +146,7 @@ module _ (t : Period) (lost : ℕ → ℕ → ℕ) (loads : List ℕ) where
           together m,
           by-load (suc m),
           mul-add (c .quantity .0) (lossesTo lost (c .holder) m) (lost (c .holder) (suc m)),
-          add-mul (sharesTo lost loads c m) (share lost loads c (suc m)) (load loads (c .holder)),
+          add-mul (sharesTo lost loads c m) (gainerShare lost loads c (suc m)) (load loads (c .holder)),
         )
 
     none-lost : (m : ℕ) → lossesTo lost (c .holder) m ≡ 0 → sharesTo lost loads c m ≡ 0
@@ -159,8 +154,8 @@ module _ (t : Period) (lost : ℕ → ℕ → ℕ) (loads : List ℕ) where
     none-lost zero e = refl
     none-lost (suc m) e = rw (none-lost m (omega arith), no-share (suc m) (omega arith))
 
-    pub together-most : (m : ℕ) → lossesTo lost (c .holder) m ≤ load loads (c .holder) → sharesTo lost loads c m ≤ c .quantity .0
-    together-most m h = by (eqb (load loads (c .holder)) 0) refl
+    pub shares-at-most : (m : ℕ) → lossesTo lost (c .holder) m ≤ load loads (c .holder) → sharesTo lost loads c m ≤ c .quantity .0
+    shares-at-most m h = by (eqb (load loads (c .holder)) 0) refl
       where
         by : (b : Bool) → eqb (load loads (c .holder)) 0 ≡ b → sharesTo lost loads c m ≤ c .quantity .0
         by true e = let none : load loads (c .holder) ≡ 0 = eqb-true (load loads (c .holder)) 0 e in omega (arith, none-lost m (omega arith))
@@ -176,13 +171,13 @@ module _ (t : Period) (lost : ℕ → ℕ → ℕ) (loads : List ℕ) where
     module _ (c : Contract) (is : Base t (length loads) c) (each : EachPair c) where
       one-each : (j : ℕ) → 0 < j → j ≤ length loads → Each P (pairFor lost loads c j)
       unfolding pairFor
-      one-each j some most = by (eqb (share lost loads c j) 0) refl
+      one-each j some most = by (eqb (gainerShare lost loads c j) 0) refl
         where
-          by : (b : Bool) → eqb (share lost loads c j) 0 ≡ b → Each P (cond b [] (gained c j (share lost loads c j) ∷ countered c (share lost loads c j) ∷ []))
+          by : (b : Bool) → eqb (gainerShare lost loads c j) 0 ≡ b → Each P (cond b [] (gained c j (gainerShare lost loads c j) ∷ countered c (gainerShare lost loads c j) ∷ []))
           by true e = tt
           by false e =
-              let p = each j (share lost loads c j) some most (omega (arith, eqb-false (share lost loads c j) 0 e))
-              (at-most c j (ok .within (c .holder) j (is .numbered) (is .listed) some most)) in
+              let p = each j (gainerShare lost loads c j) some most (omega (arith, eqb-false (gainerShare lost loads c j) 0 e))
+              (share-at-most c j (ok .within (c .holder) j (is .numbered) (is .listed) some most)) in
               (p .0, (p .1, tt))
 
       to-each : (m : ℕ) → m ≤ length loads → Each P (pairsTo lost loads c m)
@@ -223,6 +218,6 @@ module _ (t : Period) (lost : ℕ → ℕ → ℕ) (loads : List ℕ) where
     none-new [] = refl
     none-new (c ∷ cs) = rw (none-from c, none-new cs)
 
-    pub same-book : (book : List Contract) → newBook lost loads t book ≡ book
+    pub nothing-moved : (book : List Contract) → newBook lost loads t book ≡ book
     unfolding newBook
-    same-book book = rw (none-new book) (append-nil book)
+    nothing-moved book = rw (none-new book) (append-nil book)

@@ -1,4 +1,4 @@
--- Nets: each the opposite of its mirror, one row more, sizes, and an LSE's losses.
+-- Nets: each the net-opposite of its mirror, one row more, sizes, and an LSE's losses.
 use mathlib.Core.Path.{_≡_, refl}
 use mathlib.Core.List.{List, [], _∷_, _++_}
 use Prim.Native.Nat.{ℕ, zero, suc, _+_, _≤_, _<_}
@@ -11,27 +11,27 @@ use lib.Signed.{_≤ℤ_}
 use Rattle.integers.specs.Sums.{max0, sumOver}
 use Rattle.integers.proofs.Linear.{⊖of, ⊖s}
 use Rattle.tariff.proofs.Periods.{sumOver-more}
-use Rattle.migration_rules.specs.Transfers.{Row, moved, net, loss, lossesTo}
+use Rattle.migration_rules.specs.Transfers.{MigrationRow, moved, net, loss, lossesTo}
 use Rattle.migration_rules.specs.Theorems.{manualRows, netsOf, manualNets}
 
 mirror : (x y s u : ℤ) → s ≡ negℤ u → x -ℤ y +ℤ s ≡ negℤ (y -ℤ x +ℤ u)
 mirror x y s u = rw (⊖of x, ⊖of y, ⊖of s, ⊖of u) (simp ⊖s (omega arith))
 
-pub opposite : (rows : List Row) (i j : ℕ) → net rows i j ≡ negℤ (net rows j i)
+pub net-opposite : (rows : List MigrationRow) (i j : ℕ) → net rows i j ≡ negℤ (net rows j i)
 unfolding net sumOver
-opposite [] i j = refl
-opposite (r ∷ rows) i j = mirror (pos (moved r i j)) (pos (moved r j i)) (net rows i j) (net rows j i) (opposite rows i j)
+net-opposite [] i j = refl
+net-opposite (r ∷ rows) i j = mirror (pos (moved r i j)) (pos (moved r j i)) (net rows i j) (net rows j i) (net-opposite rows i j)
 
-pub manual : netsOf manualRows ≡ manualNets
+pub manual-nets : netsOf manualRows ≡ manualNets
 unfolding net sumOver moved
-manual = refl
+manual-nets = refl
 
 -- no rows, and one row more
 pub net-none : (i j : ℕ) → net [] i j ≡ pos 0
 unfolding net sumOver
 net-none i j = refl
 
-pub net-more : (rows : List Row) (r : Row) (i j : ℕ) → net (rows ++ r ∷ []) i j ≡ net rows i j +ℤ (pos (moved r i j) -ℤ pos (moved r j i))
+pub net-more : (rows : List MigrationRow) (r : MigrationRow) (i j : ℕ) → net (rows ++ r ∷ []) i j ≡ net rows i j +ℤ (pos (moved r i j) -ℤ pos (moved r j i))
 unfolding net
 net-more rows r i j = sumOver-more rows r (λ r. pos (moved r i j) -ℤ pos (moved r j i))
 
@@ -47,7 +47,7 @@ losses-cong lost other i zero same = refl
 losses-cong lost other i (suc m) same = rw (losses-cong lost other i m (λ j s h. same j s (omega arith)), same (suc m) (omega arith) (omega arith))
 
 -- a net that is not above 0 is no loss
-pub no-loss : (rows : List Row) (i j : ℕ) → net rows i j ≤ℤ pos 0 → loss rows i j ≡ 0
+pub no-loss : (rows : List MigrationRow) (i j : ℕ) → net rows i j ≤ℤ pos 0 → loss rows i j ≡ 0
 unfolding loss
 no-loss rows i j = by (net rows i j)
   where

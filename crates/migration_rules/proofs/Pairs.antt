@@ -1,5 +1,5 @@
 -- An obligation and the equal one with source and sink exchanged add nothing, to flows or to payments, in either period.
-use mathlib.Core.Path.{_≡_, refl, ap, fun-ext}
+use mathlib.Core.Path.{_≡_, refl, ap}
 use mathlib.Core.Bool.{Bool, true, false, cond}
 use mathlib.Core.List.{List, [], _∷_, _++_}
 use Prim.Native.Nat.{ℕ}
@@ -11,14 +11,14 @@ use Rattle.integers.proofs.Sums.{sumOver-append}
 use Rattle.tariff.specs.declared.contracts.Contract.{Contract}
 use Rattle.tariff.specs.declared.contracts.Kind.the-variants.{Obligation}
 use Rattle.tariff.specs.declared.contracts.Period.{Period}
-use Rattle.tariff.specs.declared.processes.Process.{Process}
-use Rattle.tariff.specs.Units.{Factors, Grid, factor}
+use Rattle.tariff.specs.Units.{Factors, factor}
 use Rattle.tariff.specs.Contracts.{samePeriod, ofPeriod}
 use Rattle.tariff.specs.Settlement.{mcc, amount, exactTotal}
-use Rattle.tariff.specs.Feasibility.{flow, totalFlow, excess, overloaded, overloadSet, overloadCount, lowestOverload}
+use Rattle.tariff.specs.Feasibility.{flow, totalFlow}
 use Rattle.tariff.proofs.Periods.{ofPeriod-append}
+use Rattle.test_rules.proofs.Figures.{same-test}
 use Rattle.migration_rules.specs.Contracts.{gained, countered}
-use Rattle.migration_rules.specs.Theorems.{Cancels, SameFigures, Kept}
+use Rattle.migration_rules.specs.Theorems.{Cancels, MigrationKept}
 
 -- an obligation and the equal one with source and sink exchanged. Holders are free.
 pub record Opposite (c d : Contract) : Type 0 where
@@ -80,17 +80,6 @@ module _ (w : Contract → ℤ) (cancel : (c d : Contract) → Opposite c d → 
   sum-kept : (old new : List Contract) → Paired new → sumOver (ofPeriod t (old ++ new)) w ≡ sumOver (ofPeriod t old) w
   sum-kept old new h = rw (ofPeriod-append t old new, sumOver-append (ofPeriod t old) (ofPeriod t new) w, none new h) (+ℤ-idr (sumOver (ofPeriod t old) w))
 
--- ---- the figures of the test depend on the flows alone
-
-module _ (g : Grid) (process : Process) (xs ys : List Contract) (e : (k : ℕ) → totalFlow (g .factors) xs k ≡ totalFlow (g .factors) ys k) where
-  overloaded-same : overloaded g process xs ≡ overloaded g process ys
-  unfolding overloaded
-  overloaded-same = fun-ext (λ (k : ℕ). rw (e k))
-
-  figures-same : SameFigures g process xs ys
-  unfolding overloadSet overloadCount lowestOverload excess
-  figures-same = record { set-same = rw overloaded-same; count-same = rw overloaded-same; lowest-same = rw overloaded-same; excess-same = λ k. rw (e k) }
-
 module _ (old new : List Contract) (h : Paired new) where
   flow-kept : (f : Factors) (u : Period) (k : ℕ) → totalFlow f (ofPeriod u (old ++ new)) k ≡ totalFlow f (ofPeriod u old) k
   unfolding totalFlow
@@ -100,14 +89,10 @@ module _ (old new : List Contract) (h : Paired new) where
   unfolding exactTotal
   amount-kept f p u = sum-kept (amount f p) (λ c d o. cancels-amount c d o f p) u old new h
 
-  pub pairs-keep : Kept old (old ++ new)
+  pub pairs-keep : MigrationKept old (old ++ new)
   pairs-keep =
       record {
         flows-kept = flow-kept;
-        figures-kept = λ g process u. figures-same g process _ _ (flow-kept (g .factors) u);
-        passes-kept = λ g process u. (
-          λ p. record { within = λ k b. rw (flow-kept (g .factors) u k) (p .within k b) },
-          λ p. record { within = λ k b. rw (← flow-kept (g .factors) u k) (p .within k b) },
-        );
+        figures-kept = λ g process u. same-test g process _ _ (flow-kept (g .factors) u);
         payment-kept = amount-kept;
       }

@@ -30,12 +30,12 @@ migrates t n c = obliges (c .kind) && (samePeriod (c .period) t && (ltb 0 (c .ho
 
 module _ (lost : ℕ → ℕ → ℕ) (loads : List ℕ) where
   -- "A gainer receives base quantity × net transfer over the loser's current load, in thousandths rounded down"
-  unfoldable pub share : Contract → ℕ → ℕ
-  share c j = cond (eqb (lost (c .holder) j) 0) 0 (c .quantity .0 * lost (c .holder) j / load loads (c .holder))
+  unfoldable pub gainerShare : Contract → ℕ → ℕ
+  gainerShare c j = cond (eqb (lost (c .holder) j) 0) 0 (c .quantity .0 * lost (c .holder) j / load loads (c .holder))
 
   -- "the gainer's before the loser's"; "Nought makes no contract."
   unfoldable pub pairFor : Contract → ℕ → List Contract
-  pairFor c j = cond (eqb (share c j) 0) [] (gained c j (share c j) ∷ countered c (share c j) ∷ [])
+  pairFor c j = cond (eqb (gainerShare c j) 0) [] (gained c j (gainerShare c j) ∷ countered c (gainerShare c j) ∷ [])
 
   -- for gainers 1 to m
   unfoldable pub pairsTo : Contract → ℕ → List Contract

@@ -2,10 +2,10 @@
 use mathlib.Core.Path.{_≡_, refl, sym, ap, _∙_}
 use mathlib.Core.List.{flatMap}
 use lib.ListN.{length}
-use Rattle.text.specs.Decimal.{digitsIn, decimal}
-use Rattle.hours_table.specs.Table.{cells}
-use Rattle.hours_table.proofs.Theorems.{table-right}
-use Rattle.hours_text.specs.TableText.{countLine, tableText, tableBytes}
+use Rattle.text_format.specs.Decimal.{digitsIn, decimal}
+use Rattle.date_table.specs.Table.{cells}
+use Rattle.date_table.proofs.Theorems.{table-right}
+use Rattle.date_text.specs.TableText.{countLine, tableText, tableBytes}
 
 pub text-is-the-array : tableText ≡ flatMap countLine cells
 text-is-the-array = ap (flatMap countLine) (sym table-right)

@@ -16,10 +16,10 @@ fn check_lists(form: Form, nodes: usize, old: &[u64], new: &[u64]) -> Checked
     requires { ⌜ 0 < nodes ⌝ }
     ensures { λ r. ⌜ r ≡ first (listChecks form nodes (before old) (before new)) ⌝ }
 {
-    if tables::listed_outside(nodes, old) {
+    if grid_tables::listed_outside(nodes, old) {
         return Checked::Refused(Refusal::NodeNumber);
     }
-    if tables::listed_outside(form.ends_below(nodes), new) {
+    if grid_tables::listed_outside(form.ends_below(nodes), new) {
         return Checked::Refused(Refusal::NodeNumber);
     }
     if old.len() != new.len() {
@@ -32,13 +32,10 @@ fn check_lists(form: Form, nodes: usize, old: &[u64], new: &[u64]) -> Checked
 pub fn check_remap(nodes: usize, book: &[u8], old: &[u64], new: &[u64], bytes: usize) -> Checked
     ensures { λ r. ⌜ ((place : List ℕ) → length place ≡ bytes → r ≡ remapBookChecked (remapBookCall nodes (before book) (before old) (before new) place)) ⌝ }
 {
-    if tariff::nodes_bad(nodes) {
-        return Checked::Refused(Refusal::NodeCount);
-    }
-    if let Checked::Refused(refusal) = books::check_book(nodes, book) {
+    if let Checked::Refused(refusal) = book_checks::check_own(nodes, book) {
         return Checked::Refused(refusal);
     }
-    if let Checked::Refused(refusal) = check_lists(books::book_form(book), nodes, old, new) {
+    if let Checked::Refused(refusal) = check_lists(book_bits::book_form(book), nodes, old, new) {
         return Checked::Refused(refusal);
     }
     if bytes < book.len() {

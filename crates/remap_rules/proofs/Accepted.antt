@@ -4,37 +4,34 @@ use mathlib.Core.Bool.{false}
 use mathlib.Core.List.{List, [], _∷_, map}
 use Prim.Native.Nat.{ℕ, _^_, _≤_, _<_}
 use native.Mathlib.Omega.{arith}
-use borrow.Author.Tests.{ltb-false, leb-false, lt-leb}
+use borrow.Author.Tests.{ltb-false, lt-leb}
 use lib.Dec.{leb}
-use lib.ListN.{length, getD}
-use Rattle.lists.specs.Lists.{some, listTo}
+use lib.ListN.{length}
+use Rattle.lists.specs.Lists.{anyOf, listTo}
 use Rattle.lists.proofs.Lists.{length-listTo, listTo-cong, map-listTo, each-listTo}
-use Rattle.lists.proofs.Search.{none-bad}
+use Rattle.lists.proofs.Search.{all-below}
 use Rattle.tariff.specs.declared.contracts.Contract.{Contract}
 use Rattle.tariff.specs.declared.refusals.Checked.the-variants.{Passed}
 use Rattle.tariff.specs.Refusals.{first}
-use Rattle.tariff.specs.Checks.{nodeNumber, shortTable}
+use Rattle.tariff.specs.Checks.{nodeNumber, shortTable, listedNodes}
 use Rattle.tariff.proofs.Checks.{first-passes, passed-cons, passed-append, nodes-few-of, same-of}
 use Rattle.layouts.specs.declared.forms.Form.{Form}
 use Rattle.layouts.specs.Forms.{endWidth, endsBelow}
 use Rattle.layouts.specs.BookFile.{bookBytes, contractCountIn, bookFormIn, contractAt, bookIn}
 use Rattle.layouts.specs.BookTable.{ContractFits}
 use Rattle.layouts.proofs.BookFile.{contract-in-fits, ends-fewer, end-below, end-fits}
-use Rattle.books.specs.BookChecks.{contractChecks, bookChecks}
-use Rattle.books.proofs.Accepted.{Accepted, contracts-pass, book-accepted}
-use Rattle.books.proofs.Making.{Made, book-made}
-use Rattle.remap_rules.specs.RemapBook.{movedEnd, remapped, RemapBookCall, listedNodes, unequalLists, remapBookChecks, remapBookChecked, bookRemapped}
+use Rattle.book_rules.specs.BookChecks.{contractChecks, bookChecks}
+use Rattle.book_rules.proofs.Accepted.{Accepted, contracts-pass, book-accepted}
+use Rattle.book_rules.proofs.Making.{Made, book-made}
+use Rattle.remap_rules.specs.RemapBook.{movedEnd, remapped, RemapBookCall, unequalLists, remapBookChecks, remapBookChecked, bookRemapped}
 use Rattle.remap_rules.specs.Inner.{movedBy, Moves, Listed, Movable}
 use Rattle.remap_rules.proofs.Moving.{moved-below}
 
 pub record Remappable (q : RemapBookCall) : Type 0 where
   pub accepted : first (bookChecks (q .nodes) (q .book)) ≡ Passed
   pub listed : Listed (q .nodes) (q .olds) (q .news)
-  pub new-good : some (leb (endsBelow (bookFormIn (q .book)) (q .nodes))) (q .news) ≡ false
+  pub new-good : anyOf (leb (endsBelow (bookFormIn (q .book)) (q .nodes))) (q .news) ≡ false
   pub room : bookBytes (bookFormIn (q .book)) (contractCountIn (q .book)) ≤ length (q .place)
-
-all-below : (n : ℕ) (xs : List ℕ) → some (leb n) xs ≡ false → (i : ℕ) → i < length xs → getD xs i 0 < n
-all-below n xs good i h = leb-false n (getD xs i 0) (none-bad (leb n) xs 0 good i h)
 
 pub remappable : (q : RemapBookCall) → remapBookChecked q ≡ Passed → Remappable q
 unfolding remapBookChecks
@@ -109,9 +106,6 @@ module _ (q : RemapBookCall) (ok : Remappable q) where
       book-made form (q .nodes) _ (omega (arith, moved-many, own .few))
       (rw moved-list (each-listTo (ContractFits (endWidth form)) (contractCountIn (q .book)) movedAt moved-fits))
       (rw moved-list (each-listTo (λ c. first (contractChecks (q .nodes) c) ≡ Passed) (contractCountIn (q .book)) movedAt moved-passes))
-
-  pub count-remade : contractCountIn (bookRemapped q) ≡ contractCountIn (q .book)
-  count-remade = book-remade .count ∙ moved-many
 
   pub length-remade : length (bookRemapped q) ≡ length (q .book)
   length-remade = book-remade .size ∙ ap (bookBytes form) moved-many ∙ sym (own .size)

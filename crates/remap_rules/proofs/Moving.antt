@@ -9,7 +9,7 @@ use borrow.Author.Tests.{ltb-true, ltb-false, leb-false, eqb-true, eqb-false}
 use lib.Dec.{leb, ltb, eqb}
 use lib.ListN.{length, getD, set, drop}
 use lib.Seq.{drop-cons, drop-length, getD-set-same, getD-set-other}
-use Rattle.lists.specs.Lists.{some}
+use Rattle.lists.specs.Lists.{anyOf}
 use Rattle.lists.proofs.Search.{neither}
 use Rattle.remap_rules.specs.RemapBook.{movedEnd}
 
@@ -53,12 +53,12 @@ module _ (n : ℕ) (olds news ends : List ℕ) (i : ℕ) (ho : i < length olds) 
 
 -- ---- listed numbers
 
-pub moved-below : (n : ℕ) (olds news : List ℕ) (e : ℕ) → some (leb n) news ≡ false → e < n → movedEnd olds news e < n
-unfolding movedEnd some
+pub moved-below : (n : ℕ) (olds news : List ℕ) (e : ℕ) → anyOf (leb n) news ≡ false → e < n → movedEnd olds news e < n
+unfolding movedEnd anyOf
 moved-below n [] news e good h = h
 moved-below n (o ∷ olds) [] e good h = h
 moved-below n (o ∷ olds) (x ∷ news) e good h =
-    let p = neither (leb n x) (some (leb n) news) good in
+    let p = neither (leb n x) (anyOf (leb n) news) good in
     moved-below n olds news (cond (eqb e o) x e) (p .1) (either (eqb e o) (leb-false n x (p .0)))
   where
     either : (b : Bool) → x < n → cond b x e < n

@@ -11,14 +11,14 @@ use Rattle.tariff.specs.Refusals.{first}
 use Rattle.layouts.specs.declared.forms.Form.{Form}
 use Rattle.layouts.specs.BookFile.{bookFile, bookFormIn, bookIn}
 use Rattle.layouts.proofs.BookFile.{book-read}
-use Rattle.books.specs.BookChecks.{bookChecks}
-use Rattle.books.proofs.Accepted.{book-accepted}
+use Rattle.book_rules.specs.BookChecks.{bookChecks}
+use Rattle.book_rules.proofs.Accepted.{book-accepted}
 use Rattle.remap_rules.specs.RemapBook.{movedEnd, remapped, RemapBookCall, remapBookCall, remapBookChecked, bookRemapped}
 use Rattle.remap_rules.proofs.Moving.{moved-append}
 use Rattle.remap_rules.proofs.Accepted.{remappable, book-remade, length-remade}
-use Rattle.remap_rules.specs.Theorems.{Kept}
+use Rattle.remap_rules.specs.Theorems.{RemapKept}
 
-pub remap-keeps : (olds news : List ℕ) (c : Contract) → Kept c (remapped olds news c)
+pub remap-keeps : (olds news : List ℕ) (c : Contract) → RemapKept c (remapped olds news c)
 unfolding remapped
 remap-keeps olds news c = record { kind = refl; period = refl; holder = refl; quantity = refl }
 

@@ -6,10 +6,11 @@ use lib.ListN.{length, getD}
 use Rattle.tariff.specs.declared.contracts.Contract.{Contract}
 use Rattle.tariff.specs.Refusals.{Check}
 use Rattle.tariff.specs.Units.{maxNodes}
+use Rattle.tariff.specs.Checks.{listedNodes}
 use Rattle.layouts.specs.declared.forms.Form.{Form}
 use Rattle.layouts.specs.Forms.{endWidth, endsBelow}
 use Rattle.layouts.specs.BookTable.{ContractFits}
-use Rattle.remap_rules.specs.RemapBook.{movedEnd, listedNodes, unequalLists}
+use Rattle.remap_rules.specs.RemapBook.{movedEnd, unequalLists}
 
 -- the lists' checks: 11, 11, 9
 unfoldable pub listChecks : Form → ℕ → List ℕ → List ℕ → List Check

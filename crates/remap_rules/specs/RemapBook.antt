@@ -2,20 +2,19 @@
 use mathlib.Core.Bool.{not, cond}
 use mathlib.Core.List.{List, [], _∷_, _++_, map}
 use Prim.Native.Nat.{ℕ}
-use lib.Dec.{leb, eqb}
+use lib.Dec.{eqb}
 use lib.ListN.{length}
-use Rattle.lists.specs.Lists.{some}
 use Rattle.lists.specs.Lent.{Lent, before, after}
 use Rattle.tariff.specs.declared.contracts.Contract.{Contract}
 use Rattle.tariff.specs.declared.refusals.Checked.{Checked}
-use Rattle.tariff.specs.declared.refusals.Refusal.the-variants.{NodeNumber, ShortTable}
+use Rattle.tariff.specs.declared.refusals.Refusal.the-variants.{ShortTable}
 use Rattle.tariff.specs.Refusals.{Check, first}
-use Rattle.tariff.specs.Checks.{nodeCount, shortTable}
+use Rattle.tariff.specs.Checks.{nodeCount, shortTable, listedNodes}
 use Rattle.layouts.specs.declared.WriteAnswer.{WriteAnswer}
 use Rattle.layouts.specs.Forms.{endsBelow}
 use Rattle.layouts.specs.BookFile.{bookBytes, bookFile, contractCountIn, bookFormIn, bookIn}
 use Rattle.layouts.specs.Writing.{Writes, WritesForC}
-use Rattle.books.specs.BookChecks.{bookChecks}
+use Rattle.book_rules.specs.BookChecks.{bookChecks}
 
 -- where an end goes: each pair acts on what those before it made
 unfoldable pub movedEnd : List ℕ → List ℕ → ℕ → ℕ
@@ -34,10 +33,6 @@ remapped olds news c =
       sink = movedEnd olds news (c .sink);
       quantity = c .quantity;
     }
-
--- 11: "a listed number not below the node count"
-abbrev pub listedNodes : ℕ → List ℕ → Check
-listedNodes n xs = record { fails = some (leb n) xs; refusal = NodeNumber }
 
 -- 9: "for unequal lists too"
 abbrev pub unequalLists : List ℕ → List ℕ → Check

@@ -16,12 +16,12 @@ use Rattle.layouts.specs.BookFile.{contractCountIn, bookFormIn, bookIn, bookFil
 use Rattle.layouts.specs.BookTable.{contractCells, cellsOf, rowsIn}
 use Rattle.layouts.specs.Writing.{IsWritten}
 use Rattle.layouts.proofs.Writing.{writes-passed, writes-told}
-use Rattle.book_file.specs.declared.BookAnswer.{BookAnswer}
-use Rattle.book_file.specs.declared.BookAnswer.the-variants.{Read, Refused}
-use Rattle.book_file.specs.ReadBook.{readBookCall, readBookChecked, bookValues, bookOutcome, ReadsBook}
-use Rattle.book_file.specs.WriteBook.{writeBookCall, writeBookChecked, bookWritten, WritesBook}
-use Rattle.book_file.proofs.RoundTrip.{ReadBack, read-then-written, written-then-read}
-use Rattle.book_file.proofs.Taken.{rows-left, rows-accepted}
+use Rattle.book_rules.specs.declared.BookAnswer.{BookAnswer}
+use Rattle.book_rules.specs.declared.BookAnswer.the-variants.{Read, Refused}
+use Rattle.book_rules.specs.ReadBook.{readBookCall, readBookChecked, bookValues, bookOutcome, ReadsBook}
+use Rattle.book_rules.specs.WriteBook.{writeBookCall, writeBookChecked, bookWritten, WritesBook}
+use Rattle.book_rules.proofs.RoundTrip.{ReadBack, read-then-written, written-then-read}
+use Rattle.book_rules.proofs.Taken.{rows-left, rows-accepted}
 use Rattle.bits.specs.Bits.{Bytes}
 use Rattle.round_trips.specs.Trips.{BookIs}
 use Rattle.round_trips.proofs.Grids.{same-form}

@@ -23,12 +23,12 @@ use Rattle.layouts.proofs.Writing.{written-by}
 use Rattle.grid_rules.specs.declared.GridAnswer.{GridAnswer}
 use Rattle.grid_rules.specs.declared.GridAnswer.the-variants as grid
 use Rattle.grid_rules.specs.ReadGrid.{ReadGridCall, readGridChecked, gridValues, ReadsGrid, ReadsGridForC}
-use Rattle.book_file.specs.declared.BookAnswer.{BookAnswer}
-use Rattle.book_file.specs.declared.BookAnswer.the-variants as book
-use Rattle.book_file.specs.ReadBook.{ReadBookCall, readBookChecked, bookValues, ReadsBook, ReadsBookForC}
-use Rattle.price_file.specs.declared.PriceAnswer.{PriceAnswer}
-use Rattle.price_file.specs.declared.PriceAnswer.the-variants as prices
-use Rattle.price_file.specs.ReadPrices.{ReadPricesCall, readPricesChecked, ReadsPrices, ReadsPricesForC}
+use Rattle.book_rules.specs.declared.BookAnswer.{BookAnswer}
+use Rattle.book_rules.specs.declared.BookAnswer.the-variants as book
+use Rattle.book_rules.specs.ReadBook.{ReadBookCall, readBookChecked, bookValues, ReadsBook, ReadsBookForC}
+use Rattle.price_rules.specs.declared.PriceAnswer.{PriceAnswer}
+use Rattle.price_rules.specs.declared.PriceAnswer.the-variants as prices
+use Rattle.price_rules.specs.ReadPrices.{ReadPricesCall, readPricesChecked, ReadsPrices, ReadsPricesForC}
 use Rattle.round_trips.specs.Trips.{GridIs, BookIs, PricesAre}
 use Rattle.round_trips.specs.ForC.{WrittenForC, GridForC, BookForC, PricesForC, RoundTripsForC}
 use Rattle.round_trips.proofs.Grids.{grid-rewritten, grid-reread}

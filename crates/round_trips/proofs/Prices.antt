@@ -17,13 +17,13 @@ use Rattle.layouts.specs.declared.WriteAnswer.the-variants.{Written}
 use Rattle.layouts.specs.PriceFile.{priceBytes, periodIn, pricesIn}
 use Rattle.layouts.specs.Writing.{IsWritten}
 use Rattle.layouts.proofs.Writing.{one-given, writes-passed, writes-told}
-use Rattle.price_file.specs.declared.PriceAnswer.{PriceAnswer}
-use Rattle.price_file.specs.declared.PriceAnswer.the-variants.{Read, Refused}
-use Rattle.price_file.specs.ReadPrices.{readPricesCall, priceFileChecks, readPricesChecks, readPricesChecked, priceOutcome, ReadsPrices}
-use Rattle.price_file.specs.WritePrices.{writePricesCall, writePricesChecks, writePricesChecked, pricesWritten, WritesPrices}
-use Rattle.price_file.proofs.PriceLaws.{readable}
-use Rattle.price_file.proofs.Taken.{prices-taken}
-use Rattle.price_file.proofs.RoundTrip.{ReadBack, read-then-written, written-then-read}
+use Rattle.price_rules.specs.declared.PriceAnswer.{PriceAnswer}
+use Rattle.price_rules.specs.declared.PriceAnswer.the-variants.{Read, Refused}
+use Rattle.price_rules.specs.ReadPrices.{readPricesCall, priceFileChecks, readPricesChecks, readPricesChecked, priceOutcome, ReadsPrices}
+use Rattle.price_rules.specs.WritePrices.{writePricesCall, writePricesChecks, writePricesChecked, pricesWritten, WritesPrices}
+use Rattle.price_rules.proofs.PriceLaws.{readable}
+use Rattle.price_rules.proofs.Taken.{prices-taken}
+use Rattle.price_rules.proofs.RoundTrip.{ReadBack, read-then-written, written-then-read}
 use Rattle.bits.specs.Bits.{Bytes}
 use Rattle.round_trips.specs.Trips.{PricesAre}
 

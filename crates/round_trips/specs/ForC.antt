@@ -10,10 +10,10 @@ use Rattle.layouts.specs.Forms.{formNumber, formOf}
 use Rattle.layouts.specs.BookTable.{contractCells}
 use Rattle.grid_rules.specs.ReadGrid.{readGridCall, ReadsGridForC}
 use Rattle.grid_rules.specs.WriteGrid.{writeGridCall, WritesGridForC}
-use Rattle.book_file.specs.ReadBook.{readBookCall, ReadsBookForC}
-use Rattle.book_file.specs.WriteBook.{writeBookCall, WritesBookForC}
-use Rattle.price_file.specs.ReadPrices.{readPricesCall, ReadsPricesForC}
-use Rattle.price_file.specs.WritePrices.{writePricesCall, WritesPricesForC}
+use Rattle.book_rules.specs.ReadBook.{readBookCall, ReadsBookForC}
+use Rattle.book_rules.specs.WriteBook.{writeBookCall, WritesBookForC}
+use Rattle.price_rules.specs.ReadPrices.{readPricesCall, ReadsPricesForC}
+use Rattle.price_rules.specs.WritePrices.{writePricesCall, WritesPricesForC}
 use Rattle.bits.specs.Bits.{Bytes}
 
 -- 0 is answered, and the file s is written into the place: its length is given, its bytes stand at the front, and the others are as they were

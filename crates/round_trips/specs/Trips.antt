@@ -16,14 +16,14 @@ use Rattle.grid_rules.specs.declared.GridAnswer.{GridAnswer}
 use Rattle.grid_rules.specs.declared.GridAnswer.the-variants as grid
 use Rattle.grid_rules.specs.ReadGrid.{readGridCall, ReadsGrid}
 use Rattle.grid_rules.specs.WriteGrid.{writeGridCall, WritesGrid}
-use Rattle.book_file.specs.declared.BookAnswer.{BookAnswer}
-use Rattle.book_file.specs.declared.BookAnswer.the-variants as book
-use Rattle.book_file.specs.ReadBook.{readBookCall, ReadsBook}
-use Rattle.book_file.specs.WriteBook.{writeBookCall, WritesBook}
-use Rattle.price_file.specs.declared.PriceAnswer.{PriceAnswer}
-use Rattle.price_file.specs.declared.PriceAnswer.the-variants as prices
-use Rattle.price_file.specs.ReadPrices.{readPricesCall, ReadsPrices}
-use Rattle.price_file.specs.WritePrices.{writePricesCall, WritesPrices}
+use Rattle.book_rules.specs.declared.BookAnswer.{BookAnswer}
+use Rattle.book_rules.specs.declared.BookAnswer.the-variants as book
+use Rattle.book_rules.specs.ReadBook.{readBookCall, ReadsBook}
+use Rattle.book_rules.specs.WriteBook.{writeBookCall, WritesBook}
+use Rattle.price_rules.specs.declared.PriceAnswer.{PriceAnswer}
+use Rattle.price_rules.specs.declared.PriceAnswer.the-variants as prices
+use Rattle.price_rules.specs.ReadPrices.{readPricesCall, ReadsPrices}
+use Rattle.price_rules.specs.WritePrices.{writePricesCall, WritesPrices}
 
 -- what was written is given: figures, and cells at the front of the tables, the others as they were
 pub record GridIs (f : Form) (n k : ℕ) (limits : List ℕ) (factors : List ℤ) (ls₀ : List ℕ) (fs₀ : List ℤ)

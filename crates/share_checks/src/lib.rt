@@ -3,8 +3,8 @@ ghost use mathlib.Core.Path.{_≡_};
 ghost use Prim.Native.Nat.{_≤_, _<_};
 ghost use Rattle.lists.specs.Lent.{before};
 ghost use Rattle.tariff.specs.Checks.{coordinatorCount, balanceRange};
-ghost use Rattle.share_rules.specs.ShareBalance.{shareCall, shareChecked, totalOf};
-ghost use Rattle.share_rules.specs.Inner.{maxTotal, DemandsIn};
+ghost use Rattle.share_rules.specs.ShareBalance.{shareCall, shareChecked, totalDemand};
+ghost use Rattle.share_rules.specs.Inner.{maxDemandTotal, DemandsIn};
 use tariff::Checked;
 use tariff::MAX_BALANCE;
 use tariff::MAX_COORDINATORS;
@@ -18,10 +18,7 @@ const MIN_BALANCE: i64 = -MAX_BALANCE;
 fn count_bad(count: usize) -> bool
     ensures { λ r. ⌜ r ≡ coordinatorCount count .fails ⌝ }
 {
-    if count == 0 {
-        return true;
-    }
-    MAX_COORDINATORS < count
+    tariff::zero_or_above(count as u64, MAX_COORDINATORS as u64)
 }
 
 // 26, of the balance: the least i64 has no size in an i64, so it is compared first.
@@ -37,7 +34,7 @@ fn balance_bad(balance: i64) -> bool
 // The total of the demands.
 pub fn total_of(demands: &[u64]) -> u64
     requires { ⌜ DemandsIn (now demands) ⌝ }
-    ensures { λ r. ⌜ (r ≡ totalOf (before demands)) × (r ≤ maxTotal) ⌝ }
+    ensures { λ r. ⌜ (r ≡ totalDemand (before demands)) × (r ≤ maxDemandTotal) ⌝ }
 {
     let mut sum = 0;
     let mut i = 0;
@@ -58,7 +55,7 @@ pub fn check_share(balance: i64, demands: &[u64], place: &[i64]) -> Checked
     if balance_bad(balance) {
         return Checked::Refused(Refusal::ShareRange);
     }
-    if tables::cell_above(demands, demands.len(), MAX_DEMAND) {
+    if grid_tables::cell_above(demands, demands.len(), MAX_DEMAND) {
         return Checked::Refused(Refusal::ShareRange);
     }
     if total_of(demands) == 0 {

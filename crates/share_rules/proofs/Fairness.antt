@@ -15,9 +15,9 @@ use Rattle.integers.specs.Sums.{sumTo}
 use Rattle.integers.proofs.Linear.{_⊖_, ⊖s}
 use Rattle.integers.proofs.Sums.{sumTo-cong}
 use Rattle.largest_remainders.specs.Ranks.{addTo}
-use Rattle.largest_remainders.specs.Shares.{beforeBy, whole, given, share}
+use Rattle.largest_remainders.specs.Shares.{beforeBy, whole, givenOne, share}
 use Rattle.largest_remainders.proofs.Theorems.{adds-up, near, no-weight, no-size, largest-first}
-use Rattle.share_rules.specs.ShareBalance.{demandOf, totalOf, signedLike, shareOf, sharesOf, wholeOf, restOf, cellOf}
+use Rattle.share_rules.specs.ShareBalance.{demandOf, totalDemand, signedLike, balanceShare, sharesOf, wholeOf, restOf, cellOf}
 use Rattle.share_rules.proofs.Signs.{signed-sized}
 
 -- ---- sums of one sign
@@ -53,17 +53,17 @@ signed-near (negsuc n) s t d h k = distance (negℤ (pos s) *ℤ pos t -ℤ negs
 -- ---- who is given a cent
 
 module _ (n : ℕ) (weight : ℕ → ℕ) (size i : ℕ) where
-  more-given : whole n weight size i < share n weight size i → T (given n weight size i)
+  more-given : whole n weight size i < share n weight size i → T (givenOne n weight size i)
   unfolding share
-  more-given h = by (given n weight size i) h
+  more-given h = by (givenOne n weight size i) h
     where
       by : (b : Bool) → whole n weight size i < whole n weight size i + cond b 1 0 → T b
       by true h = tt
       by false h = absurd (omega arith)
 
-  kept-not-given : share n weight size i ≤ whole n weight size i → T (not (given n weight size i))
+  kept-not-given : share n weight size i ≤ whole n weight size i → T (not (givenOne n weight size i))
   unfolding share
-  kept-not-given h = by (given n weight size i) h
+  kept-not-given h = by (givenOne n weight size i) h
     where
       by : (b : Bool) → whole n weight size i + cond b 1 0 ≤ whole n weight size i → T (not b)
       by true h = absurd (omega arith)
@@ -78,32 +78,32 @@ module _ (balance : ℤ) (ds : List ℕ) (entry : List ℤ) where
   abbrev sized : ℕ → ℕ
   sized = share (length ds) (demandOf ds) (natAbs balance)
 
-  pub cell-is : (i : ℕ) → i < length ds → cellOf cells i ≡ shareOf balance ds i
+  pub cell-is : (i : ℕ) → i < length ds → cellOf cells i ≡ balanceShare balance ds i
   cell-is i b =
-      front-at (sharesOf balance ds) entry (length ds) (length-listTo (length ds) (shareOf balance ds)) i (pos 0) b
-      ∙ getD-listTo (length ds) (shareOf balance ds) i (pos 0) b
+      front-at (sharesOf balance ds) entry (length ds) (length-listTo (length ds) (balanceShare balance ds)) i (pos 0) b
+      ∙ getD-listTo (length ds) (balanceShare balance ds) i (pos 0) b
 
   cell-size : (i : ℕ) → i < length ds → natAbs (cellOf cells i) ≡ sized i
-  unfolding shareOf
+  unfolding balanceShare
   cell-size i b = ap natAbs (cell-is i b) ∙ signed-sized balance (sized i)
 
-  module _ (some : 0 < totalOf ds) where
+  module _ (some : 0 < totalDemand ds) where
     pub all-together : sumTo (length ds) (cellOf cells) ≡ balance
-    unfolding shareOf
+    unfolding balanceShare
     all-together =
         sumTo-cong (length ds) cell-is
         ∙ signed-sum balance (length ds) sized
         ∙ ap (signedLike balance) (adds-up (length ds) (demandOf ds) (natAbs balance) some)
         ∙ signed-size balance
 
-    pub each-near : (i : ℕ) → i < length ds → natAbs (cellOf cells i *ℤ pos (totalOf ds) -ℤ balance *ℤ pos (demandOf ds i)) < totalOf ds
-    unfolding shareOf
+    pub each-near : (i : ℕ) → i < length ds → natAbs (cellOf cells i *ℤ pos (totalDemand ds) -ℤ balance *ℤ pos (demandOf ds i)) < totalDemand ds
+    unfolding balanceShare
     each-near i b =
         let h = near (length ds) (demandOf ds) (natAbs balance) some i in
-        rw (cell-is i b) (signed-near balance (sized i) (totalOf ds) (demandOf ds i) (h .0) (h .1))
+        rw (cell-is i b) (signed-near balance (sized i) (totalDemand ds) (demandOf ds i) (h .0) (h .1))
 
     pub none-without : (i : ℕ) → i < length ds → demandOf ds i ≡ 0 → cellOf cells i ≡ pos 0
-    unfolding shareOf
+    unfolding balanceShare
     none-without i b e = cell-is i b ∙ ap (signedLike balance) (no-weight (length ds) (demandOf ds) (natAbs balance) some i e) ∙ signed-none balance
 
     pub first-largest : (i j : ℕ) → i < length ds → j < length ds → wholeOf balance ds i < natAbs (cellOf cells i) → natAbs (cellOf cells j) ≤ wholeOf balance ds j
@@ -114,8 +114,8 @@ module _ (balance : ℤ) (ds : List ℕ) (entry : List ℤ) where
         (kept-not-given (length ds) (demandOf ds) (natAbs balance) j (omega (arith, cell-size j c)))
 
 -- the shares of the opposite balance
-pub opposite : (balance : ℤ) (ds : List ℕ) → 0 < totalOf ds → (i : ℕ) → shareOf (negℤ balance) ds i ≡ negℤ (shareOf balance ds i)
-unfolding shareOf
+pub opposite : (balance : ℤ) (ds : List ℕ) → 0 < totalDemand ds → (i : ℕ) → balanceShare (negℤ balance) ds i ≡ negℤ (balanceShare balance ds i)
+unfolding balanceShare
 opposite (pos zero) ds some i = rw (no-size (length ds) (demandOf ds) 0 some refl i)
 opposite (pos (suc n)) ds some i = refl
 opposite (negsuc n) ds some i = sym (negℤ-negℤ (pos (share (length ds) (demandOf ds) (suc n) i)))

@@ -12,28 +12,28 @@ use lib.IntN.{ℤ, natAbs}
 use lib.Seq.{getD-set-same, getD-set-other}
 use Rattle.tariff.specs.Units.{maxCoordinators, maxBalance, maxDemand}
 use Rattle.largest_remainders.specs.Ranks.{addTo, keysFrom}
-use Rattle.largest_remainders.specs.Shares.{total, whole, rest, leftover, rank, given, share}
-use Rattle.largest_remainders.specs.Inner.{keyOf, keyAt, Searchable}
+use Rattle.largest_remainders.specs.Shares.{totalWeight, whole, rest, leftover, rank, givenOne, share}
+use Rattle.largest_remainders.specs.Inner.{remainderKey, keyAt, Searchable}
 use Rattle.largest_remainders.proofs.Counting.{addTo-bounded, addTo-more, addTo-prefix}
 use Rattle.largest_remainders.proofs.Order.{rank-by-key, keys-apart, key-small}
 use Rattle.largest_remainders.proofs.Sharing.{rest-lt, wholes-le, leftover-small}
 use Rattle.largest_remainders.proofs.Theorems.{threshold-law}
-use Rattle.share_rules.specs.ShareBalance.{demandOf, totalOf, signedLike, shareOf}
-use Rattle.share_rules.specs.Inner.{maxTotal, DemandsIn, Weighed, leftoverOf, Rounded, Cut}
+use Rattle.share_rules.specs.ShareBalance.{demandOf, totalDemand, signedLike, balanceShare}
+use Rattle.share_rules.specs.Inner.{maxDemandTotal, DemandsIn, Weighed, leftoverOf, RoundedCents, Cut}
 
-pub total-small : (ds : List ℕ) → DemandsIn ds → totalOf ds ≤ maxTotal
-unfolding total
+pub total-small : (ds : List ℕ) → DemandsIn ds → totalDemand ds ≤ maxDemandTotal
+unfolding totalWeight
 total-small ds h = omega (arith, addTo-bounded (length ds) maxDemand (demandOf ds) (h .small), h .few)
 
 -- one coordinator's whole cents are at most the size
-pub whole-fits : (size : ℕ) (ds : List ℕ) → 0 < totalOf ds → (i : ℕ) → i < length ds
+pub whole-fits : (size : ℕ) (ds : List ℕ) → 0 < totalDemand ds → (i : ℕ) → i < length ds
     → addTo i (whole (length ds) (demandOf ds) size) + whole (length ds) (demandOf ds) size i ≤ size
 whole-fits size ds some i b =
     let w = whole (length ds) (demandOf ds) size in
     omega (arith, addTo-more i w, addTo-prefix (length ds) (i + 1) w (omega arith), wholes-le (length ds) (demandOf ds) size some)
 
 module _ (size sum : ℕ) (ds : List ℕ) (w : Weighed size sum ds) where
-  pub some : 0 < totalOf ds
+  pub some : 0 < totalDemand ds
   some = omega (arith, w .positive, w .sum-is)
 
   pub product-small : (i : ℕ) → i < length ds → size * demandOf ds i ≤ 1000000000000000000
@@ -47,16 +47,16 @@ module _ (size sum : ℕ) (ds : List ℕ) (w : Weighed size sum ds) where
   unfolding rest
   rest-is i = ap (λ (x : ℕ). size * demandOf ds i % x) (w .sum-is)
 
-  pub rest-small : (i : ℕ) → size * demandOf ds i % sum < maxTotal
+  pub rest-small : (i : ℕ) → size * demandOf ds i % sum < maxDemandTotal
   rest-small i = omega (arith, mod-lt (size * demandOf ds i) (w .positive), w .sum-is, total-small ds (w .demands-in))
 
   pub wholes-fit : (i : ℕ) → i < length ds → addTo i (whole (length ds) (demandOf ds) size) + whole (length ds) (demandOf ds) size i ≤ maxBalance
   wholes-fit i b = omega (arith, whole-fits size ds some i b, w .size-small)
 
-  pub key-is : (i : ℕ) → size * demandOf ds i % sum * 256 + (255 - i) ≡ keyOf (rest (length ds) (demandOf ds) size) 256 i
+  pub key-is : (i : ℕ) → size * demandOf ds i % sum * 256 + (255 - i) ≡ remainderKey (rest (length ds) (demandOf ds) size) 256 i
   key-is i = omega (arith, rest-is i)
 
-  module _ (wholes keys : List ℕ) (r : Rounded size ds wholes keys) (left : ℕ) (left-is : left ≡ leftoverOf size ds) where
+  module _ (wholes keys : List ℕ) (r : RoundedCents size ds wholes keys) (left : ℕ) (left-is : left ≡ leftoverOf size ds) where
     -- the table of keys may be searched for those that are given a leftover cent
     pub searchable : Searchable keys (length ds) (sum * 256) left
     searchable =
@@ -64,14 +64,14 @@ module _ (size sum : ℕ) (ds : List ℕ) (w : Weighed size sum ds) where
         record {
           cells = r .key-cells;
           limited = omega (arith, w .sum-is, total-small ds (w .demands-in));
-          small = λ i b. below (keyAt keys i) (keyOf f maxCoordinators i) (totalOf ds) (r .key-is i b) (top i b) (w .sum-is);
+          small = λ i b. below (keyAt keys i) (remainderKey f maxCoordinators i) (totalDemand ds) (r .key-is i b) (top i b) (w .sum-is);
           apart = λ i j b c e. keys-apart f (length ds) maxCoordinators (w .demands-in .few) i j b c (sym (r .key-is i b) ∙ e ∙ r .key-is j c);
           enough = omega (arith, left-is, leftover-small (length ds) (demandOf ds) size some);
         }
       where
-        top : (i : ℕ) → i < length ds → keyOf (rest (length ds) (demandOf ds) size) maxCoordinators i < totalOf ds * maxCoordinators
+        top : (i : ℕ) → i < length ds → remainderKey (rest (length ds) (demandOf ds) size) maxCoordinators i < totalDemand ds * maxCoordinators
         top i b =
-            key-small (rest (length ds) (demandOf ds) size) maxCoordinators (totalOf ds) i (omega (arith, w .demands-in .few)) (rest-lt (length ds) (demandOf ds) size some i)
+            key-small (rest (length ds) (demandOf ds) size) maxCoordinators (totalDemand ds) i (omega (arith, w .demands-in .few)) (rest-lt (length ds) (demandOf ds) size some i)
 
         below : (x y t : ℕ) → x ≡ y → y < t * 256 → sum ≡ t → x < sum * 256
         below x y t e h s = omega arith
@@ -84,7 +84,7 @@ module _ (size sum : ℕ) (ds : List ℕ) (w : Weighed size sum ds) where
           size-small = omega (arith, m, w .size-small);
           demands-in = w .demands-in;
           positive = some;
-          rounded = subst (λ (x : ℕ). Rounded x ds wholes keys) m r;
+          rounded = subst (λ (x : ℕ). RoundedCents x ds wholes keys) m r;
           least-is = least-is ∙ left-is ∙ ap (λ (x : ℕ). leftoverOf x ds) m;
         }
 
@@ -101,17 +101,17 @@ module _ (balance : ℤ) (least : ℕ) (ds wholes keys : List ℕ) (cut : Cut ba
   cell-small = omega (arith, cut .rounded .whole-is i b, whole-fits (natAbs balance) ds (cut .positive) i b, cut .size-small)
 
   -- a leftover cent goes to the keys from the least on
-  given-is : given (length ds) (demandOf ds) (natAbs balance) i ≡ leb least (keyAt keys i)
+  given-is : givenOne (length ds) (demandOf ds) (natAbs balance) i ≡ leb least (keyAt keys i)
   unfolding rank
   given-is =
       let f = rest (length ds) (demandOf ds) (natAbs balance) in
       let same = rank-by-key f (length ds) maxCoordinators (keyAt keys) (cut .demands-in .few) (cut .rounded .key-is) i b in
       ap (λ (r : ℕ). ltb r (leftoverOf (natAbs balance) ds)) (sym same) ∙ threshold-law (length ds) (keyAt keys) least (leftoverOf (natAbs balance) ds) (cut .least-is) i b
 
-  pub share-more : least ≤ keyAt keys i → signedLike balance (getD wholes i 0 + 1) ≡ shareOf balance ds i
-  unfolding shareOf share
+  pub share-more : least ≤ keyAt keys i → signedLike balance (getD wholes i 0 + 1) ≡ balanceShare balance ds i
+  unfolding balanceShare share
   share-more h = rw (given-is, le-leb least (keyAt keys i) h, cut .rounded .whole-is i b)
 
-  pub share-kept : keyAt keys i < least → signedLike balance (getD wholes i 0) ≡ shareOf balance ds i
-  unfolding shareOf share
+  pub share-kept : keyAt keys i < least → signedLike balance (getD wholes i 0) ≡ balanceShare balance ds i
+  unfolding balanceShare share
   share-kept h = rw (given-is, lt-leb least (keyAt keys i) h, cut .rounded .whole-is i b) (ap (signedLike balance) (omega arith))

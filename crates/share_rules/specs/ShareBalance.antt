@@ -10,9 +10,9 @@ use Rattle.lists.specs.Lists.{listTo}
 use Rattle.integers.specs.Sums.{sumTo}
 use Rattle.tariff.specs.declared.refusals.Checked.{Checked}
 use Rattle.tariff.specs.declared.refusals.Checked.the-variants.{Passed}
-use Rattle.tariff.specs.Refusals.{Check, first, Outcome, given, refusedBy, answered, cellsAfter, numberAfter}
+use Rattle.tariff.specs.Refusals.{Check, first, Outcome, given, refusedBy, answered, cellsAfter, ForC}
 use Rattle.tariff.specs.Checks.{coordinatorCount, balanceRange, demandRange, noDemand, shortTable}
-use Rattle.largest_remainders.specs.Shares.{beforeBy, total, whole, rest, share}
+use Rattle.largest_remainders.specs.Shares.{beforeBy, totalWeight, whole, rest, share}
 use Rattle.share_rules.specs.declared.ShareAnswer.{ShareAnswer}
 use Rattle.share_rules.specs.declared.ShareAnswer.the-variants.{Shared, Refused}
 
@@ -34,8 +34,8 @@ shareOutcome (Refused r) = refusedBy r
 abbrev pub demandOf : List ℕ → ℕ → ℕ
 demandOf demands i = getD demands i 0
 
-abbrev pub totalOf : List ℕ → ℕ
-totalOf demands = total (length demands) (demandOf demands)
+abbrev pub totalDemand : List ℕ → ℕ
+totalDemand demands = totalWeight (length demands) (demandOf demands)
 
 module _ (q : ShareCall) where
   -- "Numbers or counts outside these give 26; then demands totalling 0 give 27; 9 is last."
@@ -44,7 +44,7 @@ module _ (q : ShareCall) where
       coordinatorCount (length (q .demands))
       ∷ balanceRange (q .balance)
       ∷ demandRange (q .demands)
-      ∷ noDemand (totalOf (q .demands))
+      ∷ noDemand (totalDemand (q .demands))
       ∷ shortTable (length (q .place)) (length (q .demands))
       ∷ []
 
@@ -58,12 +58,12 @@ signedLike (negsuc n) cents = negℤ (pos cents)
 
 -- "Each gets its proportion rounded towards zero, and leftover cents, of the balance's sign, go one each to the largest remainders in size, then the lower
 -- number": the balance's size shared by largest remainders, with its sign
-unfoldable pub shareOf : ℤ → List ℕ → ℕ → ℤ
-shareOf balance demands i = signedLike balance (share (length demands) (demandOf demands) (natAbs balance) i)
+unfoldable pub balanceShare : ℤ → List ℕ → ℕ → ℤ
+balanceShare balance demands i = signedLike balance (share (length demands) (demandOf demands) (natAbs balance) i)
 
 -- one cell for each coordinator
 abbrev pub sharesOf : ℤ → List ℕ → List ℤ
-sharesOf balance demands = listTo (length demands) (shareOf balance demands)
+sharesOf balance demands = listTo (length demands) (balanceShare balance demands)
 
 -- the proportion in size rounded towards zero, and what that cuts off, in parts of the demands' total
 abbrev pub wholeOf : ℤ → List ℕ → ℕ → ℕ
@@ -80,7 +80,7 @@ pub record Fair (balance : ℤ) (demands : List ℕ) (cells : List ℤ) : Type 0
   -- "Shares add up to the balance to the cent"
   pub adds-up : sumTo (length demands) (cellOf cells) ≡ balance
   -- "none is a cent or more from its exact proportion": both times the demands' total
-  pub near : (i : ℕ) → i < length demands → natAbs (cellOf cells i *ℤ pos (totalOf demands) -ℤ balance *ℤ pos (demandOf demands i)) < totalOf demands
+  pub near : (i : ℕ) → i < length demands → natAbs (cellOf cells i *ℤ pos (totalDemand demands) -ℤ balance *ℤ pos (demandOf demands i)) < totalDemand demands
   pub no-demand-no-cent : (i : ℕ) → i < length demands → demandOf demands i ≡ 0 → cellOf cells i ≡ pos 0
   -- who has more than the whole cents comes, by "the largest remainders in size, then the lower number", before who has not
   pub largest-first : (i j : ℕ) → i < length demands → j < length demands
@@ -93,7 +93,5 @@ pub record SharesBalance (q : ShareCall) (answer : ShareAnswer) (exit : List ℤ
   pub fair : shareChecked q ≡ Passed → Fair (q .balance) (q .demands) exit
 
 -- the same for C
-pub record SharesBalanceForC (q : ShareCall) (number : ℕ) (exit : List ℤ) : Type 0 where
-  pub refusal-number : number ≡ numberAfter (shareChecked q)
-  pub shares-given : exit ≡ cellsAfter (shareChecked q) (sharesOf (q .balance) (q .demands)) (q .place)
-  pub fair : shareChecked q ≡ Passed → Fair (q .balance) (q .demands) exit
+abbrev pub SharesBalanceForC : ShareCall → ℕ → List ℤ → Type 0
+SharesBalanceForC q number exit = ForC ShareAnswer shareOutcome (λ answer. SharesBalance q answer exit) number

@@ -4,7 +4,7 @@ use layouts::MAX_BOOK_BYTES;
 use layouts::MAX_PRICE_BYTES;
 use layouts::PROGRAM_GRID_BYTES;
 use layouts::WriteAnswer;
-use statement_lines::LONGEST_STATEMENT;
+use text_statement_lines::LONGEST_STATEMENT;
 
 // The buffers hold one byte more than the longest file taken, so that the length of a longer one is refused.
 fn main() {
@@ -21,7 +21,7 @@ fn main() {
     let price_file = files::read_behind(taken, b"prices.bin", &mut prices);
     let price_bytes = price_file.bytes;
     if grid_file.readable && book_file.readable && price_file.readable {
-        let answer = statement_text::write_statement(
+        let answer = text_statement::write_statement(
             &grid[..grid_bytes],
             &book[..book_bytes],
             &prices[..price_bytes],

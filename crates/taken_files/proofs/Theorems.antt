@@ -7,10 +7,10 @@ use Rattle.tariff.specs.declared.refusals.Checked.the-variants.{Refused}
 use Rattle.tariff.specs.Refusals.{first}
 use Rattle.layouts.specs.GridFile.{gridIn}
 use Rattle.grid_rules.specs.ReadGrid.{cappedChecks, programBytes}
-use Rattle.books.specs.BookChecks.{bookChecks}
-use Rattle.texts.specs.WithFiles.{withGrid, withBook}
-use Rattle.report_rules.specs.WriteReport.{report}
-use Rattle.statement_text.specs.WriteStatement.{statement}
+use Rattle.book_rules.specs.BookChecks.{bookChecks}
+use Rattle.text_files.specs.WithFiles.{withGrid, withBook}
+use Rattle.text_report_rules.specs.WriteReport.{report}
+use Rattle.text_statement.specs.WriteStatement.{statement}
 use Rattle.taken_files.specs.Taken.{LaterUnseen}
 
 grid : (g : List ℕ) (r : Refusal) → first (cappedChecks programBytes g) ≡ Refused r → (b p b' p' : List ℕ) → statement g b p ≡ statement g b' p'

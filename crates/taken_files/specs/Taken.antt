@@ -9,9 +9,9 @@ use Rattle.tariff.specs.declared.refusals.Checked.the-variants.{Refused}
 use Rattle.tariff.specs.Refusals.{first, decided}
 use Rattle.layouts.specs.GridFile.{gridIn}
 use Rattle.grid_rules.specs.ReadGrid.{cappedChecks, programBytes}
-use Rattle.books.specs.BookChecks.{bookChecks}
-use Rattle.report_rules.specs.WriteReport.{report}
-use Rattle.statement_text.specs.WriteStatement.{statement}
+use Rattle.book_rules.specs.BookChecks.{bookChecks}
+use Rattle.text_report_rules.specs.WriteReport.{report}
+use Rattle.text_statement.specs.WriteStatement.{statement}
 
 -- the node count of a grid's file that is taken, and 0 of one that is refused
 abbrev pub nodesTaken : List ℕ → ℕ

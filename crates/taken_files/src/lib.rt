@@ -14,7 +14,7 @@ pub fn nodes_taken(file: &[u8]) -> usize
 {
     let mut limits = [0u64; MAX_CONSTRAINTS];
     let mut factors = [0i64; PROGRAM_FACTORS];
-    match grid_file::read_within(PROGRAM_GRID_BYTES, file, &mut limits, &mut factors) {
+    match grid_reading::read_within(PROGRAM_GRID_BYTES, file, &mut limits, &mut factors) {
         GridAnswer::Refused(_) => 0,
         GridAnswer::Read {
             nodes,
@@ -28,7 +28,7 @@ pub fn nodes_taken(file: &[u8]) -> usize
 pub fn book_taken(nodes: usize, file: &[u8]) -> bool
     ensures { λ r. ⌜ r ≡ bookTaken nodes (before file) ⌝ }
 {
-    match books::check_book(nodes, file) {
+    match book_checks::check_book(nodes, file) {
         Checked::Refused(_) => false,
         Checked::Passed => true,
     }

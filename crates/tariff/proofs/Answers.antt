@@ -70,6 +70,9 @@ pub number-of : (checked : Checked) (vs : List ℤ) → answered checked vs .num
 number-of Passed vs = refl
 number-of (Refused r) vs = refl
 
+pub number-told : (checked : Checked) (vs : List ℤ) (o : Outcome) → o ≡ answered checked vs → (n : ℕ) → n ≡ o .number → n ≡ numberAfter checked
+number-told checked vs o told n e = e ∙ ap (λ (x : Outcome). x .number) told ∙ number-of checked vs
+
 pub none-refused : (checked : Checked) → 0 ≡ numberAfter checked → checked ≡ Passed
 none-refused Passed e = refl
 none-refused (Refused r) e = absurd (numbered r (sym e))

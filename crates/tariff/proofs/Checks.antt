@@ -1,8 +1,8 @@
 -- Laws of the first check that holds, of the node count, and of a search for a bad element.
 use mathlib.Core.Path.{_≡_, refl, ap, _∙_}
-use mathlib.Core.Bool.{Bool, true, false, cond, not, _||_}
+use mathlib.Core.Bool.{Bool, true, false, cond, not}
 use mathlib.Core.List.{List, [], _∷_, _++_}
-use Prim.Native.Nat.{ℕ, _+_, _≤_, _<_}
+use Prim.Native.Nat.{ℕ, _≤_, _<_}
 use native.Mathlib.Nat.{pos-of-ne-zero}
 use borrow.Author.Tests.{ltb-false, eqb-true, eqb-false, eq-eqb, ne-eqb, not-false}
 use lib.Dec.{ltb, eqb}
@@ -87,13 +87,6 @@ pub nodes-some-of : (n : ℕ) → nodeCount n .fails ≡ false → 0 < n
 nodes-some-of n e = pos-of-ne-zero (eqb-false n 0 (neither (eqb n 0) (ltb maxNodes n) e .0))
 
 -- ---- what a test in code says of a condition
-
--- a count that is 0 or above m
-pub zero-bad : (n m : ℕ) → n ≡ 0 → true ≡ (eqb n 0 || ltb m n)
-zero-bad n m e = rw (eq-eqb n 0 e)
-
-pub above-bad : (n m : ℕ) → (n ≡ 0 → ⊥) → ltb m n ≡ (eqb n 0 || ltb m n)
-above-bad n m h = rw (ne-eqb n 0 h)
 
 pub differs : (a b : ℕ) → (a ≡ b → ⊥) → not (eqb a b) ≡ true
 differs a b h = ap not (ne-eqb a b h)

@@ -27,9 +27,9 @@ module _ (g : Grid) (process : Process) (cs : List Contract) where
       by false e h = refl
 
   -- the test passes exactly where the set is empty
-  pub passes-empty : Passes g process cs ↔ (overloadSet g process cs ≡ 0)
+  pub pass-is-empty-set : Passes g process cs ↔ (overloadSet g process cs ≡ 0)
   unfolding overloadSet overloaded
-  passes-empty = (
+  pass-is-empty-set = (
     λ p. set-empty (g .factors .constraints) _ .1 (λ k h. not-over (pos (released (g .limits) process k)) (totalFlow (g .factors) cs k) .1 (p .within k h)),
     λ e. record { within = λ k h. not-over (pos (released (g .limits) process k)) (totalFlow (g .factors) cs k) .0 (set-empty (g .factors .constraints) _ .0 e k h) },
   )
@@ -43,7 +43,7 @@ module _ (g : Grid) (process : Process) (cs : List Contract) where
   -- where it does not pass the set has a member; the lowest is one of the grid's, and its excess is above 0
   module _ (fails : Passes g process cs → ⊥) where
     pub fails-some : 0 < overloadSet g process cs
-    fails-some = pos-of-ne-zero {n = overloadSet g process cs} (λ e. fails (passes-empty .1 e))
+    fails-some = pos-of-ne-zero {n = overloadSet g process cs} (λ e. fails (pass-is-empty-set .1 e))
 
     pub fails-lowest : Lowest (g .factors .constraints) (overloaded g process cs) (lowestOverload g process cs)
     unfolding overloadSet lowestOverload

@@ -12,17 +12,17 @@ use Rattle.tariff.specs.declared.contracts.Period.{Period}
 use Rattle.tariff.specs.declared.contracts.Period.the-variants.{OffPeak, OnPeak}
 use Rattle.tariff.specs.Contracts.{samePeriod, ofPeriod}
 
-same-is : (a b : Period) → samePeriod a b ≡ true → a ≡ b
+pub same-is : (a b : Period) → samePeriod a b ≡ true → a ≡ b
 same-is OffPeak OffPeak e = refl
 same-is OffPeak OnPeak e = cc
 same-is OnPeak OffPeak e = cc
 same-is OnPeak OnPeak e = refl
 
 -- each is of the period
-pub ofPeriod-each : (t : Period) (cs : List Contract) → Each (λ (c : Contract). c .period ≡ t) (ofPeriod t cs)
+pub tested-are-of-the-period : (t : Period) (cs : List Contract) → Each (λ (c : Contract). c .period ≡ t) (ofPeriod t cs)
 unfolding ofPeriod
-ofPeriod-each t [] = tt
-ofPeriod-each t (c ∷ cs) = by (samePeriod (c .period) t) refl (ofPeriod-each t cs)
+tested-are-of-the-period t [] = tt
+tested-are-of-the-period t (c ∷ cs) = by (samePeriod (c .period) t) refl (tested-are-of-the-period t cs)
   where
     by : (b : Bool) → samePeriod (c .period) t ≡ b → Each (λ (c : Contract). c .period ≡ t) (ofPeriod t cs) → Each (λ (c : Contract). c .period ≡ t) (cond b (c ∷ ofPeriod t cs) (ofPeriod t cs))
     by true e r = (same-is (c .period) t e, r)
@@ -60,9 +60,9 @@ same-self : (t : Period) → samePeriod t t ≡ true
 same-self OffPeak = refl
 same-self OnPeak = refl
 
-pub ofPeriod-at : (t : Period) (earlier later : List Contract) (c : Contract) → c .period ≡ t
+pub of-the-period-is-tested : (t : Period) (earlier later : List Contract) (c : Contract) → c .period ≡ t
     → ofPeriod t (earlier ++ c ∷ later) ≡ ofPeriod t earlier ++ c ∷ ofPeriod t later
 unfolding ofPeriod
-ofPeriod-at t earlier later c e =
+of-the-period-is-tested t earlier later c e =
     let same : samePeriod (c .period) t ≡ true = rw e (same-self t) in
     ofPeriod-append t earlier (c ∷ later) ∙ rw same

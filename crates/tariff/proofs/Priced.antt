@@ -10,6 +10,7 @@ use borrow.Author.Tests.{ltb-true, lt-ltb}
 use lib.Dec.{ltb}
 use lib.IntN.{ℤ, pos, negℤ, natAbs, _+ℤ_, _-ℤ_, _*ℤ_, zero-*ℤ, *ℤ-comm, +ℤ-invr}
 use Rattle.lists.proofs.Sets.{set-empty}
+use Rattle.lists.proofs.Search.{both}
 use Rattle.integers.specs.Sums.{nonzero, sumTo}
 use Rattle.integers.proofs.Linear.{⊖of, ⊖s}
 use Rattle.integers.proofs.Sizes.{zero-size, sub-equal, nonzero-false, nonzero-times}
@@ -31,10 +32,6 @@ differ-true x y = (to, λ ne. lt-ltb 0 (natAbs (x -ℤ y)) (pos-of-ne-zero (λ z
 above-true : (n : ℕ) → (ltb 0 n ≡ true) ↔ (n ≢ 0)
 above-true n = (λ e z. absurd (omega (arith, ltb-true 0 n e)), λ ne. lt-ltb 0 n (pos-of-ne-zero ne))
 
-both-true : (a b : Bool) → ((a && b) ≡ true) ↔ ((a ≡ true) × (b ≡ true))
-both-true true b = (λ e. (refl, e), λ h. h .1)
-both-true false b = (λ e. (e, cc), λ h. h .0)
-
 module _ (f : Factors) (p : List ℕ) (c : Contract) where
   -- a product isn't 0 exactly where neither factor is
   pub priced-both : (k : ℕ) → pricedAt f p c k ≡ (nonzero (factor f (c .source) k -ℤ factor f (c .sink) k) && ltb 0 (price p k))
@@ -44,10 +41,9 @@ module _ (f : Factors) (p : List ℕ) (c : Contract) where
   pub priced-where : (k : ℕ) → (pricedAt f p c k ≡ true) ↔ ((price p k ≢ 0) × (factor f (c .source) k ≢ factor f (c .sink) k))
   priced-where k =
       let d = differ-true (factor f (c .source) k) (factor f (c .sink) k) in
-      let w = above-true (price p k) in
-      let b = both-true (nonzero (factor f (c .source) k -ℤ factor f (c .sink) k)) (ltb 0 (price p k)) in (
-        λ e. let h = b .0 (sym (priced-both k) ∙ e) in (w .0 (h .1), d .0 (h .0)),
-        λ h. priced-both k ∙ b .1 (d .1 (h .1), w .1 (h .0)),
+      let w = above-true (price p k) in (
+        λ e. let h = both (nonzero (factor f (c .source) k -ℤ factor f (c .sink) k)) (ltb 0 (price p k)) (sym (priced-both k) ∙ e) in (w .0 (h .1), d .0 (h .0)),
+        λ h. priced-both k ∙ rw (d .1 (h .1), w .1 (h .0)),
       )
 
 -- ---- all constraints
@@ -70,15 +66,15 @@ kept x = by (nonzero x) refl
 
 module _ (f : Factors) (p : List ℕ) (c : Contract) where
   -- what the set leaves out moves nothing
-  pub amount-priced : amount f p c ≡ counted (c .kind) (sumTo (f .constraints) (λ k. cond (pricedAt f p c k) (spreadAt f p c k) (pos 0)) *ℤ pos (c .quantity .0))
+  pub amount-is-of-the-priced : amount f p c ≡ counted (c .kind) (sumTo (f .constraints) (λ k. cond (pricedAt f p c k) (spreadAt f p c k) (pos 0)) *ℤ pos (c .quantity .0))
   unfolding amount mcc congestion pricedAt spreadAt
-  amount-priced =
+  amount-is-of-the-priced =
       let all = spread-sum (f .constraints) (factor f (c .source)) (factor f (c .sink)) (price p) in
       let only = sumTo-cong (f .constraints) (λ k h. kept (spreadAt f p c k)) in
       ap (λ (x : ℤ). counted (c .kind) (x *ℤ pos (c .quantity .0))) (all ∙ only)
 
-  pub amount-unpriced : pricedSet f p c ≡ 0 → amount f p c ≡ pos 0
+  pub unpriced-amount-zero : pricedSet f p c ≡ 0 → amount f p c ≡ pos 0
   unfolding pricedSet
-  amount-unpriced e =
+  unpriced-amount-zero e =
       let none = sumTo-cong (f .constraints) (λ k h. ap (λ (b : Bool). cond b (spreadAt f p c k) (pos 0)) (set-empty (f .constraints) (pricedAt f p c) .0 e k h)) ∙ sumTo-zero (f .constraints) in
-      amount-priced ∙ ap (λ (x : ℤ). counted (c .kind) (x *ℤ pos (c .quantity .0))) none ∙ ap (counted (c .kind)) (zero-*ℤ (pos (c .quantity .0))) ∙ counted-zero (c .kind)
+      amount-is-of-the-priced ∙ ap (λ (x : ℤ). counted (c .kind) (x *ℤ pos (c .quantity .0))) none ∙ ap (counted (c .kind)) (zero-*ℤ (pos (c .quantity .0))) ∙ counted-zero (c .kind)

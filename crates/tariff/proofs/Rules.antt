@@ -29,9 +29,9 @@ period-nonzero (suc n) h = refl
 max0≥0 : (x : ℤ) → pos 0 ≤ℤ max0 x
 max0≥0 x = rw (⊖of x) (simp ⊖s (omega (arith, le-max-right (above x) (below x))))
 
-pub option-flow : (f : Factors) (c : Contract) → c .kind ≡ Option → (k : ℕ) → pos 0 ≤ℤ flow f c k
+pub option-never-relieves : (f : Factors) (c : Contract) → c .kind ≡ Option → (k : ℕ) → pos 0 ≤ℤ flow f c k
 unfolding flow
-option-flow f c e k = rw e (max0≥0 ((factor f (c .source) k -ℤ factor f (c .sink) k) *ℤ pos (c .quantity .0)))
+option-never-relieves f c e k = rw e (max0≥0 ((factor f (c .source) k -ℤ factor f (c .sink) k) *ℤ pos (c .quantity .0)))
 
 -- an option by the sign of what it counts
 pub option-negative : (z : ℤ) → ltZ z (pos 0) ≡ true → pos 0 ≡ counted Option z

@@ -21,20 +21,20 @@ prices-nothing : (w : ℕ) (x : ℤ) → nonzero (pos w *ℤ (x -ℤ x)) ≡ non
 prices-nothing w x = ap nonzero (ap (λ (d : ℤ). pos w *ℤ d) (+ℤ-invr x) ∙ *ℤ-comm (pos w) (pos 0) ∙ zero-*ℤ (pos w))
 
 module _ (f : Factors) (c : Contract) (same : c .source ≡ c .sink) where
-  pub no-flow : (k : ℕ) → flow f c k ≡ pos 0
+  pub same-ends-no-flow : (k : ℕ) → flow f c k ≡ pos 0
   unfolding flow
-  no-flow k =
+  same-ends-no-flow k =
       ap (λ (x : ℕ). counted (c .kind) ((factor f x k -ℤ factor f (c .sink) k) *ℤ pos (c .quantity .0))) same
       ∙ counts-nothing (c .kind) (factor f (c .sink) k) (c .quantity .0)
 
-  pub no-amount : (p : List ℕ) → amount f p c ≡ pos 0
+  pub same-ends-no-amount : (p : List ℕ) → amount f p c ≡ pos 0
   unfolding amount
-  no-amount p =
+  same-ends-no-amount p =
       ap (λ (x : ℕ). counted (c .kind) ((mcc f p (c .sink) -ℤ mcc f p x) *ℤ pos (c .quantity .0))) same
       ∙ counts-nothing (c .kind) (mcc f p (c .sink)) (c .quantity .0)
 
-  pub not-priced : (p : List ℕ) → pricedSet f p c ≡ 0
+  pub same-ends-not-priced : (p : List ℕ) → pricedSet f p c ≡ 0
   unfolding pricedSet pricedAt spreadAt
-  not-priced p =
+  same-ends-not-priced p =
       set-empty (f .constraints) (pricedAt f p c) .1
       (λ k h. ap (λ (x : ℕ). nonzero (pos (price p k) *ℤ (factor f x k -ℤ factor f (c .sink) k))) same ∙ prices-nothing (price p k) (factor f (c .sink) k))

@@ -19,7 +19,7 @@ use Rattle.tariff.specs.Units.{Factors, Grid, factor, price, maxFactor, 
 use Rattle.tariff.specs.Contracts.{counted, samePeriod, ofPeriod, InRange}
 use Rattle.tariff.specs.Inner.{FactorsInRange, LimitsInRange, PricesInRange, maxReleased, maxMcc, maxSpread, maxAmount}
 use Rattle.tariff.specs.Processes.{percent}
-use Rattle.tariff.specs.Settlement.{congestion, mcc, amount, exactTotal, cents}
+use Rattle.tariff.specs.Settlement.{congestion, mcc, amount, cents}
 use Rattle.tariff.proofs.Kept.{spread-small}
 use Rattle.tariff.specs.Feasibility.{flow, totalFlow, released, excess}
 
@@ -52,14 +52,6 @@ module _ (f : Factors) (p : List ℕ) (few : f .constraints ≤ maxConstraints) 
   pub amount-sized : (c : Contract) → InRange (f .nodes) c → natAbs (amount f p c) ≤ maxAmount
   unfolding amount
   amount-sized c h = search (counted-times, spread-sized, h .sink-below, h .source-below, h .quantity-sized)
-
-  amounts-sized : (cs : List Contract) → Each (InRange (f .nodes)) cs → Each (λ c. natAbs (amount f p c) ≤ maxAmount) cs
-  amounts-sized [] h = tt
-  amounts-sized (c ∷ cs) h = (amount-sized c (h .0), amounts-sized cs (h .1))
-
-  pub total-sized : (cs : List Contract) → Each (InRange (f .nodes)) cs → natAbs (exactTotal f p cs) ≤ maxAmount * length cs
-  unfolding exactTotal
-  total-sized cs h = natAbs-sumOver maxAmount (amount f p) cs (amounts-sized cs h)
 
 -- a quotient by 10^8 of a number of size at most B × 10^8, rounded to the nearest, has size at most B
 pub cents-sized : (a : ℤ) (B : ℕ) → natAbs a ≤ B * perCent → natAbs (cents a) ≤ B

@@ -49,7 +49,7 @@ module _ (g : Grid) (process : Process) (period : Period) (book : List Contract)
 
   -- the test passes exactly when no constraint is in the overload set
   pub pass-is-empty-set : Passes g process tested ↔ (overloadSet g process tested ≡ 0)
-  pass-is-empty-set = O.passes-empty g process tested
+  pass-is-empty-set = O.pass-is-empty-set g process tested
 
   -- Demand 3: where it does not pass, the constraint named is the lowest overloaded one of the grid's; the one-cent list there is a price list, and its shortfall is
   -- the excess, which is above 0
@@ -79,16 +79,16 @@ module _ (g : Grid) (process : Process) (period : Period) (book : List Contract)
 
   -- and it is above 0 where the test does not pass
   pub fail-worst-above-zero : (Passes g process tested → ⊥) → (w : ℤ) → IsWorst g process tested w → pos 0 <ℤ w
-  fail-worst-above-zero = N.fail-worst-above g process tested
+  fail-worst-above-zero = N.fail-worst-above-zero g process tested
 
 -- the contracts tested are of the period, every one
 pub tested-are-of-the-period : (period : Period) (book : List Contract) → Each (λ (c : Contract). c .period ≡ period) (ofPeriod period book)
-tested-are-of-the-period = P.ofPeriod-each
+tested-are-of-the-period = P.tested-are-of-the-period
 
 -- and every contract of the period is tested, at its place in the book's order
 pub of-the-period-is-tested : (period : Period) (earlier later : List Contract) (c : Contract) → c .period ≡ period
     → ofPeriod period (earlier ++ c ∷ later) ≡ ofPeriod period earlier ++ c ∷ ofPeriod period later
-of-the-period-is-tested = P.ofPeriod-at
+of-the-period-is-tested = P.of-the-period-is-tested
 
 -- the empty book passes
 pub empty-book-passes : (g : Grid) (process : Process) (period : Period) → Passes g process (ofPeriod period [])
@@ -97,7 +97,7 @@ empty-book-passes g process period = W.empty-passes g process
 
 -- an option never relieves a constraint
 pub option-never-relieves : (f : Factors) (c : Contract) → c .kind ≡ Option → (k : ℕ) → pos 0 ≤ℤ flow f c k
-option-never-relieves f c e k = R.option-flow f c e k
+option-never-relieves f c e k = R.option-never-relieves f c e k
 
 -- 002 part C, MCCi = -(Σ PTDFik * FSPk), constraint by constraint
 module _ (f : Factors) (prices : List ℕ) (node : ℕ) where
@@ -129,22 +129,22 @@ module _ (f : Factors) (p : List ℕ) (c : Contract) where
 
   -- the amount is that of the constraints in it: the others moved nothing
   pub amount-is-of-the-priced : amount f p c ≡ counted (c .kind) (sumTo (f .constraints) (λ k. cond (pricedAt f p c k) (spreadAt f p c k) (pos 0)) *ℤ pos (c .quantity .0))
-  amount-is-of-the-priced = C.amount-priced f p c
+  amount-is-of-the-priced = C.amount-is-of-the-priced f p c
 
   -- where it is empty the amount is 0
   pub unpriced-amount-zero : pricedSet f p c ≡ 0 → amount f p c ≡ pos 0
-  unpriced-amount-zero = C.amount-unpriced f p c
+  unpriced-amount-zero = C.unpriced-amount-zero f p c
 
 -- Paper 6: "flow 0, amount 0, either kind", and nothing prices a contract whose ends coincide
 module _ (f : Factors) (c : Contract) (same : c .source ≡ c .sink) where
   pub same-ends-no-flow : (k : ℕ) → flow f c k ≡ pos 0
-  same-ends-no-flow = S.no-flow f c same
+  same-ends-no-flow = S.same-ends-no-flow f c same
 
   pub same-ends-no-amount : (p : List ℕ) → amount f p c ≡ pos 0
-  same-ends-no-amount = S.no-amount f c same
+  same-ends-no-amount = S.same-ends-no-amount f c same
 
   pub same-ends-not-priced : (p : List ℕ) → pricedSet f p c ≡ 0
-  same-ends-not-priced = S.not-priced f c same
+  same-ends-not-priced = S.same-ends-not-priced f c same
 
 -- "12 no longer occurs": no refusal has that number
 pub no-number-is-12 : (r : Refusal) → numberOf r ≢ 12

@@ -27,7 +27,7 @@ use Rattle.tariff.specs.Shortfall.{PriceList, netPayment, rent, shortfal
 linear-step : (A B a b : ℤ) (w q : ℕ) → (negℤ (A +ℤ a *ℤ pos w) -ℤ negℤ (B +ℤ b *ℤ pos w)) *ℤ pos q ≡ (negℤ A -ℤ negℤ B) *ℤ pos q +ℤ (b -ℤ a) *ℤ pos q *ℤ pos w
 linear-step A B a b w q = simp expand (simp monos (omega arith))
 
-linear : (n : ℕ) (s t : ℕ → ℤ) (w : ℕ → ℕ) (q : ℕ) → (negℤ (sumTo n (λ k. t k *ℤ pos (w k))) -ℤ negℤ (sumTo n (λ k. s k *ℤ pos (w k)))) *ℤ pos q ≡ sumTo n (λ k. (s k -ℤ t k) *ℤ pos q *ℤ pos (w k))
+pub linear : (n : ℕ) (s t : ℕ → ℤ) (w : ℕ → ℕ) (q : ℕ) → (negℤ (sumTo n (λ k. t k *ℤ pos (w k))) -ℤ negℤ (sumTo n (λ k. s k *ℤ pos (w k)))) *ℤ pos q ≡ sumTo n (λ k. (s k -ℤ t k) *ℤ pos q *ℤ pos (w k))
 unfolding sumTo
 linear zero s t w q = zero-*ℤ (pos q)
 linear (suc n) s t w q = linear-step (sumTo n (λ k. t k *ℤ pos (w k))) (sumTo n (λ k. s k *ℤ pos (w k))) (t n) (s n) (w n) q ∙ ap (λ z. z +ℤ (s n -ℤ t n) *ℤ pos q *ℤ pos (w n)) (linear n s t w q)
@@ -68,7 +68,7 @@ module _ (g : Grid) where
   abbrev room : Process → ℕ → ℕ
   room process k = released (g .limits) process k
 
-  amount≤ : (p : List ℕ) (c : Contract) → amount F p c ≤ℤ sumTo K (λ k. flow F c k *ℤ pos (price p k))
+  pub amount≤ : (p : List ℕ) (c : Contract) → amount F p c ≤ℤ sumTo K (λ k. flow F c k *ℤ pos (price p k))
   unfolding amount mcc congestion flow
   amount≤ p c =
       ≤ℤ-trans
@@ -76,7 +76,7 @@ module _ (g : Grid) where
       (convex (c .kind) K (λ k. (factor F (c .source) k -ℤ factor F (c .sink) k) *ℤ pos (c .quantity .0)) (price p))
 
   -- the flows at their prices, contract by contract, are the total flows at their prices
-  by-constraint : (cs : List Contract) (p : List ℕ) → sumOver cs (λ c. sumTo K (λ k. flow F c k *ℤ pos (price p k))) ≡ sumTo K (λ k. totalFlow F cs k *ℤ pos (price p k))
+  pub by-constraint : (cs : List Contract) (p : List ℕ) → sumOver cs (λ c. sumTo K (λ k. flow F c k *ℤ pos (price p k))) ≡ sumTo K (λ k. totalFlow F cs k *ℤ pos (price p k))
   unfolding totalFlow
   by-constraint cs p = sum-swap cs K _ ∙ sumTo-cong K (λ k b. sumOver-times cs (λ c. flow F c k) (pos (price p k)))
 

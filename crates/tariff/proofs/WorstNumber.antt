@@ -49,8 +49,8 @@ module _ (g : Grid) (process : Process) (cs : List Contract) where
   unfolding excess
   ≤0→pass w h le = record { within = λ k b. minus≤0 .1 (≤ℤ-trans (≤ℤ-of-≡ (sym (only-shortfall g process cs k b))) (≤ℤ-trans (h .most (oneCent K k) (only-list g k b)) le)) }
 
-  pub fail-worst-above : (¬ Passes g process cs) → (w : ℤ) → IsWorst g process cs w → pos 0 <ℤ w
-  fail-worst-above fails w h = not-≤ℤ .0 (λ le. fails (≤0→pass w h le))
+  pub fail-worst-above-zero : (¬ Passes g process cs) → (w : ℤ) → IsWorst g process cs w → pos 0 <ℤ w
+  fail-worst-above-zero fails w h = not-≤ℤ .0 (λ le. fails (≤0→pass w h le))
 
 -- ---- contracts with equal payments at every price list
 

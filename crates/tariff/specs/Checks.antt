@@ -4,7 +4,7 @@ use mathlib.Core.List.{List}
 use Prim.Native.Nat.{ℕ}
 use lib.Dec.{leb, ltb, eqb}
 use lib.IntN.{ℤ, natAbs}
-use Rattle.lists.specs.Lists.{some, above}
+use Rattle.lists.specs.Lists.{anyOf, above}
 use Rattle.tariff.specs.declared.refusals.Refusal.the-variants.{NodeCount, ConstraintCount, LimitRange, FactorRange, ShortTable, ContractCount}
 use Rattle.tariff.specs.declared.refusals.Refusal.the-variants.{NodeNumber, QuantityRange, PriceRange, ProcessNumber, PeriodOrKind, HolderRange}
 use Rattle.tariff.specs.declared.refusals.Refusal.the-variants.{ShareRange, NoDemand}
@@ -29,14 +29,14 @@ abbrev pub limitBad : ℕ → Bool
 limitBad l = above maxLimit l
 
 abbrev pub limitRange : List ℕ → Check
-limitRange ls = record { fails = some limitBad ls; refusal = LimitRange }
+limitRange ls = record { fails = anyOf limitBad ls; refusal = LimitRange }
 
 -- 7: a factor out of range
 abbrev pub factorBad : ℤ → Bool
 factorBad f = ltb maxFactor (natAbs f)
 
 abbrev pub factorRange : List ℤ → Check
-factorRange fs = record { fails = some factorBad fs; refusal = FactorRange }
+factorRange fs = record { fails = anyOf factorBad fs; refusal = FactorRange }
 
 -- 9: a lent table, or a place for an answer, of fewer cells than are needed
 abbrev pub shortTable : ℕ → ℕ → Check
@@ -50,6 +50,10 @@ contractCount m = record { fails = ltb maxContracts m; refusal = ContractCount }
 abbrev pub nodeNumber : ℕ → ℕ → ℕ → Check
 nodeNumber nodes source sink = record { fails = leb nodes source || leb nodes sink; refusal = NodeNumber }
 
+-- the same of listed nodes (document 02, paper 6: "a listed number not below the node count"; paper 7)
+abbrev pub listedNodes : ℕ → List ℕ → Check
+listedNodes nodes listed = record { fails = anyOf (leb nodes) listed; refusal = NodeNumber }
+
 -- 13: quantity 0 or above 1,000,000
 abbrev pub quantityRange : ℕ → Check
 quantityRange q = record { fails = eqb q 0 || ltb maxQuantity q; refusal = QuantityRange }
@@ -59,7 +63,7 @@ abbrev pub priceBad : ℕ → Bool
 priceBad p = above maxPrice p
 
 abbrev pub priceRange : List ℕ → Check
-priceRange ps = record { fails = some priceBad ps; refusal = PriceRange }
+priceRange ps = record { fails = anyOf priceBad ps; refusal = PriceRange }
 
 -- 16: process not 0 to 2
 abbrev pub processNumber : ℕ → Check
@@ -87,7 +91,7 @@ balanceRange b = record { fails = ltb maxBalance (natAbs b); refusal = ShareRang
 
 -- a demand too large
 abbrev pub demandRange : List ℕ → Check
-demandRange ds = record { fails = some (above maxDemand) ds; refusal = ShareRange }
+demandRange ds = record { fails = anyOf (above maxDemand) ds; refusal = ShareRange }
 
 -- 27: "demands totalling 0"
 abbrev pub noDemand : ℕ → Check

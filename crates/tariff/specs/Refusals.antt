@@ -1,4 +1,5 @@
 -- Document 01, "When input is turned down": the refusals' numbers, the first check that holds, and what becomes of lent cells.
+use mathlib.Core.Path.{_≡_}
 use mathlib.Core.Bool.{Bool, cond}
 use mathlib.Core.List.{List, [], _∷_}
 use Prim.Native.Nat.{ℕ}
@@ -83,3 +84,9 @@ cellAfter checked value entry = decided checked (λ r. entry) value
 -- the number alone: 0 is no refusal's
 abbrev pub numberAfter : Checked → ℕ
 numberAfter checked = decided checked numberOf 0
+
+-- a promise as C gets it, of an entry that gives no figure: the entry's, of an answer whose number is given
+pub record ForC (Answer : Type 0) (outcome : Answer → Outcome) (Promise : Answer → Type 0) (number : ℕ) : Type 0 where
+  pub answer : Answer
+  pub promised : Promise answer
+  pub refusal-number : number ≡ outcome answer .number

@@ -5,6 +5,8 @@ mod processes;
 mod refusals;
 mod units;
 
+ghost use mathlib.Core.Path.{_≡_};
+ghost use Prim.Native.Nat.{_<_};
 pub use contracts::Contract;
 pub use contracts::Kind;
 pub use contracts::Period;
@@ -14,6 +16,7 @@ pub use refusals::Refusal;
 pub use refusals::nodes_bad;
 pub use refusals::nodes_outside;
 pub use refusals::quantity_bad;
+pub use refusals::zero_or_above;
 pub use units::Amount;
 pub use units::Flow;
 pub use units::Mcc;
@@ -67,3 +70,10 @@ pub const HUB_WEIGHT: u64 = 100000;
 
 // Parts of a cent: 10^-8.
 pub const PER_CENT: u64 = 100000000;
+
+// A cell of a table of 16-bit numbers.
+pub fn wide(x: u16) -> u64
+    ensures { λ r. ⌜ (r ≡ x) × (r < 65536) ⌝ }
+{
+    x as u64
+}

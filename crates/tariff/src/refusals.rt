@@ -1,5 +1,7 @@
 // What input is turned down for ("When input is turned down"), by meaning and by the paper's number.
 ghost use mathlib.Core.Path.{_≡_};
+ghost use mathlib.Core.Bool.{_||_};
+ghost use lib.Dec.{eqb, ltb};
 ghost use Rattle.tariff.specs.Refusals.{numberOf};
 ghost use Rattle.tariff.specs.Checks.{nodesOutside, nodeCount, quantityRange};
 use crate::MAX_NODES;
@@ -76,14 +78,21 @@ pub enum Checked {
     Refused(Refusal),
 }
 
+// Whether a number is 0 or above the most that it may be.
+pub fn zero_or_above(number: u64, most: u64) -> bool
+    ensures { λ r. ⌜ r ≡ (eqb number 0 || ltb most number) ⌝ }
+{
+    if number == 0 {
+        return true;
+    }
+    most < number
+}
+
 // 2: no node, or more than so many.
 pub fn nodes_outside(most: usize, nodes: usize) -> bool
     ensures { λ r. ⌜ r ≡ nodesOutside most nodes .fails ⌝ }
 {
-    if nodes == 0 {
-        return true;
-    }
-    most < nodes
+    zero_or_above(nodes as u64, most as u64)
 }
 
 // The same of a stated count.
@@ -97,8 +106,5 @@ pub fn nodes_bad(nodes: usize) -> bool
 pub fn quantity_bad(number: u64) -> bool
     ensures { λ r. ⌜ r ≡ quantityRange number .fails ⌝ }
 {
-    if number == 0 {
-        return true;
-    }
-    MAX_QUANTITY < number
+    zero_or_above(number, MAX_QUANTITY)
 }

@@ -17,16 +17,16 @@ use Rattle.tariff.specs.Checks.{nodeCount, constraintCount, processNumber, peri
 use Rattle.tariff.proofs.Answers.{number-of, none-refused}
 use Rattle.tariff.proofs.Checks.{first-append}
 use Rattle.layouts.specs.BookTable.{contractCells}
-use Rattle.books.specs.BookChecks.{contractChecks}
-use Rattle.book_file.specs.WriteBook.{rowChecks}
-use Rattle.reorder_rules.specs.Reordering.{Reordered}
-use Rattle.reorder_rules.specs.Relief.{Raised, OptionMore}
+use Rattle.book_rules.specs.BookChecks.{contractChecks}
+use Rattle.book_rules.specs.WriteBook.{rowChecks}
+use Rattle.order_rules.specs.Reordering.{Reordered}
+use Rattle.order_rules.specs.Relief.{Raised, OptionMore}
 use Rattle.tier_rules.specs.declared.RunningAnswer.{RunningAnswer}
 use Rattle.tier_rules.specs.Tiers.{Tiers, withAward}
 use Rattle.tier_rules.specs.Checks.{runningChecks, awardChecks, awardOver, addChecks}
 use Rattle.tier_rules.specs.Cells.{awardsCells, stateNumbers, stateFlows, StateCells, stateCells, stateBuffers, runningOutcome, MarkIs}
-use Rattle.running_rules.specs.AddAward.{AddAwardCall, addGrid, addProcess, addPeriod, awarded, addListed, addAwardChecked, addAwardChecks, AddGoesOn, AddsAward}
-use Rattle.running_rules.specs.OpenRunning.{OpenRunningCall}
+use Rattle.tier_running_rules.specs.AddAward.{AddAwardCall, addGrid, addProcess, addPeriod, awarded, addListed, addAwardChecked, addAwardChecks, AddGoesOn, AddsAward}
+use Rattle.tier_running_rules.specs.OpenRunning.{OpenRunningCall}
 use Rattle.tier_reordering.proofs.Theorems.{awards-held}
 use Rattle.tier_calls.specs.Runs.{CellRun, addOn}
 use Rattle.tier_calls.specs.Adding.{StateIn, stateAfter, openInto, addInto, addUnder, SameRoom, LimitsRaised, AddedAlike, TierAnswers}
@@ -230,19 +230,23 @@ tier-answers =
           alike (addOn o award c) d s r (state-of o s c u award) (state-of (openInto o buffers) r d v award) (room-of o buffers s r c d u v award) x y (m .running) (n .running)
           same _ _ (entry-number (addOn o award c) a x m) (entry-number (addOn o award d) b y n);
       crr-runs-added-alike = λ o buffers s r c d u v same award a b x y m n.
-          alike (addOn o award c) d s r (state-of o s c u award) (state-of (openInto o buffers) r d v award) (room-of o buffers s r c d u v award) x y (m .running) (n .running)
-          same a b (m .refusal-number) (n .refusal-number);
+          alike (addOn o award c) d s r (state-of o s c u award) (state-of (openInto o buffers) r d v award) (room-of o buffers s r c d u v award) x y (m .promised .running)
+          (n .promised .running) same a b (m .refusal-number ∙ entry-number (addOn o award c) (m .answer) x (m .promised))
+          (n .refusal-number ∙ entry-number (addOn o award d) (n .answer) y (n .promised));
       added-alike = λ q other s r h l room same a b x y u v.
           alike q other s r h l room x y (u .running) (v .running) same _ _ (entry-number q a x u) (entry-number (addInto q other) b y v);
       crr-added-alike = λ q other s r h l room same a b x y u v.
-          alike q other s r h l room x y (u .running) (v .running) same a b (u .refusal-number) (v .refusal-number);
+          alike q other s r h l room x y (u .promised .running) (v .promised .running) same a b
+          (u .refusal-number ∙ entry-number q (u .answer) x (u .promised)) (v .refusal-number ∙ entry-number (addInto q other) (v .answer) y (v .promised));
       raised-state = state;
       raised-still-added = λ q limits s up h a b x y u v.
           still-added q limits s up h x y (u .running) (v .running) _ _ (entry-number q a x u) (entry-number (addUnder q limits) b y v);
       crr-raised-still-added = λ q limits s up h a b x y u v.
-          still-added q limits s up h x y (u .running) (v .running) a b (u .refusal-number) (v .refusal-number);
+          still-added q limits s up h x y (u .promised .running) (v .promised .running) a b
+          (u .refusal-number ∙ entry-number q (u .answer) x (u .promised)) (v .refusal-number ∙ entry-number (addUnder q limits) (v .answer) y (v .promised));
       option-still-21 = λ q other s r h l room more few a b x y u v.
           still-21 q other s r h l room x y (u .running) (v .running) more few _ _ (entry-number q a x u) (entry-number (addInto q other) b y v);
       crr-option-still-21 = λ q other s r h l room more few a b x y u v.
-          still-21 q other s r h l room x y (u .running) (v .running) more few a b (u .refusal-number) (v .refusal-number);
+          still-21 q other s r h l room x y (u .promised .running) (v .promised .running) more few a b
+          (u .refusal-number ∙ entry-number q (u .answer) x (u .promised)) (v .refusal-number ∙ entry-number (addInto q other) (v .answer) y (v .promised));
     }

@@ -25,22 +25,22 @@ use Rattle.layouts.specs.declared.forms.Form.{Form}
 use Rattle.layouts.specs.Forms.{formOf}
 use Rattle.layouts.specs.BookFile.{bookBytes, bookIn}
 use Rattle.layouts.proofs.Writing.{writes-passed, writes-told, written-by}
-use Rattle.tables.specs.TableChecks.{gridTableChecks}
-use Rattle.books.specs.BookChecks.{bookChecks}
-use Rattle.book_file.specs.WriteBook.{WriteBookCall, writeBookCall, writeBookChecked, bookWritten, WritesBook, WritesBookForC}
-use Rattle.book_file.proofs.Accepted.{writable, rows-made, length-written}
-use Rattle.feasibility_test.specs.declared.TestAnswer.{TestAnswer}
-use Rattle.feasibility_test.specs.declared.TestAnswer.the-variants.{Pass}
-use Rattle.feasibility_test.specs.TestBook.{testChecks, testChecked, testedGrid, testedProcess, testedContracts, testValues, TestCells, passCells, failCells, testCells, TestsBook, TestsBookForC}
-use Rattle.feasibility_test.proofs.Judging.{passed-told}
-use Rattle.flows.specs.FindFlows.{FlowsCall, findFlowsChecks, findFlowsChecked, countedContracts, flowCells}
-use Rattle.flows.proofs.Passing.{flow-is}
+use Rattle.grid_tables.specs.TableChecks.{gridTableChecks}
+use Rattle.book_rules.specs.BookChecks.{bookChecks}
+use Rattle.book_rules.specs.WriteBook.{WriteBookCall, writeBookCall, writeBookChecked, bookWritten, WritesBook, WritesBookForC}
+use Rattle.book_rules.proofs.Passing.{writable, rows-made, length-written}
+use Rattle.test_rules.specs.declared.TestAnswer.{TestAnswer}
+use Rattle.test_rules.specs.declared.TestAnswer.the-variants.{Pass}
+use Rattle.test_rules.specs.TestBook.{testChecks, testChecked, testedGrid, testedProcess, testedContracts, testValues, TestCells, passCells, failCells, testCells, TestsBook, TestsBookForC}
+use Rattle.test_rules.proofs.Judging.{passed-told}
+use Rattle.test_loading.specs.FindFlows.{FlowsCall, findFlowsChecks, findFlowsChecked, countedContracts, flowCells}
+use Rattle.test_loading.proofs.Passing.{flow-is}
 use Rattle.tier_rules.specs.Tiers.{Tiers}
 use Rattle.tier_rules.specs.Cells.{awardsCells, stateNumbers, stateFlows, heldIn, countedIn, StateCells}
 use Rattle.tier_rules.specs.Checks.{runningChecks}
 use Rattle.tier_rules.specs.Theorems.{EndsFit}
 use Rattle.tier_rules.proofs.Books.{wide-ends}
-use Rattle.running_rules.specs.OpenRunning.{OpenRunningCall, openRunningChecks, openRunningChecked}
+use Rattle.tier_running_rules.specs.OpenRunning.{OpenRunningCall, openRunningChecks, openRunningChecked}
 use Rattle.tier_calls.specs.Runs.{RunningIn}
 use Rattle.tier_calls.specs.Held.{writeHeld, testByOpening, flowsByOpening, HeldBooks}
 use Rattle.tier_calls.proofs.Runs.{every-run}

@@ -17,17 +17,18 @@ use Rattle.tariff.specs.declared.refusals.Checked.the-variants.{Passed, Refused
 use Rattle.tariff.specs.Units.{Factors}
 use Rattle.tariff.specs.Checks.{nodeCount, constraintCount, processNumber, periodNumber, shortTable, limitRange, factorRange}
 use Rattle.tariff.proofs.Checks.{passed-cons, passed-append}
+use Rattle.tariff.specs.Refusals.{cellAfter}
 use Rattle.layouts.specs.BookTable.{cellsOf}
 use Rattle.tier_rules.specs.Checks.{maxTier, runningChecks, returnChecks}
-use Rattle.tier_rules.specs.Cells.{awardsCells, stateNumbers, stateFlows, stateCells, bufferAfter, flowWith, withAwardRow, withAwardNumbers, withAwardFlows}
+use Rattle.tier_rules.specs.Cells.{awardsCells, stateNumbers, stateFlows, stateCells, flowWith, withAwardRow, withAwardNumbers, withAwardFlows}
 use Rattle.tier_rules.specs.Cells.{openedNumbers, openedFlows, markedNumbers, markedFlows, returnedNumbers, returnedFlows}
 use Rattle.tier_rules.proofs.Cells.{length-drop-marks}
-use Rattle.running_rules.specs.OpenRunning.{OpenRunningCall, openRunningChecks, openRunningChecked}
-use Rattle.mark_rules.specs.ReturnToTier.{ReturnToTierCall, returnListed, returnToTierChecked}
+use Rattle.tier_running_rules.specs.OpenRunning.{OpenRunningCall, openRunningChecks, openRunningChecked}
+use Rattle.tier_mark_rules.specs.ReturnToTier.{ReturnToTierCall, returnListed, returnToTierChecked}
 use Rattle.tier_calls.specs.Runs.{LongEnough}
 
 -- a buffer at exit, refused or not
-pub kept : {A : Type 0} (checked : Checked) (made entry exit : List A) (n : ℕ) → exit ≡ bufferAfter checked made entry → n ≤ length entry
+pub kept : {A : Type 0} (checked : Checked) (made entry exit : List A) (n : ℕ) → exit ≡ cellAfter checked made entry → n ≤ length entry
     → (checked ≡ Passed → n ≤ length made) → n ≤ length exit
 kept Passed made entry exit n e l m = rw e (m refl)
 kept (Refused r) made entry exit n e l m = rw e l

@@ -21,11 +21,11 @@ use Rattle.layouts.specs.BookFile.{contract, bookBytes}
 use Rattle.layouts.specs.BookTable.{contractCells, cellsOf, rowFrom, rowAt, rowsIn}
 use Rattle.layouts.proofs.ContractBits.{kind-lt, period-lt}
 use Rattle.layouts.proofs.BookTable.{length-cells, row-cells, rows-cells}
-use Rattle.books.specs.BookChecks.{checksTo}
-use Rattle.books.proofs.Checking.{checks-all}
-use Rattle.books.proofs.Accepted.{checks-below}
-use Rattle.book_file.specs.WriteBook.{writeBookCall, rowChecks, writeBookChecks, writeBookChecked}
-use Rattle.book_file.proofs.Taken.{cell-at}
+use Rattle.book_rules.specs.BookChecks.{checksTo}
+use Rattle.book_rules.proofs.Checking.{checks-all}
+use Rattle.book_rules.proofs.Accepted.{checks-below}
+use Rattle.book_rules.specs.WriteBook.{writeBookCall, rowChecks, writeBookChecks, writeBookChecked}
+use Rattle.book_rules.proofs.Taken.{cell-at}
 use Rattle.tier_rules.specs.Tiers.{Award}
 use Rattle.tier_rules.specs.Theorems.{EndsFit}
 

@@ -1,6 +1,6 @@
 -- Each call's promise goes on from the state before, and from buffers that are long enough.
 use mathlib.Core.Path.{_≡_, refl}
-use mathlib.Core.List.{List}
+use mathlib.Core.List.{List, []}
 use Prim.Native.Nat.{ℕ, _≤_}
 use native.Mathlib.Omega.{arith}
 use lib.ListN.{length}
@@ -11,13 +11,13 @@ use Rattle.tariff.specs.declared.contracts.Period.{Period}
 use Rattle.tariff.specs.declared.refusals.Checked.the-variants.{Passed}
 use Rattle.tariff.specs.Contracts.{periodOf}
 use Rattle.tariff.specs.Processes.{processOf}
-use Rattle.tariff.proofs.Answers.{none-refused}
+use Rattle.tariff.proofs.Answers.{none-refused, number-told}
 use Rattle.tier_rules.specs.Tiers.{Tiers}
 use Rattle.tier_rules.specs.Cells.{awardsCells, stateNumbers, stateFlows, heldIn, StateCells, stateCells}
-use Rattle.running_rules.specs.OpenRunning.{OpenRunningCall, openRunningChecked, numbersOpened, flowsOpened}
-use Rattle.running_rules.specs.AddAward.{AddAwardCall, addFactors, awarded, ownPeriod, addAwardChecked, awardsAdded, numbersAdded, flowsAdded}
-use Rattle.mark_rules.specs.MarkTier.{markTierChecked, numbersMarked, flowsMarked}
-use Rattle.mark_rules.specs.ReturnToTier.{returnToTierChecked, numbersReturned, flowsReturned}
+use Rattle.tier_running_rules.specs.OpenRunning.{OpenRunningCall, openRunningChecked, numbersOpened, flowsOpened}
+use Rattle.tier_running_rules.specs.AddAward.{AddAwardCall, addFactors, awarded, ownPeriod, addAwardChecked, awardsAdded, numbersAdded, flowsAdded}
+use Rattle.tier_mark_rules.specs.MarkTier.{markTierChecked, numbersMarked, flowsMarked}
+use Rattle.tier_mark_rules.specs.ReturnToTier.{returnToTierChecked, numbersReturned, flowsReturned}
 use Rattle.tier_calls.specs.Runs.{CellRun, opens, adds, marks, returns, crr-opens, crr-adds, crr-marks, crr-returns, addOn, markOn, returnOn, RunningIn, LongEnough, EveryRun}
 use Rattle.tier_calls.proofs.Room.{kept, opened-numbers, opened-flows, added-row, added-numbers, added-flows, marked-numbers, marked-flows, returned-numbers, returned-flows}
 use Rattle.tier_calls.proofs.Room.{tier-told, opening-long}
@@ -44,17 +44,17 @@ module _ (q : OpenRunningCall) where
       let r = run s c before in
       record { opened = r .opened; running = h .running g p t (c .awards) .runs-on s (r .running .reached) (r .running .holds) }
   run _ _ (crr-opens numbers flows h) =
-      let ok = none-refused (openRunningChecked q) (h .refusal-number) in
-      record { opened = ok; running = h .running ok }
+      let ok = none-refused (openRunningChecked q) (number-told (openRunningChecked q) [] _ (h .promised .answer-given) 0 (h .refusal-number)) in
+      record { opened = ok; running = h .promised .running ok }
   run _ _ (crr-adds s c exit before award number h) =
       let r = run s c before in
-      record { opened = r .opened; running = h .running .runs-on s (r .running .reached) (r .running .holds) }
+      record { opened = r .opened; running = h .promised .running .runs-on s (r .running .reached) (r .running .holds) }
   run _ _ (crr-marks s c before tier number numbers flows h) =
       let r = run s c before in
-      record { opened = r .opened; running = h .running g p t (c .awards) .runs-on s (r .running .reached) (r .running .holds) }
+      record { opened = r .opened; running = h .promised .running g p t (c .awards) .runs-on s (r .running .reached) (r .running .holds) }
   run _ _ (crr-returns s c before tier number numbers flows h) =
       let r = run s c before in
-      record { opened = r .opened; running = h .running g p t (c .awards) .runs-on s (r .running .reached) (r .running .holds) }
+      record { opened = r .opened; running = h .promised .running g p t (c .awards) .runs-on s (r .running .reached) (r .running .holds) }
 
 -- what a call that follows makes of buffers that are long enough
 module _ (c : StateCells) (l : LongEnough c) where
@@ -107,10 +107,12 @@ long q _ _ (adds s c exit before award answer h) = added c (long q s c before) (
 long q _ _ (marks s c before tier answer numbers flows h) = marked c (long q s c before) tier numbers flows (h .numbers-marked) (h .flows-marked)
 long q _ _ (returns s c before tier answer numbers flows h) = returned c (long q s c before) tier numbers flows (h .numbers-returned) (h .flows-returned)
 long q _ _ (crr-opens numbers flows h) =
-    opened-long q (none-refused (openRunningChecked q) (h .refusal-number)) numbers flows (h .numbers-opened) (h .flows-opened)
-long q _ _ (crr-adds s c exit before award number h) = added c (long q s c before) (addOn q award c) refl refl refl exit (h .awards-added) (h .numbers-added) (h .flows-added)
-long q _ _ (crr-marks s c before tier number numbers flows h) = marked c (long q s c before) tier numbers flows (h .numbers-marked) (h .flows-marked)
-long q _ _ (crr-returns s c before tier number numbers flows h) = returned c (long q s c before) tier numbers flows (h .numbers-returned) (h .flows-returned)
+    opened-long q (none-refused (openRunningChecked q) (number-told (openRunningChecked q) [] _ (h .promised .answer-given) 0 (h .refusal-number))) numbers flows
+    (h .promised .numbers-opened) (h .promised .flows-opened)
+long q _ _ (crr-adds s c exit before award number h) =
+    added c (long q s c before) (addOn q award c) refl refl refl exit (h .promised .awards-added) (h .promised .numbers-added) (h .promised .flows-added)
+long q _ _ (crr-marks s c before tier number numbers flows h) = marked c (long q s c before) tier numbers flows (h .promised .numbers-marked) (h .promised .flows-marked)
+long q _ _ (crr-returns s c before tier number numbers flows h) = returned c (long q s c before) tier numbers flows (h .promised .numbers-returned) (h .promised .flows-returned)
 
 pub every-run : EveryRun
 every-run = record { every-run-runs = run; buffers-stay-long = long }

@@ -8,20 +8,20 @@ use lib.ListN.{length, take}
 use Rattle.tariff.specs.Units.{limit, maxContracts, gridOf}
 use Rattle.tariff.specs.Refusals.{decided}
 use Rattle.tariff.specs.Checks.{shortTable, limitRange}
-use Rattle.reorder_rules.specs.Reordering.{Reordered}
-use Rattle.reorder_rules.specs.Relief.{OptionMore}
+use Rattle.order_rules.specs.Reordering.{Reordered}
+use Rattle.order_rules.specs.Relief.{OptionMore}
 use Rattle.tier_rules.specs.declared.RunningAnswer.{RunningAnswer}
 use Rattle.tier_rules.specs.Tiers.{Tiers, withAward, Reached}
-use Rattle.tier_rules.specs.Cells.{awardsCells, stateNumbers, stateFlows, StateCells, stateCells, runningOutcome, Holds}
-use Rattle.running_rules.specs.AddAward.{AddAwardCall, addAwardOn, addGrid, addProcess, addPeriod, awarded, addAwardChecked, AddsAward, AddsAwardForC}
-use Rattle.running_rules.specs.OpenRunning.{OpenRunningCall, openRunningOn}
-use Rattle.tier_reordering.specs.Awards.{SameCells}
+use Rattle.tier_rules.specs.Cells.{awardsCells, stateNumbers, stateFlows, StateCells, stateCells, runningOutcome, HoldsTiers}
+use Rattle.tier_running_rules.specs.AddAward.{AddAwardCall, addAwardOn, addGrid, addProcess, addPeriod, awarded, addAwardChecked, AddsAward, AddsAwardForC}
+use Rattle.tier_running_rules.specs.OpenRunning.{OpenRunningCall, openRunningOn}
+use Rattle.tier_reordering.specs.Awards.{SameStateCells}
 use Rattle.tier_calls.specs.Runs.{CellRun, addOn}
 
 -- s is the state in the call's buffers: "one that these operations gave, unaltered"
 pub record StateIn (q : AddAwardCall) (s : Tiers) : Type 0 where
   pub reached : Reached (addGrid q) (addProcess q) (addPeriod q) s
-  pub holds : Holds (addGrid q) (addPeriod q) s (stateCells (q .awards) (q .numbers) (q .flows))
+  pub holds : HoldsTiers (addGrid q) (addPeriod q) s (stateCells (q .awards) (q .numbers) (q .flows))
 
 -- the state after the call
 abbrev pub stateAfter : AddAwardCall → Tiers → Tiers
@@ -52,7 +52,7 @@ pub record LimitsRaised (q : AddAwardCall) (limits : List ℕ) : Type 0 where
 -- awards in two orders
 pub record AddedAlike (q p : AddAwardCall) (s r : Tiers) (a b : ℕ) (x y : StateCells) : Type 0 where
   pub same-answer : a ≡ b
-  pub same-cells : SameCells (addGrid q) x y
+  pub same-cells : SameStateCells (addGrid q) x y
   pub still-reordered : Reordered (stateAfter q s .awards) (stateAfter p r .awards)
 
 -- the same opening with other buffers
@@ -67,7 +67,7 @@ pub record TierAnswers : Type 0 where
   pub runs-room : (o : OpenRunningCall) (buffers : StateCells) (s r : Tiers) (c d : StateCells) → CellRun o s c → CellRun (openInto o buffers) r d → (award : List ℕ)
       → SameRoom (addOn o award c) d
   pub runs-reordered : (o : OpenRunningCall) (buffers : StateCells) (s r : Tiers) (c d : StateCells) → CellRun o s c → CellRun (openInto o buffers) r d
-      → Reordered (s .awards) (r .awards) → SameCells (gridOf (o .nodes) (o .constraints) (o .limits) (o .factors)) c d
+      → Reordered (s .awards) (r .awards) → SameStateCells (gridOf (o .nodes) (o .constraints) (o .limits) (o .factors)) c d
   pub runs-added-alike : (o : OpenRunningCall) (buffers : StateCells) (s r : Tiers) (c d : StateCells) → CellRun o s c → CellRun (openInto o buffers) r d
       → Reordered (s .awards) (r .awards) → (award : List ℕ) (a b : RunningAnswer) (x y : StateCells)
       → AddsAward (addOn o award c) a x → AddsAward (addOn o award d) b y

@@ -14,16 +14,16 @@ use Rattle.layouts.specs.declared.forms.Form.{Form}
 use Rattle.layouts.specs.declared.forms.Form.the-variants.{Wide}
 use Rattle.layouts.specs.Forms.{formOf}
 use Rattle.layouts.specs.BookFile.{bookBytes}
-use Rattle.book_file.specs.WriteBook.{WriteBookCall, writeBookCall, WritesBook, WritesBookForC}
-use Rattle.feasibility_test.specs.declared.TestAnswer.{TestAnswer}
-use Rattle.feasibility_test.specs.declared.TestAnswer.the-variants.{Pass}
-use Rattle.feasibility_test.specs.TestBook.{TestCall, testCall, TestsBook, TestsBookForC}
-use Rattle.flows.specs.declared.FlowsAnswer.{FlowsAnswer}
-use Rattle.flows.specs.FindFlows.{FlowsCall, flowsCall, flowsOutcome, FindsFlows, FindsFlowsForC}
+use Rattle.book_rules.specs.WriteBook.{WriteBookCall, writeBookCall, WritesBook, WritesBookForC}
+use Rattle.test_rules.specs.declared.TestAnswer.{TestAnswer}
+use Rattle.test_rules.specs.declared.TestAnswer.the-variants.{Pass}
+use Rattle.test_rules.specs.TestBook.{TestCall, testCall, TestsBook, TestsBookForC}
+use Rattle.test_loading.specs.declared.FlowsAnswer.{FlowsAnswer}
+use Rattle.test_loading.specs.FindFlows.{FlowsCall, flowsCall, flowsOutcome, FindsFlows, FindsFlowsForC}
 use Rattle.tier_rules.specs.Tiers.{Tiers}
 use Rattle.tier_rules.specs.Cells.{heldIn, countedIn, StateCells}
 use Rattle.tier_rules.specs.Theorems.{EndsFit}
-use Rattle.running_rules.specs.OpenRunning.{OpenRunningCall}
+use Rattle.tier_running_rules.specs.OpenRunning.{OpenRunningCall}
 use Rattle.tier_calls.specs.Runs.{CellRun}
 
 -- the awards held, written "from the rows as they stand"

@@ -15,10 +15,10 @@ use Rattle.tier_rules.specs.declared.RunningAnswer.{RunningAnswer}
 use Rattle.tier_rules.specs.Tiers.{Tiers, opened, withAward, marked}
 use Rattle.tier_rules.specs.Runs.{returnedTo}
 use Rattle.tier_rules.specs.Cells.{awardsCells, stateNumbers, stateFlows, StateCells, stateCells, Running}
-use Rattle.running_rules.specs.OpenRunning.{OpenRunningCall, openRunningChecked, OpensRunning, OpensRunningForC}
-use Rattle.running_rules.specs.AddAward.{AddAwardCall, addAwardOn, addAwardChecked, AddsAward, AddsAwardForC}
-use Rattle.mark_rules.specs.MarkTier.{MarkTierCall, markTierCall, markTierChecked, MarksTier, MarksTierForC}
-use Rattle.mark_rules.specs.ReturnToTier.{ReturnToTierCall, returnToTierCall, returnToTierChecked, ReturnsToTier, ReturnsToTierForC}
+use Rattle.tier_running_rules.specs.OpenRunning.{OpenRunningCall, openRunningChecked, OpensRunning, OpensRunningForC}
+use Rattle.tier_running_rules.specs.AddAward.{AddAwardCall, addAwardOn, addAwardChecked, AddsAward, AddsAwardForC}
+use Rattle.tier_mark_rules.specs.MarkTier.{MarkTierCall, markTierCall, markTierChecked, MarksTier, MarksTierForC}
+use Rattle.tier_mark_rules.specs.ReturnToTier.{ReturnToTierCall, returnToTierCall, returnToTierChecked, ReturnsToTier, ReturnsToTierForC}
 
 -- ---- the calls that follow an opening q, on cells
 

@@ -1,8 +1,8 @@
 // Marks of a running test: a tier is marked, and returned to. Cells are copied and compared, and nothing is worked out.
 ghost use mathlib.Core.Path.{_≡_};
 ghost use Rattle.lists.specs.Lent.{before, after};
-ghost use Rattle.mark_rules.specs.MarkTier.{markTierCall, markTierChecked, MarksTier};
-ghost use Rattle.mark_rules.specs.ReturnToTier.{returnToTierCall, returnToTierChecked, ReturnsToTier};
+ghost use Rattle.tier_mark_rules.specs.MarkTier.{markTierCall, markTierChecked, MarksTier};
+ghost use Rattle.tier_mark_rules.specs.ReturnToTier.{returnToTierCall, returnToTierChecked, ReturnsToTier};
 use tariff::Checked;
 use tariff::Refusal;
 use tier_rules::BLOCK;
@@ -38,8 +38,8 @@ pub fn mark_tier(tier: u64, numbers: &mut [u64], flows: &mut [i64]) -> RunningAn
         Checked::Refused(refusal) => RunningAnswer::Refused(refusal),
         Checked::Passed => {
             let i = tier as usize;
-            mark_cells::mark_numbers(numbers, i);
-            mark_cells::copy_block(flows, 0, BLOCK * i);
+            tier_mark_cells::mark_numbers(numbers, i);
+            tier_mark_cells::copy_block(flows, 0, BLOCK * i);
             RunningAnswer::Held
         }
     }
@@ -66,8 +66,8 @@ pub fn return_to_tier(tier: u64, numbers: &mut [u64], flows: &mut [i64]) -> Runn
         Checked::Refused(refusal) => RunningAnswer::Refused(refusal),
         Checked::Passed => {
             let i = tier as usize;
-            mark_cells::return_numbers(numbers, i);
-            mark_cells::copy_block(flows, BLOCK * i, 0);
+            tier_mark_cells::return_numbers(numbers, i);
+            tier_mark_cells::copy_block(flows, BLOCK * i, 0);
             RunningAnswer::Held
         }
     }

@@ -20,24 +20,24 @@ use Rattle.tariff.specs.Checks.{contractCount, nodeNumber, quantityRange, kindA
 use Rattle.tariff.specs.Contracts.{ofPeriod}
 use Rattle.tariff.specs.Feasibility.{overloadSet}
 use Rattle.tariff.proofs.Theorems.{pass-is-empty-set}
-use Rattle.reorder_rules.specs.Reordering.{Reordered}
-use Rattle.reorder_rules.specs.Relief.{Raised, OptionMore}
-use Rattle.reorder_rules.proofs.Perms.{length-perm}
-use Rattle.reorder_rules.proofs.Theorems.{reordering, relief}
+use Rattle.order_rules.specs.Reordering.{Reordered}
+use Rattle.order_rules.specs.Relief.{Raised, OptionMore}
+use Rattle.order_rules.proofs.Perms.{length-perm}
+use Rattle.order_rules.proofs.Theorems.{reordering, relief}
 use Rattle.tier_rules.specs.Tiers.{Tiers, Award, Reached}
 use Rattle.layouts.specs.BookTable.{rowAt}
-use Rattle.books.specs.BookChecks.{contractChecks}
-use Rattle.book_file.specs.WriteBook.{rowChecks}
+use Rattle.book_rules.specs.BookChecks.{contractChecks}
+use Rattle.book_rules.specs.WriteBook.{rowChecks}
 use Rattle.tier_rules.specs.Checks.{overload, awardChecks, awardOver, addChecks}
-use Rattle.tier_rules.specs.Cells.{StateCells, Holds}
-use Rattle.tier_reordering.specs.Awards.{SameCells}
+use Rattle.tier_rules.specs.Cells.{StateCells, HoldsTiers}
+use Rattle.tier_reordering.specs.Awards.{SameStateCells}
 
 -- with one award more behind
 with-reordered : (c : Contract) (held other : List Contract) → Reordered held other → Reordered (held ++ c ∷ []) (other ++ c ∷ [])
 with-reordered c held other p = Perm·append-right (c ∷ []) p
 
-pub cells-same : (g : Grid) (t : Period) (s r : Tiers) (cells other : StateCells) → Holds g t s cells → Holds g t r other
-    → Reordered (s .awards) (r .awards) → SameCells g cells other
+pub cells-same : (g : Grid) (t : Period) (s r : Tiers) (cells other : StateCells) → HoldsTiers g t s cells → HoldsTiers g t r other
+    → Reordered (s .awards) (r .awards) → SameStateCells g cells other
 cells-same g t s r cells other h l p =
     let same = reordering .reorder-keeps-flows (g .factors) t (s .awards) (r .awards) p in
     record {

@@ -6,8 +6,8 @@ use Rattle.tariff.specs.Contracts.{ofPeriod}
 use Rattle.tariff.specs.Refusals.{first}
 use Rattle.tariff.specs.Feasibility.{flow, totalFlow, released, overloaded, overloadSet}
 use Rattle.layouts.specs.BookTable.{rowFrom}
-use Rattle.books.specs.BookChecks.{contractChecks}
-use Rattle.book_file.specs.WriteBook.{rowChecks}
+use Rattle.book_rules.specs.BookChecks.{contractChecks}
+use Rattle.book_rules.specs.WriteBook.{rowChecks}
 use Rattle.tier_rules.specs.Checks.{awardChecks}
 use Rattle.tier_rules.specs.Runs.{step}
 use Rattle.tier_reordering.specs.OnTheWay.{OnTheWay}

@@ -1,6 +1,6 @@
 -- THE THEOREMS of reordering and relief in the running tiers (document 02, paper 14); the statements are in specs/, the proofs in
 -- Awards.antt and OnTheWay.antt.
-use Rattle.reorder_rules.proofs.Theorems.{reordering}
+use Rattle.order_rules.proofs.Theorems.{reordering}
 use Rattle.tier_reordering.specs.Awards.{AwardsHeld}
 use Rattle.tier_reordering.specs.OnTheWay.{OnTheWay}
 use Rattle.tier_reordering.proofs.Awards.{cells-same, alike-next, raised-reached, raised-no-21, option-21, adds-alike, still-draws-21}

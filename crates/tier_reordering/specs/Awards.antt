@@ -14,14 +14,15 @@ use Rattle.tariff.specs.declared.refusals.Checked.the-variants.{Refused}
 use Rattle.tariff.specs.Units.{Grid, maxContracts}
 use Rattle.tariff.specs.Refusals.{first}
 use Rattle.tariff.specs.Contracts.{ofPeriod}
-use Rattle.reorder_rules.specs.Reordering.{Reordered, SameOverloads}
-use Rattle.reorder_rules.specs.Relief.{Raised, OptionMore}
+use Rattle.test_rules.specs.Theorems.{SameTest}
+use Rattle.order_rules.specs.Reordering.{Reordered}
+use Rattle.order_rules.specs.Relief.{Raised, OptionMore}
 use Rattle.tier_rules.specs.Tiers.{Tiers, Reached}
 use Rattle.tier_rules.specs.Checks.{awardOver, addChecks}
-use Rattle.tier_rules.specs.Cells.{heldIn, countedIn, StateCells, Holds}
+use Rattle.tier_rules.specs.Cells.{heldIn, countedIn, StateCells, HoldsTiers}
 
 -- of two states of one opening: the same flow on each constraint, and as many awards held and counted
-pub record SameCells (g : Grid) (cells other : StateCells) : Type 0 where
+pub record SameStateCells (g : Grid) (cells other : StateCells) : Type 0 where
   pub flows-same : (k : ℕ) → k < g .factors .constraints → getD (cells .flows) k (pos 0) ≡ getD (other .flows) k (pos 0)
   pub counted-same : countedIn (cells .numbers) ≡ countedIn (other .numbers)
   pub held-same : heldIn (cells .numbers) ≡ heldIn (other .numbers)
@@ -29,10 +30,10 @@ pub record SameCells (g : Grid) (cells other : StateCells) : Type 0 where
 -- THE STATEMENTS, for every grid, process and period of the opening
 pub record AwardsHeld : Type 0 where
   -- the awards held in another order: the same cells, the same verdict, and the same awards draw 21 next
-  pub held-reordered : (g : Grid) (t : Period) (s r : Tiers) (cells other : StateCells) → Holds g t s cells → Holds g t r other
-      → Reordered (s .awards) (r .awards) → SameCells g cells other
+  pub held-reordered : (g : Grid) (t : Period) (s r : Tiers) (cells other : StateCells) → HoldsTiers g t s cells → HoldsTiers g t r other
+      → Reordered (s .awards) (r .awards) → SameStateCells g cells other
   pub held-verdict : (g : Grid) (process : Process) (t : Period) (s r : Tiers) → Reordered (s .awards) (r .awards)
-      → SameOverloads g process (ofPeriod t (s .awards)) (ofPeriod t (r .awards))
+      → SameTest g process (ofPeriod t (s .awards)) (ofPeriod t (r .awards))
   pub next-award-alike : (g : Grid) (process : Process) (t : Period) (held other : List Contract) (c : Contract) → Reordered held other
       → awardOver g process t held c .fails ≡ awardOver g process t other c .fails
   -- and adding an award finds the same, refusals included

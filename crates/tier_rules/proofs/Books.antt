@@ -16,12 +16,12 @@ use Rattle.layouts.specs.declared.forms.Form.the-variants.{Wide}
 use Rattle.layouts.specs.Forms.{endWidth}
 use Rattle.layouts.specs.BookFile.{bookFile}
 use Rattle.layouts.specs.BookTable.{ContractFits}
-use Rattle.tables.specs.TableChecks.{gridTableChecks}
-use Rattle.tables.proofs.Passing.{grid-tables}
-use Rattle.books.specs.BookChecks.{bookChecks}
-use Rattle.books.proofs.Accepted.{contract-in-range}
-use Rattle.books.proofs.Making.{Made, in-range-fits, book-made}
-use Rattle.feasibility_test.specs.TestBook.{TestCall, testCall, testChecks, testValues, testedGrid, testedProcess}
+use Rattle.grid_tables.specs.TableChecks.{gridTableChecks}
+use Rattle.grid_tables.proofs.Passing.{grid-tables}
+use Rattle.book_rules.specs.BookChecks.{bookChecks}
+use Rattle.book_rules.proofs.Accepted.{contract-in-range}
+use Rattle.book_rules.proofs.Making.{Made, in-range-fits, book-made}
+use Rattle.test_rules.specs.TestBook.{TestCall, testCall, testChecks, testValues, testedGrid, testedProcess}
 use Rattle.tier_rules.specs.Tiers.{Tiers, Award, Reached}
 use Rattle.tier_rules.specs.Theorems.{EndsFit, HeldBook}
 use Rattle.tier_rules.proofs.States.{reached-values}

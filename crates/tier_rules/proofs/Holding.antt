@@ -29,7 +29,7 @@ use Rattle.tier_rules.specs.Tiers.{Tiers, opened, withAward, marked, kep
 use Rattle.tier_rules.specs.Checks.{maxTier}
 use Rattle.tier_rules.specs.Cells.{awardsCells, stateNumbers, stateFlows, heldIn, countedIn, flagCell, heldCell, countedCell, markBlock, StateCells, stateCells, openedNumbers, openedFlows}
 use Rattle.tier_rules.specs.Cells.{withAwardRow, withAwardNumbers, flowWith, withAwardFlows, copied, markedNumbers, markedFlows, dropMarks, returnedNumbers, returnedFlows}
-use Rattle.tier_rules.specs.Cells.{Block, MarkAt, MarkIs, Holds}
+use Rattle.tier_rules.specs.Cells.{Block, MarkAt, MarkIs, HoldsTiers}
 use Rattle.tier_rules.proofs.Cells.{behind, copied-before, copied-here, copied-behind, length-drop-marks, drop-marks-else, drop-marks-held, drop-marks-flag}
 
 zero-side : (b : Bool) → cond {A = ℕ} b 0 0 ≡ 0
@@ -73,7 +73,7 @@ module _ (g : Grid) (t : Period) (few : g .factors .constraints ≤ maxConstrain
   flow-0 : (x : ℕ) → x < stateFlows → getD (openedFlows flows) x (pos 0) ≡ pos 0
   flow-0 x h = front-at (replicate stateFlows (pos 0)) flows stateFlows (length-replicate {A = ℤ} stateFlows (pos 0)) x (pos 0) h ∙ getD-replicate {A = ℤ} stateFlows x (pos 0) (pos 0) h
 
-  pub opened-holds : Holds g t opened (stateCells awards (openedNumbers numbers) (openedFlows flows))
+  pub opened-holds : HoldsTiers g t opened (stateCells awards (openedNumbers numbers) (openedFlows flows))
   unfolding flatMap ofPeriod totalFlow sumOver
   opened-holds =
       record {
@@ -85,7 +85,7 @@ module _ (g : Grid) (t : Period) (few : g .factors .constraints ≤ maxConstrain
         marks = λ i a b. number-0 (flagCell i) (omega arith);
       }
 
-module _ (g : Grid) (t : Period) (s : Tiers) (awards numbers : List ℕ) (flows : List ℤ) (h : Holds g t s (stateCells awards numbers flows))
+module _ (g : Grid) (t : Period) (s : Tiers) (awards numbers : List ℕ) (flows : List ℤ) (h : HoldsTiers g t s (stateCells awards numbers flows))
     (numbers-long : stateNumbers ≤ length numbers) (flows-long : stateFlows ≤ length flows) where
   -- ---- marking
   module _ (i : ℕ) (some-tier : 1 ≤ i) (a-tier : i ≤ maxTier) where
@@ -122,7 +122,7 @@ module _ (g : Grid) (t : Period) (s : Tiers) (awards numbers : List ℕ) (flows 
     flow-before : (x : ℕ) → x < markBlock i → getD (markedFlows i flows) x (pos 0) ≡ getD flows x (pos 0)
     flow-before = copied-before 0 (markBlock i) flows (omega arith) (omega arith)
 
-    pub marked-holds : Holds g t (marked i s) made
+    pub marked-holds : HoldsTiers g t (marked i s) made
     marked-holds =
         record {
           few = h .few;
@@ -212,7 +212,7 @@ module _ (g : Grid) (t : Period) (s : Tiers) (awards numbers : List ℕ) (flows 
         ∙ ap (take (contractCells * m)) (h .rows)
         ∙ cells-front m (s .awards) (r .marks-held i m e))
 
-    pub returned-holds : Holds g t (returned m s) left
+    pub returned-holds : HoldsTiers g t (returned m s) left
     returned-holds =
         record {
           few = h .few;
@@ -311,7 +311,7 @@ module _ (g : Grid) (t : Period) (s : Tiers) (awards numbers : List ℕ) (flows 
         ∙ sym (sumOver-more (ofPeriod t (s .awards)) c (λ x. flow (g .factors) x k)))
     flow-more false e k l = rw (ofPeriod-other t (s .awards) c e) (h .block .flows-are k l)
 
-    pub added-holds : Holds g t (withAward c s) grown
+    pub added-holds : HoldsTiers g t (withAward c s) grown
     added-holds =
         record {
           few = h .few;

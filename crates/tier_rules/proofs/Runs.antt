@@ -18,11 +18,11 @@ use Rattle.tariff.specs.Feasibility.{overloadSet}
 use Rattle.tariff.specs.Refusals.{first, decided}
 use Rattle.tariff.proofs.Checks.{passed-cons, passed-append}
 use Rattle.layouts.specs.BookTable.{rowFrom, rowAt}
-use Rattle.book_file.specs.WriteBook.{rowChecks}
+use Rattle.book_rules.specs.WriteBook.{rowChecks}
 use Rattle.tier_rules.specs.Tiers.{Tiers, withAward, marked, returned, Award, Reached}
 use Rattle.tier_rules.specs.Checks.{tierNumber, awardOver, awardChecks, addChecks, markChecks, returnChecks, isUnset}
 use Rattle.tier_rules.specs.Runs.{Operation, adding, marking, returning, step, states}
-use Rattle.tier_rules.proofs.States.{with-reached, marked-reached, returned-reached, marked-here, returned-all}
+use Rattle.tier_rules.proofs.States.{with-reached, marked-reached, returned-reached, marking-sets, returned-all}
 
 -- a row that the book writer's checks accept
 pub row-award : (n : ℕ) (award : List ℕ) → first (rowChecks n award 0) ≡ Passed → Award n (rowAt award 0)
@@ -68,8 +68,8 @@ module _ (g : Grid) (process : Process) (t : Period) where
   returns s i m e h = rw (e, h)
 
   -- nothing but the mark has changed
-  pub there-and-back : (s : Tiers) → Reached g process t s → (i : ℕ) → tierNumber i .fails ≡ false → step g process t (step g process t s (marking i)) (returning i) ≡ marked i s
-  there-and-back s r i e =
+  pub mark-then-return : (s : Tiers) → Reached g process t s → (i : ℕ) → tierNumber i .fails ≡ false → step g process t (step g process t s (marking i)) (returning i) ≡ marked i s
+  mark-then-return s r i e =
       ap (λ (x : Tiers). step g process t x (returning i)) (marks s i e)
-      ∙ returns (marked i s) i (length (s .awards)) e (marked-here i s)
+      ∙ returns (marked i s) i (length (s .awards)) e (marking-sets i s)
       ∙ returned-all g process t (marked i s) (marked-reached g process t s r i)

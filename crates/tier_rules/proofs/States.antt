@@ -22,7 +22,7 @@ use Rattle.tariff.specs.Feasibility.{Passes, overloadSet}
 use Rattle.tariff.specs.Shortfall.{IsWorst}
 use Rattle.tariff.proofs.Theorems.{pass-is-worst-zero, pass-is-empty-set, empty-book-passes}
 use Rattle.tariff.proofs.Periods.{ofPeriod-other}
-use Rattle.feasibility_test.specs.TestBook.{testValues}
+use Rattle.test_rules.specs.TestBook.{testValues}
 use Rattle.tier_rules.specs.Tiers.{Tiers, opened, withAward, marked, kept, returned, Award, Reached}
 
 -- ---- lists
@@ -64,11 +64,11 @@ kept-stays m x h = rw (le-leb x m h)
 pub kept-drops : (m x : ℕ) → m < x → kept m (some x) ≡ none
 kept-drops m x h = rw (lt-leb x m h)
 
-pub marked-here : (i : ℕ) (s : Tiers) → marked i s .mark i ≡ some (length (s .awards))
-marked-here i s = rw (eq-eqb i i refl)
+pub marking-sets : (i : ℕ) (s : Tiers) → marked i s .mark i ≡ some (length (s .awards))
+marking-sets i s = rw (eq-eqb i i refl)
 
-pub marked-else : (i j : ℕ) (s : Tiers) → (j ≡ i → ⊥) → marked i s .mark j ≡ s .mark j
-marked-else i j s ne = rw (ne-eqb j i ne)
+pub marking-leaves : (i j : ℕ) (s : Tiers) → (j ≡ i → ⊥) → marked i s .mark j ≡ s .mark j
+marking-leaves i j s ne = rw (ne-eqb j i ne)
 
 -- ---- the operations
 
@@ -134,5 +134,5 @@ module _ (g : Grid) (process : Process) (t : Period) where
     unfolding testValues
     reached-values = rw (eq-eqb (overloadSet g process (ofPeriod t (s .awards))) 0 reached-empty)
 
-    pub other-fits : (c : Contract) → samePeriod (c .period) t ≡ false → ltb 0 (overloadSet g process (ofPeriod t (s .awards ++ c ∷ []))) ≡ false
-    other-fits c e = rw (ofPeriod-other t (s .awards) c e) (le-ltb 0 (overloadSet g process (ofPeriod t (s .awards))) (omega (arith, reached-empty)))
+    pub other-period-never-21 : (c : Contract) → samePeriod (c .period) t ≡ false → ltb 0 (overloadSet g process (ofPeriod t (s .awards ++ c ∷ []))) ≡ false
+    other-period-never-21 c e = rw (ofPeriod-other t (s .awards) c e) (le-ltb 0 (overloadSet g process (ofPeriod t (s .awards))) (omega (arith, reached-empty)))

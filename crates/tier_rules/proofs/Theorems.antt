@@ -21,8 +21,8 @@ use Rattle.tariff.specs.Shortfall.{IsWorst}
 use Rattle.layouts.specs.declared.forms.Form.the-variants.{Narrow, Wide}
 use Rattle.layouts.specs.BookFile.{bookFile}
 use Rattle.layouts.specs.BookTable.{rowAt}
-use Rattle.tables.specs.TableChecks.{gridTableChecks}
-use Rattle.feasibility_test.specs.TestBook.{testCall, testValues}
+use Rattle.grid_tables.specs.TableChecks.{gridTableChecks}
+use Rattle.test_rules.specs.TestBook.{testCall, testValues}
 use Rattle.tier_rules.specs.Tiers.{Tiers, opened, withAward, marked, returned, Reached}
 use Rattle.tier_rules.specs.Checks.{tierNumber, awardOver, addChecks}
 use Rattle.tier_rules.specs.Runs.{Operation, marking, returning, step, states}
@@ -35,10 +35,10 @@ use Rattle.tier_rules.proofs.Books as B
 
 -- "Marking again moves the mark", and no other
 pub marking-sets : (s : Tiers) (i : ℕ) → marked i s .mark i ≡ some (length (s .awards))
-marking-sets s i = S.marked-here i s
+marking-sets s i = S.marking-sets i s
 
 pub marking-leaves : (s : Tiers) (i j : ℕ) → j ≢ i → marked i s .mark j ≡ s .mark j
-marking-leaves s i j ne = S.marked-else i j s ne
+marking-leaves s i j ne = S.marking-leaves i j s ne
 
 -- "Returning drops .. marks made when more awards were held", and no other: one made at the same number stays
 pub returning-keeps : (s : Tiers) (m j x : ℕ) → s .mark j ≡ some x → x ≤ m → returned m s .mark j ≡ some x
@@ -77,12 +77,12 @@ module _ (g : Grid) (process : Process) (t : Period) where
   -- "An award of the other period .. adds no flow"
   pub other-period-never-21 : (s : Tiers) → Reached g process t s → (c : Contract) → samePeriod (c .period) t ≡ false
       → awardOver g process t (s .awards) c .fails ≡ false
-  other-period-never-21 = S.other-fits g process t
+  other-period-never-21 = S.other-period-never-21 g process t
 
   -- marking a tier and returning to it at once leaves the awards and every other mark
   pub mark-then-return : (s : Tiers) → Reached g process t s → (i : ℕ) → tierNumber i .fails ≡ false
       → step g process t (step g process t s (marking i)) (returning i) ≡ marked i s
-  mark-then-return = R.there-and-back g process t
+  mark-then-return = R.mark-then-return g process t
 
 -- ---- the awards held are a book: written in either form it is accepted, reads back, and passes
 

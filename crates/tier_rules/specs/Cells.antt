@@ -20,7 +20,7 @@ use Rattle.tariff.specs.Refusals.{Check, first, decided, Outcome, given, refuse
 use Rattle.tariff.specs.Checks.{shortTable}
 use Rattle.tariff.specs.Shortfall.{IsWorst}
 use Rattle.layouts.specs.BookTable.{contractCells, cellsOf}
-use Rattle.feasibility_test.specs.TestBook.{testValues}
+use Rattle.test_rules.specs.TestBook.{testValues}
 use Rattle.tier_rules.specs.declared.RunningAnswer.{RunningAnswer}
 use Rattle.tier_rules.specs.declared.RunningAnswer.the-variants.{Held, Refused}
 use Rattle.tier_rules.specs.Tiers.{Tiers, Reached}
@@ -78,10 +78,6 @@ stateBuffers numbers flows = shortTable (length numbers) stateNumbers ∷ shortT
 abbrev pub runningOutcome : RunningAnswer → Outcome
 runningOutcome Held = given []
 runningOutcome (Refused r) = refusedBy r
-
--- a buffer at exit: "a refusal changes nothing"
-abbrev pub bufferAfter : {A : Type 0} → Checked → List A → List A → List A
-bufferAfter checked made entry = decided checked (λ r. entry) made
 
 -- ---- what each operation makes of them
 
@@ -151,7 +147,7 @@ MarkIs g t awards cells i none = getD (cells .numbers) (flagCell i) 0 ≡ 0
 MarkIs g t awards cells i (some m) = MarkAt g t awards cells i m
 
 -- "At every moment flows, count and verdict equal those worked out afresh over the awards still held"
-pub record Holds (g : Grid) (t : Period) (s : Tiers) (cells : StateCells) : Type 0 where
+pub record HoldsTiers (g : Grid) (t : Period) (s : Tiers) (cells : StateCells) : Type 0 where
   pub few : g .factors .constraints ≤ maxConstraints
   pub rows : take (contractCells * length (s .awards)) (cells .awards) ≡ flatMap cellsOf (s .awards)
   pub held-is : heldIn (cells .numbers) ≡ length (s .awards)
@@ -162,7 +158,7 @@ pub record Holds (g : Grid) (t : Period) (s : Tiers) (cells : StateCells) : Type
 -- a state and its cells after an operation: "the verdict is always pass and the shortfall guarantee covers each state reached"
 pub record Running (g : Grid) (process : Process) (t : Period) (s : Tiers) (cells : StateCells) : Type 0 where
   pub reached : Reached g process t s
-  pub holds : Holds g t s cells
+  pub holds : HoldsTiers g t s cells
   pub worst-zero : IsWorst g process (ofPeriod t (s .awards)) (pos 0)
   pub passes : testValues g process (ofPeriod t (s .awards)) ≡ []
 
@@ -170,5 +166,5 @@ pub record Running (g : Grid) (process : Process) (t : Period) (s : Tiers) (cell
 -- finds, and the cells at exit hold the state that follows, or the same one where a check refuses.
 pub record GoesOn (g : Grid) (process : Process) (t : Period) (checked : Checked) (checks : Tiers → List Check) (next : Tiers → Tiers) (entry exit : StateCells)
     : Type 0 where
-  pub checks-are : (s : Tiers) → Reached g process t s → Holds g t s entry → checked ≡ first (checks s)
-  pub runs-on : (s : Tiers) → Reached g process t s → Holds g t s entry → Running g process t (decided checked (λ r. s) (next s)) exit
+  pub checks-are : (s : Tiers) → Reached g process t s → HoldsTiers g t s entry → checked ≡ first (checks s)
+  pub runs-on : (s : Tiers) → Reached g process t s → HoldsTiers g t s entry → Running g process t (decided checked (λ r. s) (next s)) exit

@@ -2,10 +2,11 @@
 use mathlib.Core.Bool.{Bool, true, false, _||_}
 use mathlib.Core.List.{List, [], _∷_, _++_}
 use mathlib.Core.Option.{Option, none, some}
-use Prim.Native.Nat.{ℕ, _+_, _*_}
+use Prim.Native.Nat.{ℕ, _+_}
 use lib.Dec.{ltb, eqb}
-use lib.ListN.{length, take}
+use lib.ListN.{length}
 use lib.IntN.{ℤ}
+use Rattle.grid_tables.specs.TableChecks.{gridTablesWith}
 use Rattle.tariff.specs.declared.contracts.Contract.{Contract}
 use Rattle.tariff.specs.declared.contracts.Period.{Period}
 use Rattle.tariff.specs.declared.processes.Process.{Process}
@@ -14,9 +15,9 @@ use Rattle.tariff.specs.Units.{Grid}
 use Rattle.tariff.specs.Contracts.{ofPeriod}
 use Rattle.tariff.specs.Feasibility.{overloadSet}
 use Rattle.tariff.specs.Refusals.{Check}
-use Rattle.tariff.specs.Checks.{nodeCount, constraintCount, processNumber, periodNumber, shortTable, limitRange, factorRange, contractCount}
+use Rattle.tariff.specs.Checks.{contractCount}
 use Rattle.layouts.specs.BookTable.{rowAt}
-use Rattle.book_file.specs.WriteBook.{rowChecks}
+use Rattle.book_rules.specs.WriteBook.{rowChecks}
 use Rattle.tier_rules.specs.Tiers.{Tiers}
 
 -- "tier 1, 2, 3 or LT (given as 4)"
@@ -37,17 +38,7 @@ overload over = record { fails = over; refusal = AwardOverload }
 
 -- "Opening and adding check as the test does up to 7": 2, 3, 16, 17, 9, 6, 7, with the lent buffers under the 9
 unfoldable pub runningChecks : ℕ → ℕ → ℕ → ℕ → List ℕ → List ℤ → List Check → List Check
-runningChecks n k process period limits factors buffers =
-    nodeCount n
-    ∷ constraintCount k
-    ∷ processNumber process
-    ∷ periodNumber period
-    ∷ shortTable (length limits) k
-    ∷ shortTable (length factors) (n * k)
-    ∷ buffers
-    ++ limitRange (take k limits)
-    ∷ factorRange (take (n * k) factors)
-    ∷ []
+runningChecks n k process period limits factors buffers = gridTablesWith buffers n k process period limits factors
 
 -- "Adding then checks 10 for a 1,001st award, then each field as the book writer does, then 21"
 unfoldable pub awardChecks : ℕ → ℕ → List ℕ → Check → List Check

@@ -7,7 +7,7 @@ use Rattle.tariff.specs.declared.refusals.Checked.the-variants.{Passed}
 use Rattle.layouts.specs.declared.forms.Form.{Form}
 use Rattle.layouts.specs.Forms.{endsBelow}
 use Rattle.layouts.specs.BookFile.{bookIn}
-use Rattle.feasibility_test.specs.TestBook.{TestCall, testChecked, testValues, testedGrid, testedProcess, testedContracts}
+use Rattle.test_rules.specs.TestBook.{TestCall, testChecked, testValues, testedGrid, testedProcess, testedContracts}
 
 -- ends that a book in the form can have for n nodes: in a narrow one none above 255
 pub record EndsFit (f : Form) (n : ℕ) (c : Contract) : Type 0 where

@@ -16,7 +16,7 @@ use Rattle.tariff.specs.Units.{Grid, maxContracts, maxHolder}
 use Rattle.tariff.specs.Contracts.{ofPeriod}
 use Rattle.tariff.specs.Refusals.{first}
 use Rattle.tariff.specs.Feasibility.{Passes}
-use Rattle.books.specs.BookChecks.{contractChecks}
+use Rattle.book_rules.specs.BookChecks.{contractChecks}
 
 -- a running test: the awards held, in the order of adding, and of each tier how many were held when it was marked
 pub record Tiers : Type 0 where

@@ -9,20 +9,20 @@ use Rattle.tariff.specs.Checks.{holderRange, shortTable}
 use Rattle.tariff.proofs.Checks.{first-append}
 use Rattle.layouts.specs.declared.WriteAnswer.{WriteAnswer}
 use Rattle.layouts.specs.BookFile.{bookFormIn}
-use Rattle.books.specs.BookChecks.{ownChecks}
-use Rattle.view_rules.specs.Views.{heldIn, viewRow, marketFile, holderView}
+use Rattle.book_rules.specs.BookChecks.{ownChecks}
+use Rattle.view_rules.specs.Views.{heldInBook, viewRow, marketFile, holderView}
 use Rattle.view_rules.specs.MarketView.{marketViewCall, marketViewChecked, WritesMarketView}
 use Rattle.view_rules.specs.HolderView.{holderViewCall, holderViewChecks, holderViewChecked, WritesHolderView}
 use Rattle.view_rules.specs.Theorems.{OnlyHoldersDiffer, Alike}
 use Rattle.view_rules.proofs.Alike.{alike}
 use Rattle.view_rules.proofs.Market.{same-market-checks, passed-market}
 
-pub market-calls : (n : ℕ) (s t e f : List ℕ) (a b : WriteAnswer) (x y : List ℕ) → OnlyHoldersDiffer s t → length e ≡ length f
+pub market-blind : (n : ℕ) (s t e f : List ℕ) (a b : WriteAnswer) (x y : List ℕ) → OnlyHoldersDiffer s t → length e ≡ length f
     → WritesMarketView (marketViewCall n s e) a x → WritesMarketView (marketViewCall n t f) b y → Alike e f a b x y
-market-calls n s t e f a b x y d l =
+market-blind n s t e f a b x y d l =
     alike (marketViewChecked (marketViewCall n s e)) (marketViewChecked (marketViewCall n t f)) (marketFile s) (marketFile t) e f a b x y (same-market-checks s t d n e f l) (passed-market s t d n e)
 
-module _ (n h : ℕ) (s t : List ℕ) (form : bookFormIn s ≡ bookFormIn t) (held : heldIn h s ≡ heldIn h t) where
+module _ (n h : ℕ) (s t : List ℕ) (form : bookFormIn s ≡ bookFormIn t) (held : heldInBook h s ≡ heldInBook h t) where
   same-view : holderView h s ≡ holderView h t
   unfolding holderView
   same-view = λ k. flatMap (viewRow (form k)) (held k)

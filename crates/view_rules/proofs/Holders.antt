@@ -18,8 +18,8 @@ use Rattle.layouts.specs.Files.{spareOther}
 use Rattle.layouts.specs.Forms.{sparePattern}
 use Rattle.layouts.specs.BookFile.{bookBytes, contractCountIn, bookSpareIn, bookFormIn, contractIn, contractAt}
 use Rattle.layouts.proofs.BookFile.{record-room}
-use Rattle.books.specs.BookChecks.{checksTo, contractChecks, bookChecks, ownChecks}
-use Rattle.books.proofs.Checking.{checks-same}
+use Rattle.book_rules.specs.BookChecks.{checksTo, contractChecks, bookChecks, ownChecks}
+use Rattle.book_rules.proofs.Checking.{checks-same}
 use Rattle.view_rules.specs.Views.{anonymous}
 use Rattle.view_rules.specs.Theorems.{SameButHolder, OnlyHoldersDiffer}
 

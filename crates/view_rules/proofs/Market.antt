@@ -16,8 +16,8 @@ use Rattle.layouts.specs.Forms.{endWidth}
 use Rattle.layouts.specs.BookFile.{contract, bookBytes, bookFile, contractCountIn, bookFormIn, contractIn, contractAt, bookIn}
 use Rattle.layouts.specs.BookTable.{ContractFits}
 use Rattle.layouts.proofs.BookFile.{Filed, book-written, contract-in-fits}
-use Rattle.books.specs.BookChecks.{ownChecks}
-use Rattle.books.proofs.Accepted.{Accepted, own-accepted}
+use Rattle.book_rules.specs.BookChecks.{ownChecks}
+use Rattle.book_rules.proofs.Accepted.{Accepted, own-accepted}
 use Rattle.view_rules.specs.Views.{anonymous, marketFile}
 use Rattle.view_rules.specs.MarketView.{marketViewCall, marketViewChecks, marketViewChecked}
 use Rattle.view_rules.specs.Theorems.{SameButHolder, OnlyHoldersDiffer, MarketBook}
@@ -119,8 +119,8 @@ module _ (n : ℕ) (s : List ℕ) (ok : first (ownChecks n s) ≡ Passed) where
         same-else = λ i h l. anonymous-same _ _ (market-at i h);
       }
 
-  pub market-book : MarketBook n s
-  market-book =
+  pub market-is-a-book : MarketBook n s
+  market-is-a-book =
       record {
         accepted = sym (own-alike s (marketFile s) market-differs n) ∙ ok;
         same-form = market-filed .form;

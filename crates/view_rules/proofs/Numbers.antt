@@ -13,8 +13,8 @@ use Rattle.layouts.specs.Forms.{endWidth, recordBytes}
 use Rattle.layouts.specs.BookFile.{kindBit, periodBit}
 use Rattle.layouts.specs.Inner.{contractOf}
 use Rattle.layouts.proofs.ContractBits.{kind-bit, period-bit}
-use Rattle.books.specs.Inner.{contractBytes, contractNumber, bitsBytes}
-use Rattle.books.proofs.Bytes.{contract-number}
+use Rattle.book_rules.specs.Inner.{contractBytes, contractNumber, bitsBytes}
+use Rattle.book_rules.proofs.Bytes.{contract-number}
 
 -- two parts of a number side by side are one
 joined : (v a b c : ℕ) → v / 2 ^ a % 2 ^ (c + b) ≡ v / 2 ^ (a + b) % 2 ^ c * 2 ^ b + v / 2 ^ a % 2 ^ b

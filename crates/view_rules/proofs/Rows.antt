@@ -13,8 +13,8 @@ use lib.Seq.{length-take-le}
 use Rattle.lists.specs.Lists.{Each}
 use Rattle.lists.proofs.Lists.{each-append}
 use Rattle.bits.specs.Bits.{number, digits, field}
-use Rattle.bits.specs.Fields.{Field, bits, total, packed, fileOf}
-use Rattle.bits.specs.Inner.{Fit, Holds}
+use Rattle.bits.specs.Fields.{Field, bits, totalWidth, packed, fileOf}
+use Rattle.bits.specs.Inner.{Fit, HoldsFields}
 use Rattle.bits.proofs.Numbers.{Below, digits-append, digits-high, below-take, below-drop}
 use Rattle.bits.proofs.Fields.{field-window}
 use Rattle.bits.proofs.Files.{packed-lt, length-file, holds-written}
@@ -26,19 +26,19 @@ use Rattle.layouts.specs.Forms.{endWidth, recordBytes}
 use Rattle.layouts.specs.BookFile.{contractBits, contractFields, contractFrom, bookBytes, contractCountIn, bookFormIn, contractIn, contractAt}
 use Rattle.layouts.specs.BookTable.{ContractFits}
 use Rattle.layouts.proofs.BookFile.{total-contract, fit-contract, whole-bytes, contract-holds, contract-in-fits}
-use Rattle.books.specs.BookChecks.{ownChecks}
-use Rattle.books.specs.Inner.{contractBytes}
-use Rattle.books.proofs.Accepted.{own-accepted, accepted-room}
+use Rattle.book_rules.specs.BookChecks.{ownChecks}
+use Rattle.book_rules.specs.Inner.{contractBytes}
+use Rattle.book_rules.proofs.Accepted.{own-accepted, accepted-room}
 use Rattle.view_rules.specs.Views.{Numbered, numbered, heldAt, heldTo, viewRow}
 
 -- ---- a row's bytes
 
 -- a field of whole bytes before fields of whole bytes
-file-cons : (v a b : ℕ) (fs : List Field) → Fit fs → total fs ≡ 8 * b → fileOf (bits (8 * a) v ∷ fs) ≡ digits 8 a v ++ fileOf fs
+file-cons : (v a b : ℕ) (fs : List Field) → Fit fs → totalWidth fs ≡ 8 * b → fileOf (bits (8 * a) v ∷ fs) ≡ digits 8 a v ++ fileOf fs
 unfolding fileOf
 file-cons v a b fs fit end =
-    let n : (8 * a + total fs) / 8 ≡ a + b = omega arith in
-    let m : total fs / 8 ≡ b = omega arith in
+    let n : (8 * a + totalWidth fs) / 8 ≡ a + b = omega arith in
+    let m : totalWidth fs / 8 ≡ b = omega arith in
     let lt : packed fs < 2 ^ (8 * b) = rw end at (packed-lt fs fit) in
     rw (n, m, end)
     (digits-append 8 a b (v * 2 ^ (8 * b) + packed fs)
@@ -53,7 +53,7 @@ module _ (s : List ℕ) (f c : ℕ) (b : Below 8 s) (le : f + c ≤ length s) wh
   length-window : length (take c (drop f s)) ≡ c
   length-window = length-take-le c (drop f s) (omega (arith, length-drop f s))
 
-  holds-window : (a : ℕ) (fs : List Field) → a + total fs ≤ 8 * c → Holds s (8 * f + a) fs → Holds (take c (drop f s)) a fs
+  holds-window : (a : ℕ) (fs : List Field) → a + totalWidth fs ≤ 8 * c → HoldsFields s (8 * f + a) fs → HoldsFields (take c (drop f s)) a fs
   unfolding field
   holds-window a [] l h = tt
   holds-window a (x ∷ fs) l h = (
@@ -69,12 +69,12 @@ record-bytes : (w B : ℕ) → 8 * B ≡ contractBits w → (s : List ℕ) (i : 
 record-bytes w B whole s i below le =
     holds-written (take B (drop (2 + B * i) s)) fs (below-take 8 B _ (below-drop 8 (2 + B * i) s below))
     (size ∙ ap (λ (k : ℕ). 8 * k) (sym (length-window s (2 + B * i) B below le)))
-    (holds-window s (2 + B * i) B below le 0 fs (omega (arith, size)) (subst (λ (o : ℕ). Holds s o fs) begins (contract-holds w s (16 + contractBits w * i))))
+    (holds-window s (2 + B * i) B below le 0 fs (omega (arith, size)) (subst (λ (o : ℕ). HoldsFields s o fs) begins (contract-holds w s (16 + contractBits w * i))))
   where
     fs : List Field
     fs = contractFields w (contractFrom w s (16 + contractBits w * i))
 
-    size : total fs ≡ 8 * B
+    size : totalWidth fs ≡ 8 * B
     size = total-contract w (contractFrom w s (16 + contractBits w * i)) ∙ sym whole
 
     begins : 16 + contractBits w * i ≡ 8 * (2 + B * i) + 0

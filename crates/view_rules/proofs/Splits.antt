@@ -68,8 +68,8 @@ all-held n g (suc m) below =
     (Perm·append-right (numbered m (g m) ∷ []) (all-held n g m (λ i b. below i (omega arith)))))
 
 -- of a book: a holder of ten bits is at most 1,023
-pub views-split : (s : List ℕ) → ViewsSplit s
-views-split s =
+pub view-splits : (s : List ℕ) → ViewsSplit s
+view-splits s =
     record {
       together = all-held (suc maxHolder) (contractAt s) (contractCountIn s) (λ i b. contract-in-fits (bookFormIn s) s i .holder-fits);
       own-alone = λ h. held-own h (contractAt s) (contractCountIn s);

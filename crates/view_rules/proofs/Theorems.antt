@@ -10,16 +10,17 @@ use Rattle.tariff.specs.Refusals.{first}
 use Rattle.layouts.specs.declared.WriteAnswer.{WriteAnswer}
 use Rattle.layouts.specs.Forms.{recordBytes}
 use Rattle.layouts.specs.BookFile.{bookBytes, contractCountIn, bookFormIn, contractAt}
-use Rattle.books.specs.BookChecks.{ownChecks}
-use Rattle.view_rules.specs.Views.{numbered, heldIn, viewRow}
+use Rattle.book_rules.specs.BookChecks.{ownChecks}
+use Rattle.view_rules.specs.Views.{numbered, heldInBook, viewRow}
 use Rattle.view_rules.specs.MarketView.{marketViewCall, WritesMarketView}
 use Rattle.view_rules.specs.HolderView.{holderViewCall, WritesHolderView}
 use Rattle.view_rules.specs.Theorems.{OnlyHoldersDiffer, Alike, MarketBook, ViewsSplit}
 use Rattle.view_rules.proofs.Holders.{own-alike}
-use Rattle.view_rules.proofs.Market.{market-book}
-use Rattle.view_rules.proofs.Blind.{market-calls, holder-calls}
+use Rattle.view_rules.proofs.Blind.{holder-calls}
 use Rattle.view_rules.proofs.Rows.{own-row-accepted}
-use Rattle.view_rules.proofs.Splits.{views-split}
+use Rattle.view_rules.proofs.Splits as S
+use Rattle.view_rules.proofs.Blind as B
+use Rattle.view_rules.proofs.Market as M
 
 -- no check of a book looks at a holder, on any bytes at all
 pub holders-never-refuse : (n : ℕ) (s t : List ℕ) → OnlyHoldersDiffer s t → first (ownChecks n s) ≡ first (ownChecks n t)
@@ -29,26 +30,26 @@ holders-never-refuse n s t differ = own-alike s t differ n
 -- strings of bytes, what two calls give that keep the promise
 pub market-blind : (n : ℕ) (s t e f : List ℕ) (a b : WriteAnswer) (x y : List ℕ) → OnlyHoldersDiffer s t → length e ≡ length f
     → WritesMarketView (marketViewCall n s e) a x → WritesMarketView (marketViewCall n t f) b y → Alike e f a b x y
-market-blind = market-calls
+market-blind = B.market-blind
 
 module _ (n h : ℕ) (s t : List ℕ) (accepted-s : first (ownChecks n s) ≡ Passed) (accepted-t : first (ownChecks n t) ≡ Passed) where
   -- the view depends on the width and on the holder's contracts with their numbers, not on the book's length
-  pub holder-blind : bookFormIn s ≡ bookFormIn t → heldIn h s ≡ heldIn h t → (e f : List ℕ) → length e ≡ length f → (a b : WriteAnswer) (x y : List ℕ)
+  pub holder-blind : bookFormIn s ≡ bookFormIn t → heldInBook h s ≡ heldInBook h t → (e f : List ℕ) → length e ≡ length f → (a b : WriteAnswer) (x y : List ℕ)
       → WritesHolderView (holderViewCall n s h e) a x → WritesHolderView (holderViewCall n t h f) b y → Alike e f a b x y
   holder-blind width held = holder-calls n h s t width held accepted-s accepted-t
 
   -- "There too, holder views of two accepted books of one width agree whenever that holder's contracts, their numbers and the book's length agree."
-  pub holder-views-agree : bookFormIn s ≡ bookFormIn t → heldIn h s ≡ heldIn h t → length s ≡ length t → (e f : List ℕ) → length e ≡ length f
+  pub holder-views-agree : bookFormIn s ≡ bookFormIn t → heldInBook h s ≡ heldInBook h t → length s ≡ length t → (e f : List ℕ) → length e ≡ length f
       → (a b : WriteAnswer) (x y : List ℕ) → WritesHolderView (holderViewCall n s h e) a x → WritesHolderView (holderViewCall n t h f) b y → Alike e f a b x y
   holder-views-agree width held as-long = holder-blind width held
 
 -- the market's view of an accepted book is an accepted book of the same form and length, with no holder and nothing else changed; again it is itself
 pub market-is-a-book : (n : ℕ) (s : List ℕ) → first (ownChecks n s) ≡ Passed → MarketBook n s
-market-is-a-book = market-book
+market-is-a-book = M.market-is-a-book
 
 -- the rows of all holders together are the book's contracts with their numbers, each once, and each holder's are that holder's alone
 pub view-splits : (s : List ℕ) → ViewsSplit s
-view-splits = views-split
+view-splits = S.view-splits
 
 -- "and then the contract's own bytes": row i is the two bytes of i and the bytes that contract i has in the book
 pub own-bytes : (n : ℕ) (s : List ℕ) → Bytes s → first (ownChecks n s) ≡ Passed → (i : ℕ) → i < contractCountIn s

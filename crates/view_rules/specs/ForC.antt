@@ -7,8 +7,8 @@ use Rattle.lists.specs.Lent.{Lent, before, after}
 use Rattle.tariff.specs.declared.refusals.Checked.the-variants.{Passed}
 use Rattle.tariff.specs.Refusals.{first}
 use Rattle.layouts.specs.BookFile.{bookFormIn}
-use Rattle.books.specs.BookChecks.{ownChecks}
-use Rattle.view_rules.specs.Views.{heldIn}
+use Rattle.book_rules.specs.BookChecks.{ownChecks}
+use Rattle.view_rules.specs.Views.{heldInBook}
 use Rattle.view_rules.specs.MarketView.{marketViewCall, WritesMarketViewForC}
 use Rattle.view_rules.specs.HolderView.{holderViewCall, WritesHolderViewForC}
 use Rattle.view_rules.specs.Theorems.{OnlyHoldersDiffer}
@@ -34,9 +34,9 @@ pub record ViewsForC : Type 0 where
       → WritesMarketViewForC (marketViewCall n s e) a x u → WritesMarketViewForC (marketViewCall n t f) b y v → AlikeForC e f a b x y u v
   -- the view depends on the width and on the holder's contracts with their numbers, not on the book's length
   pub crr-holder-blind : (n h : ℕ) (s t : List ℕ) → first (ownChecks n s) ≡ Passed → first (ownChecks n t) ≡ Passed → bookFormIn s ≡ bookFormIn t
-      → heldIn h s ≡ heldIn h t → (e f : List ℕ) → length e ≡ length f → (a b : ℕ) (x y : List ℕ) (u v : Lent ℕ)
+      → heldInBook h s ≡ heldInBook h t → (e f : List ℕ) → length e ≡ length f → (a b : ℕ) (x y : List ℕ) (u v : Lent ℕ)
       → WritesHolderViewForC (holderViewCall n s h e) a x u → WritesHolderViewForC (holderViewCall n t h f) b y v → AlikeForC e f a b x y u v
   -- "There too, holder views of two accepted books of one width agree whenever that holder's contracts, their numbers and the book's length agree."
   pub crr-holder-views-agree : (n h : ℕ) (s t : List ℕ) → first (ownChecks n s) ≡ Passed → first (ownChecks n t) ≡ Passed → bookFormIn s ≡ bookFormIn t
-      → heldIn h s ≡ heldIn h t → length s ≡ length t → (e f : List ℕ) → length e ≡ length f → (a b : ℕ) (x y : List ℕ) (u v : Lent ℕ)
+      → heldInBook h s ≡ heldInBook h t → length s ≡ length t → (e f : List ℕ) → length e ≡ length f → (a b : ℕ) (x y : List ℕ) (u v : Lent ℕ)
       → WritesHolderViewForC (holderViewCall n s h e) a x u → WritesHolderViewForC (holderViewCall n t h f) b y v → AlikeForC e f a b x y u v

@@ -8,7 +8,7 @@ use Rattle.tariff.specs.Refusals.{Check, first}
 use Rattle.tariff.specs.Checks.{holderRange, shortTable}
 use Rattle.layouts.specs.declared.WriteAnswer.{WriteAnswer}
 use Rattle.layouts.specs.Writing.{Writes, WritesForC}
-use Rattle.books.specs.BookChecks.{ownChecks}
+use Rattle.book_rules.specs.BookChecks.{ownChecks}
 use Rattle.view_rules.specs.Views.{holderView}
 
 -- the node count, the book's bytes, the holder, and the place for the view's bytes as it is at entry

@@ -9,7 +9,7 @@ use Rattle.tariff.specs.Checks.{shortTable}
 use Rattle.layouts.specs.declared.WriteAnswer.{WriteAnswer}
 use Rattle.layouts.specs.BookFile.{bookBytes, contractCountIn, bookFormIn}
 use Rattle.layouts.specs.Writing.{Writes, WritesForC}
-use Rattle.books.specs.BookChecks.{ownChecks}
+use Rattle.book_rules.specs.BookChecks.{ownChecks}
 use Rattle.view_rules.specs.Views.{marketFile}
 
 -- the node count, the book's bytes, and the place for the view's bytes as it is at entry

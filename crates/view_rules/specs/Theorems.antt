@@ -14,8 +14,8 @@ use Rattle.layouts.specs.declared.WriteAnswer.the-variants.{Written, Refused}
 use Rattle.layouts.specs.Forms.{recordBytes}
 use Rattle.layouts.specs.BookFile.{bookBytes, contractCountIn, bookSpareIn, bookFormIn, contractIn, contractAt, bookIn}
 use Rattle.layouts.specs.Writing.{writeOutcome}
-use Rattle.books.specs.BookChecks.{ownChecks}
-use Rattle.view_rules.specs.Views.{anonymous, marketFile, Numbered, numbered, heldIn}
+use Rattle.book_rules.specs.BookChecks.{ownChecks}
+use Rattle.view_rules.specs.Views.{anonymous, marketFile, Numbered, numbered, heldInBook}
 
 -- ---- "books that differ only in holder numbers", field by field: what a view hides is said without the view's own definition
 
@@ -67,10 +67,10 @@ abbrev pub numberedIn : List ℕ → List Numbered
 numberedIn s = listTo (contractCountIn s) (λ i. numbered i (contractAt s i))
 
 abbrev pub allHeldIn : List ℕ → List Numbered
-allHeldIn s = flatMap (λ (h : ℕ). heldIn h s) (listTo (suc maxHolder) (λ (h : ℕ). h))
+allHeldIn s = flatMap (λ (h : ℕ). heldInBook h s) (listTo (suc maxHolder) (λ (h : ℕ). h))
 
 pub record ViewsSplit (s : List ℕ) : Type 0 where
   -- together they are the book's contracts with their numbers, each once
   pub together : Perm (allHeldIn s) (numberedIn s)
   -- and a holder's are that holder's alone
-  pub own-alone : (h : ℕ) → Each (λ (r : Numbered). r .contract .holder ≡ h) (heldIn h s)
+  pub own-alone : (h : ℕ) → Each (λ (r : Numbered). r .contract .holder ≡ h) (heldInBook h s)

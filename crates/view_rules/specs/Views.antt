@@ -37,12 +37,12 @@ unfoldable pub heldTo : ℕ → (ℕ → Contract) → ℕ → List Numbered
 heldTo h contracts zero = []
 heldTo h contracts (suc m) = heldTo h contracts m ++ heldAt h m (contracts m)
 
-abbrev pub heldIn : ℕ → List ℕ → List Numbered
-heldIn h s = heldTo h (contractAt s) (contractCountIn s)
+abbrev pub heldInBook : ℕ → List ℕ → List Numbered
+heldInBook h s = heldTo h (contractAt s) (contractCountIn s)
 
 -- the number in 16 bits, then the contract as a book has it
 unfoldable pub viewRow : Form → Numbered → List ℕ
 viewRow f r = fileOf (bits 16 (r .number) ∷ contractFields (endWidth f) (r .contract))
 
 unfoldable pub holderView : ℕ → List ℕ → List ℕ
-holderView h s = flatMap (viewRow (bookFormIn s)) (heldIn h s)
+holderView h s = flatMap (viewRow (bookFormIn s)) (heldInBook h s)

@@ -1,8 +1,9 @@
 """Congestion revenue rights: the simultaneous feasibility test and hourly settlement, over a proved library.
 
-Every function of include/crr.h has one of its name here, without `crr_`; figures are whole numbers in that header's units. Input that is turned
-down raises `Refused`. CSV files are read and written by `crr.from_csv` and `crr.to_csv`, bin files by `crr.packed`, grids made of lines by
-`crr.network`; many hours are settled by `settle_hours`.
+Every function of include/crr.h has one of its name here, without `crr_`; figures are whole numbers in that
+header's units. Input that is turned down raises `Refused`. CSV files are read and written by `crr.from_csv`
+and `crr.to_csv`, bin files by `crr.packed`, grids made of lines by `crr.network`; many hours are settled by
+`settle_hours`.
 """
 
 from importlib import import_module
@@ -25,7 +26,7 @@ from .files import (
     write_book,
     write_grid,
     write_prices,
-    write_settled_book,
+    write_canonical_book,
 )
 from .hours import PriceFile, Settled, settle_hours
 from .interface import MEANINGS
@@ -126,6 +127,6 @@ __all__ = [
     "write_market_view",
     "write_prices",
     "write_report",
-    "write_settled_book",
+    "write_canonical_book",
     "write_statement",
 ]

@@ -14,10 +14,11 @@ class Bar:
 
     def __call__(self, done: int, total: int) -> None:
         now = time.monotonic()
-        if sys.stderr is None or not sys.stderr.isatty() or now - self._start < 0.3 or (now - self._shown < 0.1 and done < total):
+        early = now - self._start < 0.3 or (now - self._shown < 0.1 and done < total)
+        if sys.stderr is None or not sys.stderr.isatty() or early:
             return
         self._shown = now
         width = 30 * done // total
         left = (now - self._start) * (total - done) / done
-        line = f"\r{self._what} [{'#' * width}{'.' * (30 - width)}] {done:,} of {total:,} hours, {left:.0f} s left "
-        print(line, end="\n" if done == total else "", file=sys.stderr, flush=True)
+        line = f"\r{self._what} [{'#' * width}{'.' * (30 - width)}] {done:,} of {total:,} hours"
+        print(f"{line}, {left:.0f} s left ", end="\n" if done == total else "", file=sys.stderr, flush=True)

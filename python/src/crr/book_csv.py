@@ -37,15 +37,22 @@ def word_in(sheet: Sheet, line: int, column: str, text: str, words: Type[Word]) 
     word = understood(words, text)
     if word is None:
         neither = "ON nor OFF" if words is Period else "OBL nor OPT"
-        both = "; split such a contract into an ON and an OFF row" if words is Period and text.upper() in BOTH_PERIODS else ""
+        is_both = words is Period and text.upper() in BOTH_PERIODS
+        both = "; split such a contract into an ON and an OFF row" if is_both else ""
         sheet.fault(line, column, f"{text!r} is neither {neither}{both}", 17)
     return word
 
 
 def read_award(
-    sheet: Sheet, line: int, row: List[str], nodes: Dict[str, int], where: str = "the grid", hubs: Optional[Dict[str, int]] = None
+    sheet: Sheet,
+    line: int,
+    row: List[str],
+    nodes: Dict[str, int],
+    where: str = "the grid",
+    hubs: Optional[Dict[str, int]] = None,
 ) -> Award:
-    """A row's owner and terms; its name is the caller's to look at. With `hubs` the source is a hub's number. Each fault is noted."""
+    """A row's owner and terms; its name is the caller's to look at. With `hubs` the source is a hub's number.
+    Each fault is noted."""
     crr_id, owner, kind, period, source, sink, megawatts = (row[sheet.at[column]] for column in BOOK)
     sheet.name_in(line, "OWNER", owner)
     if hubs is None:
@@ -55,7 +62,8 @@ def read_award(
         if source not in hubs and hubs:
             sheet.fault(line, "SOURCE", f"no such hub: {source!r}")
     end = node_number(sheet, line, "SINK", sink, nodes, where)
-    is_kind, is_period = word_in(sheet, line, "HEDGE_TYPE", kind, Kind), word_in(sheet, line, "TIME_OF_USE", period, Period)
+    is_kind = word_in(sheet, line, "HEDGE_TYPE", kind, Kind)
+    is_period = word_in(sheet, line, "TIME_OF_USE", period, Period)
     quantity = sheet.figure(line, sheet.at["MW"], megawatts, QUANTITY)
     return Award(line, crr_id, owner, Contract(is_kind or 0, is_period or 0, 0, start, end, quantity))
 
@@ -75,9 +83,15 @@ def read_awards(
 
 
 def read_book(
-    path: Path, nodes: Dict[str, int], known: Dict[int, str], any_size: bool, faults: List[Fault], inputs: Inputs = None
+    path: Path,
+    nodes: Dict[str, int],
+    known: Dict[int, str],
+    any_size: bool,
+    faults: List[Fault],
+    inputs: Inputs = None,
 ) -> Tuple[List[Contract], List[str], Dict[int, str]]:
-    """The contracts of book.csv, their names, and the names of holders by number. Holders keep the numbers that are known."""
+    """The contracts of book.csv, their names, and the names of holders by number. Holders keep the numbers
+    that are known."""
     sheet = Sheet(path, BOOK, faults, name=path.name, inputs=inputs)
     awards = read_awards(sheet, nodes, "factors.csv")
     if len(awards) > MAX_CONTRACTS and not any_size:
@@ -87,4 +101,5 @@ def read_book(
     if too_many is not None and not any_size:
         sheet.fault(too_many, "OWNER", f"more than {HOLDER.high + 1} owners", 18)
     book = [award.contract._replace(holder=numbers[award.owner]) for award in awards]
-    return book, [award.crr_id for award in awards], {number: name for name, number in numbers.items() if name != str(number)}
+    holders = {number: name for name, number in numbers.items() if name != str(number)}
+    return book, [award.crr_id for award in awards], holders

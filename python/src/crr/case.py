@@ -1,18 +1,37 @@
-"""A case: a grid, a book and hours of prices as tables of whole numbers, with the names that people use for what the library numbers."""
+"""A case: a grid, a book and hours of prices, with the names that people use for what the library numbers."""
 
 from __future__ import annotations
 
+import re
 from array import array
-from dataclasses import dataclass, field
-from typing import Dict, List, NamedTuple, Optional, Sequence
+from dataclasses import dataclass, field, replace
+from pathlib import Path
+from typing import Dict, List, NamedTuple, Optional, Sequence, Tuple, Union
 
-from .files import Contract, Grid
+from .faults import Fault, raise_any
+from .files import (
+    Contract,
+    Grid,
+    read_book,
+    read_book_form,
+    read_prices,
+    write_book,
+    write_grid,
+    write_prices,
+)
+from .hours import PriceFile, read_price_file
 from .inputs import Input
 from .interface import HOLDER, MAX_CONSTRAINTS, MAX_CONTRACTS, MAX_NARROW_NODES, MAX_NODES, NARROW, WIDE
+from .native import Refused
+from .sheet import unread
+
+HOUR_FILE = re.compile(r"HE(0[1-9]|1[0-9]|2[0-5])\.bin")
+Time = Tuple[str, int]  # the day and the hour ending
 
 
 class PricedHour(NamedTuple):
-    """An hour's prices. The day is YYYY-MM-DD and the hour is the hour ending, 1 to 25; a single hour may go without: empty and 0."""
+    """An hour's prices. The day is YYYY-MM-DD and the hour is the hour ending, 1 to 25; a single hour may go
+    without: empty and 0."""
 
     day: str
     hour: int
@@ -36,38 +55,112 @@ class Names:
 
 @dataclass
 class Case:
-    """Tables of any size; `fits` says whether the library takes them whole."""
+    """Tables of any size; `fits` says whether the library takes them whole. Its files are made when they are
+    asked for. An hour of a bin folder is kept by its path: a year of them is read while it is settled."""
 
     names: Names
     limits: "array[int]"
     factors: "array[int]"
     book: List[Contract] = field(default_factory=list)
-    hours: List[PricedHour] = field(default_factory=list)
+    hours: Sequence[Union[PricedHour, PriceFile]] = field(default_factory=list)
     grid_form: int = NARROW
     book_form: int = NARROW
-    inputs: List[Input] = field(default_factory=list, compare=False)  # the files that it was read from
+    inputs: List[Input] = field(default_factory=list, compare=False)  # that were read, price files apart
+    is_csv: bool = field(default=True, compare=False)  # what it was read from: CSV files, or bin files
+    rounded: int = field(default=0, compare=False)  # how many prices were, when they were read
 
     @property
     def grid(self) -> Grid:
         """The grid's tables for the library."""
-        return Grid(len(self.names.nodes), len(self.names.constraints), self.limits, self.factors, self.grid_form)
+        nodes, constraints = len(self.names.nodes), len(self.names.constraints)
+        return Grid(nodes, constraints, self.limits, self.factors, self.grid_form)
 
     @property
     def fits(self) -> bool:
         """Whether no count, and no holder's number, is above the library's."""
         names = self.names
         tables = len(names.nodes) <= MAX_NODES and len(names.constraints) <= MAX_CONSTRAINTS
-        return tables and len(self.book) <= MAX_CONTRACTS and all(contract.holder <= HOLDER.high for contract in self.book)
+        book = len(self.book) <= MAX_CONTRACTS and all(row.holder <= HOLDER.high for row in self.book)
+        return tables and book
+
+    @property
+    def times(self) -> List[Time]:
+        """The day and the hour ending of each hour."""
+        return [(hour.day, hour.hour) for hour in self.hours]
+
+    def grid_file(self) -> bytes:
+        """grid.bin, written by the library, which checks every figure once more."""
+        check_lengths(self)
+        return write_grid(self.grid)
+
+    def book_file(self) -> bytes:
+        """book.bin, likewise."""
+        check_lengths(self)
+        return write_book(len(self.names.nodes), self.book, self.book_form)
+
+    def price_files(self) -> List[PriceFile]:
+        """Each hour's price file: its path, or the bytes that the library writes."""
+        check_lengths(self)
+        return [hour if isinstance(hour, PriceFile) else _price_file(hour) for hour in self.hours]
+
+    def read_hours(self) -> List[Tuple[PriceFile, PricedHour]]:
+        """Each hour with the bytes of its file, which is read once, and their prices. A file that can't be
+        read, or is refused, is a fault."""
+        hours, faults = [], []
+        for hour in self.price_files():
+            name = hour.file if isinstance(hour.file, str) else hour_name(hour.day, hour.hour)
+            try:
+                data = read_price_file(hour.file)[0]
+                prices = read_prices(len(self.names.constraints), data)
+                hours.append((hour._replace(file=data), PricedHour(hour.day, hour.hour, *prices)))
+            except Refused as refused:
+                faults.append(Fault(_short(name), 0, "", refused.meaning, refused.number))
+            except OSError as error:
+                faults.append(Fault(_short(name), 0, "", unread(Path(name), error)))
+        raise_any(faults)
+        return hours
+
+    def priced_hours(self) -> List[PricedHour]:
+        """Each hour's prices; those kept by their paths are read now, as `read_hours` does."""
+        known = [hour for hour in self.hours if isinstance(hour, PricedHour)]
+        return known if len(known) == len(self.hours) else [hour for _, hour in self.read_hours()]
+
+    def with_book(self, file: bytes, names: Names) -> Case:
+        """The same case with the book of a file, and names for it."""
+        nodes = len(names.nodes)
+        book, form = read_book(nodes, file), read_book_form(nodes, file)
+        return replace(self, names=names, book=book, book_form=form)
+
+
+def _price_file(hour: PricedHour) -> PriceFile:
+    return PriceFile(hour.day, hour.hour, write_prices(hour.period, hour.prices))
+
+
+def hour_name(day: str, hour: int) -> str:
+    """2026-07-01 HE08."""
+    return f"{day} HE{hour:02}"
+
+
+def _short(path: str) -> str:
+    """prices.bin, or prices/2026-07-01/HE08.bin."""
+    parts = Path(path).parts
+    return "/".join(parts[-3:]) if HOUR_FILE.fullmatch(parts[-1]) else parts[-1]
 
 
 def check_lengths(case: Case) -> None:
-    """A ValueError where a case's tables and its names are of different lengths: writing would drop what has no partner."""
+    """A ValueError where a case's tables and its names are of different lengths: writing would drop what has
+    no partner."""
     names = case.names
     constraints = len(names.constraints)
-    pairs = [("limits", len(case.limits), constraints), ("factors", len(case.factors), constraints * len(names.nodes))]
-    pairs += [("contracts", len(case.book), len(names.contracts))]
-    pairs += [(f"prices of {hour.day} HE{hour.hour:02}", len(hour.prices), constraints) for hour in case.hours]
-    for what, count, expected in pairs:
+    lengths = [
+        ("limits", len(case.limits), constraints),
+        ("factors", len(case.factors), constraints * len(names.nodes)),
+        ("contracts", len(case.book), len(names.contracts)),
+    ]
+    for hour in case.hours:
+        if isinstance(hour, PricedHour) and len(hour.prices) != constraints:
+            lengths.append((f"prices of {hour_name(hour.day, hour.hour)}", len(hour.prices), constraints))
+    for what, count, expected in lengths:
         if count != expected:
             raise ValueError(f"case: {count:,} {what}, and names for {expected:,}")
 
@@ -89,12 +182,14 @@ def book_form(book: Sequence[Contract]) -> int:
 def holder_numbers(owners: List[str], known: Dict[int, str]) -> Dict[str, int]:
     """The number of each owner, all different.
 
-    An owner that is itself a number from 0 to 1,023 stands for that holder. Every other keeps the number that it had before (`known`, from names.csv)
-    or gets, in the order in which they come, the lowest that no owner has; with too many owners it passes the highest."""
+    An owner that is itself a number from 0 to 1,023 stands for that holder. Every other keeps the number that
+    it had before (`known`, from names.csv) or gets, in the order in which they come, the lowest that no owner
+    has; with too many owners it passes the highest."""
     plain = {owner: number for owner in owners for number in [plain_number(owner)] if number is not None}
     taken = set(plain.values())
     before = {name: number for number, name in known.items() if number not in taken}
-    numbers = {**plain, **{owner: before[owner] for owner in owners if owner in before and owner not in plain}}
+    kept = {owner: before[owner] for owner in owners if owner in before and owner not in plain}
+    numbers = {**plain, **kept}
     taken, free = set(numbers.values()), 0
     for owner in owners:
         if owner not in numbers:
@@ -107,6 +202,7 @@ def holder_numbers(owners: List[str], known: Dict[int, str]) -> Dict[str, int]:
 
 def plain_number(name: str) -> Optional[int]:
     """The holder that a name stands for by itself: a number from 0 to 1,023 without leading zeros."""
-    if name.isascii() and name.isdigit() and len(name) <= 4 and str(int(name)) == name and int(name) <= HOLDER.high:
-        return int(name)
-    return None
+    if not (name.isascii() and name.isdigit() and len(name) <= 4):
+        return None
+    number = int(name)
+    return number if str(number) == name and number <= HOLDER.high else None

@@ -1,7 +1,8 @@
 """The command `crr`.
 
-Exit status: 0; 1 where `crr test` or `crr cuts` finds that the book fails, `crr same` that two books differ, or `crr tiers` that an operation is refused;
-2 where the input has faults, or something can't be read or written; 130 where it is interrupted (Ctrl-C).
+Exit status: 0; 1 where `crr test` or `crr cuts` finds that the book fails, `crr same` that two books differ,
+or `crr tiers` that an operation is refused; 2 where the input has faults, or something can't be read or
+written; 130 where it is interrupted (Ctrl-C).
 """
 
 from __future__ import annotations
@@ -9,7 +10,8 @@ from __future__ import annotations
 import argparse
 import json
 import sys
-from typing import IO, Dict, List, NoReturn, Optional
+from pathlib import Path
+from typing import IO, Dict, List, NoReturn, Optional, Sequence
 
 from . import book_commands, commands, copies, help_commands, hubs, migrate, plain_commands, report, tiers
 from .command import COMMANDS, FAULTY, INTERRUPTED, PASSES, Answer, Command, Shown
@@ -20,7 +22,11 @@ from .version import Version
 from .writing import is_output
 
 # Help lists the commands module by module.
-_MODULES = [module.__name__ for module in (commands, report, book_commands, copies, hubs, tiers, migrate, plain_commands, help_commands)]
+_ORDER = (commands, report, book_commands, copies, hubs, tiers, migrate, plain_commands, help_commands)
+_MODULES = [module.__name__ for module in _ORDER]
+
+# Commands that had another name: it still works, and no help lists it.
+_FORMER = {"settled": "canonical"}
 
 
 class Usage(Exception):
@@ -51,16 +57,32 @@ def listed() -> List[Command]:
 
 def parser() -> argparse.ArgumentParser:
     """The parser of the command line, made of the commands."""
-    parser = _Parser(prog="crr", description="Congestion revenue rights: feasibility test and hourly settlement.")
-    fails = "1 the book fails (crr test, crr cuts), two books differ (crr same), or an operation is refused (crr tiers)"
-    parser.epilog = f"Exit status: 0; {fails}; 2 the input has faults, or something can't be read or written; 130 interrupted."
-    parser.add_argument("--version", action=Version, help="the version, and the library taken, its origin and hash")
-    parser.add_argument("--json", action="store_true", help="as behind a command: the answer, or the faults, as one JSON object")
+    parser = _Parser(
+        prog="crr", description="Congestion revenue rights: feasibility test and hourly settlement."
+    )
+    parser.epilog = (
+        "Exit status: 0; 1 the book fails (crr test, crr cuts), two books differ (crr same), "
+        "or an operation is refused (crr tiers); "
+        "2 the input has faults, or something can't be read or written; 130 interrupted."
+    )
+    parser.add_argument(
+        "--version", action=Version, help="the version, and the library taken, its origin and hash"
+    )
+    parser.add_argument(
+        "--json",
+        action="store_true",
+        help="as behind a command: the answer, or the faults, as one JSON object",
+    )
     adding = parser.add_subparsers(dest="command", required=True, metavar="COMMAND")
     for command in listed():
         of_command = adding.add_parser(command.name, help=command.help, description=command.help)
         # Said before the command, it stays said where it is not said behind it.
-        of_command.add_argument("--json", action="store_true", default=argparse.SUPPRESS, help="the answer, or the faults, as one JSON object")
+        of_command.add_argument(
+            "--json",
+            action="store_true",
+            default=argparse.SUPPRESS,
+            help="the answer, or the faults, as one JSON object",
+        )
         for argument in command.arguments:
             of_command.add_argument(*argument.names, **argument.settings)
     return parser
@@ -71,10 +93,20 @@ def _fault_object(fault: Fault) -> Dict[str, object]:
     return {name: value or None for name, value in fault._asdict().items()}
 
 
+def _places(options: argparse.Namespace, faults: Sequence[Fault]) -> str:
+    """Where faults are, behind their number: files that were given beside the folder, or the folder."""
+    if "folder" not in options:
+        return ""
+    paths = {name: str(value) for name, value in vars(options).items() if isinstance(value, Path)}
+    given = [path for name, path in paths.items() if name not in ("folder", "out")]
+    places = dict.fromkeys(fault.file if fault.file in given else paths["folder"] for fault in faults)
+    return f" in {' and '.join(places)}"
+
+
 def _faulty(options: argparse.Namespace, problem: Exception) -> Answer:
     """The answer where something is wrong, all of it."""
     if isinstance(problem, Faults):
-        count, where = len(problem.faults), f" in {options.folder}" if "folder" in options else ""
+        count, where = len(problem.faults), _places(options, problem.faults)
         text = f"{problem}\ncrr: {count:,} fault{'' if count == 1 else 's'}{where}; nothing was written\n"
         return Answer(FAULTY, text, {"faults": list(map(_fault_object, problem.faults))})
     if isinstance(problem, Refused):
@@ -109,16 +141,23 @@ def main(arguments: Optional[List[str]] = None) -> int:
         return INTERRUPTED
 
 
+def _by_present_names(given: List[str]) -> List[str]:
+    """The command line with the present name of its command, the first word that is no option."""
+    at = next((at for at, word in enumerate(given) if not word.startswith("-")), 0)
+    return [_FORMER.get(word, word) if place == at else word for place, word in enumerate(given)]
+
+
 def _run(given: List[str]) -> int:
     as_json, aside = _asks_json(given), False
     try:
-        options = parser().parse_args(given)
+        options = parser().parse_args(_by_present_names(given))
         as_json, answer = options.json, _answer(options)
         aside = is_output(getattr(options, "out", None))  # which has bytes of another kind
     except Shown as shown:
         answer = Answer(PASSES, str(shown), shown.data)
     except Usage as usage:
-        answer = Answer(FAULTY, f"{usage.usage}{usage.text}\n", {"faults": [_fault_object(Fault("", 0, "", usage.text))], "usage": usage.usage})
+        faults = [_fault_object(Fault("", 0, "", usage.text))]
+        answer = Answer(FAULTY, f"{usage.usage}{usage.text}\n", {"faults": faults, "usage": usage.usage})
     text = json.dumps(answer.data, indent=1) + "\n" if as_json else answer.text
     stream = sys.stderr if aside or (answer.status == FAULTY and not as_json) else sys.stdout
     unwritten = write_to(stream, text)

@@ -1,4 +1,5 @@
-"""What a command of `crr` is. Its name, help and arguments stand over its function; the function's parameters have the arguments' names.
+"""What a command of `crr` is. Its name, help and arguments stand over its function; the function's parameters
+have the arguments' names.
 
 A command gives an answer, as text for people and as data for scripts; faults are raised.
 """
@@ -15,7 +16,8 @@ PASSES, FAILS, FAULTY, INTERRUPTED = 0, 1, 2, 130  # exit statuses
 
 
 class Answer(NamedTuple):
-    """The exit status, what a person reads, the same for a script, and a note beside the text, for standard error."""
+    """The exit status, what a person reads, the same for a script, and a note beside the text, for standard
+    error."""
 
     status: int
     text: str
@@ -72,14 +74,17 @@ def command(name: str, text: str, *arguments: Argument) -> Callable[[Function], 
 
 
 def a_path(text: str) -> Path:
-    """A path of the command line. An empty one, such as that of an unset variable, would be the current folder."""
+    """A path of the command line. An empty one, such as that of an unset variable, would be the current
+    folder."""
     if not text:
         raise argparse.ArgumentTypeError("it is empty, and a path is needed")
     return Path(text)
 
 
 FOLDER = argument("folder", type=a_path, metavar="FOLDER", help="a folder of CSV files, or of bin files")
-ROUND_PRICES = argument("--round-prices", action="store_true", help="round prices of more than two decimals to the nearest cent")
+ROUND_PRICES = argument(
+    "--round-prices", action="store_true", help="round prices of more than two decimals to the nearest cent"
+)
 
 
 def writes(text: str, required: bool = False) -> Argument:
@@ -97,7 +102,8 @@ def reads(name: str, text: str, **settings: Any) -> Argument:
 
 
 def _choice(name: str, choices: Type[Word], every: str, **settings: Any) -> Argument:
-    """An option whose value is one of several words, as it may be spelled anywhere; `every` stands for all of them, where it is one."""
+    """An option whose value is one of several words, as it may be spelled anywhere; `every` stands for all of
+    them, where it is one."""
     options = [spelling.option for spelling in SPELLINGS[choices]] + ([every] if every else [])
 
     def value(text: str) -> Any:
@@ -111,7 +117,8 @@ def _choice(name: str, choices: Type[Word], every: str, **settings: Any) -> Argu
     return argument(name, type=value, metavar=f"{{{','.join(options)}}}", words=options, **settings)
 
 
-_HOURS, _SHARE = "off-peak or on-peak hours", "the allocation or auction, which releases its share of every limit"
+_HOURS = "off-peak or on-peak hours"
+_SHARE = "the allocation or auction, which releases its share of every limit"
 PERIOD = _choice("--period", Period, "", required=True, help=_HOURS)
 PROCESS = _choice("--process", Process, "", required=True, help=_SHARE)
 ANY_PERIODS = _choice("--period", Period, "both", default="both", dest="periods", help=_HOURS)
@@ -125,4 +132,6 @@ def counted(number: int, what: str) -> str:
 
 def objects(heading: Sequence[str], rows: Iterable[Sequence[object]]) -> List[Dict[str, object]]:
     """Rows of a table as objects: an empty field is null."""
-    return [{name.lower(): None if value == "" else value for name, value in zip(heading, row)} for row in rows]
+    return [
+        {name.lower(): None if value == "" else value for name, value in zip(heading, row)} for row in rows
+    ]

@@ -4,23 +4,44 @@ from __future__ import annotations
 
 import argparse
 import os
-from array import array
 from pathlib import Path
 from typing import Dict, List, Optional, Sequence, Tuple, cast
 
 from .bar import Bar
-from .case import Names
-from .command import ANY_PERIODS, ANY_PROCESSES, FAILS, FOLDER, FORCE, PASSES, ROUND_PRICES, Answer, argument, command, counted, objects, writes
+from .case import Case, Names
+from .command import (
+    ANY_PERIODS,
+    ANY_PROCESSES,
+    FAILS,
+    FOLDER,
+    FORCE,
+    PASSES,
+    ROUND_PRICES,
+    Answer,
+    argument,
+    command,
+    counted,
+    objects,
+    writes,
+)
 from .decimals import decimal
 from .faults import Fault, raise_any
 from .feasibility import Cut, Verdict, excesses, find_cuts, find_flows, released_percent, test_book, worst
-from .files import read_grid
 from .from_csv import load
 from .interface import FLOW_PLACES, QUANTITY
 from .notes import notes
-from .opening import Opened, counts, counts_told, files_of, is_csv, opened, rounded_told, settled
-from .packed import Packed, hour_name, read_packed, unpacked, write_packed
-from .results import HOLDERS, HOURS, dollars, exact_dollars, holder_months, hour_rows, is_result, result_files
+from .opening import counts, counts_words, is_csv, opened, rounded_words, settled
+from .packed import only_hour_name, read_bin, write_packed
+from .results import (
+    HOLDERS,
+    HOURS,
+    dollars,
+    exact_dollars,
+    holder_months,
+    hour_rows,
+    is_result,
+    result_files,
+)
 from .to_csv import csv_text, write_csv
 from .words import PROCESSES, TIMES_OF_USE, Period, Process
 from .writing import write_files
@@ -29,29 +50,40 @@ from .writing import write_files
 @command("check", "read everything and list every fault", FOLDER, ROUND_PRICES)
 def check(folder: Path, round_prices: bool) -> Answer:
     """Reads everything; every fault is raised."""
-    found = opened(folder, round_prices)
-    if not found.case:
-        unpacked(files_of(found))  # its price files too
-    form = "CSV" if found.case else "bin"
-    text = f"{folder}: {counts_told(found)}; {form} files without a fault{rounded_told(found.rounded)}\n"
-    beside = notes(folder, form == "CSV")
-    data: Dict[str, object] = {"folder": str(folder), "form": form, **counts(found), "rounded_prices": found.rounded, "notes": beside}
+    case = opened(folder, round_prices)
+    case.priced_hours()  # price files too
+    form = "CSV" if case.is_csv else "bin"
+    text = f"{folder}: {counts_words(case)}; {form} files without a fault{rounded_words(case)}\n"
+    beside = notes(folder, case.is_csv)
+    data: Dict[str, object] = {"folder": str(folder), "form": form, **counts(case)}
+    data.update(rounded_prices=case.rounded, notes=beside)
     return Answer(PASSES, text + "".join(f"{note}\n" for note in beside), data)
 
 
 _BESIDE = "a folder; without it, the same folder"
 
 
-@command("pack", "CSV files to grid.bin, book.bin, names.csv and price files", FOLDER, ROUND_PRICES, writes(_BESIDE), FORCE)
+@command(
+    "pack",
+    "CSV files to grid.bin, book.bin, names.csv and price files",
+    FOLDER,
+    ROUND_PRICES,
+    writes(_BESIDE),
+    FORCE,
+)
 def pack(folder: Path, out: Optional[Path], round_prices: bool, force: bool) -> Answer:
-    """CSV files to bin files, read back and compared. Beside the CSV files, where no other folder is named, they replace those of before."""
+    """CSV files to bin files, read back and compared. Beside the CSV files, where no other folder is named,
+    they replace those of before."""
     target = out or folder
     if not is_csv(folder):
-        raise_any([Fault(str(folder), 0, "", "packed already: grid.bin, and no CSV files; crr unpack makes CSV files of it")])
+        text = "packed already: grid.bin, and no CSV files; crr unpack makes CSV files of it"
+        raise_any([Fault(str(folder), 0, "", text)])
     case, rounded = load(folder, round_prices=round_prices)
     written = write_packed(case, target, force or target.resolve() == folder.resolve())
-    text = f"{target}: grid.bin, book.bin, names.csv and {counted(len(case.hours), 'hour')} of prices written and read back{rounded_told(rounded)}\n"
-    return Answer(PASSES, text, {"out": str(target), "written": written, "rounded_prices": rounded})
+    hours = f"{counted(len(case.hours), 'hour')} of prices"
+    text = f"grid.bin, book.bin, names.csv and {hours} written and read back{rounded_words(case)}"
+    data: Dict[str, object] = {"out": str(target), "written": written, "rounded_prices": rounded}
+    return Answer(PASSES, f"{target}: {text}\n", data)
 
 
 @command("unpack", "bin files to CSV files", FOLDER, writes(_BESIDE), FORCE)
@@ -59,49 +91,56 @@ def unpack(folder: Path, out: Optional[Path], force: bool) -> Answer:
     """Bin files to CSV files, beside them where no other folder is named."""
     target = out or folder
     if is_csv(folder) and not os.path.lexists(folder / "grid.bin"):
-        raise_any([Fault(str(folder), 0, "", "CSV files already, and no grid.bin; crr pack makes bin files of them")])
-    files = read_packed(folder)
-    written = write_csv(unpacked(files), target, hour_name(files.hours), force)
-    return Answer(PASSES, f"{target}: {', '.join(sorted(written))} written\n", {"out": str(target), "written": written})
+        text = "CSV files already, and no grid.bin; crr pack makes bin files of them"
+        raise_any([Fault(str(folder), 0, "", text)])
+    case = read_bin(folder)
+    written = write_csv(case, target, only_hour_name(case), force)
+    text = f"{target}: {', '.join(sorted(written))} written\n"
+    return Answer(PASSES, text, {"out": str(target), "written": written})
 
 
 VERDICTS = (
     *("TIME_OF_USE", "PROCESS", "VERDICT", "OVERLOADED", "LOWEST_NUMBERED", "EXCESS_MW"),
     *("WORST", "WORST_EXCESS_MW", "CONSTRAINTS"),
 )
+Line = Tuple[int, int]  # a period and a process
 
 
-def verdicts(files: Packed, periods: Sequence[int] = tuple(Period), processes: Sequence[int] = tuple(Process)) -> Dict[Tuple[int, int], Verdict]:
+def verdicts(
+    case: Case, periods: Sequence[int] = tuple(Period), processes: Sequence[int] = tuple(Process)
+) -> Dict[Line, Verdict]:
     """The test's answers by period and process."""
-    grid = read_grid(files.grid)
-    return {(period, process): test_book(grid, files.book, process, period) for period in periods for process in processes}
+    grid, book = case.grid, case.book_file()
+    lines = [(period, process) for period in periods for process in processes]
+    return {(period, process): test_book(grid, book, process, period) for period, process in lines}
 
 
-def _verdict_rows(found: Opened, answers: Dict[Tuple[int, int], Verdict]) -> List[Tuple[object, ...]]:
+def _verdict_rows(case: Case, answers: Dict[Line, Verdict]) -> List[Tuple[object, ...]]:
     """A row for each period and process, as VERDICTS heads them; the constraints as a list."""
-    files, names = files_of(found), found.names.constraints
-    grid = read_grid(files.grid)
-    flows = {period: find_flows(grid, files.book, period).flows for period, _ in answers}
+    grid, book, names = case.grid, case.book_file(), case.names.constraints
+    flows = {period: find_flows(grid, book, period).flows for period, _ in answers}
     rows: List[Tuple[object, ...]] = []
     for (period, process), verdict in answers.items():
-        told = (TIMES_OF_USE[period], PROCESSES[process])
+        line = (TIMES_OF_USE[period], PROCESSES[process])
         if verdict.passed:
-            rows.append((*told, "pass", 0, "", "", "", "", []))
+            rows.append((*line, "pass", 0, "", "", "", "", []))
             continue
-        over = excesses(cast("array[int]", grid.limits), flows[period], released_percent(process))
+        over = excesses(case.limits, flows[period], released_percent(process))
         most = worst(verdict, over)
         lowest = (names[verdict.lowest], decimal(verdict.excess, FLOW_PLACES))
         overloaded = [names[k] for k in verdict.overloaded]
-        rows.append((*told, "fail", verdict.count, *lowest, names[most], decimal(over[most], FLOW_PLACES), overloaded))
+        largest = (names[most], decimal(over[most], FLOW_PLACES))
+        rows.append((*line, "fail", verdict.count, *lowest, *largest, overloaded))
     return rows
 
 
 @command("test", "the simultaneous feasibility test", FOLDER, ANY_PERIODS, ANY_PROCESSES)
 def test(folder: Path, periods: Sequence[int], processes: Sequence[int]) -> Answer:
-    """The simultaneous feasibility test; status 1 where the book fails in one of the periods and processes asked for."""
-    found = opened(folder, prices=False)
-    answers = verdicts(files_of(found), periods, processes)
-    rows = _verdict_rows(found, answers)
+    """The simultaneous feasibility test; status 1 where the book fails in one of the periods and processes
+    asked for."""
+    case = opened(folder, prices=False)
+    answers = verdicts(case, periods, processes)
+    rows = _verdict_rows(case, answers)
     status = PASSES if all(verdict.passed for verdict in answers.values()) else FAILS
     text = csv_text(VERDICTS, ((*row[:-1], "; ".join(cast(List[str], row[-1]))) for row in rows))
     return Answer(status, text, {"passed": status == PASSES, "verdicts": objects(VERDICTS, rows)})
@@ -111,18 +150,22 @@ CUTS = ("CRR_ID", "OWNER", "MW", "CUT_MW", "LEFT_MW")
 CutRow = Tuple[str, str, str, str, str]
 
 
-def cut_rows(found: Opened, answers: Dict[Tuple[int, int], Verdict]) -> Dict[Tuple[int, int], List[CutRow]]:
-    """For each period and process in which the book fails, the contracts each of which clears it by a cut of its own, the smallest cut first."""
-    files = files_of(found)
-    grid = read_grid(files.grid)
+def cut_rows(case: Case, answers: Dict[Line, Verdict]) -> Dict[Line, List[CutRow]]:
+    """For each period and process in which the book fails, the contracts each of which clears it by a cut of
+    its own, the smallest cut first."""
+    grid, book = case.grid, case.book_file()
     failing = [line for line, verdict in answers.items() if not verdict.passed]
-    return {(period, process): [_cut_row(found, cut) for cut in find_cuts(grid, files.book, process, period)] for period, process in failing}
+    return {
+        (period, process): [_cut_row(case, cut) for cut in find_cuts(grid, book, process, period)]
+        for period, process in failing
+    }
 
 
-def _cut_row(found: Opened, cut: Cut) -> CutRow:
-    contract = found.book[cut.contract]
-    quantity, cut_by, left = (decimal(number, QUANTITY.places) for number in (contract.quantity, cut.cut, contract.quantity - cut.cut))
-    return found.names.contracts[cut.contract], found.names.holder(contract.holder), quantity, cut_by, left
+def _cut_row(case: Case, cut: Cut) -> CutRow:
+    contract = case.book[cut.contract]
+    figures = (contract.quantity, cut.cut, contract.quantity - cut.cut)
+    quantity, cut_by, left = (decimal(number, QUANTITY.places) for number in figures)
+    return case.names.contracts[cut.contract], case.names.holder(contract.holder), quantity, cut_by, left
 
 
 @command(
@@ -133,23 +176,29 @@ def _cut_row(found: Opened, cut: Cut) -> CutRow:
     ANY_PROCESSES,
 )
 def cuts(folder: Path, periods: Sequence[int], processes: Sequence[int]) -> Answer:
-    """What clears a failing book; the status is the test's, since an empty list alone does not tell whether the book passes."""
-    found = opened(folder, prices=False)
-    answers = verdicts(files_of(found), periods, processes)
-    listed = cut_rows(found, answers)
+    """What clears a failing book; the status is the test's, since an empty list alone does not tell whether
+    the book passes."""
+    case = opened(folder, prices=False)
+    answers = verdicts(case, periods, processes)
+    listed = cut_rows(case, answers)
     status = FAILS if listed else PASSES
-    text = csv_text(("TIME_OF_USE", "PROCESS", *CUTS), ((*_line(line), *row) for line, rows in listed.items() for row in rows))
-    told = objects(VERDICTS, _verdict_rows(found, answers))
-    data = [dict(verdict, cuts=objects(CUTS, listed.get(line, []))) for line, verdict in zip(answers, told)]
-    return Answer(status, text, {"passed": status == PASSES, "verdicts": data}, _cuts_told(found.names, answers, listed))
+    table = ((*_line(line), *row) for line, rows in listed.items() for row in rows)
+    text = csv_text(("TIME_OF_USE", "PROCESS", *CUTS), table)
+    verdict_objects = objects(VERDICTS, _verdict_rows(case, answers))
+    data = [
+        dict(verdict, cuts=objects(CUTS, listed.get(line, [])))
+        for line, verdict in zip(answers, verdict_objects)
+    ]
+    note = _cuts_words(case.names, answers, listed)
+    return Answer(status, text, {"passed": status == PASSES, "verdicts": data}, note)
 
 
-def _line(line: Tuple[int, int]) -> Tuple[str, str]:
+def _line(line: Line) -> Tuple[str, str]:
     period, process = line
     return TIMES_OF_USE[period], PROCESSES[process]
 
 
-def _cuts_told(names: Names, answers: Dict[Tuple[int, int], Verdict], listed: Dict[Tuple[int, int], List[CutRow]]) -> str:
+def _cuts_words(names: Names, answers: Dict[Line, Verdict], listed: Dict[Line, List[CutRow]]) -> str:
     """What the list says of each period and process, in words."""
     if not listed:
         return "the book passes in all that was asked for: nothing to cut\n"
@@ -180,24 +229,35 @@ def _jobs(text: str) -> int:
     ROUND_PRICES,
     writes("a folder for the result files"),
     FORCE,
-    argument("-j", "--jobs", type=_jobs, default=1, metavar="N", help="how many processes, 1 to 9999; without it, 1"),
+    argument(
+        "-j",
+        "--jobs",
+        type=_jobs,
+        default=1,
+        metavar="N",
+        help="how many processes, 1 to 9999; without it, 1",
+    ),
 )
 def settle(folder: Path, out: Optional[Path], jobs: int, round_prices: bool, force: bool) -> Answer:
-    """Settles every hour; with `out` writes hours.csv, holders.csv and contracts.csv there, over those of before."""
-    found = opened(folder, round_prices, any_size=True)
-    result = settled(found, jobs, Bar("settle"))
+    """Settles every hour; with `out` writes hours.csv, holders.csv and contracts.csv there, over those of
+    before."""
+    case = opened(folder, round_prices, any_size=True)
+    result = settled(case, jobs, Bar("settle"))
     if out:
-        files = result_files(result, found.names, found.book, found.times)
+        files = result_files(result, case.names, case.book, case.times)
         write_files(out, {name: text.encode() for name, text in files.items()}, force, is_result)
-    rows = [(found.names.holder(holder), month, dollars(cents)) for (holder, month), cents in holder_months(result, found.book).items()]
-    told = f"{counted(len(result.hours), 'hour')}: sum {dollars(result.sum)}, exact total {exact_dollars(result.exact)}{rounded_told(found.rounded)}\n"
+    sums = holder_months(result, case.book)
+    rows = [(case.names.holder(holder), month, dollars(cents)) for (holder, month), cents in sums.items()]
+    total, exact = dollars(result.sum), exact_dollars(result.exact)
+    hours = counted(len(result.hours), "hour")
+    note = f"{hours}: sum {total}, exact total {exact}{rounded_words(case)}\n"
     data: Dict[str, object] = {
         "hours": len(result.hours),
-        "sum": dollars(result.sum),
-        "exact_total": exact_dollars(result.exact),
+        "sum": total,
+        "exact_total": exact,
         "by_holder": objects(HOLDERS, rows),
-        "by_hour": objects(HOURS, hour_rows(result, found.times)),
-        "rounded_prices": found.rounded,
+        "by_hour": objects(HOURS, hour_rows(result, case.times)),
+        "rounded_prices": case.rounded,
     }
     text = f"{out}: hours.csv, holders.csv and contracts.csv written\n" if out else csv_text(HOLDERS, rows)
-    return Answer(PASSES, text, data, told)
+    return Answer(PASSES, text, data, note)

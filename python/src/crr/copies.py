@@ -1,6 +1,7 @@
-"""Copies of a book: its settled form, and whether two copies with rows shuffled or split are the same book.
+"""Copies of a book: its canonical form, and whether two copies with rows shuffled or split are the same book.
 
-Holders and nodes are compared by name, since two folders may number them differently; the CRR_IDs of rows do not count.
+Holders and nodes are compared by name, since two folders may number them differently; the CRR_IDs of rows do
+not count.
 """
 
 from __future__ import annotations
@@ -9,17 +10,18 @@ import hashlib
 from pathlib import Path
 from typing import Dict, List, NamedTuple, Optional, Sequence, Tuple
 
+from .case import Case
 from .command import FAILS, FOLDER, FORCE, PASSES, Answer, a_path, argument, command, counted, objects, writes
 from .decimals import decimal
 from .faults import Fault, Faults, raise_any
-from .files import Contract, read_book, read_grid, write_book, write_settled_book
+from .files import Contract, read_book, write_book, write_canonical_book
 from .interface import HOLDER, QUANTITY, WIDE
-from .opening import Opened, files_of, opened, write_beside
+from .opening import opened, write_beside
 from .to_csv import csv_text
 from .words import HEDGE_TYPES, TIMES_OF_USE
 
-SETTLED = ("OWNER", "HEDGE_TYPE", "TIME_OF_USE", "SOURCE", "SINK", "MW")
-DIFFERENCES = (*SETTLED[:-1], "FIRST_MW", "SECOND_MW", "CHANGE_MW")
+CANONICAL = ("OWNER", "HEDGE_TYPE", "TIME_OF_USE", "SOURCE", "SINK", "MW")
+DIFFERENCES = (*CANONICAL[:-1], "FIRST_MW", "SECOND_MW", "CHANGE_MW")
 Five = Tuple[int, int, int, int, int]
 
 
@@ -33,63 +35,75 @@ class Numbers(NamedTuple):
     holders: List[str]
     nodes: List[str]
 
-    def told(self, five: Sequence[int]) -> Tuple[str, str, str, str, str]:
+    def words(self, five: Sequence[int]) -> Tuple[str, str, str, str, str]:
         """A kind, period, holder, source and sink in the columns' order and in words."""
         kind, period, holder, source, sink = five
-        return self.holders[holder], HEDGE_TYPES[kind], TIMES_OF_USE[period], self.nodes[source], self.nodes[sink]
+        return (
+            self.holders[holder],
+            HEDGE_TYPES[kind],
+            TIMES_OF_USE[period],
+            self.nodes[source],
+            self.nodes[sink],
+        )
 
 
 @command(
-    "settled",
-    "the settled form of a book: sorted, equal contracts added together; one for all copies with rows shuffled or split",
+    "canonical",
+    "the canonical form of a book: sorted, equal contracts added together; "
+    "one for all copies with rows shuffled or split",
     FOLDER,
-    writes("a file for the settled book, as the library reads it"),
+    writes("a file for the canonical book, as the library reads it"),
     FORCE,
 )
-def settled(folder: Path, out: Optional[Path], force: bool) -> Answer:
-    """The settled form of a folder's book as a table; with `out` as the library's file."""
-    found = opened(folder, prices=False)
-    files = files_of(found)
-    nodes = read_grid(files.grid).nodes
-    form = write_settled_book(nodes, files.book)
+def canonical(folder: Path, out: Optional[Path], force: bool) -> Answer:
+    """The canonical form of a folder's book as a table; with `out` as the library's file."""
+    case = opened(folder, prices=False)
+    names, nodes = case.names, len(case.names.nodes)
+    form = write_canonical_book(nodes, case.book_file())
     book = read_book(nodes, form)
-    numbers = Numbers([found.names.holder(holder) for holder in range(HOLDER.high + 1)], found.names.nodes)
-    rows = [(*numbers.told(row[:5]), _megawatts(row.quantity)) for row in book]
-    told = f"{counted(len(found.book), 'contract')}, {counted(len(book), 'row')} in the settled form\n"
-    data: Dict[str, object] = {"contracts": len(found.book), "rows": objects(SETTLED, rows), "sha256": hashlib.sha256(form).hexdigest()}
+    numbers = Numbers([names.holder(holder) for holder in range(HOLDER.high + 1)], names.nodes)
+    rows = [(*numbers.words(row[:5]), _megawatts(row.quantity)) for row in book]
+    text = f"{counted(len(case.book), 'contract')}, {counted(len(book), 'row')} in the canonical form\n"
+    data: Dict[str, object] = {"contracts": len(case.book), "rows": objects(CANONICAL, rows)}
+    data["sha256"] = hashlib.sha256(form).hexdigest()
     if not out:
-        return Answer(PASSES, csv_text(SETTLED, rows), data, told)
+        return Answer(PASSES, csv_text(CANONICAL, rows), data, text)
     write_beside(folder, out, form, force)
-    return Answer(PASSES, f"{out}: {told}", {"out": str(out), **data})
+    return Answer(PASSES, f"{out}: {text}", {"out": str(out), **data})
 
 
-def _named(found: Opened) -> List[Tuple[str, str, str]]:
+def _named(case: Case) -> List[Tuple[str, str, str]]:
     """Holder, source and sink of each contract by name."""
-    names = found.names
-    return [(names.holder(own.holder), names.nodes[own.source], names.nodes[own.sink]) for own in found.book]
+    names = case.names
+    return [(names.holder(row.holder), names.nodes[row.source], names.nodes[row.sink]) for row in case.book]
 
 
-def _common(folders: Sequence[Opened]) -> Numbers:
-    """Numbers for every holder and node that one of the books names: those of the first in its order, then what the others have more."""
-    named = [row for found in folders for row in _named(found)]
-    holders, nodes = {row[0]: None for row in named}, {node: None for found in folders for node in found.names.nodes}
+def _common(cases: Sequence[Case]) -> Numbers:
+    """Numbers for every holder and node that one of the books names: those of the first in its order, then
+    what the others have more."""
+    named = [row for case in cases for row in _named(case)]
+    holders = {row[0]: None for row in named}
+    nodes = {node: None for case in cases for node in case.names.nodes}
     used = {node for row in named for node in row[1:]}
     return Numbers(list(holders), [node for node in nodes if node in used])
 
 
-def _renumbered(found: Opened, numbers: Numbers) -> List[Contract]:
+def _renumbered(case: Case, numbers: Numbers) -> List[Contract]:
     holders, nodes = ({name: number for number, name in enumerate(names)} for names in numbers)
-    rows = zip(found.book, _named(found))
-    return [own._replace(holder=holders[holder], source=nodes[source], sink=nodes[sink]) for own, (holder, source, sink) in rows]
+    return [
+        contract._replace(holder=holders[holder], source=nodes[source], sink=nodes[sink])
+        for contract, (holder, source, sink) in zip(case.book, _named(case))
+    ]
 
 
 def _equal(books: Sequence[List[Contract]], numbers: Numbers) -> bool:
-    """Whether the settled forms, wide and for one grid, have equal bytes, which is proved to mean equal totals. 1,000 contracts have at most 2,000 nodes, so two
-    books never have too many. With more holders than a book can number, one of the books has a holder that the other lacks."""
+    """Whether the canonical forms, wide and for one grid, have equal bytes, which is proved to mean equal
+    totals. 1,000 contracts have at most 2,000 nodes, so two books never have too many. With more holders than
+    a book can number, one of the books has a holder that the other lacks."""
     if len(numbers.holders) > HOLDER.high + 1:
         return False
     nodes = max(1, len(numbers.nodes))
-    first, second = (write_settled_book(nodes, write_book(nodes, book, WIDE)) for book in books)
+    first, second = (write_canonical_book(nodes, write_book(nodes, book, WIDE)) for book in books)
     return first == second
 
 
@@ -102,24 +116,32 @@ def _totals(book: Sequence[Contract]) -> Dict[Five, int]:
 
 
 def _differences(books: Sequence[List[Contract]], numbers: Numbers) -> List[Tuple[str, ...]]:
-    """A row for each holder, kind, period, source and sink whose totals differ, in the settled form's order."""
-    first, second = (_totals(book) for book in books)
-    fives = [five for five in sorted({**first, **second}) if first.get(five) != second.get(five)]
-    both = [(five, first.get(five, 0), second.get(five, 0)) for five in fives]
-    return [(*numbers.told(five), _megawatts(own), _megawatts(other), _megawatts(other - own)) for five, own, other in both]
+    """A row for each holder, kind, period, source and sink whose totals differ, in the canonical order."""
+    firsts, seconds = (_totals(book) for book in books)
+    fives = [five for five in sorted({**firsts, **seconds}) if firsts.get(five) != seconds.get(five)]
+    both = [(five, firsts.get(five, 0), seconds.get(five, 0)) for five in fives]
+    return [
+        (*numbers.words(five), _megawatts(first), _megawatts(second), _megawatts(second - first))
+        for five, first, second in both
+    ]
 
 
-def _both(folders: Sequence[Path]) -> List[Opened]:
-    """Two folders opened; the faults of either are named with their folder."""
-    found: List[Opened] = []
+def _placed(fault: Fault, folder: Path) -> Fault:
+    """A fault named with its folder."""
+    return fault if fault.file == str(folder) else fault._replace(file=str(folder / fault.file))
+
+
+def _both(folders: Sequence[Path]) -> List[Case]:
+    """The cases of two folders; the faults of either are named with their folder."""
+    cases: List[Case] = []
     faults: List[Fault] = []
     for folder in folders:
         try:
-            found.append(opened(folder, prices=False))
+            cases.append(opened(folder, prices=False))
         except Faults as problem:
-            faults += [own if own.file == str(folder) else own._replace(file=str(folder / own.file)) for own in problem.faults]
+            faults += [_placed(fault, folder) for fault in problem.faults]
     raise_any(faults)
-    return found
+    return cases
 
 
 @command(
@@ -130,12 +152,15 @@ def _both(folders: Sequence[Path]) -> List[Opened]:
 )
 def same(first: Path, second: Path) -> Answer:
     """Whether two folders have the same book; status 1 where they have not, with every total that differs."""
-    folders = _both((first, second))
-    numbers = _common(folders)
-    books = [_renumbered(found, numbers) for found in folders]
+    cases = _both((first, second))
+    numbers = _common(cases)
+    books = [_renumbered(case, numbers) for case in cases]
     equal = _equal(books, numbers)
     rows = [] if equal else _differences(books, numbers)
     sizes = " and ".join(counted(len(book), "contract") for book in books)
-    told = "the same book" if equal else f"not the same book: {counted(len(rows), 'total')} differ{'s' if len(rows) == 1 else ''}"
-    data: Dict[str, object] = {"same": equal, "contracts": [len(book) for book in books], "differences": objects(DIFFERENCES, rows)}
-    return Answer(PASSES if equal else FAILS, csv_text(DIFFERENCES, rows), data, f"{first}, {second}: {told} ({sizes})\n")
+    differ = f"{counted(len(rows), 'total')} differ{'s' if len(rows) == 1 else ''}"
+    text = "the same book" if equal else f"not the same book: {differ}"
+    data: Dict[str, object] = {"same": equal, "contracts": [len(book) for book in books]}
+    data["differences"] = objects(DIFFERENCES, rows)
+    note = f"{first}, {second}: {text} ({sizes})\n"
+    return Answer(PASSES if equal else FAILS, csv_text(DIFFERENCES, rows), data, note)

@@ -1,4 +1,5 @@
-"""The calendar of on-peak hours: the hours of a month, the weekday of a date, the date one month later. Years 2010 to 2037."""
+"""The calendar of on-peak hours: the hours of a month, the weekday of a date, the date one month later. Years
+2010 to 2037."""
 
 from __future__ import annotations
 

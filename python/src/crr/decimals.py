@@ -37,7 +37,8 @@ def _why_not(text: str, places: int) -> str:
     if "," in text:
         return f"{brief(text)!r}: a decimal point and no thousands separators, please"
     if re.fullmatch(r"[-+.0-9]+[eE][-+0-9]+", text):
-        return f"{brief(text)!r}: an exponent may have lost digits; format the column as a number with {places} decimals"
+        advice = f"format the column as a number with {places} decimals"
+        return f"{brief(text)!r}: an exponent may have lost digits; {advice}"
     return f"{brief(text)!r} is not a decimal number"
 
 

@@ -16,7 +16,8 @@ DEMANDS = ("COORDINATOR", "MEASURED_DEMAND")
 
 
 class Demands(NamedTuple):
-    """Coordinators by name, their demands as they stand in the file, and the same as whole numbers of one unit."""
+    """Coordinators by name, their demands as they stand in the file, and the same as whole numbers of one
+    unit."""
 
     names: List[str]
     texts: List[str]
@@ -24,7 +25,8 @@ class Demands(NamedTuple):
 
 
 def read_demands(path: Path, faults: List[Fault]) -> Demands:
-    """A file COORDINATOR,MEASURED_DEMAND. Proportions alone count, so demands of decimals are taken in units of the last decimal that any of them has."""
+    """A file COORDINATOR,MEASURED_DEMAND. Proportions alone count, so demands of decimals are taken in units
+    of the last decimal that any of them has."""
     sheet = Sheet(path, DEMANDS, faults)
     if len(sheet.at) < len(DEMANDS):
         return Demands([], [], [])
@@ -45,5 +47,6 @@ def read_demands(path: Path, faults: List[Fault]) -> Demands:
         sheet.fault(line, "COORDINATOR", "no coordinator", 26)
     elif not any(units) and len(faults) == sound:
         sheet.fault(line, "MEASURED_DEMAND", "the demands total 0", 27)
-    faults[sound:] = sorted(faults[sound:], key=lambda fault: fault.line)  # those of rows that can't be read were found first
+    # those of rows that can't be read were found first
+    faults[sound:] = sorted(faults[sound:], key=lambda fault: fault.line)
     return Demands(list(names), texts, units)

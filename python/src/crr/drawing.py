@@ -48,7 +48,7 @@ def exact_megawatts(flow: int) -> str:
     return grouped(decimal(flow, FLOW_PLACES).rstrip("0").rstrip("."))
 
 
-def limit_told(limit: int) -> str:
+def limit_words(limit: int) -> str:
     """A limit in MW."""
     return grouped(decimal(limit, LIMIT.places))
 

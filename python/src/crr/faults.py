@@ -7,7 +7,8 @@ from typing import Dict, List, NamedTuple, Sequence, Tuple, Type
 
 
 class Fault(NamedTuple):
-    """A fault: the file, the line (0: the file as a whole), the column by its heading, what is wrong, and the refusal that it would draw (0: none)."""
+    """A fault: the file, the line (0: the file as a whole), the column by its heading, what is wrong, and the
+    refusal that it would draw (0: none)."""
 
     file: str
     line: int
@@ -21,7 +22,8 @@ class Fault(NamedTuple):
         return f"{self.file}:{self.line}:{self.column}" if self.line else self.file
 
     def __str__(self) -> str:
-        return f"{self.place}{': ' if self.place else ''}{self.text}" + (f" (refusal {self.refusal})" if self.refusal else "")
+        refusal = f" (refusal {self.refusal})" if self.refusal else ""
+        return f"{self.place}{': ' if self.place else ''}{self.text}{refusal}"
 
 
 _VALUES = re.compile(r"'(?:[^'\\]|\\.)*'|[-+]?[0-9][0-9.,]*")  # in a sentence: fields and figures
@@ -29,8 +31,8 @@ EQUAL, ALIKE = 5, 20  # how many are shown
 
 
 def listed(faults: Sequence[Fault]) -> List[str]:
-    """Faults as lines for people. Of those that are equal in all but their line, the first five are shown; of those that say the same of different
-    values, the first twenty. A line behind them counts the others."""
+    """Faults as lines for people. Of those that are equal in all but their line, the first five are shown; of
+    those that say the same of different values, the first twenty. A line behind them counts the others."""
     equal: Dict[Tuple[str, str, str], int] = {}
     alike: Dict[Tuple[str, str, str], List[int]] = {}  # the places of those that are shown
     others: Dict[Tuple[str, str, str], List[Fault]] = {}

@@ -1,4 +1,5 @@
-"""The simultaneous feasibility test, the flows that it sums, the cuts that clear a failing book, and the share of each limit that a process releases."""
+"""The simultaneous feasibility test, the flows that it sums, the cuts that clear a failing book, and the
+share of each limit that a process releases."""
 
 from __future__ import annotations
 
@@ -20,7 +21,8 @@ _PERCENT_IN_FLOWS: int = 10 ** (FLOW_PLACES - LIMIT.places - 2)  # a percent of 
 
 @dataclass(frozen=True)
 class Verdict:
-    """The test's answer. `set` has bit k for overloaded constraint k and is 0 exactly on a pass; the other figures are 0 then."""
+    """The test's answer. `set` has bit k for overloaded constraint k and is 0 exactly on a pass; the other
+    figures are 0 then."""
 
     set: int
     count: int
@@ -44,14 +46,16 @@ class Verdict:
 
 
 class Flows(NamedTuple):
-    """The flow on each constraint of a period's contracts as they count, in 10^-8 MW, and how many contracts were counted."""
+    """The flow on each constraint of a period's contracts as they count, in 10^-8 MW, and how many contracts
+    were counted."""
 
     flows: List[int]
     counted: int
 
 
 class Cut(NamedTuple):
-    """A contract by its number in the book, and the least by which its quantity, lowered alone, lets a failing book pass, in thousandths of a MW."""
+    """A contract by its number in the book, and the least by which its quantity, lowered alone, lets a
+    failing book pass, in thousandths of a MW."""
 
     contract: int
     cut: int
@@ -60,24 +64,31 @@ class Cut(NamedTuple):
 def test_book(grid: Grid, book: Bytes, process: int, period: int) -> Verdict:
     """Whether the contracts of a period are feasible on the grid in a process."""
     overloaded, count, lowest, excess = c_uint64(), c_uint64(), c_uint64(), c_int64()
-    _test_book(grid.nodes, grid.constraints, process, period, grid.limits, grid.factors, book, overloaded, count, lowest, excess)
+    figures = (overloaded, count, lowest, excess)
+    _test_book(grid.nodes, grid.constraints, process, period, grid.limits, grid.factors, book, *figures)
     return Verdict(overloaded.value, count.value, lowest.value, excess.value)
 
 
 def find_flows(grid: Grid, book: Bytes, period: int) -> Flows:
     """The flow on each constraint, as the test sums it."""
     flows, counted = zeros("q", grid.constraints), c_uint64()
-    _find_flows(grid.nodes, grid.constraints, period, grid.limits, grid.factors, book, Lent(flows, "q", True), counted)
+    _find_flows(
+        grid.nodes, grid.constraints, period, grid.limits, grid.factors, book, Lent(flows, "q", True), counted
+    )
     return Flows(list(flows), counted.value)
 
 
 def find_cuts(grid: Grid, book: Bytes, process: int, period: int) -> List[Cut]:
-    """The contracts of a failing book each of which can clear it alone, by rising cuts and then by number. A cut of the whole quantity is a removal.
+    """The contracts of a failing book each of which can clear it alone, by rising cuts and then by number. A
+    cut of the whole quantity is a removal.
 
-    Empty where the book passes, and also where no single contract's cut clears it: `test_book` tells these apart."""
+    Empty where the book passes, and also where no single contract's cut clears it: `test_book` tells these
+    apart."""
     numbers, cuts, listed = zeros("Q", MAX_CONTRACTS), zeros("Q", MAX_CONTRACTS), c_uint64()
     places = (Lent(numbers, "Q", True), Lent(cuts, "Q", True))
-    _find_cuts(grid.nodes, grid.constraints, process, period, grid.limits, grid.factors, book, *places, listed)
+    _find_cuts(
+        grid.nodes, grid.constraints, process, period, grid.limits, grid.factors, book, *places, listed
+    )
     return list(map(Cut, numbers[: listed.value], cuts[: listed.value]))
 
 
@@ -94,8 +105,9 @@ def released_limit(limit: int, percent: int) -> int:
 
 
 def excesses(limits: Sequence[int], flows: Sequence[int], percent: int) -> List[int]:
-    """By how much the flow on each constraint exceeds so many percent of its limit, in 10^-8 MW; negative where there is room. Worked
-    out here: the library's test gives the excess of the lowest-numbered overloaded constraint alone, and there the two are equal."""
+    """By how much the flow on each constraint exceeds so many percent of its limit, in 10^-8 MW; negative
+    where there is room. Worked out here: the library's test gives the excess of the lowest-numbered
+    overloaded constraint alone, and there the two are equal."""
     return [flow - released_limit(limit, percent) for limit, flow in zip(limits, flows)]
 
 

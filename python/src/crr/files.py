@@ -1,4 +1,5 @@
-"""The three files, grid, book and prices: bytes to tables and back; a book remapped, settled, and grown. Figures are whole numbers in the units of crr.h."""
+"""The three files, grid, book and prices: bytes to tables and back; a book remapped, canonical, and grown.
+Figures are whole numbers in the units of crr.h."""
 
 from __future__ import annotations
 
@@ -7,7 +8,15 @@ from ctypes import c_uint64
 from dataclasses import dataclass
 from typing import Iterable, List, NamedTuple, Sequence, Tuple, Union, cast
 
-from .interface import MAX_BOOK_BYTES, MAX_CONSTRAINTS, MAX_CONTRACTS, MAX_GRID_BYTES, MAX_NODES, MAX_PRICE_BYTES, NARROW
+from .interface import (
+    MAX_BOOK_BYTES,
+    MAX_CONSTRAINTS,
+    MAX_CONTRACTS,
+    MAX_GRID_BYTES,
+    MAX_NODES,
+    MAX_PRICE_BYTES,
+    NARROW,
+)
 from .native import Bytes, Cells, Entry, Given, Lent, lend_cells, whole_numbers, zeros
 
 _read_grid = Entry("crr_read_grid")
@@ -15,7 +24,7 @@ _write_grid = Entry("crr_write_grid")
 _read_book = Entry("crr_read_book")
 _write_book = Entry("crr_write_book")
 _remap_book = Entry("crr_remap_book")
-_write_settled_book = Entry("crr_write_settled_book")
+_write_canonical_book = Entry("crr_write_canonical_book")
 _add_hub_contract = Entry("crr_add_hub_contract")
 _read_prices = Entry("crr_read_prices")
 _write_prices = Entry("crr_write_prices")
@@ -23,8 +32,8 @@ _write_prices = Entry("crr_write_prices")
 
 @dataclass(frozen=True)
 class Grid:
-    """A grid's tables: limits, one for each constraint, and factors, that of node n on constraint k in cell n * constraints + k. Those that were
-    read from a file are arrays."""
+    """A grid's tables: limits, one for each constraint, and factors, that of node n on constraint k in cell
+    n * constraints + k. Those that were read from a file are arrays."""
 
     nodes: int
     constraints: int
@@ -72,7 +81,9 @@ def read_grid(file: Bytes, name: str = "") -> Grid:
 
 def write_grid(grid: Grid) -> bytes:
     """The grid's file."""
-    return written(_write_grid, MAX_GRID_BYTES, (grid.form, grid.nodes, grid.constraints, grid.limits, grid.factors))
+    return written(
+        _write_grid, MAX_GRID_BYTES, (grid.form, grid.nodes, grid.constraints, grid.limits, grid.factors)
+    )
 
 
 def _read_cells(nodes: int, file: Bytes, name: str) -> Tuple["array[int]", int]:
@@ -101,12 +112,15 @@ FIGURES = len(Contract._fields)
 
 
 def six_figures(row: Iterable[int], name: str) -> "array[int]":
-    """A contract's cells. A row of another length is a ValueError: what it lacks or has too much would go to its neighbours, or nowhere."""
+    """A contract's cells. A row of another length is a ValueError: what it lacks or has too much would go to
+    its neighbours, or nowhere."""
     if isinstance(row, (str, bytes)) or not hasattr(row, "__iter__"):
         raise TypeError(f"{name}: {', '.join(Contract._fields)} are needed, not {type(row).__name__}")
     figures = list(row)
     if len(figures) != FIGURES:
-        raise ValueError(f"{name} has {len(figures)} figures and not {FIGURES}: {', '.join(Contract._fields)}")
+        raise ValueError(
+            f"{name} has {len(figures)} figures and not {FIGURES}: {', '.join(Contract._fields)}"
+        )
     return whole_numbers(figures, "Q", name)
 
 
@@ -115,21 +129,32 @@ def _buffer_rows(book: Cells, name: str) -> Lent:
     lent = lend_cells(book, "Q", name)
     shape = memoryview(lent.owner).shape or (lent.cells,)
     if len(shape) > 2:
-        raise ValueError(f"{name}: a table of {len(shape)} dimensions: row 0 is a table itself, and not {FIGURES} figures")
+        raise ValueError(
+            f"{name}: a table of {len(shape)} dimensions: row 0 is a table itself, and not {FIGURES} figures"
+        )
     rows, left = divmod(lent.cells, FIGURES)
     if len(shape) == 2 and shape[1] != FIGURES and lent.cells:
         rows, left = 0, shape[1]
     if left:
-        raise ValueError(f"row {rows} of {name} has {left} figures and not {FIGURES}: {', '.join(Contract._fields)}")
+        raise ValueError(
+            f"row {rows} of {name} has {left} figures and not {FIGURES}: {', '.join(Contract._fields)}"
+        )
     return lent
 
 
 def book_cells(book: Book, name: str = "book") -> Lent:
-    """A book as cells, six for each contract: a buffer as it is, else rows put one behind the other. Rows are numbered from 0 on."""
+    """A book as cells, six for each contract: a buffer as it is, else rows put one behind the other. Rows are
+    numbered from 0 on."""
     if hasattr(book, "columns"):
-        raise TypeError(f"{name}: a table with named columns: hand over its columns {', '.join(Contract._fields)}, in this order, by to_numpy()")
+        columns = f"its columns {', '.join(Contract._fields)}, in this order"
+        raise TypeError(f"{name}: a table with named columns: hand over {columns}, by to_numpy()")
     flat = isinstance(book, (list, tuple)) and len(book) > 0 and not hasattr(book[0], "__iter__")
-    if flat or isinstance(book, (array, memoryview)) or hasattr(book, "__array_interface__") or hasattr(book, "to_numpy"):
+    if (
+        flat
+        or isinstance(book, (array, memoryview))
+        or hasattr(book, "__array_interface__")
+        or hasattr(book, "to_numpy")
+    ):
         return _buffer_rows(cast(Cells, book), name)
     if isinstance(book, (str, bytes, bytearray)) or not hasattr(book, "__iter__"):
         raise TypeError(f"{name}: contracts, or six cells for each, are needed, not {type(book).__name__}")
@@ -140,8 +165,8 @@ def book_cells(book: Book, name: str = "book") -> Lent:
 
 
 def write_book(nodes: int, book: Book, form: int = NARROW) -> bytes:
-    """The book's file, for a grid of so many nodes, from contracts or from a buffer of six cells for each. A row that has not six figures is a
-    ValueError with its number."""
+    """The book's file, for a grid of so many nodes, from contracts or from a buffer of six cells for each. A
+    row that has not six figures is a ValueError with its number."""
     cells = book_cells(book)
     return written(_write_book, MAX_BOOK_BYTES, (form, nodes, cells.cells // FIGURES, cells))
 
@@ -151,17 +176,30 @@ def remap_book(nodes: int, book: Bytes, old_nodes: Cells, new_nodes: Cells) -> b
     return written(_remap_book, MAX_BOOK_BYTES, (nodes, book, old_nodes, new_nodes))
 
 
-def write_settled_book(nodes: int, book: Bytes) -> bytes:
-    """The settled form of a book's file, which copies with rows shuffled or split have in common: sorted by kind, period, holder, source and sink, equal
-    ones added together and cut into rows of 1,000,000."""
-    return written(_write_settled_book, MAX_BOOK_BYTES, (nodes, book))
+def write_canonical_book(nodes: int, book: Bytes) -> bytes:
+    """The canonical form of a book's file, which copies with rows shuffled or split have in common: sorted by
+    kind, period, holder, source and sink, equal ones added together and cut into rows of 1,000,000."""
+    return written(_write_canonical_book, MAX_BOOK_BYTES, (nodes, book))
 
 
 def add_hub_contract(
-    nodes: int, book: Bytes, kind: int, period: int, holder: int, hub_nodes: Cells, hub_weights: Cells, sink: int, quantity: int
+    nodes: int,
+    book: Bytes,
+    kind: int,
+    period: int,
+    holder: int,
+    hub_nodes: Cells,
+    hub_weights: Cells,
+    sink: int,
+    quantity: int,
 ) -> bytes:
-    """The book's file with a contract from a hub behind its own, as contracts from the hub's nodes. Weights are hundred-thousandths."""
-    return written(_add_hub_contract, MAX_BOOK_BYTES, (nodes, book, kind, period, holder, hub_nodes, hub_weights, sink, quantity))
+    """The book's file with a contract from a hub behind its own, as contracts from the hub's nodes. Weights
+    are hundred-thousandths."""
+    return written(
+        _add_hub_contract,
+        MAX_BOOK_BYTES,
+        (nodes, book, kind, period, holder, hub_nodes, hub_weights, sink, quantity),
+    )
 
 
 def read_prices(constraints: int, file: Bytes, name: str = "") -> Prices:

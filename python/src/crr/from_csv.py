@@ -1,10 +1,13 @@
-"""A folder of CSV files as a case. Every fault is found, not only the first, and names its file, line and column.
+"""A folder of CSV files as a case. Every fault is found, not only the first, with its file, line and column.
 
 constraints.csv  CONSTRAINT_ID,LIMIT_MW
 factors.csv      NODE_ID, and a column for each constraint
 book.csv         CRR_ID,OWNER,HEDGE_TYPE,TIME_OF_USE,SOURCE,SINK,MW
-prices.csv       OPR_DT,OPR_HR,TIME_OF_USE,CONSTRAINT_ID,SHADOW_PRICE   (may be missing; a price that is not listed is 0)
-names.csv        TABLE,NUMBER,NAME                                      (may be missing; numbers that holders had before)
+prices.csv       OPR_DT,OPR_HR,TIME_OF_USE,CONSTRAINT_ID,SHADOW_PRICE
+names.csv        TABLE,NUMBER,NAME
+
+The last two may be missing. A price that is not listed is 0; names.csv has the numbers that holders had
+before.
 """
 
 from __future__ import annotations
@@ -18,6 +21,7 @@ from typing import Dict, List, Optional, Set, Tuple, Union
 from .book_csv import read_book, word_in
 from .case import FORMS, Case, Names, PricedHour, book_form, grid_form
 from .faults import Fault, raise_any
+from .files import Contract
 from .inputs import Input
 from .interface import LIMIT, MAX_CONSTRAINTS, MAX_NODES, SHADOW_PRICE, SHIFT_FACTOR
 from .names_csv import read_names
@@ -45,10 +49,12 @@ class Loaded:
         self.limits = array("Q")
         self.factors = array("q")
 
-    def count(self, sheet: Sheet, line: int, ours: str, count: int, most: int, what: str, refusal: int) -> None:
+    def count(
+        self, sheet: Sheet, line: int, column: str, count: int, most: int, what: str, refusal: int
+    ) -> None:
         """A fault at the first row beyond the library's size."""
         if not self.any_size and count == most + 1:
-            sheet.fault(line, ours, f"more than {most} {what}", refusal)
+            sheet.fault(line, column, f"more than {most} {what}", refusal)
 
 
 def load(
@@ -56,25 +62,54 @@ def load(
 ) -> Tuple[Case, int]:
     """The case of a folder, and how many of its prices were rounded. Raises `Faults`.
 
-    With `any_size` counts above the library's are taken, for settling by slices. With `round_prices` a price of more than two decimals is
-    rounded to the nearest cent; it is a fault otherwise. Without `prices` prices.csv is not looked at."""
+    With `any_size` counts above the library's are taken, for settling by slices. With `round_prices` a price
+    of more than two decimals is rounded to the nearest cent; it is a fault otherwise. Without `prices`
+    prices.csv is not looked at."""
     loaded = Loaded(Path(folder), any_size, round_prices)
     _read_constraints(loaded)
     _read_factors(loaded)
-    told = read_names(loaded.folder, loaded.faults, loaded.inputs)
-    book, ids, holders = read_book(loaded.folder / "book.csv", loaded.nodes, told["holder"], any_size, loaded.faults, loaded.inputs)
+    tables = read_names(loaded.folder, loaded.faults, loaded.inputs)
+    known, noting = tables["holder"], (loaded.faults, loaded.inputs)
+    book, ids, holders = read_book(loaded.folder / "book.csv", loaded.nodes, known, any_size, *noting)
     hours = _read_prices(loaded) if prices and is_there(loaded.folder / "prices.csv") else []
     raise_any(loaded.faults)
-    used = {contract.holder for contract in book}  # names.csv may name holders that have no contract
-    others = {number: name for number, name in told["holder"].items() if number not in used and name not in (*holders.values(), str(number))}
-    names = Names(list(loaded.nodes), list(loaded.constraints), ids, {**others, **holders})
-    forms = {number: FORMS.index(name) for number, name in told["form"].items()}
-    of_grid, of_book = forms.get(0, grid_form(len(names.nodes))), forms.get(1, book_form(book))
-    return Case(names, loaded.limits, loaded.factors, book, hours, of_grid, of_book, loaded.inputs), loaded.rounded
+    holders = {**_without_contract(known, book, holders), **holders}
+    names = Names(list(loaded.nodes), list(loaded.constraints), ids, holders)
+    forms = {number: FORMS.index(name) for number, name in tables["form"].items()}
+    case = Case(
+        names,
+        loaded.limits,
+        loaded.factors,
+        book,
+        hours,
+        forms.get(0, grid_form(len(names.nodes))),
+        forms.get(1, book_form(book)),
+        loaded.inputs,
+        rounded=loaded.rounded,
+    )
+    return case, loaded.rounded
+
+
+def _without_contract(
+    known: Dict[int, str], book: List[Contract], holders: Dict[int, str]
+) -> Dict[int, str]:
+    """The holders that names.csv names beside those of the book."""
+    taken, names = {contract.holder for contract in book}, set(holders.values())
+    return {
+        number: name
+        for number, name in known.items()
+        if number not in taken and name not in names and name != str(number)
+    }
 
 
 def _read_constraints(loaded: Loaded) -> None:
-    sheet = Sheet(loaded.folder / "constraints.csv", CONSTRAINTS, loaded.faults, name="constraints.csv", inputs=loaded.inputs)
+    sheet = Sheet(
+        loaded.folder / "constraints.csv",
+        CONSTRAINTS,
+        loaded.faults,
+        name="constraints.csv",
+        inputs=loaded.inputs,
+    )
     if len(sheet.at) < 2:
         return
     loaded.constraints_read = True
@@ -90,7 +125,9 @@ def _factor_columns(loaded: Loaded, sheet: Sheet) -> List[int]:
     places: Dict[str, int] = {}
     for at, name in enumerate(sheet.heading[1:], start=1):
         if name not in loaded.constraints:
-            loaded.faults.append(Fault(sheet.name, 1, sheet.column(at), "no such constraint in constraints.csv"))
+            loaded.faults.append(
+                Fault(sheet.name, 1, sheet.column(at), "no such constraint in constraints.csv")
+            )
         elif name in places:
             loaded.faults.append(Fault(sheet.name, 1, name, "the constraint's column occurs twice"))
         places.setdefault(name, at)
@@ -101,7 +138,14 @@ def _factor_columns(loaded: Loaded, sheet: Sheet) -> List[int]:
 
 
 def _read_factors(loaded: Loaded) -> None:
-    sheet = Sheet(loaded.folder / "factors.csv", ("NODE_ID",), loaded.faults, first=True, name="factors.csv", inputs=loaded.inputs)
+    sheet = Sheet(
+        loaded.folder / "factors.csv",
+        ("NODE_ID",),
+        loaded.faults,
+        first=True,
+        name="factors.csv",
+        inputs=loaded.inputs,
+    )
     if not sheet.at:
         return
     columns = _factor_columns(loaded, sheet) if loaded.constraints_read else []
@@ -115,10 +159,12 @@ def _read_factors(loaded: Loaded) -> None:
 
 
 def _read_prices(loaded: Loaded) -> List[PricedHour]:
-    sheet = Sheet(loaded.folder / "prices.csv", PRICES, loaded.faults, name="prices.csv", inputs=loaded.inputs)
+    sheet = Sheet(
+        loaded.folder / "prices.csv", PRICES, loaded.faults, name="prices.csv", inputs=loaded.inputs
+    )
     if len(sheet.at) < len(PRICES):
         return []
-    day_at, hour_at, period_at, constraint_at, price_at = (sheet.at[ours] for ours in PRICES)
+    day_at, hour_at, period_at, constraint_at, price_at = (sheet.at[column] for column in PRICES)
     times = _Times(sheet, len(loaded.constraints))
     listed: Set[Tuple[str, int, int]] = set()
     for line, row in sheet.rows():
@@ -136,7 +182,9 @@ def _read_prices(loaded: Loaded) -> List[PricedHour]:
             sheet.fault(line, "CONSTRAINT_ID", f"{name} occurs twice in this hour")
         listed.add(key)
         hour.prices[k] = sheet.figure(line, price_at, price, SHADOW_PRICE, loaded.round_prices)
-        loaded.rounded += loaded.round_prices and len(price.partition(".")[2].rstrip("0")) > SHADOW_PRICE.places
+        loaded.rounded += (
+            loaded.round_prices and len(price.partition(".")[2].rstrip("0")) > SHADOW_PRICE.places
+        )
     return times.in_order()
 
 
@@ -167,7 +215,9 @@ class _Times:
         fresh = PricedHour(day, number, period, array("Q", bytes(8 * self._constraints)))
         known = self._hours.setdefault((day, number), fresh)
         if known.period != period:
-            self._sheet.fault(line, "TIME_OF_USE", f"{time_of_use}, and the other one in an earlier row of this hour")
+            self._sheet.fault(
+                line, "TIME_OF_USE", f"{time_of_use}, and the other one in an earlier row of this hour"
+            )
             return None
         return known
 

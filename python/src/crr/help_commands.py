@@ -116,7 +116,8 @@ def _bash(commands: List[Command], before: Dict[str, str]) -> str:
             if each.words:
                 case = " | ".join(f'"{command.name} {name}"' for name in each.names)
                 values.append(
-                    f'        {case}) mapfile -t COMPREPLY < <(compgen -W "{" ".join(each.words)}" -- "$word")'
+                    f"        {case}) mapfile -t COMPREPLY < "
+                    f'<(compgen -W "{" ".join(each.words)}" -- "$word")'
                     + "; return ;;"
                 )
         options = " ".join(name for each in _options(command) for name in each.names if name.startswith("--"))
@@ -184,7 +185,8 @@ def _zsh(commands: List[Command], before: Dict[str, str]) -> str:
         if command.name == "help":
             taken = "':COMMAND:(" + " ".join(each.name for each in commands) + ")'"
         lines.append(
-            f"                {command.name}) _arguments '--json[the answer as JSON]' '--help[what it does and takes]' {taken} ;;"
+            f"                {command.name}) _arguments '--json[the answer as JSON]' "
+            f"'--help[what it does and takes]' {taken} ;;"
         )
     return "\n".join([*lines, "            esac", "            ;;", "    esac", "}", "compdef _crr crr", ""])
 

@@ -1,4 +1,5 @@
-"""Many hours of one book. Bring your own engine: anything with `submit()` as concurrent.futures has it; without one, this thread."""
+"""Many hours of one book. Bring your own engine: anything with `submit()` as concurrent.futures has it;
+without one, this thread."""
 
 from __future__ import annotations
 
@@ -15,7 +16,8 @@ from .settlement import HourTotal, Settler
 
 
 class PriceFile(NamedTuple):
-    """An hour's price file, as bytes or by its path, with the day (YYYY-MM-DD) and the hour ending (1 to 25) that it is for, if known."""
+    """An hour's price file, as bytes or by its path, with the day (YYYY-MM-DD) and the hour ending (1 to 25)
+    that it is for, if known."""
 
     day: str
     hour: int
@@ -28,7 +30,8 @@ class PriceFile(NamedTuple):
 
 
 class Settled(NamedTuple):
-    """What many hours come to: the figures of each hour, in the order given, and for each month the cents of each contract over its hours."""
+    """What many hours come to: the figures of each hour, in the order given, and for each month the cents of
+    each contract over its hours."""
 
     hours: List[HourTotal]
     months: Dict[str, List[int]]
@@ -55,14 +58,16 @@ Result = TypeVar("Result")
 
 
 class _Lanes:
-    """Cells added cell by cell, as one number for all of them: cell i counts 2^(64 i). Adding 1,000 cells so takes a tenth of adding them one by one."""
+    """Cells added cell by cell, as one number for all of them: cell i counts 2^(64 i). Adding 1,000 cells so
+    takes a tenth of adding them one by one."""
 
     def __init__(self, cells: int) -> None:
         self.cells = cells
         self._ones = sum(1 << 64 * i for i in range(cells))
 
     def number(self, cells: "array[int]") -> int:
-        """The sum of cell i * 2^(64 i). The bytes of a negative cell read as 2^64 more than it is, so 1 is taken from what follows it."""
+        """The sum of cell i * 2^(64 i). The bytes of a negative cell read as 2^64 more than it is, so 1 is
+        taken from what follows it."""
         read = int.from_bytes(cells, "little")
         return read - ((read >> 63 & self._ones) << 64)
 
@@ -82,7 +87,8 @@ def _opened(grid: bytes, book: bytes) -> Tuple[Grid, int, _Lanes]:
 
 
 def read_price_file(file: Union[bytes, str]) -> Tuple[bytes, str]:
-    """A price file's bytes and its name. One byte more than the longest is enough to have a longer file refused."""
+    """A price file's bytes and its name. One byte more than the longest is enough to have a longer file
+    refused."""
     if isinstance(file, bytes):
         return file, ""
     handle = os.open(file, os.O_RDONLY)
@@ -92,8 +98,11 @@ def read_price_file(file: Union[bytes, str]) -> Tuple[bytes, str]:
         os.close(handle)
 
 
-def settle_part(grid: bytes, book: bytes, hours: Sequence[PriceFile]) -> Tuple[List[HourTotal], Dict[str, int]]:
-    """What a worker runs: a pure function of arguments that pickle. Gives the hours' figures and each month's cents, as `_Lanes` puts them."""
+def settle_part(
+    grid: bytes, book: bytes, hours: Sequence[PriceFile]
+) -> Tuple[List[HourTotal], Dict[str, int]]:
+    """What a worker runs: a pure function of arguments that pickle. Gives the hours' figures and each month's
+    cents, as `_Lanes` puts them."""
     tables, contracts, lanes = _opened(grid, book)
     settler = Settler(tables, book, contracts)
     totals: List[HourTotal] = []
@@ -106,9 +115,14 @@ def settle_part(grid: bytes, book: bytes, hours: Sequence[PriceFile]) -> Tuple[L
 
 
 def in_parts(
-    task: Callable[[Sequence[Hours]], Result], hours: Sequence[Hours], executor: Optional[Executor], parts: int, progress: Progress
+    task: Callable[[Sequence[Hours]], Result],
+    hours: Sequence[Hours],
+    executor: Optional[Executor],
+    parts: int,
+    progress: Progress,
 ) -> List[Result]:
-    """The task's result for each part of the hours, in their order. The first exception of a task is raised, and what has not begun is called off."""
+    """The task's result for each part of the hours, in their order. The first exception of a task is raised,
+    and what has not begun is called off."""
     step = max(1, -(-len(hours) // max(1, parts)))
     cuts = [hours[at : at + step] for at in range(0, len(hours), step)]
     done = 0
@@ -139,7 +153,8 @@ def settle_hours(
     parts: int = 24,
     progress: Progress = lambda done, total: None,
 ) -> Settled:
-    """Settles every hour over one book, in so many tasks. An engine that takes milliseconds for a task (dask) wants few; 24 suit a year.
+    """Settles every hour over one book, in so many tasks. An engine that takes milliseconds for a task (dask)
+    wants few; 24 suit a year.
 
     Every sum is of whole numbers, so the result is the same for every engine and every number of parts."""
     for name, file in (("grid", grid), ("book", book)):
@@ -148,7 +163,9 @@ def settle_hours(
     _, _, lanes = _opened(grid, book)
     totals: List[HourTotal] = []
     months: Dict[str, int] = {}
-    for part_totals, part_months in in_parts(partial(settle_part, grid, book), hours, executor, parts, progress):
+    for part_totals, part_months in in_parts(
+        partial(settle_part, grid, book), hours, executor, parts, progress
+    ):
         totals += part_totals
         for month, number in part_months.items():
             months[month] = months.get(month, 0) + number

@@ -1,4 +1,4 @@
-"""Trading hubs, HUB,NODE_ID,PERCENT, and contracts from them, as book.csv with a hub's name for the source."""
+"""Trading hubs, HUB,NODE_ID,PERCENT, and contracts from them: book.csv with a hub's name for the source."""
 
 from __future__ import annotations
 
@@ -28,7 +28,7 @@ def read_hubs(path: Path, nodes: Sequence[str], faults: List[Fault]) -> Dict[str
     ends: Dict[str, int] = {}
     if len(sheet.at) < len(HUBS):
         return hubs
-    hub_at, node_at, percent_at = (sheet.at[ours] for ours in HUBS)
+    hub_at, node_at, percent_at = (sheet.at[column] for column in HUBS)
     numbers = {name: number for number, name in enumerate(nodes)}
     for line, row in sheet.rows():
         if sheet.name_in(line, "HUB", row[hub_at]):
@@ -39,7 +39,8 @@ def read_hubs(path: Path, nodes: Sequence[str], faults: List[Fault]) -> Dict[str
     for name, hub in hubs.items():
         if all(hub.weights) and sum(hub.weights) != HUB_WEIGHT:  # a weight of 0 is a fault that was told
             total = decimal(sum(hub.weights), WEIGHT.places)
-            sheet.fault(ends[name], "PERCENT", f"the percents of {name} total {total} and not {decimal(HUB_WEIGHT, WEIGHT.places)}", 24)
+            text = f"the percents of {name} total {total} and not {decimal(HUB_WEIGHT, WEIGHT.places)}"
+            sheet.fault(ends[name], "PERCENT", text, 24)
     if not hubs:
         sheet.fault(1, "HUB", "no hub")
     return hubs
@@ -54,9 +55,11 @@ def _read_hub_node(sheet: Sheet, line: int, name: str, numbers: Dict[str, int], 
         sheet.fault(line, "NODE_ID", f"more than {MAX_HUB_NODES} nodes in this hub", 24)
 
 
-def read_hub_contracts(path: Path, hubs: Dict[str, Hub], nodes: Sequence[str], faults: List[Fault]) -> Tuple[Sheet, List[Award]]:
-    """The contracts of a file with the columns of book.csv, whose sources are hubs, by their place among these; and the sheet, for faults that
-    are found later."""
+def read_hub_contracts(
+    path: Path, hubs: Dict[str, Hub], nodes: Sequence[str], faults: List[Fault]
+) -> Tuple[Sheet, List[Award]]:
+    """The contracts of a file with the columns of book.csv, whose sources are hubs, by their place among
+    these; and the sheet, for faults that are found later."""
     sheet = Sheet(path, BOOK, faults)
     numbers, places = ({name: number for number, name in enumerate(names)} for names in (nodes, hubs))
     return sheet, read_awards(sheet, numbers, hubs=places)

@@ -1,6 +1,7 @@
 """What include/crr.h says, in one place: sizes, units, refusals and declarations.
 
-A test holds every line of it against the header, in both directions, so a change of the header is a change of this module and of the function that it is about.
+A test holds every line of it against the header, in both directions, so a change of the header is a change of
+this module and of the function that it is about.
 """
 
 from __future__ import annotations
@@ -9,7 +10,7 @@ import re
 from typing import Dict, List, NamedTuple
 
 # The number of the interface that the declarations below are of: a library of another is not loaded.
-INTERFACE = 1
+INTERFACE = 2
 
 # Stack that is enough, for the two texts and for any other function.
 TEXT_STACK_BYTES = 200000
@@ -107,7 +108,8 @@ MEANINGS: Dict[int, str] = {
     19: "a date or month that does not exist or is outside 2010 to 2037",
     20: "running test: a tier not 1 to 4, or returning to one that is not marked",
     21: "running test: with the award some flow would exceed its released limit",
-    22: "load migration: a figure, count or LSE number outside its range, unequal lists, or a row whose old and new LSE are one",
+    22: "load migration: a figure, count or LSE number outside its range, unequal lists, "
+    "or a row whose old and new LSE are one",
     23: "load migration: an LSE that loses load has none, or less than its losses to all gainers",
     24: "a hub not of 1 to 32 nodes, unequal lists, or weights outside 1 to 100,000 or not together 100,000",
     25: "a node listed twice in a hub",
@@ -121,62 +123,86 @@ DECLARATIONS: Dict[str, str] = {
     "crr_refusal_text": "uint64_t number, uint8_t *text, size_t text_len, size_t *bytes",
     "crr_read_grid": "const uint8_t *file, size_t file_len, uint64_t *limits, size_t limits_len, "
     "int64_t *factors, size_t factors_len, size_t *nodes, size_t *constraints, uint64_t *form",
-    "crr_write_grid": "uint64_t form, size_t nodes, size_t constraints, const uint64_t *limits, size_t limits_len, "
-    "const int64_t *factors, size_t factors_len, uint8_t *file, size_t file_len, size_t *bytes",
-    "crr_read_book": "size_t nodes, const uint8_t *file, size_t file_len, uint64_t *book, size_t book_len, size_t *contracts, uint64_t *form",
-    "crr_write_book": "uint64_t form, size_t nodes, size_t contracts, const uint64_t *book, size_t book_len, uint8_t *file, size_t file_len, size_t *bytes",
-    "crr_remap_book": "size_t nodes, const uint8_t *book, size_t book_len, const uint64_t *old_nodes, size_t old_len, "
-    "const uint64_t *new_nodes, size_t new_len, uint8_t *file, size_t file_len, size_t *bytes",
-    "crr_write_market_view": "size_t nodes, const uint8_t *book, size_t book_len, uint8_t *file, size_t file_len, size_t *bytes",
-    "crr_write_holder_view": "size_t nodes, const uint8_t *book, size_t book_len, uint64_t holder, uint8_t *view, size_t view_len, size_t *bytes",
-    "crr_write_settled_book": "size_t nodes, const uint8_t *book, size_t book_len, uint8_t *file, size_t file_len, size_t *bytes",
-    "crr_add_hub_contract": "size_t nodes, const uint8_t *book, size_t book_len, uint64_t kind, uint64_t period, uint64_t holder, "
-    "const uint64_t *hub_nodes, size_t hub_nodes_len, const uint64_t *hub_weights, size_t hub_weights_len, "
-    "uint64_t sink, uint64_t quantity, uint8_t *file, size_t file_len, size_t *bytes",
-    "crr_read_prices": "size_t constraints, const uint8_t *file, size_t file_len, uint64_t *prices, size_t prices_len, uint64_t *period",
-    "crr_write_prices": "uint64_t period, size_t constraints, const uint64_t *prices, size_t prices_len, uint8_t *file, size_t file_len, size_t *bytes",
-    "crr_test_book": "size_t nodes, size_t constraints, uint64_t process, uint64_t period, const uint64_t *limits, size_t limits_len, "
-    "const int64_t *factors, size_t factors_len, const uint8_t *book, size_t book_len, uint64_t *set, size_t *count, size_t *lowest, int64_t *excess",
-    "crr_find_flows": "size_t nodes, size_t constraints, uint64_t period, const uint64_t *limits, size_t limits_len, "
-    "const int64_t *factors, size_t factors_len, const uint8_t *book, size_t book_len, int64_t *flows, size_t flows_len, size_t *counted",
-    "crr_find_cuts": "size_t nodes, size_t constraints, uint64_t process, uint64_t period, const uint64_t *limits, size_t limits_len, "
-    "const int64_t *factors, size_t factors_len, const uint8_t *book, size_t book_len, uint64_t *numbers, size_t numbers_len, "
-    "uint64_t *cuts, size_t cuts_len, size_t *listed",
-    "crr_open_running": "size_t nodes, size_t constraints, uint64_t process, uint64_t period, const uint64_t *limits, size_t limits_len, "
-    "const int64_t *factors, size_t factors_len, const uint64_t *awards, size_t awards_len, uint64_t *numbers, size_t numbers_len, "
-    "int64_t *flows, size_t flows_len",
-    "crr_add_award": "size_t nodes, size_t constraints, uint64_t process, uint64_t period, const uint64_t *limits, size_t limits_len, "
-    "const int64_t *factors, size_t factors_len, const uint64_t *award, size_t award_len, uint64_t *awards, size_t awards_len, "
-    "uint64_t *numbers, size_t numbers_len, int64_t *flows, size_t flows_len",
+    "crr_write_grid": "uint64_t form, size_t nodes, size_t constraints, const uint64_t *limits, "
+    "size_t limits_len, const int64_t *factors, size_t factors_len, uint8_t *file, size_t file_len, "
+    "size_t *bytes",
+    "crr_read_book": "size_t nodes, const uint8_t *file, size_t file_len, uint64_t *book, size_t book_len, "
+    "size_t *contracts, uint64_t *form",
+    "crr_write_book": "uint64_t form, size_t nodes, size_t contracts, const uint64_t *book, size_t book_len, "
+    "uint8_t *file, size_t file_len, size_t *bytes",
+    "crr_remap_book": "size_t nodes, const uint8_t *book, size_t book_len, const uint64_t *old_nodes, "
+    "size_t old_len, const uint64_t *new_nodes, size_t new_len, uint8_t *file, size_t file_len, "
+    "size_t *bytes",
+    "crr_write_market_view": "size_t nodes, const uint8_t *book, size_t book_len, uint8_t *file, "
+    "size_t file_len, size_t *bytes",
+    "crr_write_holder_view": "size_t nodes, const uint8_t *book, size_t book_len, uint64_t holder, "
+    "uint8_t *view, size_t view_len, size_t *bytes",
+    "crr_write_canonical_book": "size_t nodes, const uint8_t *book, size_t book_len, uint8_t *file, "
+    "size_t file_len, size_t *bytes",
+    "crr_add_hub_contract": "size_t nodes, const uint8_t *book, size_t book_len, uint64_t kind, "
+    "uint64_t period, uint64_t holder, const uint64_t *hub_nodes, size_t hub_nodes_len, "
+    "const uint64_t *hub_weights, size_t hub_weights_len, uint64_t sink, uint64_t quantity, uint8_t *file, "
+    "size_t file_len, size_t *bytes",
+    "crr_read_prices": "size_t constraints, const uint8_t *file, size_t file_len, uint64_t *prices, "
+    "size_t prices_len, uint64_t *period",
+    "crr_write_prices": "uint64_t period, size_t constraints, const uint64_t *prices, size_t prices_len, "
+    "uint8_t *file, size_t file_len, size_t *bytes",
+    "crr_test_book": "size_t nodes, size_t constraints, uint64_t process, uint64_t period, "
+    "const uint64_t *limits, size_t limits_len, const int64_t *factors, size_t factors_len, "
+    "const uint8_t *book, size_t book_len, uint64_t *set, size_t *count, size_t *lowest, int64_t *excess",
+    "crr_find_flows": "size_t nodes, size_t constraints, uint64_t period, const uint64_t *limits, "
+    "size_t limits_len, const int64_t *factors, size_t factors_len, const uint8_t *book, size_t book_len, "
+    "int64_t *flows, size_t flows_len, size_t *counted",
+    "crr_find_cuts": "size_t nodes, size_t constraints, uint64_t process, uint64_t period, "
+    "const uint64_t *limits, size_t limits_len, const int64_t *factors, size_t factors_len, "
+    "const uint8_t *book, size_t book_len, uint64_t *numbers, size_t numbers_len, uint64_t *cuts, "
+    "size_t cuts_len, size_t *listed",
+    "crr_open_running": "size_t nodes, size_t constraints, uint64_t process, uint64_t period, "
+    "const uint64_t *limits, size_t limits_len, const int64_t *factors, size_t factors_len, "
+    "const uint64_t *awards, size_t awards_len, uint64_t *numbers, size_t numbers_len, int64_t *flows, "
+    "size_t flows_len",
+    "crr_add_award": "size_t nodes, size_t constraints, uint64_t process, uint64_t period, "
+    "const uint64_t *limits, size_t limits_len, const int64_t *factors, size_t factors_len, "
+    "const uint64_t *award, size_t award_len, uint64_t *awards, size_t awards_len, uint64_t *numbers, "
+    "size_t numbers_len, int64_t *flows, size_t flows_len",
     "crr_mark_tier": "uint64_t tier, uint64_t *numbers, size_t numbers_len, int64_t *flows, size_t flows_len",
-    "crr_return_to_tier": "uint64_t tier, uint64_t *numbers, size_t numbers_len, int64_t *flows, size_t flows_len",
+    "crr_return_to_tier": "uint64_t tier, uint64_t *numbers, size_t numbers_len, int64_t *flows, "
+    "size_t flows_len",
     "crr_released_percent": "uint64_t process, uint64_t *percent",
     "crr_find_mcc": "size_t nodes, size_t constraints, const int64_t *factors, size_t factors_len, "
     "const uint64_t *prices, size_t prices_len, int64_t *mcc, size_t mcc_len",
     "crr_find_hub_mcc": "size_t nodes, size_t constraints, const int64_t *factors, size_t factors_len, "
     "const uint64_t *prices, size_t prices_len, const uint64_t *hub_nodes, size_t hub_nodes_len, "
     "const uint64_t *hub_weights, size_t hub_weights_len, int64_t *quotient, uint64_t *remainder",
-    "crr_settle_hour": "size_t nodes, size_t constraints, uint64_t period, const int64_t *factors, size_t factors_len, "
-    "const uint64_t *prices, size_t prices_len, const uint8_t *book, size_t book_len, int64_t *cents, size_t cents_len, "
-    "uint64_t *priced, size_t priced_len, int64_t *sum, int64_t *whole, uint64_t *parts",
-    "crr_share_balance": "int64_t balance, const uint64_t *demands, size_t demands_len, int64_t *shares, size_t shares_len",
-    "crr_net_transfers": "size_t lses, const uint8_t *classes, size_t classes_len, const uint64_t *customers, size_t customers_len, "
-    "const uint64_t *rates, size_t rates_len, const uint64_t *olds, size_t olds_len, const uint64_t *news, size_t news_len, int64_t *nets, size_t nets_len",
-    "crr_migrate_load": "size_t nodes, uint64_t period, const uint8_t *book, size_t book_len, const uint8_t *classes, size_t classes_len, "
-    "const uint64_t *customers, size_t customers_len, const uint64_t *rates, size_t rates_len, const uint64_t *olds, size_t olds_len, "
-    "const uint64_t *news, size_t news_len, const uint64_t *loads, size_t loads_len, uint8_t *file, size_t file_len, size_t *bytes",
-    "crr_write_report": "const uint8_t *grid_file, size_t grid_file_len, const uint8_t *book_file, size_t book_file_len, "
-    "uint8_t *text, size_t text_len, size_t *bytes",
-    "crr_write_statement": "const uint8_t *grid_file, size_t grid_file_len, const uint8_t *book_file, size_t book_file_len, "
-    "const uint8_t *price_file, size_t price_file_len, uint8_t *text, size_t text_len, size_t *bytes",
+    "crr_settle_hour": "size_t nodes, size_t constraints, uint64_t period, const int64_t *factors, "
+    "size_t factors_len, const uint64_t *prices, size_t prices_len, const uint8_t *book, size_t book_len, "
+    "int64_t *cents, size_t cents_len, uint64_t *priced, size_t priced_len, int64_t *sum, int64_t *whole, "
+    "uint64_t *parts",
+    "crr_share_balance": "int64_t balance, const uint64_t *demands, size_t demands_len, int64_t *shares, "
+    "size_t shares_len",
+    "crr_net_transfers": "size_t lses, const uint8_t *classes, size_t classes_len, "
+    "const uint64_t *customers, size_t customers_len, const uint64_t *rates, size_t rates_len, "
+    "const uint64_t *olds, size_t olds_len, const uint64_t *news, size_t news_len, int64_t *nets, "
+    "size_t nets_len",
+    "crr_migrate_load": "size_t nodes, uint64_t period, const uint8_t *book, size_t book_len, "
+    "const uint8_t *classes, size_t classes_len, const uint64_t *customers, size_t customers_len, "
+    "const uint64_t *rates, size_t rates_len, const uint64_t *olds, size_t olds_len, const uint64_t *news, "
+    "size_t news_len, const uint64_t *loads, size_t loads_len, uint8_t *file, size_t file_len, size_t *bytes",
+    "crr_write_report": "const uint8_t *grid_file, size_t grid_file_len, const uint8_t *book_file, "
+    "size_t book_file_len, uint8_t *text, size_t text_len, size_t *bytes",
+    "crr_write_statement": "const uint8_t *grid_file, size_t grid_file_len, const uint8_t *book_file, "
+    "size_t book_file_len, const uint8_t *price_file, size_t price_file_len, uint8_t *text, size_t text_len, "
+    "size_t *bytes",
     "crr_month_hours": "uint64_t year, uint64_t month, uint64_t *hours",
     "crr_weekday": "uint64_t year, uint64_t month, uint64_t day, uint64_t *weekday",
-    "crr_month_later": "uint64_t year, uint64_t month, uint64_t day, uint64_t *later_year, uint64_t *later_month, uint64_t *later_day",
+    "crr_month_later": "uint64_t year, uint64_t month, uint64_t day, uint64_t *later_year, "
+    "uint64_t *later_month, uint64_t *later_day",
 }
 
 
 class Parameter(NamedTuple):
-    """A parameter as Python hands it over. A buffer stands for two in C: the pointer and the length in cells."""
+    """A parameter as Python hands it over. A buffer stands for two in C: the pointer and the length in
+    cells."""
 
     name: str
     code: str  # of its cells, as `array` names them: B, q or Q
@@ -190,10 +216,10 @@ _PARAMETER = re.compile(r"(const )?(\w+) (\*?)(\w+)")
 
 def parameters(declaration: str) -> List[Parameter]:
     """The parameters of a declaration. A pointer is a buffer where its length follows."""
-    found = [match.groups() for match in map(_PARAMETER.fullmatch, declaration.split(", ")) if match]
-    followed = [name.endswith("_len") for _, _, _, name in found[1:]] + [False]
+    parts = [match.groups() for match in map(_PARAMETER.fullmatch, declaration.split(", ")) if match]
+    followed = [name.endswith("_len") for _, _, _, name in parts[1:]] + [False]
     taken = []
-    for (const, kind, star, name), has_length in zip(found, followed):
+    for (const, kind, star, name), has_length in zip(parts, followed):
         if not name.endswith("_len"):
             form = "number" if not star else "buffer" if has_length else "figure"
             taken.append(Parameter(name, _CODES[kind], form, bool(star) and not const))

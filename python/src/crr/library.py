@@ -8,7 +8,7 @@ from pathlib import Path
 from typing import List, Optional, Tuple
 
 _HERE = Path(__file__).resolve().parent
-_OWN = _HERE / "libcrr.so"  # installed
+_INSTALLED = _HERE / "libcrr.so"  # installed
 _CLONE = (_HERE / ".." / ".." / "..").resolve()
 _DIST, _BUILT = _CLONE / "dist", _CLONE / "target" / "sharedlib"
 _SHIPPED_LIBRARY, _BUILT_LIBRARY = _DIST / "x86-64-linux" / "libcrr.so", _BUILT / "libcrr.so"
@@ -24,14 +24,14 @@ def library_path() -> Path:
     asked = os.environ.get("CRR_LIBRARY")
     if asked and not Path(asked).is_file():
         raise FileNotFoundError(f"no shared library at {asked}, which CRR_LIBRARY names")
-    if asked or _OWN.is_file():
-        return Path(asked) if asked else _OWN
+    if asked or _INSTALLED.is_file():
+        return Path(asked) if asked else _INSTALLED
     reasons = []
     for library, lists in _PLACES:
-        found = [_unlike(*one) for one in lists] if library.is_file() else ["it is missing"]
-        if not any(found):
+        unlike = [_unlike(*one) for one in lists] if library.is_file() else ["it is missing"]
+        if not any(unlike):
             return library
-        reasons.append(f"{library}: {next(filter(None, found))}")
+        reasons.append(f"{library}: {next(filter(None, unlike))}")
     advice = "./library builds it, CRR_LIBRARY names another"
     raise FileNotFoundError(f"no shared library of these sources: {advice} ({'; '.join(reasons)})")
 
@@ -39,7 +39,7 @@ def library_path() -> Path:
 def library_origin(library: Path) -> str:
     """Where a library that was taken comes from, in words."""
     place = library.resolve()
-    if place == _OWN:
+    if place == _INSTALLED:
         return "the installed package"
     if place == _SHIPPED_LIBRARY:
         kits = [line[len("# kit: ") :] for line in _lines(_DIST / "MADE-FROM") if line.startswith("# kit: ")]

@@ -7,7 +7,7 @@ from pathlib import Path
 from typing import Dict, List, Optional, Tuple
 
 from .book_csv import BOOK
-from .case import Names
+from .case import Case, Names
 from .command import FOLDER, FORCE, PASSES, PERIOD, ROUND_PRICES, Answer, command, objects, reads, writes
 from .decimals import decimal
 from .faults import Fault, raise_any
@@ -16,15 +16,15 @@ from .interface import LOAD, WIDE
 from .migration import migrate_load
 from .migration_csv import Migration, read_migration
 from .names_csv import read_names
-from .opening import Opened, files_of, opened, write_like
-from .packed import Packed
+from .opening import opened, write_like
 from .to_csv import book_row, csv_text
 from .words import Period
 
 
-def _holders(folder: Path, found: Opened) -> Dict[int, str]:
-    """Names of holders by number: the book's, and those that names.csv has beside them."""
-    holders = dict(found.names.holders)
+def _holders(folder: Path, names: Names) -> Dict[int, str]:
+    """The names that rows and loads may call holders by: the case's, and that of names.csv for one that the
+    book calls by its number."""
+    holders = dict(names.holders)
     for number, name in read_names(folder, [])["holder"].items():
         if number not in holders and name not in holders.values():
             holders[number] = name
@@ -42,25 +42,36 @@ def _pairs(nodes: int, period: int, book: List[Contract], migration: Migration) 
 
 
 def _ids(names: Names, pairs: List[Tuple[int, int]]) -> List[str]:
-    """A name for each contract. A new one has its base contract's, LMT for the gainer's or CNT for the loser's counter-flow, and the gainer's, with a number
-    where an earlier month has that name."""
+    """A name for each contract. A new one has its base contract's, LMT for the gainer's or CNT for the
+    loser's counter-flow, and the gainer's, with a number where an earlier month has that name."""
     ids, taken = list(names.contracts), set(names.contracts)
     for base, gainer in pairs:
         for mark in ("LMT", "CNT"):
-            plain = own = f"{names.contracts[base]} {mark} {names.holder(gainer)}"
+            plain = crr_id = f"{names.contracts[base]} {mark} {names.holder(gainer)}"
             count = 1
-            while own in taken:
+            while crr_id in taken:
                 count += 1
-                own = f"{plain} ({count})"
-            ids.append(own)
-            taken.add(own)
+                crr_id = f"{plain} ({count})"
+            ids.append(crr_id)
+            taken.add(crr_id)
     return ids
 
 
 def _net_rows(names: Names, migration: Migration) -> List[Tuple[str, ...]]:
     """A row for each LSE: its net losses to each, gains negative."""
-    nets = migration.nets
-    return [(names.holder(loser), *(decimal(nets[loser - 1][gainer - 1], LOAD.places) for gainer in migration.lses)) for loser in migration.lses]
+    nets, lses = migration.nets, migration.lses
+    return [
+        (names.holder(loser), *(decimal(nets[loser - 1][gainer - 1], LOAD.places) for gainer in lses))
+        for loser in lses
+    ]
+
+
+def _migrated(case: Case, period: Period, migration: Migration) -> Case:
+    """The case with the contracts that follow from the migration behind those of the book."""
+    nodes = len(case.names.nodes)
+    book = migrate_load(nodes, period, case.book_file(), *migration[:-1])
+    ids = _ids(case.names, _pairs(nodes, period, case.book, migration))
+    return case.with_book(book, replace(case.names, contracts=ids))
 
 
 @command(
@@ -74,24 +85,29 @@ def _net_rows(names: Names, migration: Migration) -> List[Tuple[str, ...]]:
     writes("a folder"),
     FORCE,
 )
-def migrate(folder: Path, period: Period, rows: Path, loads: Path, out: Optional[Path], round_prices: bool, force: bool) -> Answer:
-    """Migrates load in a book for one period: the nets, and the contracts that are added; with `out` the whole case is written there in the form that it
-    had."""
-    found = opened(folder, round_prices)
-    files, holders = files_of(found), _holders(folder, found)
+def migrate(
+    folder: Path,
+    period: Period,
+    rows: Path,
+    loads: Path,
+    out: Optional[Path],
+    round_prices: bool,
+    force: bool,
+) -> Answer:
+    """Migrates load in a book for one period: the nets, and the contracts that are added; with `out` the
+    whole case is written there in the form that it had."""
+    case = opened(folder, round_prices)
     faults: List[Fault] = []
-    migration = read_migration(rows, loads, holders, faults)
+    migration = read_migration(rows, loads, _holders(folder, case.names), faults)
     raise_any(faults)
-    nodes = len(found.names.nodes)
-    book = migrate_load(nodes, period, files.book, *migration[:-1])
-    contracts = read_book(nodes, book)
-    names = replace(found.names, holders=holders)
-    names.contracts = _ids(names, _pairs(nodes, period, found.book, migration))
+    grown = _migrated(case, period, migration)
+    names, book = grown.names, grown.book
     if out:
-        write_like(found, Packed(names, files.grid, book, files.hours), out, force)
-    added = [book_row(names, names.contracts[number], contracts[number]) for number in range(len(found.book), len(contracts))]
+        write_like(grown, out, force)
+    added = [book_row(names, names.contracts[at], book[at]) for at in range(len(case.book), len(book))]
     lses, nets = [names.holder(number) for number in migration.lses], _net_rows(names, migration)
     text = csv_text(("LSE", *lses), nets) + "\n" + csv_text(BOOK, added)
-    told = f"{f'{out}: ' if out else ''}{len(added):,} of {len(contracts):,} contracts are new\n"
-    data: Dict[str, object] = {"nets": {row[0]: dict(zip(lses, row[1:])) for row in nets}, "added": objects(BOOK, added), "contracts": len(contracts)}
-    return Answer(PASSES, text, {**data, "out": str(out) if out else None}, told)
+    note = f"{f'{out}: ' if out else ''}{len(added):,} of {len(book):,} contracts are new\n"
+    data: Dict[str, object] = {"nets": {row[0]: dict(zip(lses, row[1:])) for row in nets}}
+    data.update(added=objects(BOOK, added), contracts=len(book), out=str(out) if out else None)
+    return Answer(PASSES, text, data, note)

@@ -1,4 +1,5 @@
-"""Load migration: the monthly transfer of contracts between load-serving entities (LSEs) whose customers moved."""
+"""Load migration: the monthly transfer of contracts between load-serving entities (LSEs) whose customers
+moved."""
 
 from __future__ import annotations
 
@@ -13,10 +14,21 @@ _net_transfers = Entry("crr_net_transfers")
 
 
 def migrate_load(
-    nodes: int, period: int, book: Bytes, classes: Bytes, customers: Cells, rates: Cells, olds: Cells, news: Cells, loads: Cells
+    nodes: int,
+    period: int,
+    book: Bytes,
+    classes: Bytes,
+    customers: Cells,
+    rates: Cells,
+    olds: Cells,
+    news: Cells,
+    loads: Cells,
 ) -> bytes:
-    """The book's file with the contracts that one period's rows add, for a grid of so many nodes. LSE i is holder i, and loads[i - 1] is its load."""
-    return written(_migrate_load, MAX_BOOK_BYTES, (nodes, period, book, classes, customers, rates, olds, news, loads))
+    """The book's file with the contracts that one period's rows add, for a grid of so many nodes. LSE i is
+    holder i, and loads[i - 1] is its load."""
+    return written(
+        _migrate_load, MAX_BOOK_BYTES, (nodes, period, book, classes, customers, rates, olds, news, loads)
+    )
 
 
 def net_transfers(

@@ -1,4 +1,5 @@
-"""The two files of load migration: rows of customers that moved, and the current load of each load-serving entity (LSE), of one period.
+"""The two files of load migration: rows of customers that moved, and the current load of each load-serving
+entity (LSE), of one period.
 
 rows   CUSTOMER_CLASS,CUSTOMERS,MW_PER_CUSTOMER,OLD_LSE,NEW_LSE
 loads  LSE,LOAD_MW
@@ -24,7 +25,8 @@ _RANGE, _EXCEEDED = 22, 23
 
 
 class Migration(NamedTuple):
-    """The lists that the library takes, and the LSEs that have a load, by number. Loads of numbers between them are 0."""
+    """The lists that the library takes, and the LSEs that have a load, by number. Loads of numbers between
+    them are 0."""
 
     classes: bytes
     customers: List[int]
@@ -47,24 +49,26 @@ class Lses:
         self._names = {name: number for number, name in holders.items()}
         self.lines: Dict[int, int] = {}
 
-    def number(self, sheet: Sheet, line: int, ours: str, text: str) -> int:
+    def number(self, sheet: Sheet, line: int, column: str, text: str) -> int:
         """The number of an LSE. A fault is noted and gives 0."""
         number = self._names.get(text, plain_number(text))
         if not text:
-            sheet.fault(line, ours, "empty")
+            sheet.fault(line, column, "empty")
         elif number is None:
-            sheet.fault(line, ours, f"no holder is called {text!r}, and it is no number from 1 to {MAX_LSES}", _RANGE)
+            reason = f"no holder is called {text!r}, and it is no number from 1 to {MAX_LSES}"
+            sheet.fault(line, column, reason, _RANGE)
         elif not 1 <= number <= MAX_LSES:
-            sheet.fault(line, ours, f"{text} is holder {number}, and LSEs are the holders 1 to {MAX_LSES}: names.csv gives holders their numbers", _RANGE)
+            lses = f"LSEs are the holders 1 to {MAX_LSES}: names.csv gives holders their numbers"
+            sheet.fault(line, column, f"{text} is holder {number}, and {lses}", _RANGE)
         else:
             return number
         return 0
 
-    def with_load(self, sheet: Sheet, line: int, ours: str, text: str) -> int:
+    def with_load(self, sheet: Sheet, line: int, column: str, text: str) -> int:
         """The number of an LSE that has a load. A fault is noted and gives 0."""
-        number = self.number(sheet, line, ours, text)
+        number = self.number(sheet, line, column, text)
         if number and self.lines and number not in self.lines:
-            sheet.fault(line, ours, f"LSE {text} has no load", _RANGE)
+            sheet.fault(line, column, f"LSE {text} has no load", _RANGE)
             return 0
         return number
 
@@ -92,12 +96,13 @@ def _read_rows(sheet: Sheet, lses: Lses, loads: List[int]) -> Migration:
     of_rows: List[int] = []
     if len(sheet.at) < len(ROWS):
         return migration
-    class_at, customers_at, rate_at, old_at, new_at = (sheet.at[ours] for ours in ROWS)
+    class_at, customers_at, rate_at, old_at, new_at = (sheet.at[column] for column in ROWS)
     for line, row in sheet.rows():
         of_rows.append(classes.setdefault(row[class_at], len(classes)) % 256)  # of no effect
         migration.customers.append(sheet.figure(line, customers_at, row[customers_at], CUSTOMERS))
         migration.rates.append(sheet.figure(line, rate_at, row[rate_at], CUSTOMER_LOAD))
-        old, new = (lses.with_load(sheet, line, ours, row[at]) for ours, at in (("OLD_LSE", old_at), ("NEW_LSE", new_at)))
+        old = lses.with_load(sheet, line, "OLD_LSE", row[old_at])
+        new = lses.with_load(sheet, line, "NEW_LSE", row[new_at])
         if old and old == new:
             sheet.fault(line, "NEW_LSE", "the old and the new LSE are one", _RANGE)
         migration.olds.append(old)
@@ -108,17 +113,20 @@ def _read_rows(sheet: Sheet, lses: Lses, loads: List[int]) -> Migration:
 
 
 def read_migration(rows: Path, loads: Path, holders: Dict[int, str], faults: List[Fault]) -> Migration:
-    """The lists of both files, for holders of these names by number. Every fault is noted, also a load that is less than its LSE's losses."""
+    """The lists of both files, for holders of these names by number. Every fault is noted, also a load that
+    is less than its LSE's losses."""
     lses = Lses(holders)
     load_sheet = Sheet(loads, LOADS, faults)
-    found = _read_loads(load_sheet, lses)
-    migration = _read_rows(Sheet(rows, ROWS, faults), lses, found)
+    amounts = _read_loads(load_sheet, lses)
+    migration = _read_rows(Sheet(rows, ROWS, faults), lses, amounts)
     if faults:
         return migration
     nets = migration.nets
     for number, line in lses.lines.items():
         losses = sum(net for net in nets[number - 1] if net > 0)
-        if losses > found[number - 1]:
-            told, load = (decimal(megawatts, LOAD.places) for megawatts in (losses, found[number - 1]))
-            load_sheet.fault(line, "LOAD_MW", f"{load} MW, and the LSE loses {told} MW to all gainers", _EXCEEDED)
+        if losses > amounts[number - 1]:
+            lost, load = (decimal(megawatts, LOAD.places) for megawatts in (losses, amounts[number - 1]))
+            load_sheet.fault(
+                line, "LOAD_MW", f"{load} MW, and the LSE loses {lost} MW to all gainers", _EXCEEDED
+            )
     return migration

@@ -1,7 +1,9 @@
-"""names.csv: the names of what the bin files number. `pack` writes it beside them; `unpack` reads it and hands it on, since holders keep their numbers by it.
+"""names.csv: the names of what the bin files number. `pack` writes it beside them; `unpack` reads it and
+hands it on, since holders keep their numbers by it.
 
-TABLE is node, constraint, contract, holder, hour or form; the one row of an hour tells the day and hour ending of prices.bin, as 2026-07-01 HE08, and
-form 0 and 1 whether grid.bin and book.bin are narrow or wide (none: narrow where they can be).
+TABLE is node, constraint, contract, holder, hour or form; the one row of an hour tells the day and hour
+ending of prices.bin, as 2026-07-01 HE08, and form 0 and 1 whether grid.bin and book.bin are narrow or wide
+(none: narrow where they can be).
 """
 
 from __future__ import annotations
@@ -20,7 +22,8 @@ HEADING = ("TABLE", "NUMBER", "NAME")
 
 
 def read_names(folder: Path, faults: List[Fault], inputs: Inputs = None) -> Tables:
-    """Names by table and number; none where the folder has no names.csv. What was read is noted in `inputs`."""
+    """Names by table and number; none where the folder has no names.csv. What was read is noted in
+    `inputs`."""
     tables: Tables = {table: {} for table in ("node", "constraint", "contract", "holder", "hour", "form")}
     path = folder / "names.csv"
     if not is_there(path):
@@ -28,7 +31,7 @@ def read_names(folder: Path, faults: List[Fault], inputs: Inputs = None) -> Tabl
     sheet = Sheet(path, HEADING, faults, name=path.name, inputs=inputs)
     if len(sheet.at) < len(HEADING):
         return tables
-    table_at, number_at, name_at = (sheet.at[ours] for ours in HEADING)
+    table_at, number_at, name_at = (sheet.at[column] for column in HEADING)
     taken = set()
     for line, row in sheet.rows():
         table, number, name = row[table_at], row[number_at], row[name_at]
@@ -63,14 +66,19 @@ def name_rows(names: Names, hour: str, forms: Sequence[int]) -> List[Tuple[str, 
 
 
 def names_of(tables: Tables, nodes: int, constraints: int, contracts: int, faults: List[Fault]) -> Names:
-    """The names for so many of each: N0, K0 and the contract's number where there are none. Names that don't go with the counts are faults."""
+    """The names for so many of each: N0, K0 and the contract's number where there are none. Names that don't
+    go with the counts are faults."""
     lists = []
-    for table, count, prefix in (("node", nodes, "N"), ("constraint", constraints, "K"), ("contract", contracts, "")):
+    counts = (("node", nodes, "N"), ("constraint", constraints, "K"), ("contract", contracts, ""))
+    for table, count, prefix in counts:
         beyond = [number for number in tables[table] if number >= count]
         names = [tables[table].get(number, f"{prefix}{number}") for number in range(count)]
         if beyond:
-            faults.append(Fault("names.csv", 0, "", f"{table} {min(beyond)} is named, and the bin files have {count} of them"))
+            text = f"{table} {min(beyond)} is named, and the bin files have {count} of them"
+            faults.append(Fault("names.csv", 0, "", text))
         elif len(set(names)) < count:
-            faults.append(Fault("names.csv", 0, "", f"two of the {table}s have one name; those that names.csv leaves out are called {prefix}0, {prefix}1, .."))
+            called = f"those that names.csv leaves out are called {prefix}0, {prefix}1, .."
+            faults.append(Fault("names.csv", 0, "", f"two of the {table}s have one name; {called}"))
         lists.append(names)
-    return Names(lists[0], lists[1], lists[2], {number: name for number, name in tables["holder"].items() if name != str(number)})
+    holders = {number: name for number, name in tables["holder"].items() if name != str(number)}
+    return Names(lists[0], lists[1], lists[2], holders)

@@ -1,6 +1,7 @@
 """The shared library by ctypes: how buffers are lent to it, how its answers become exceptions.
 
-Nothing but the standard library is needed. A buffer is lent, never copied: bytes, array, memoryview, numpy arrays, pandas columns.
+Nothing but the standard library is needed. A buffer is lent, never copied: bytes, array, memoryview, numpy
+arrays, pandas columns.
 """
 
 from __future__ import annotations
@@ -33,13 +34,15 @@ if TYPE_CHECKING:
 if struct.calcsize("P") != 8:
     raise ImportError("crr is for 64-bit machines")
 
-# Cells of 64 bits, lent as they are where they are a buffer of the right type; a list or tuple of whole numbers is put into one.
+# Cells of 64 bits, lent as they are where they are a buffer of the right type; a list or tuple of whole
+# numbers is put into one.
 Cells = Union[Sequence[int], "array[int]", "NumpyArray", "PandasColumn"]
 Bytes = Union[bytes, bytearray, memoryview, "NumpyArray"]
 
 
 class Refused(ValueError):
-    """Input was turned down: the refusal's number, its meaning in crr.h's words, the entry that refused, and the file where one is known."""
+    """Input was turned down: the refusal's number, its meaning in crr.h's words, the entry that refused, and
+    the file where one is known."""
 
     def __init__(self, number: int, entry: str, file: str = "") -> None:
         self.number = number
@@ -49,7 +52,8 @@ class Refused(ValueError):
         super().__init__(f"{file + ': ' if file else ''}refused {number} by {entry}: {self.meaning}")
 
     def __reduce__(self) -> Tuple[Type["Refused"], Tuple[int, str, str]]:
-        # A pool of processes hands an exception over by its arguments, and those of the base class are the message alone.
+        # A pool of processes hands an exception over by its arguments, and those of the base class are the
+        # message alone.
         return (Refused, (self.number, self.entry, self.file))
 
 
@@ -89,7 +93,8 @@ class _PyBuffer(ctypes.Structure):
 
 
 _get_buffer = ctypes.pythonapi.PyObject_GetBuffer
-_get_buffer.argtypes, _get_buffer.restype = [ctypes.py_object, ctypes.POINTER(_PyBuffer), ctypes.c_int], ctypes.c_int
+_get_buffer.argtypes = [ctypes.py_object, ctypes.POINTER(_PyBuffer), ctypes.c_int]
+_get_buffer.restype = ctypes.c_int
 _release_buffer = ctypes.pythonapi.PyBuffer_Release
 _release_buffer.argtypes, _release_buffer.restype = [ctypes.POINTER(_PyBuffer)], None
 _WRITABLE, _FORMAT, _C_CONTIGUOUS = 0x0001, 0x0004, 0x0020 | 0x0010 | 0x0008
@@ -103,7 +108,8 @@ _NEEDED = {
 
 
 class Lent:
-    """A buffer of cells of one type, its address and its length in cells. It keeps its owner alive and makes no copy."""
+    """A buffer of cells of one type, its address and its length in cells. It keeps its owner alive and makes
+    no copy."""
 
     __slots__ = ("_buffer", "address", "cells", "code", "writable", "owner")
 
@@ -119,8 +125,10 @@ class Lent:
         size = 1 if code == "B" else 8
         if _CELLS.get(view.format) != code or view.itemsize != size:
             cells = (view.format or b"B").decode()
-            raise TypeError(f"{name}: a buffer of cells {code!r} of {size} bytes is needed; this one has {cells!r} of {view.itemsize}")
-        # An empty buffer's own address may be null or odd (an array's is odd), which the header rules out: any aligned place stands for it.
+            needed, given = f"{code!r} of {size} bytes", f"{cells!r} of {view.itemsize}"
+            raise TypeError(f"{name}: a buffer of cells {needed} is needed; this one has {given}")
+        # An empty buffer's own address may be null or odd (an array's is odd), which the header rules out:
+        # any aligned place stands for it.
         self.address: int = view.buf if view.len else ctypes.addressof(_NOTHING)
         if self.address % size:
             raise TypeError(f"{name}: the buffer's cells are not aligned")
@@ -159,11 +167,14 @@ def _whole_number(value: Any, code: str, name: str) -> int:
 
 
 def lend_cells(cells: Cells, code: str, name: str = "cells") -> Lent:
-    """Cells to be read: a buffer as it is, a pandas column by its numpy array, a list or tuple in a buffer of its own. Errors say the name."""
+    """Cells to be read: a buffer as it is, a pandas column by its numpy array, a list or tuple in a buffer of
+    its own. Errors say the name."""
     owner: Any = cells
     if hasattr(owner, "to_numpy"):
         owner = owner.to_numpy()
-    return Lent(whole_numbers(owner, code, name) if isinstance(owner, (list, tuple, range)) else owner, code, name=name)
+    if isinstance(owner, (list, tuple, range)):
+        owner = whole_numbers(owner, code, name)
+    return Lent(owner, code, name=name)
 
 
 def lend_bytes(file: Bytes, name: str = "file") -> Lent:
@@ -187,12 +198,13 @@ class Entry:
     def function(self) -> Callable[..., int]:
         """The function itself: addresses, lengths and numbers in, the refusal's number out."""
         try:
-            found = _library()[self.name]
+            function = _library()[self.name]
         except AttributeError:
-            raise OSError(f"{library_path()} has no {self.name}: it is older than this package; ./library builds it anew") from None
-        found.restype = ctypes.c_uint64
-        found.argtypes = [kind for parameter in self.parameters for kind in _argument_types(parameter)]
-        return found
+            reason = "it is older than this package; ./library builds it anew"
+            raise OSError(f"{library_path()} has no {self.name}: {reason}") from None
+        function.restype = ctypes.c_uint64
+        function.argtypes = [kind for parameter in self.parameters for kind in _argument_types(parameter)]
+        return function
 
     def arguments(self, *given: Given) -> List[Any]:
         """The arguments for the function: a buffer's address and length, a number, a figure's address."""
@@ -221,12 +233,20 @@ def _lent(parameter: Parameter, value: Any) -> Any:
     """A value as an argument is made of it: cells and bytes are lent under the parameter's name."""
     if parameter.form != "buffer" or parameter.writable or isinstance(value, Lent):
         return value
-    return lend_bytes(value, parameter.name) if parameter.code == "B" else lend_cells(value, parameter.code, parameter.name)
+    return (
+        lend_bytes(value, parameter.name)
+        if parameter.code == "B"
+        else lend_cells(value, parameter.code, parameter.name)
+    )
 
 
 def _argument(entry: str, parameter: Parameter, value: Any) -> List[Any]:
     if isinstance(value, Lent):
-        if parameter.form == "buffer" and value.code == parameter.code and value.writable >= parameter.writable:
+        if (
+            parameter.form == "buffer"
+            and value.code == parameter.code
+            and value.writable >= parameter.writable
+        ):
             return [value.address, value.cells]
     elif isinstance(value, (ctypes.c_uint64, ctypes.c_int64)):
         if parameter.form == "figure" and isinstance(value, _FIGURES[parameter.code]):

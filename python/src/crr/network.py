@@ -1,7 +1,8 @@
-"""Grids from networks: shift factors (a PTDF matrix) of lines with reactances, by exact fractions, and any PTDF matrix as a grid's factors.
+"""Grids from networks: shift factors (a PTDF matrix) of lines with reactances, by exact fractions, and any
+PTDF matrix as a grid's factors.
 
-The DC approximation: a line's flow is the difference of its ends' angles over its reactance. A MW put in at a node and taken out at the slack flows
-over each line by that line's factor for the node.
+The DC approximation: a line's flow is the difference of its ends' angles over its reactance. A MW put in at a
+node and taken out at the slack flows over each line by that line's factor for the node.
 """
 
 from __future__ import annotations
@@ -16,7 +17,8 @@ Number = Union[Fraction, Decimal, int, float]
 
 
 class Line(NamedTuple):
-    """A line or transformer between two nodes, by number: reactance per unit, times the tap ratio where it has one."""
+    """A line or transformer between two nodes, by number: reactance per unit, times the tap ratio where it
+    has one."""
 
     start: int
     end: int
@@ -36,7 +38,7 @@ def _inverse(rows: List[List[Fraction]]) -> List[List[Fraction]]:
         for i in range(size):
             if i != at and wide[i][at]:
                 times = wide[i][at]
-                wide[i] = [value - times * own for value, own in zip(wide[i], wide[at])]
+                wide[i] = [value - times * pivotal for value, pivotal in zip(wide[i], wide[at])]
     return [row[size:] for row in wide]
 
 
@@ -57,22 +59,26 @@ def ptdf(lines: Sequence[Line], nodes: int, slack: int = 0) -> List[List[Fractio
 
     out = []
     for line in lines:
-        of_line = [(angle(line.start, at) - angle(line.end, at)) / line.reactance for at in range(len(others))]
+        of_line = [
+            (angle(line.start, at) - angle(line.end, at)) / line.reactance for at in range(len(others))
+        ]
         out.append(of_line[:slack] + [Fraction(0)] + of_line[slack:])
     return out
 
 
 def factor(value: Number) -> int:
-    """A PTDF as a shift factor in hundred-thousandths, the nearest, a half to the even one. Beyond -1 to 1 it is a ValueError: choose another slack."""
+    """A PTDF as a shift factor in hundred-thousandths, the nearest, a half to the even one. Beyond -1 to 1 it
+    is a ValueError: choose another slack."""
     number = int(round(Fraction(value) * 10**SHIFT_FACTOR.places))
     if not SHIFT_FACTOR.low <= number <= SHIFT_FACTOR.high:
-        raise ValueError(f"a factor of {float(value)}: subtract one node's column from all, which changes no flow between two nodes")
+        advice = "subtract one node's column from all, which changes no flow between two nodes"
+        raise ValueError(f"a factor of {float(value)}: {advice}")
     return number
 
 
 def both_directions(matrix: Sequence[Sequence[Number]]) -> List[List[int]]:
-    """The factors of a grid whose constraints are the matrix's lines, forward and reverse in turn: a row for each node. Rows of different lengths
-    are a ValueError with the row's number."""
+    """The factors of a grid whose constraints are the matrix's lines, forward and reverse in turn: a row for
+    each node. Rows of different lengths are a ValueError with the row's number."""
     forward = [[factor(value) for value in row] for row in matrix]
     nodes = len(forward[0]) if forward else 0
     for number, row in enumerate(forward):

@@ -1,5 +1,5 @@
-"""What `crr check` tells beside faults: columns that were not used, files that were not read, and packed files that
-are older than the CSV files beside them."""
+"""What `crr check` tells beside faults: columns that were not used, files that were not read, and packed
+files that are older than the CSV files beside them."""
 
 from __future__ import annotations
 
@@ -10,7 +10,7 @@ from typing import Dict, List, Tuple
 from .book_csv import BOOK
 from .from_csv import CONSTRAINTS, PRICES
 from .names_csv import HEADING
-from .packed import price_files
+from .packed import price_file_names
 from .sheet import Sheet, alike
 
 _CSV: Dict[str, Tuple[str, ...]] = {
@@ -38,9 +38,10 @@ def unread_files(folder: Path, is_csv: bool) -> Dict[str, str]:
 
 
 def older_packed(folder: Path) -> Dict[str, str]:
-    """The packed files that are older than the CSV file beside them that they are made of: by their names, it."""
+    """The packed files that are older than the CSV file beside them that they are made of: by their names,
+    it."""
     older: Dict[str, str] = {}
-    hours = price_files(folder)
+    hours = price_file_names(folder)
     made = {
         "grid.bin": ("constraints.csv", "factors.csv"),
         "book.bin": ("book.csv",),
@@ -59,13 +60,15 @@ def older_packed(folder: Path) -> Dict[str, str]:
 
 def notes(folder: Path, is_csv: bool) -> List[str]:
     """All of it, a sentence each."""
-    told = [f"{name}: {other} was read, not this one" for name, other in unread_files(folder, is_csv).items()]
+    sentences = [
+        f"{name}: {other} was read, not this one" for name, other in unread_files(folder, is_csv).items()
+    ]
     if is_csv:
-        told += [
+        sentences += [
             f"{name}: not used: {', '.join(columns)}" for name, columns in unused_columns(folder).items()
         ]
-        told += [
+        sentences += [
             f"{packed}: older than {source}; crr pack renews it"
             for packed, source in older_packed(folder).items()
         ]
-    return told
+    return sentences

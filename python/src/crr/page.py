@@ -17,7 +17,7 @@ from .drawing import (
     exact_money,
     folded,
     grouped,
-    limit_told,
+    limit_words,
     line,
     megawatts,
     money,
@@ -154,7 +154,7 @@ def _loadings(figures: Figures, period: int) -> List[_Loading]:
     return sorted(out, key=lambda loading: (-loading.share, -figures.flows[period].flows[loading.k]))
 
 
-def _over_told(figures: Figures, period: int, loading: _Loading) -> List[str]:
+def _over_words(figures: Figures, period: int, loading: _Loading) -> List[str]:
     """In which processes a constraint is over, and by how much."""
     by = {process: exact_megawatts(figures.excesses[period, process][loading.k]) for process in loading.over}
     return [f"over {PROCESSES[process]} by {excess} MW" for process, excess in by.items()] or ["within"]
@@ -164,7 +164,7 @@ def _loading_row(figures: Figures, period: int, loading: _Loading, full: float) 
     k, name, limit = loading.k, figures.constraints[loading.k], figures.limits[loading.k]
     flow = figures.flows[period].flows[k]
     of_limit = share(flow, limit) if limit else "limit 0"
-    said = _over_told(figures, period, loading)
+    said = _over_words(figures, period, loading)
     kind = "within" if not loading.over else "over" if len(loading.over) == len(PROCESSES) else "some"
     marks = "".join(
         line(percent / full, f"mark{process}") for process, percent in enumerate(figures.percents)
@@ -173,9 +173,9 @@ def _loading_row(figures: Figures, period: int, loading: _Loading, full: float) 
     if loading.share > full:
         marks += broken(of_limit)
     words = ", ".join([of_limit, *said])
-    label = f"{name}: {grouped(decimal(flow, FLOW_PLACES))} MW of {limit_told(limit)} MW, {words}"
+    label = f"{name}: {grouped(decimal(flow, FLOW_PLACES))} MW of {limit_words(limit)} MW, {words}"
     more = [of_limit, *said] if loading.over else [f"{of_limit}, {said[0]}"]
-    return row(name, bar(label, 0, end, kind, marks), f"{megawatts(flow)} of {limit_told(limit)} MW", *more)
+    return row(name, bar(label, 0, end, kind, marks), f"{megawatts(flow)} of {limit_words(limit)} MW", *more)
 
 
 def _legend(figures: Figures, beyond: bool) -> str:
@@ -260,13 +260,13 @@ _MONTHS = (
 def _month_section(figures: Figures) -> str:
     rows = []
     for month in figures.months:
-        told = (
+        amounts = (
             f"{month.days:,}",
             f"{month.hours:,}",
             *map(exact_money, (month.sum, month.exact, month.rent, month.left)),
         )
         cells = "".join(
-            f'<td class=figure data-name="{name}">{figure}</td>' for name, figure in zip(_MONTHS[1:], told)
+            f'<td class=figure data-name="{name}">{figure}</td>' for name, figure in zip(_MONTHS[1:], amounts)
         )
         rows.append(f"<tr><th scope=row>{escape(month.name)}</th>{cells}</tr>")
     heads = "".join(f"<th scope=col class=figure>{name}</th>" for name in _MONTHS[1:])
@@ -281,7 +281,8 @@ def _month_section(figures: Figures) -> str:
         "<p class=faint>Congestion rent: each hour's shadow price of each constraint times the limit that "
         f"the monthly process releases, {figures.percents[MONTHLY]}% of it, added up over constraints and "
         f"hours. The other processes release {' and '.join(others)} of each limit, and so of this rent. "
-        "Where the book passes in the monthly process, no hour's exact payments exceed its rent.</p></section>"
+        "Where the book passes in the monthly process, "
+        "no hour's exact payments exceed its rent.</p></section>"
     )
 
 
@@ -307,9 +308,9 @@ _NOTE = (
 )
 
 
-def is_page(name: str, found: bytes) -> bool:
+def is_page(name: str, data: bytes) -> bool:
     """Whether a file is a page of these."""
-    return found.startswith(b"<!doctype html>\n") and b": congestion revenue rights</title>" in found[:4096]
+    return data.startswith(b"<!doctype html>\n") and b": congestion revenue rights</title>" in data[:4096]
 
 
 def page(figures: Figures) -> str:

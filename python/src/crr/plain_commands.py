@@ -26,27 +26,34 @@ _MONTHS = re.compile(r"([0-9]{4})(?:-([0-9]{2}))?")
 def _months(text: str) -> Tuple[Month, Month]:
     """The first and the last month of a year, a month, or a span of them."""
     start, _, end = text.partition("..")
-    found = [_MONTHS.fullmatch(part) for part in (start, end or start)]
-    if not all(found) or text.endswith("."):
-        raise argparse.ArgumentTypeError(f"{text!r} is neither a year, YYYY, nor a month, YYYY-MM, nor two of these as FROM..TO")
-    (first_year, first_month), (last_year, last_month) = [match.groups() for match in found if match]
+    matches = [_MONTHS.fullmatch(part) for part in (start, end or start)]
+    if not all(matches) or text.endswith("."):
+        raise argparse.ArgumentTypeError(
+            f"{text!r} is neither a year, YYYY, nor a month, YYYY-MM, nor two of these as FROM..TO"
+        )
+    (first_year, first_month), (last_year, last_month) = [match.groups() for match in matches if match]
     first, last = (int(first_year), int(first_month or 1)), (int(last_year), int(last_month or 12))
     if last < first:
         raise argparse.ArgumentTypeError(f"{end} comes before {start}")
     return first, last
 
 
-@command("hours", "the on-peak days and hours of months, 2010 to 2037", argument("months", type=_months, metavar="MONTHS", help="YYYY, YYYY-MM, or FROM..TO"))
+@command(
+    "hours",
+    "the on-peak days and hours of months, 2010 to 2037",
+    argument("months", type=_months, metavar="MONTHS", help="YYYY, YYYY-MM, or FROM..TO"),
+)
 def hours(months: Tuple[Month, Month]) -> Answer:
     """The on-peak days and hours of each month, from the first to the last."""
     first, last = months
     for named in (first, last):
         _on_peak(*named)  # refused as it was written, such as month 13
-    rows = [_on_peak(number // 12, number % 12 + 1) for number in range(12 * first[0] + first[1] - 1, 12 * last[0] + last[1])]
+    numbers = range(12 * first[0] + first[1] - 1, 12 * last[0] + last[1])
+    rows = [_on_peak(number // 12, number % 12 + 1) for number in numbers]
     days, total = sum(row[1] for row in rows), sum(row[2] for row in rows)
-    told = f"{counted(len(rows), 'month')}: {counted(days, 'on-peak day')}, {counted(total, 'on-peak hour')}\n"
+    of_all = f"{counted(days, 'on-peak day')}, {counted(total, 'on-peak hour')}"
     data: Dict[str, object] = {"months": objects(ON_PEAK, rows), "on_peak_days": days, "on_peak_hours": total}
-    return Answer(PASSES, csv_text(ON_PEAK, rows), data, told)
+    return Answer(PASSES, csv_text(ON_PEAK, rows), data, f"{counted(len(rows), 'month')}: {of_all}\n")
 
 
 def _on_peak(year: int, month: int) -> Tuple[str, int, int]:
@@ -54,7 +61,8 @@ def _on_peak(year: int, month: int) -> Tuple[str, int, int]:
     try:
         on_peak = month_hours(year, month)
     except Refused as refused:
-        raise Faults([Fault(name, 0, "", f"no month of {FIRST_YEAR} to {LAST_YEAR}", refused.number)]) from None
+        text = f"no month of {FIRST_YEAR} to {LAST_YEAR}"
+        raise Faults([Fault(name, 0, "", text, refused.number)]) from None
     return name, on_peak // hours_a_day(), on_peak
 
 
@@ -66,7 +74,8 @@ def _balance(text: str, faults: List[Fault]) -> int:
         faults.append(Fault("BALANCE", 0, "", str(error)))
         return 0
     if not BALANCE.low <= cents <= BALANCE.high:
-        faults.append(Fault("BALANCE", 0, "", f"{text} is outside {dollars(BALANCE.low)} to {dollars(BALANCE.high)}", BALANCE.refusal))
+        outside = f"{text} is outside {dollars(BALANCE.low)} to {dollars(BALANCE.high)}"
+        faults.append(Fault("BALANCE", 0, "", outside, BALANCE.refusal))
     return cents
 
 
@@ -85,6 +94,7 @@ def share(balance: str, demands: Path) -> Answer:
     cents, asked = _balance(balance, faults), read_demands(demands, faults)
     raise_any(faults)
     shares = share_balance(cents, asked.units)
-    rows = [(name, text, dollars(own)) for name, text, own in zip(asked.names, asked.texts, shares)]
-    told = f"{counted(len(rows), 'coordinator')}: sum {dollars(sum(shares))}\n"
-    return Answer(PASSES, csv_text(SHARES, rows), {"balance": dollars(cents), "shares": objects(SHARES, rows)}, told)
+    rows = [(name, text, dollars(cell)) for name, text, cell in zip(asked.names, asked.texts, shares)]
+    note = f"{counted(len(rows), 'coordinator')}: sum {dollars(sum(shares))}\n"
+    data: Dict[str, object] = {"balance": dollars(cents), "shares": objects(SHARES, rows)}
+    return Answer(PASSES, csv_text(SHARES, rows), data, note)

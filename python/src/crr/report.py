@@ -2,7 +2,6 @@
 
 from __future__ import annotations
 
-from array import array
 from collections import Counter
 from datetime import date
 from fractions import Fraction
@@ -10,18 +9,17 @@ from pathlib import Path
 from typing import Dict, List, NamedTuple, Optional, Sequence, Tuple, cast
 
 from .bar import Bar
+from .case import Case, PricedHour, Time
 from .command import FOLDER, FORCE, PASSES, ROUND_PRICES, Answer, command, counted, writes
 from .commands import cut_rows, verdicts
 from .feasibility import excesses, find_flows, released_limit, released_percent, worst
-from .files import Prices, read_grid
 from .hours import PriceFile, Settled, settle_hours
 from .inputs import Input, input_of
 from .interface import PART_PLACES
 from .library import library_path
-from .opening import Opened, counts_told, files_of, opened, write_beside
-from .packed import read_hours
+from .opening import counts_words, opened, write_beside
 from .page import Figures, Month, is_page, page
-from .results import Time, dollars, exact_dollars, holder_sums
+from .results import dollars, exact_dollars, holder_sums
 from .settlement import HourTotal
 from .streams import readable
 from .version import __version__
@@ -30,13 +28,12 @@ from .words import Period, Process
 FULL_DAY = 23  # hours of the shortest whole day
 
 
-def _inputs(found: Opened, hours: Sequence[PriceFile]) -> List[Input]:
+def _inputs(case: Case, hours: Sequence[PriceFile]) -> List[Input]:
     """The files that were read. The price files of many hours are taken as one, in the order of hours."""
-    if found.case:
-        return found.case.inputs
+    if case.is_csv or not hours:
+        return case.inputs
     name = "prices.bin" if len(hours) == 1 else f"prices/, {len(hours):,} files one behind the other"
-    prices = [input_of(name, [cast(bytes, hour.file) for hour in hours])] if hours else []
-    return files_of(found).inputs + prices
+    return [*case.inputs, input_of(name, [cast(bytes, hour.file) for hour in hours])]
 
 
 def _library() -> Input:
@@ -92,39 +89,36 @@ def covered(times: Sequence[Time]) -> str:
 
 
 def figures(
-    folder: Path, found: Opened, hours: Sequence[Tuple[PriceFile, Prices]], result: Settled
+    folder: Path, case: Case, hours: Sequence[Tuple[PriceFile, PricedHour]], result: Settled
 ) -> Figures:
     """All that the page shows of a case."""
-    files, answers = files_of(found), verdicts(files_of(found))
-    grid = read_grid(files.grid)
-    limits, percents = cast("array[int]", grid.limits), [
-        released_percent(process) for process in Process
-    ]
-    flows = [find_flows(grid, files.book, period) for period in Period]
+    grid, book, limits, answers = case.grid, case.book_file(), case.limits, verdicts(case)
+    percents = [released_percent(process) for process in Process]
+    flows = [find_flows(grid, book, period) for period in Period]
     over = {
         (period, process): excesses(limits, flows[period].flows, percents[process])
         for period, process in answers
     }
-    rents = [rent(limits, prices.prices, percents[Process.MONTHLY]) for _, prices in hours]
+    rents = [rent(limits, hour.prices, percents[Process.MONTHLY]) for _, hour in hours]
+    totals = [
+        _Hour(day, total, of_hour) for (day, _), total, of_hour in zip(case.times, result.hours, rents)
+    ]
+    sums = holder_sums(result, case.book)
     return Figures(
         title=readable(folder.resolve().name),
-        summary=f"{counts_told(found)}.",
-        covered=covered(found.times),
-        constraints=found.names.constraints,
+        summary=f"{counts_words(case)}.",
+        covered=covered(case.times),
+        constraints=case.names.constraints,
         limits=limits,
         percents=percents,
         verdicts=answers,
         excesses=over,
         worst={line: worst(verdict, over[line]) for line, verdict in answers.items() if not verdict.passed},
-        cuts=cut_rows(found, answers),
+        cuts=cut_rows(case, answers),
         flows=flows,
-        holders=[
-            (found.names.holder(holder), cents) for holder, cents in holder_sums(result, found.book).items()
-        ],
-        months=_months(
-            [_Hour(day, total, own) for (day, _), total, own in zip(found.times, result.hours, rents)]
-        ),
-        inputs=_inputs(found, [hour for hour, _ in hours]),
+        holders=[(case.names.holder(holder), cents) for holder, cents in sums.items()],
+        months=_months(totals),
+        inputs=_inputs(case, [file for file, _ in hours]),
         library=_library(),
     )
 
@@ -132,12 +126,20 @@ def figures(
 _TEXT = "one HTML page: verdicts, loading of constraints, payments and congestion rent"
 
 
-@command("report", _TEXT, FOLDER, ROUND_PRICES, writes("the HTML file; without it, report.html in the folder"), FORCE)
+@command(
+    "report",
+    _TEXT,
+    FOLDER,
+    ROUND_PRICES,
+    writes("the HTML file; without it, report.html in the folder"),
+    FORCE,
+)
 def report(folder: Path, out: Optional[Path], round_prices: bool, force: bool) -> Answer:
     """Writes the page, over one of before; a book that fails is what it tells and no fault of it."""
-    found = opened(folder, round_prices)
-    files, target = files_of(found), out or folder / "report.html"
-    hours = read_hours(files)  # read once: what is settled is what is hashed
-    result = settle_hours(files.grid, files.book, [hour for hour, _ in hours], progress=Bar("settle"))
-    write_beside(folder, target, page(figures(folder, found, hours, result)).encode(), force, is_page)
+    case = opened(folder, round_prices)
+    target = out or folder / "report.html"
+    hours = case.read_hours()  # read once: what is settled is what is hashed
+    files = [file for file, _ in hours]
+    result = settle_hours(case.grid_file(), case.book_file(), files, progress=Bar("settle"))
+    write_beside(folder, target, page(figures(folder, case, hours, result)).encode(), force, is_page)
     return Answer(PASSES, f"{target} written\n", {"out": str(target)})

@@ -1,11 +1,12 @@
-"""What settling came to, as CSV: hour by hour, holder by month, contract by contract. The sums of the three are one figure."""
+"""What settling came to, as CSV: hour by hour, holder by month, contract by contract. The sums of the three
+are one figure."""
 
 from __future__ import annotations
 
 from fractions import Fraction
 from typing import Dict, List, Sequence, Tuple
 
-from .case import Names
+from .case import Names, Time
 from .decimals import decimal
 from .files import Contract
 from .hours import Settled
@@ -15,7 +16,6 @@ from .to_csv import csv_text
 from .words import HEDGE_TYPES, TIMES_OF_USE
 
 _CENTS = 2  # decimals of a dollar
-Time = Tuple[str, int]  # the day and the hour ending
 
 
 def dollars(cents: int) -> str:
@@ -63,17 +63,28 @@ HOLDERS = ("OWNER", "MONTH", "AMOUNT")
 CONTRACTS = ("CRR_ID", "OWNER", "HEDGE_TYPE", "TIME_OF_USE", "AMOUNT")
 
 
-def is_result(name: str, found: bytes) -> bool:
+def is_result(name: str, data: bytes) -> bool:
     """Whether a file has the heading of the result file of its name."""
     heading = {"hours.csv": HOURS, "holders.csv": HOLDERS, "contracts.csv": CONTRACTS}.get(name, ())
-    return found.split(b"\n", 1)[0] == ",".join(heading).encode()
+    return data.split(b"\n", 1)[0] == ",".join(heading).encode()
 
 
-def result_files(settled: Settled, names: Names, book: Sequence[Contract], times: Sequence[Time]) -> Dict[str, str]:
+def result_files(
+    settled: Settled, names: Names, book: Sequence[Contract], times: Sequence[Time]
+) -> Dict[str, str]:
     """hours.csv, holders.csv and contracts.csv. Amounts are dollars; positive is paid, negative charged."""
-    holders = [(names.holder(holder), month, dollars(cents)) for (holder, month), cents in holder_months(settled, book).items()]
+    holders = [
+        (names.holder(holder), month, dollars(cents))
+        for (holder, month), cents in holder_months(settled, book).items()
+    ]
     contracts = [
-        (crr_id, names.holder(contract.holder), HEDGE_TYPES[contract.kind], TIMES_OF_USE[contract.period], dollars(cents))
+        (
+            crr_id,
+            names.holder(contract.holder),
+            HEDGE_TYPES[contract.kind],
+            TIMES_OF_USE[contract.period],
+            dollars(cents),
+        )
         for crr_id, contract, cents in zip(names.contracts, book, settled.cents or [0] * len(book))
     ]
     return {

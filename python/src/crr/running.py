@@ -1,4 +1,5 @@
-"""The running test: awards tried one after another for one period and process, with tiers to mark and to come back to."""
+"""The running test: awards tried one after another for one period and process, with tiers to mark and to come
+back to."""
 
 from __future__ import annotations
 
@@ -18,21 +19,25 @@ TIERS = {1: "1", 2: "2", 3: "3", MARK_LT: "LT"}  # by number
 
 
 def _copy(cells: Cells, code: str, name: str) -> "array[int]":
-    """A copy of a table: those of a running test stay the opening's, whatever becomes of what was handed in."""
+    """A copy of a table: those of a running test stay the opening's, whatever becomes of what was handed
+    in."""
     return array(code, memoryview(lend_cells(cells, code, name).owner).tobytes())
 
 
 class RunningTest:
-    """A running test on a grid. An award is held where, with it, no flow exceeds its released limit; `Refused` is raised otherwise, and nothing changes.
+    """A running test on a grid. An award is held where, with it, no flow exceeds its released limit;
+    `Refused` is raised otherwise, and nothing changes.
 
     At every moment the awards held pass the test of the process and period: written as a book, in a form that
     can hold their ends (the wide one always can), they pass `test_book`, and `find_flows` gives `flows` and
     `counted` of it. An award of the other period is held too; it has no flow and is not counted."""
 
     def __init__(self, grid: Grid, process: int, period: int) -> None:
-        self.nodes, self.constraints, self.process, self.period = grid.nodes, grid.constraints, process, period
+        self.nodes, self.constraints = grid.nodes, grid.constraints
+        self.process, self.period = process, period
         self._limits, self._factors = _copy(grid.limits, "Q", "limits"), _copy(grid.factors, "q", "factors")
-        self._awards, self._numbers, self._flows = zeros("Q", RUNNING_AWARDS), zeros("Q", RUNNING_NUMBERS), zeros("q", RUNNING_FLOWS)
+        self._awards, self._numbers = zeros("Q", RUNNING_AWARDS), zeros("Q", RUNNING_NUMBERS)
+        self._flows = zeros("q", RUNNING_FLOWS)
         self._lend()
         _open_running(*self._opening, *self._state)
 
@@ -45,15 +50,22 @@ class RunningTest:
 
     def __getstate__(self) -> Dict[str, Any]:
         """What a pickle, or a copy, has: all but what is lent."""
-        return {name: value for name, value in vars(self).items() if name not in ("_marks", "_opening", "_state")}
+        return {
+            name: value for name, value in vars(self).items() if name not in ("_marks", "_opening", "_state")
+        }
 
     def __setstate__(self, state: Dict[str, Any]) -> None:
-        vars(self).update({name: array(value.typecode, value) if isinstance(value, array) else value for name, value in state.items()})
+        vars(self).update(
+            {
+                name: array(value.typecode, value) if isinstance(value, array) else value
+                for name, value in state.items()
+            }
+        )
         self._lend()
 
     def add(self, award: Iterable[int]) -> None:
-        """Adds an award: kind, period, holder, source, sink, quantity. 21 where some flow would exceed its released limit; a ValueError where it
-        has not six figures."""
+        """Adds an award: kind, period, holder, source, sink, quantity. 21 where some flow would exceed its
+        released limit; a ValueError where it has not six figures."""
         _add_award(*self._opening, six_figures(award, "award"), *self._state)
 
     def mark(self, tier: int) -> None:
@@ -61,7 +73,8 @@ class RunningTest:
         _mark_tier(tier, *self._marks)
 
     def return_to(self, tier: int) -> None:
-        """Drops the awards added since a tier was marked, and the marks made when more awards were held. 20 where it is not marked."""
+        """Drops the awards added since a tier was marked, and the marks made when more awards were held. 20
+        where it is not marked."""
         _return_to_tier(tier, *self._marks)
 
     @property
@@ -90,7 +103,8 @@ class RunningTest:
         return {tier: self._numbers[3 * tier] for tier in TIERS if self._numbers[3 * tier - 1]}
 
     def book(self, form: int = NARROW) -> bytes:
-        """The awards held as a book's file. Ends above 255 need the wide form: the narrow one is `Refused`."""
+        """The awards held as a book's file. Ends above 255 need the wide form: the narrow one is
+        `Refused`."""
         return write_book(self.nodes, self.cells, form)
 
 

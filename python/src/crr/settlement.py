@@ -18,7 +18,8 @@ _read_prices = Entry("crr_read_prices")
 
 
 class HourTotal(NamedTuple):
-    """An hour's figures: its period, the rounded cents added, and the exact total as whole cents, rounded down, and parts of 10^-8 cents."""
+    """An hour's figures: its period, the rounded cents added, and the exact total as whole cents, rounded
+    down, and parts of 10^-8 cents."""
 
     period: int
     sum: int
@@ -32,7 +33,8 @@ class HourTotal(NamedTuple):
 
 
 class Hour(NamedTuple):
-    """A settled hour: for each contract its cents and the set of constraints that priced it (bit k is constraint k), and the hour's figures."""
+    """A settled hour: for each contract its cents and the set of constraints that priced it (bit k is
+    constraint k), and the hour's figures."""
 
     cents: "array[int]"
     priced: "array[int]"
@@ -47,7 +49,8 @@ def find_mcc(grid: Grid, prices: Cells) -> "array[int]":
 
 
 class HubMcc(NamedTuple):
-    """A hub's MCC: rounded down, in 10^-5 cents per MWh, and what is left of it in hundred-thousandths of that."""
+    """A hub's MCC: rounded down, in 10^-5 cents per MWh, and what is left of it in hundred-thousandths of
+    that."""
 
     quotient: int
     remainder: int
@@ -61,7 +64,9 @@ class HubMcc(NamedTuple):
 def find_hub_mcc(grid: Grid, prices: Cells, hub_nodes: Cells, hub_weights: Cells) -> HubMcc:
     """The MCC of a hub of nodes with weights in hundred-thousandths."""
     quotient, remainder = c_int64(), c_uint64()
-    _find_hub_mcc(grid.nodes, grid.constraints, grid.factors, prices, hub_nodes, hub_weights, quotient, remainder)
+    _find_hub_mcc(
+        grid.nodes, grid.constraints, grid.factors, prices, hub_nodes, hub_weights, quotient, remainder
+    )
     return HubMcc(quotient.value, remainder.value)
 
 
@@ -87,9 +92,11 @@ def settle_hour(grid: Grid, book: Bytes, period: int, prices: Cells) -> Hour:
 
 
 class Settler:
-    """Settles price file after price file for one grid and one book. Places and addresses are made once, since a year has 8,760 hours.
+    """Settles price file after price file for one grid and one book. Places and addresses are made once,
+    since a year has 8,760 hours.
 
-    `cents` and `priced` hold the last hour's cells. One settler is for one thread; grid and book are only read and may be shared."""
+    `cents` and `priced` hold the last hour's cells. One settler is for one thread; grid and book are only
+    read and may be shared."""
 
     def __init__(self, grid: Grid, book: bytes, contracts: int) -> None:
         self.cents, self.priced = zeros("q", contracts), zeros("Q", contracts)
@@ -97,10 +104,21 @@ class Settler:
         prices = Lent(zeros("Q", MAX_CONSTRAINTS), "Q", True)
         factors, lent_book = lend_cells(grid.factors, "q", "factors"), lend_bytes(book, "book")
         cents, priced = Lent(self.cents, "q", True), Lent(self.priced, "Q", True)
-        self._kept = (factors, prices, lent_book, cents, priced)  # the addresses below stay good as long as these are lent
+        # the addresses below stay good as long as these are lent
+        self._kept = (factors, prices, lent_book, cents, priced)
         self._reading = _read_prices.arguments(grid.constraints, Lent(b"", "B"), prices, self._period)
         self._settling = _settle_hour.arguments(
-            grid.nodes, grid.constraints, 0, factors, prices, lent_book, cents, priced, self._sum, self._whole, self._parts
+            grid.nodes,
+            grid.constraints,
+            0,
+            factors,
+            prices,
+            lent_book,
+            cents,
+            priced,
+            self._sum,
+            self._whole,
+            self._parts,
         )
 
     def settle(self, file: Bytes, name: str = "") -> HourTotal:

@@ -10,7 +10,8 @@ _share_balance = Entry("crr_share_balance")
 
 
 def share_balance(balance: int, demands: Cells) -> "array[int]":
-    """The share of each coordinator, in cents like the balance. They add up to it, and none is a cent or more from its exact proportion."""
+    """The share of each coordinator, in cents like the balance. They add up to it, and none is a cent or more
+    from its exact proportion."""
     lent = lend_cells(demands, "Q", "demands")
     shares = zeros("q", lent.cells)
     _share_balance(balance, lent, Lent(shares, "q", True))

@@ -1,6 +1,8 @@
-"""One CSV file: its heading found under the names that markets use, its rows with their lines, and every fault with file, line and column.
+"""One CSV file: its heading found under the names that markets use, its rows with their lines, and every
+fault with file, line and column.
 
-Understood: a byte order mark, quotes, CRLF, semicolons or tabs for commas, blank rows, columns in any order and columns that nobody asked for.
+Understood: a byte order mark, quotes, CRLF, semicolons or tabs for commas, blank rows, columns in any order
+and columns that nobody asked for.
 """
 
 from __future__ import annotations
@@ -17,7 +19,7 @@ from .faults import Fault, brief
 from .inputs import Inputs, note
 from .interface import Unit
 
-# Our name of a column, and other names for it, in capitals with _ for a blank.
+# The name of a column, and other names for it, in capitals with _ for a blank.
 ALIASES: Dict[str, Tuple[str, ...]] = {
     "CRR_ID": ("FTR_ID", "ID"),
     "OWNER": ("ACCOUNTHOLDER", "ACCOUNT_HOLDER", "MARKET_PARTICIPANT", "PARTICIPANT", "OWNER_NAME", "HOLDER"),
@@ -51,30 +53,37 @@ ALIASES: Dict[str, Tuple[str, ...]] = {
     "NUMBER": (),
     "NAME": (),
 }
-_OURS: Dict[str, Tuple[str, ...]] = {}  # by heading; what some mean, such as CLASS, the file decides
-for _ours, _others in ALIASES.items():
-    for _alias in (_ours, *_others):
-        _OURS[_alias] = (*_OURS.get(_alias, ()), _ours)
+_COLUMNS: Dict[str, Tuple[str, ...]] = {}  # by heading; what some mean, such as CLASS, the file decides
+for _column, _others in ALIASES.items():
+    for _alias in (_column, *_others):
+        _COLUMNS[_alias] = (*_COLUMNS.get(_alias, ()), _column)
 
 _LONG, _SENTENCE = 60, 240  # characters of a heading, and of a sentence, that are told
 
 Row = Tuple[int, List[str]]  # the line, and the fields in the file's order
 
 
-def our_name(heading: str, need: Sequence[str]) -> str:
-    """Our name of a column, one that is needed where it has several, or the heading in capitals where it is none of ours."""
+def column_name(heading: str, need: Sequence[str]) -> str:
+    """The name of a column by its heading, one that is needed where it has several, or the heading in
+    capitals where it has none."""
     plain = heading.upper().replace(" ", "_")
-    meanings = _OURS.get(plain, (plain,))
-    return next((ours for ours in meanings if ours in need), meanings[0])
+    meanings = _COLUMNS.get(plain, (plain,))
+    return next((column for column in meanings if column in need), meanings[0])
 
 
 class Sheet:
-    """A CSV file. Faults go to the list that it is given; `at` says where each column that is needed stands. With `first` the one that is needed
-    is the first column, whatever the others are called. Faults call it by its path as it was given, or by its name in a folder. What was read is noted
-    in `inputs`."""
+    """A CSV file. Faults go to the list that it is given; `at` says where each column that is needed stands.
+    With `first` the one that is needed is the first column, whatever the others are called. Faults call it by
+    its path as it was given, or by its name in a folder. What was read is noted in `inputs`."""
 
     def __init__(
-        self, path: Path, need: Sequence[str], faults: List[Fault], first: bool = False, name: str = "", inputs: Inputs = None
+        self,
+        path: Path,
+        need: Sequence[str],
+        faults: List[Fault],
+        first: bool = False,
+        name: str = "",
+        inputs: Inputs = None,
     ) -> None:
         self.name, self.faults = name or str(path), faults
         self.heading: List[str] = []
@@ -94,10 +103,14 @@ class Sheet:
             return "", False
         note(inputs, self.name, data)
         if data[:2] in (b"\xff\xfe", b"\xfe\xff"):
-            self.faults.append(Fault(self.name, 1, need[0], "UTF-16, as some spreadsheets save it; save as CSV UTF-8"))
+            self.faults.append(
+                Fault(self.name, 1, need[0], "UTF-16, as some spreadsheets save it; save as CSV UTF-8")
+            )
             return "", False
         if not data.strip():
-            self.faults.append(Fault(self.name, 1, need[0], "the file is empty: its first line is the heading"))
+            self.faults.append(
+                Fault(self.name, 1, need[0], "the file is empty: its first line is the heading")
+            )
             return "", False
         try:
             return data.decode("utf-8-sig"), False
@@ -111,15 +124,16 @@ class Sheet:
             self._note(1, need[0], f"the heading can't be read: {_reason(error)}")
             return
         self._readable(1, self.heading)
-        names = [our_name(heading, need) for heading in self.heading[: 1 if first else None]]
-        for ours in need:
-            if ours not in names:
-                self._note(1, ours, "the first column must be this one" if first else "the column is missing")
-            elif names.count(ours) > 1:
-                found = ", ".join(h for h, name in zip(self.heading, names) if name == ours)
-                self._note(1, ours, f"more than one column has this meaning: {found}")
+        names = [column_name(heading, need) for heading in self.heading[: 1 if first else None]]
+        for column in need:
+            if column not in names:
+                missing = "the first column must be this one" if first else "the column is missing"
+                self._note(1, column, missing)
+            elif names.count(column) > 1:
+                headings = ", ".join(h for h, name in zip(self.heading, names) if name == column)
+                self._note(1, column, f"more than one column has this meaning: {headings}")
             else:
-                self.at[ours] = names.index(ours)
+                self.at[column] = names.index(column)
 
     def rows(self) -> Iterator[Row]:
         """The rows that have a field for each heading; the others are faults."""
@@ -145,9 +159,9 @@ class Sheet:
         heading = self.heading[at] if at < len(self.heading) else ""
         return heading if heading.isprintable() and 0 < len(heading) <= _LONG else f"column {at + 1}"
 
-    def fault(self, line: int, ours: str, text: str, refusal: int = 0) -> None:
-        """Notes a fault in a column that is one of ours."""
-        self._note(line, self.column(self.at[ours]) if ours in self.at else ours, text, refusal)
+    def fault(self, line: int, column: str, text: str, refusal: int = 0) -> None:
+        """Notes a fault in a column by its name, told by its heading where it has one."""
+        self._note(line, self.column(self.at[column]) if column in self.at else column, text, refusal)
 
     def _note(self, line: int, column: str, text: str, refusal: int = 0) -> None:
         self.faults.append(Fault(self.name, line, column, brief(text, _SENTENCE), refusal))
@@ -165,22 +179,23 @@ class Sheet:
             return 0
         return number
 
-    def name_in(self, line: int, ours: str, text: str) -> bool:
+    def name_in(self, line: int, column: str, text: str) -> bool:
         """Whether a field can be a name; a fault is noted otherwise."""
         if not text:
-            self.fault(line, ours, "empty")
+            self.fault(line, column, "empty")
         elif not text.isprintable():
-            self.fault(line, ours, f"{text!r} has a control character")
+            self.fault(line, column, f"{text!r} has a control character")
         else:
             return True
         return False
 
-    def new_name(self, line: int, ours: str, name: str, known: Dict[str, int]) -> bool:
-        """Whether a name can be taken as a new one, which then has the next number; a fault is noted otherwise."""
-        if not self.name_in(line, ours, name):
+    def new_name(self, line: int, column: str, name: str, known: Dict[str, int]) -> bool:
+        """Whether a name can be taken as a new one, which then has the next number; a fault is noted
+        otherwise."""
+        if not self.name_in(line, column, name):
             return False
         if name in known:
-            self.fault(line, ours, f"{name} occurs twice")
+            self.fault(line, column, f"{name} occurs twice")
             return False
         known[name] = len(known)
         return True
@@ -202,7 +217,8 @@ class Sheet:
         return [self.column(at) for at in range(len(self.heading)) if at not in self.at.values()]
 
     def _broken_column(self, line: int) -> str:
-        """The column of the first field, in the lines from this one on, that is too long, or whose quote is not closed or not followed by a separator."""
+        """The column of the first field, in the lines from this one on, that is too long, or whose quote is
+        not closed or not followed by a separator."""
         if not self._starts:
             self._starts = [0, *accumulate(map(len, _lines(self._text)))]
         text, at, column = self._text, self._starts[line - 1], 0
@@ -229,8 +245,8 @@ def _reason(error: csv.Error) -> str:
 
 
 def unread(path: Path, error: OSError, name: str = "") -> str:
-    """Why a file can't be read: a link that leads nowhere and a file under a name much like it are told, and its
-    path where that is not the name that it is told by."""
+    """Why a file can't be read: a link that leads nowhere and a file under a name much like it are told, and
+    its path where that is not the name that it is told by."""
     if isinstance(error, FileNotFoundError):
         if path.is_symlink():
             return f"a symbolic link to {os.readlink(path)}, which is not there"
@@ -252,17 +268,21 @@ def _plain(name: str) -> str:
 
 
 def alike(path: Path) -> List[str]:
-    """The names in a file's folder that are much like its own: Prices.CSV, price.csv, prices.csv.txt. A bin file is like a bin file alone."""
+    """The names in a file's folder that are much like its own: Prices.CSV, price.csv, prices.csv.txt. A bin
+    file is like a bin file alone."""
     try:
         names = sorted(os.listdir(path.parent))
     except OSError:
         return []
     is_bin = path.suffix == ".bin"
-    return [name for name in names if name != path.name and _plain(name) == _plain(path.name) and name.lower().endswith(".bin") == is_bin and "." in name]
+    others = [name for name in names if name != path.name and "." in name]
+    like = [name for name in others if _plain(name) == _plain(path.name)]
+    return [name for name in like if name.lower().endswith(".bin") == is_bin]
 
 
 def is_there(path: Path) -> bool:
-    """Whether a file that may be missing is to be read: it is there, or a link to it, or one that is much like it, which is a fault."""
+    """Whether a file that may be missing is to be read: it is there, or a link to it, or one that is much
+    like it, which is a fault."""
     return os.path.lexists(path) or bool(alike(path))
 
 
@@ -284,7 +304,8 @@ def _behind_field(text: str, at: int, delimiter: str) -> int:
 
 
 def _behind_quotes(text: str, at: int) -> int:
-    """The place behind the quotes that open at a place, with two for one within them; 0 where they are never closed."""
+    """The place behind the quotes that open at a place, with two for one within them; 0 where they are never
+    closed."""
     at = text.find('"', at + 1)
     while at >= 0 and text[at + 1 : at + 2] == '"':
         at = text.find('"', at + 2)

@@ -1,14 +1,17 @@
 """Books larger than the library's sizes, settled exactly by slices.
 
-A contract's amount is made of the factors of its source and sink and of the hour's prices, and of nothing else. So
+A contract's amount is made of the factors of its source and sink and of the hour's prices, and of nothing
+else. So
 
 - constraints whose price is 0 may be left out: each adds factor * 0 to the sums;
-- nodes that are no end of a contract may be left out, and the others numbered anew, each with its own factors;
+- nodes that are no end of a contract may be left out, and the others numbered anew, each with its own
+  factors;
 - contracts may be settled in any company.
 
-A slice is a grid of at most 4,000 nodes and the hour's priced constraints, of which there may be 64, with a book of at most 1,000 contracts. Each contract
-stands in one slice with its own figures, so its cents are those of the whole book. The hour's sum is that of all cents, and the exact total that of the
-slices' exact totals, since neither is rounded after adding.
+A slice is a grid of at most 4,000 nodes and the hour's priced constraints, of which there may be 64, with a
+book of at most 1,000 contracts. Each contract stands in one slice with its own figures, so its cents are
+those of the whole book. The hour's sum is that of all cents, and the exact total that of the slices' exact
+totals, since neither is rounded after adding.
 """
 
 from __future__ import annotations
@@ -20,7 +23,7 @@ from functools import partial
 from operator import add
 from typing import Dict, List, NamedTuple, Optional, Sequence
 
-from .case import Case, PricedHour, book_form
+from .case import Case, PricedHour, book_form, hour_name
 from .faults import Fault, raise_any
 from .files import Contract, Grid, write_book, write_prices
 from .hours import Progress, Settled, in_parts
@@ -29,7 +32,8 @@ from .settlement import HourTotal, Settler
 
 
 class Slice(NamedTuple):
-    """Contracts by their place in the whole book, their nodes, and the book's file with nodes numbered by their place here."""
+    """Contracts by their place in the whole book, their nodes, and the book's file with nodes numbered by
+    their place here."""
 
     contracts: List[int]
     nodes: List[int]
@@ -37,7 +41,8 @@ class Slice(NamedTuple):
 
 
 def cut(book: Sequence[Contract]) -> List[Slice]:
-    """The book in slices. Contracts are taken by source and sink, so that those with common nodes come together."""
+    """The book in slices. Contracts are taken by source and sink, so that those with common nodes come
+    together."""
     slices: List[Slice] = []
     taken: List[int] = []
     nodes: Dict[int, int] = {}
@@ -52,7 +57,8 @@ def cut(book: Sequence[Contract]) -> List[Slice]:
 
 
 def _slice(book: Sequence[Contract], taken: List[int], nodes: Dict[int, int]) -> Slice:
-    # The holder is 0 for all: it plays no part in settling, and a larger book may have more holders than the file has numbers.
+    # The holder is 0 for all: it plays no part in settling, and a larger book may have more holders than the
+    # file has numbers.
     rows = [book[i]._replace(holder=0, source=nodes[book[i].source], sink=nodes[book[i].sink]) for i in taken]
     return Slice(taken, list(nodes), write_book(len(nodes), rows, book_form(rows)))
 
@@ -81,8 +87,10 @@ class SlicedSettler:
             factors = array("q", bytes(8 * len(piece.nodes) * len(posted)))
             for at, column in enumerate(columns):
                 factors[at :: len(posted)] = column[place]
-            settler = Settler(Grid(len(piece.nodes), len(posted), array("Q"), factors), piece.book, len(piece.contracts))
-            part = settler.settle(prices, f"{hour.day} HE{hour.hour:02}")
+            settler = Settler(
+                Grid(len(piece.nodes), len(posted), array("Q"), factors), piece.book, len(piece.contracts)
+            )
+            part = settler.settle(prices, hour_name(hour.day, hour.hour))
             total, exact = total + part.sum, exact + part.whole * 10**PART_PLACES + part.parts
             for i, cents in zip(piece.contracts, settler.cents):
                 into[i] += cents
@@ -100,17 +108,25 @@ def _settle_part(settler: SlicedSettler, hours: Sequence[PricedHour]) -> Settled
 
 
 def settle_sliced(
-    case: Case, executor: Optional[Executor] = None, parts: int = 8, progress: Progress = lambda done, total: None
+    case: Case,
+    executor: Optional[Executor] = None,
+    parts: int = 8,
+    progress: Progress = lambda done, total: None,
 ) -> Settled:
-    """Settles a case of any size; an hour may have as many priced constraints as the library takes. Equal to `settle_hours` where that can be used.
+    """Settles a case of any size; an hour may have as many priced constraints as the library takes. Equal to
+    `settle_hours` where that can be used.
 
-    Each task of an engine is handed the whole case, megabytes of factors where it is large: hence few parts."""
-    too_many = [hour for hour in case.hours if sum(price > 0 for price in hour.prices) > MAX_CONSTRAINTS]
-    raise_any([Fault("prices.csv", 0, "", f"{hour.day} HE{hour.hour:02} has more than {MAX_CONSTRAINTS} priced constraints", 3) for hour in too_many])
+    Each task of an engine is handed the whole case, megabytes of factors where it is large: hence few
+    parts."""
+    hours = case.priced_hours()
+    too_many = [hour for hour in hours if sum(price > 0 for price in hour.prices) > MAX_CONSTRAINTS]
+    text = f"has more than {MAX_CONSTRAINTS} priced constraints"
+    names = [hour_name(hour.day, hour.hour) for hour in too_many]
+    raise_any([Fault("prices.csv", 0, "", f"{name} {text}", 3) for name in names])
     totals: List[HourTotal] = []
     months: Dict[str, List[int]] = {}
     settler = SlicedSettler(replace(case, hours=[]))  # each task is handed its own hours
-    for part in in_parts(partial(_settle_part, settler), case.hours, executor, parts, progress):
+    for part in in_parts(partial(_settle_part, settler), hours, executor, parts, progress):
         totals += part.hours
         for month, cents in part.months.items():
             months[month] = list(map(add, months[month], cents)) if month in months else cents

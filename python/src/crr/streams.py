@@ -1,5 +1,5 @@
-"""Standard output and standard error: what can't be written is told and never a traceback, what the terminal can't
-show is escaped."""
+"""Standard output and standard error: what can't be written is told and never a traceback, what the terminal
+can't show is escaped."""
 
 from __future__ import annotations
 
@@ -8,13 +8,14 @@ from typing import Optional, TextIO
 
 
 def readable(text: str) -> str:
-    """A text in which the bytes of names that are not UTF-8, which Python keeps as surrogates, stand as \\xe9."""
+    """A text in which the bytes of names that are not UTF-8, which Python keeps as surrogates, stand as
+    \\xe9."""
     return text.encode("utf-8", "surrogateescape").decode("utf-8", "backslashreplace")
 
 
 def write_to(stream: Optional[TextIO], text: str) -> str:
-    """Writes a text at once and gives why that can't be done, or nothing. A reader that has seen enough, such as
-    head, is no reason."""
+    """Writes a text at once and gives why that can't be done, or nothing. A reader that has seen enough, such
+    as head, is no reason."""
     if stream is None:  # closed before Python began
         return "it is closed" if text else ""
     encoding = getattr(stream, "encoding", None) or "utf-8"

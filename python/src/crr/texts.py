@@ -20,12 +20,14 @@ def _text(entry: Entry, room: int, **files: Bytes) -> str:
 
 
 def write_report(grid: Bytes, book: Bytes) -> str:
-    """The feasibility report on a grid's file and a book's file; a file that is turned down gives its one line `refused`."""
+    """The feasibility report on a grid's file and a book's file; a file that is turned down gives its one
+    line `refused`."""
     return _text(_write_report, REPORT_BYTES, grid=grid, book=book)
 
 
 def write_statement(grid: Bytes, book: Bytes, prices: Bytes) -> str:
-    """The hour statement on a grid's, a book's and a price file; a file that is turned down gives its one line `refused`."""
+    """The hour statement on a grid's, a book's and a price file; a file that is turned down gives its one
+    line `refused`."""
     return _text(_write_statement, STATEMENT_BYTES, grid=grid, book=book, prices=prices)
 
 

@@ -7,16 +7,29 @@ from pathlib import Path
 from typing import Dict, List, NamedTuple, Optional, Sequence, Tuple
 
 from .book_csv import BOOK
-from .case import Names, book_form
-from .command import FAILS, FOLDER, FORCE, PASSES, PERIOD, PROCESS, ROUND_PRICES, Answer, command, counted, objects, reads, writes
+from .case import Case, Names, book_form
+from .command import (
+    FAILS,
+    FOLDER,
+    FORCE,
+    PASSES,
+    PERIOD,
+    PROCESS,
+    ROUND_PRICES,
+    Answer,
+    command,
+    counted,
+    objects,
+    reads,
+    writes,
+)
 from .decimals import decimal
 from .faults import Fault, raise_any
 from .feasibility import Verdict, test_book
-from .files import Contract, Grid, read_book_form, read_grid, write_book
+from .files import Contract, Grid, write_book
 from .interface import FLOW_PLACES, WIDE
 from .native import Refused
-from .opening import Opened, files_of, opened, owner_numbers, write_like
-from .packed import Packed
+from .opening import opened, owner_numbers, write_like
 from .running import TIERS, RunningTest
 from .sheet import Sheet
 from .tiers_csv import ADD, MARK, Operation, read_operations
@@ -28,7 +41,8 @@ _DONE = {"add": "held", "mark": "marked", "return": "returned"}
 
 
 class Played(NamedTuple):
-    """A running test after its operations: a row for each, how many were refused, and the names of the awards held."""
+    """A running test after its operations: a row for each, how many were refused, and the names of the awards
+    held."""
 
     running: RunningTest
     rows: List[Tuple[object, ...]]
@@ -36,69 +50,108 @@ class Played(NamedTuple):
     ids: List[str]
 
 
-def _of_book(found: Opened) -> List[Operation]:
+def _of_book(case: Case) -> List[Operation]:
     """The book's contracts as awards."""
-    names = found.names
-    return [Operation(0, ADD, 0, crr_id, names.holder(own.holder), own) for crr_id, own in zip(names.contracts, found.book)]
+    names = case.names
+    return [
+        Operation(0, ADD, 0, crr_id, names.holder(contract.holder), contract)
+        for crr_id, contract in zip(names.contracts, case.book)
+    ]
 
 
-def _numbered(found: Opened, sheet: Sheet, operations: Sequence[Operation]) -> Tuple[List[Operation], Dict[int, str]]:
+def _numbered(
+    case: Case, sheet: Sheet, operations: Sequence[Operation]
+) -> Tuple[List[Operation], Dict[int, str]]:
     """The operations with their holders, and the holders that have a name."""
-    awards = [own for own in operations if own.what == ADD and own.owner]
-    numbers = owner_numbers(found, sheet, [(own.line, own.owner) for own in awards])
-    numbered = [own._replace(award=own.award._replace(holder=numbers.get(own.owner, 0))) for own in operations]
-    return numbered, {**found.names.holders, **{number: name for name, number in numbers.items() if name != str(number)}}
+    owned = [(operation.line, operation.owner) for operation in operations if operation.owner]
+    numbers = owner_numbers(case, sheet, owned)
+    numbered = [
+        operation._replace(award=operation.award._replace(holder=numbers.get(operation.owner, 0)))
+        for operation in operations
+    ]
+    named = {number: name for name, number in numbers.items() if name != str(number)}
+    return numbered, {**case.names.holders, **named}
 
 
 def _over(grid: Grid, running: RunningTest, award: Contract) -> Verdict:
     """Where the awards held fail with one more, which the refusal does not say."""
-    return test_book(grid, write_book(grid.nodes, [*running.held, award], WIDE), running.process, running.period)
+    return test_book(
+        grid, write_book(grid.nodes, [*running.held, award], WIDE), running.process, running.period
+    )
 
 
-def _carry_out(running: RunningTest, own: Operation) -> int:
+def _carry_out(running: RunningTest, operation: Operation) -> int:
     """The refusal's number, or 0."""
     try:
-        if own.what == ADD:
-            running.add(own.award)
-        elif own.what == MARK:
-            running.mark(own.tier)
+        if operation.what == ADD:
+            running.add(operation.award)
+        elif operation.what == MARK:
+            running.mark(operation.tier)
         else:
-            running.return_to(own.tier)
+            running.return_to(operation.tier)
     except Refused as refused:
         return refused.number
     return 0
 
 
-def _play(grid: Grid, names: Names, running: RunningTest, operations: Sequence[Operation], sheet: Optional[Sheet]) -> Played:
+def _play(
+    grid: Grid, names: Names, running: RunningTest, operations: Sequence[Operation], sheet: Optional[Sheet]
+) -> Played:
     """Every operation, one after another. An award whose name one of those held has already is a fault."""
     rows: List[Tuple[object, ...]] = []
     ids: List[str] = []
     refusals = 0
-    for own in operations:
-        number = _carry_out(running, own)
+    for operation in operations:
+        number = _carry_out(running, operation)
         refusals += number > 0
-        if not number and own.what == ADD:
-            if own.crr_id in ids and sheet:
-                sheet.fault(own.line, "CRR_ID", f"{own.crr_id} is held already")
-            ids.append(own.crr_id)
+        if not number and operation.what == ADD:
+            if operation.crr_id in ids and sheet:
+                sheet.fault(operation.line, "CRR_ID", f"{operation.crr_id} is held already")
+            ids.append(operation.crr_id)
         held = len(running.cells) // 6
         del ids[held:]
-        told: Tuple[object, ...] = ("", "", "")
+        overload: Tuple[object, ...] = ("", "", "")
         if number == 21:
-            over = _over(grid, running, own.award)
-            told = (over.count, names.constraints[over.lowest], decimal(over.excess, FLOW_PLACES))
-        answer = f"refused {number}" if number else _DONE[own.what]
-        rows.append((own.what, own.crr_id if own.what == ADD else TIERS[own.tier], answer, held, running.counted, *told))
+            over = _over(grid, running, operation.award)
+            overload = (over.count, names.constraints[over.lowest], decimal(over.excess, FLOW_PLACES))
+        answer = f"refused {number}" if number else _DONE[operation.what]
+        name = operation.crr_id if operation.what == ADD else TIERS[operation.tier]
+        rows.append((operation.what, name, answer, held, running.counted, *overload))
     raise_any(sheet.faults if sheet else [])
     return Played(running, rows, refusals, ids)
 
 
-_AWARDS = "a CSV file OPERATION,TIER and the columns of book.csv: add, mark, return; without it the book's contracts are added in their order"
+def _answer(played: Played, names: Names, out: Optional[Path]) -> Answer:
+    """What the operations came to; status 1 where one was refused."""
+    running, held = played.running, played.running.held
+    time_of_use = TIMES_OF_USE[running.period]
+    note = f"{f'{out}: ' if out else ''}{counted(len(held), 'award')} held, "
+    note += f"{running.counted:,} of them {time_of_use}; "
+    note += f"{counted(played.refused, 'operation')} of {len(played.rows):,} refused\n"
+    rows = [book_row(names, crr_id, contract) for crr_id, contract in zip(names.contracts, held)]
+    flows = zip(names.constraints, running.flows)
+    data: Dict[str, object] = {
+        "process": PROCESSES[running.process],
+        "time_of_use": time_of_use,
+        "operations": objects(PLAYED, played.rows),
+        "held": objects(BOOK, rows),
+        "marks": {TIERS[tier]: count for tier, count in running.marks.items()},
+        "flows_mw": {name: decimal(flow, FLOW_PLACES) for name, flow in flows},
+        "out": str(out) if out else None,
+    }
+    return Answer(FAILS if played.refused else PASSES, csv_text(PLAYED, played.rows), data, note)
+
+
+_AWARDS = (
+    "a CSV file OPERATION,TIER and the columns of book.csv: add, mark, return; "
+    "without it the book's contracts are added in their order"
+)
 
 
 @command(
     "tiers",
-    "awards tried one after another on the grid, with tiers to mark and to come back to, for one period and process",
+    "awards tried one after another on the grid, with tiers to mark and to come back to, "
+    "for one period and process",
     FOLDER,
     ROUND_PRICES,
     reads("awards", _AWARDS, nargs="?"),
@@ -108,31 +161,28 @@ _AWARDS = "a CSV file OPERATION,TIER and the columns of book.csv: add, mark, ret
     FORCE,
 )
 def tiers(
-    folder: Path, period: Period, process: Process, awards: Optional[Path], out: Optional[Path], round_prices: bool, force: bool
+    folder: Path,
+    period: Period,
+    process: Process,
+    awards: Optional[Path],
+    out: Optional[Path],
+    round_prices: bool,
+    force: bool,
 ) -> Answer:
-    """Plays operations on a running test on the grid of a folder, or the contracts of its book as awards; with `out` writes the whole case there, with the
-    awards held for its book, in the form that it had."""
-    found = opened(folder, round_prices, prices=out is not None)
-    files, names = files_of(found), found.names
-    grid, wanted = read_grid(files.grid), _of_book(found)
+    """Plays operations on a running test on the grid of a folder, or the contracts of its book as awards;
+    with `out` writes the whole case there, with the awards held for its book, in the form that it had."""
+    case = opened(folder, round_prices, prices=out is not None)
+    grid, names, operations = case.grid, case.names, _of_book(case)
     sheet: Optional[Sheet] = None
     if awards:
         faults: List[Fault] = []
-        sheet, wanted = read_operations(awards, names.nodes, faults)
-        wanted, holders = _numbered(found, sheet, wanted)
+        sheet, operations = read_operations(awards, names.nodes, faults)
+        operations, holders = _numbered(case, sheet, operations)
         raise_any(faults)
         names = replace(names, holders=holders)
-    played = _play(grid, names, RunningTest(grid, process, period), wanted, sheet)
-    running, held = played.running, played.running.held
-    names = replace(names, contracts=played.ids)
+    played = _play(grid, names, RunningTest(grid, process, period), operations, sheet)
+    held, names = played.running.held, replace(names, contracts=played.ids)
     if out:
-        form = max(read_book_form(grid.nodes, files.book), book_form(held))
-        write_like(found, Packed(names, files.grid, running.book(form), files.hours), out, force)
-    told = f"{f'{out}: ' if out else ''}{counted(len(held), 'award')} held, {running.counted:,} of them {TIMES_OF_USE[period]}; "
-    told += f"{counted(played.refused, 'operation')} of {len(played.rows):,} refused\n"
-    data: Dict[str, object] = {"process": PROCESSES[process], "time_of_use": TIMES_OF_USE[period], "operations": objects(PLAYED, played.rows)}
-    data["held"] = objects(BOOK, [book_row(names, crr_id, own) for crr_id, own in zip(names.contracts, held)])
-    data["marks"] = {TIERS[tier]: count for tier, count in running.marks.items()}
-    data["flows_mw"] = {name: decimal(flow, FLOW_PLACES) for name, flow in zip(names.constraints, running.flows)}
-    status = FAILS if played.refused else PASSES
-    return Answer(status, csv_text(PLAYED, played.rows), {**data, "out": str(out) if out else None}, told)
+        form = max(case.book_form, book_form(held))
+        write_like(replace(case, names=names, book=held, book_form=form), out, force)
+    return _answer(played, names, out)

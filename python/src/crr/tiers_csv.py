@@ -2,7 +2,8 @@
 
 OPERATION,TIER,CRR_ID,OWNER,HEDGE_TYPE,TIME_OF_USE,SOURCE,SINK,MW
 
-`add` has an award, in the columns of book.csv; `mark` and `return` have a tier, 1, 2, 3 or LT. The columns of the one are empty in the rows of the other.
+`add` has an award, in the columns of book.csv; `mark` and `return` have a tier, 1, 2, 3 or LT. The columns of
+the one are empty in the rows of the other.
 """
 
 from __future__ import annotations
@@ -24,7 +25,8 @@ _NOTHING = Contract(0, 0, 0, 0, 0, 0)
 
 
 class Operation(NamedTuple):
-    """An operation and the line that it stands in: an award by its name, its owner and its terms, without a holder; or a tier."""
+    """An operation and the line that it stands in: an award by its name, its owner and its terms, without a
+    holder; or a tier."""
 
     line: int
     what: str
@@ -45,10 +47,11 @@ def _award(sheet: Sheet, line: int, row: List[str], nodes: Dict[str, int]) -> Op
 def _tier(sheet: Sheet, line: int, row: List[str], what: str) -> Operation:
     text = row[sheet.at["TIER"]]
     if text.upper() not in _TIERS:
-        sheet.fault(line, "TIER", f"{text!r} is none of the tiers 1, 2, 3 and LT" if text else "empty", 20 if text else 0)
-    for ours in BOOK:
-        if row[sheet.at[ours]]:
-            sheet.fault(line, ours, f"{what} has a tier and no award")
+        none = f"{text!r} is none of the tiers 1, 2, 3 and LT"
+        sheet.fault(line, "TIER", none if text else "empty", 20 if text else 0)
+    for column in BOOK:
+        if row[sheet.at[column]]:
+            sheet.fault(line, column, f"{what} has a tier and no award")
     return Operation(line, what, _TIERS.get(text.upper(), 0))
 
 
@@ -66,5 +69,7 @@ def read_operations(path: Path, nodes: Sequence[str], faults: List[Fault]) -> Tu
         elif what in (MARK, RETURN):
             operations.append(_tier(sheet, line, row, what))
         else:
-            sheet.fault(line, "OPERATION", f"{row[sheet.at['OPERATION']]!r} is neither add nor mark nor return")
+            sheet.fault(
+                line, "OPERATION", f"{row[sheet.at['OPERATION']]!r} is neither add nor mark nor return"
+            )
     return sheet, operations

@@ -27,18 +27,27 @@ def csv_text(heading: Sequence[str], rows: Iterable[Sequence[object]]) -> str:
     return text.getvalue()
 
 
-def _price_rows(case: Case, hour: PricedHour) -> List[Sequence[object]]:
-    """A row for each price that is not 0, or one with neither constraint nor price for an hour that has none."""
+def _price_rows(names: Names, hour: PricedHour) -> List[Sequence[object]]:
+    """A row for each price that is not 0, or one with neither constraint nor price for an hour that has
+    none."""
     time = (hour.day, hour.hour or "", TIMES_OF_USE[hour.period])
-    posted = [(*time, case.names.constraints[k], decimal(price, SHADOW_PRICE.places)) for k, price in enumerate(hour.prices) if price]
-    return list(posted) or [(*time, "", "")]
+    posted = [(k, decimal(price, SHADOW_PRICE.places)) for k, price in enumerate(hour.prices) if price]
+    rows: List[Sequence[object]] = [(*time, names.constraints[k], price) for k, price in posted]
+    return rows or [(*time, "", "")]
 
 
 def book_row(names: Names, crr_id: str, contract: Contract) -> Tuple[str, ...]:
     """A contract's row of book.csv."""
     ends = (names.nodes[contract.source], names.nodes[contract.sink])
     kind, period = HEDGE_TYPES[contract.kind], TIMES_OF_USE[contract.period]
-    return (crr_id, names.holder(contract.holder), kind, period, *ends, decimal(contract.quantity, QUANTITY.places))
+    return (
+        crr_id,
+        names.holder(contract.holder),
+        kind,
+        period,
+        *ends,
+        decimal(contract.quantity, QUANTITY.places),
+    )
 
 
 def csv_files(case: Case, hour_name: str = "") -> Dict[str, str]:
@@ -47,22 +56,24 @@ def csv_files(case: Case, hour_name: str = "") -> Dict[str, str]:
     names, count = case.names, len(case.names.constraints)
     limits = [decimal(limit, LIMIT.places) for limit in case.limits]
     factors = [decimal(factor, SHIFT_FACTOR.places) for factor in case.factors]
+    nodes = ((node, *factors[n * count : (n + 1) * count]) for n, node in enumerate(names.nodes))
+    forms = (case.grid_form, case.book_form)
     book = [book_row(names, crr_id, contract) for crr_id, contract in zip(names.contracts, case.book)]
     files = {
         "constraints.csv": csv_text(("CONSTRAINT_ID", "LIMIT_MW"), zip(names.constraints, limits)),
-        "factors.csv": csv_text(
-            ("NODE_ID", *names.constraints), ((node, *factors[n * count : (n + 1) * count]) for n, node in enumerate(names.nodes))
-        ),
+        "factors.csv": csv_text(("NODE_ID", *names.constraints), nodes),
         "book.csv": csv_text(BOOK, book),
-        "names.csv": csv_text(HEADING, name_rows(names, hour_name, (case.grid_form, case.book_form))),
+        "names.csv": csv_text(HEADING, name_rows(names, hour_name, forms)),
     }
     if case.hours:
-        files["prices.csv"] = csv_text(PRICES, (row for hour in case.hours for row in _price_rows(case, hour)))
+        prices = (row for hour in case.priced_hours() for row in _price_rows(names, hour))
+        files["prices.csv"] = csv_text(PRICES, prices)
     return files
 
 
 def write_csv(case: Case, folder: Union[str, Path], hour_name: str = "", force: bool = False) -> List[str]:
-    """Writes a case's CSV files and gives their names. A file that is there and says something else is a fault, unless forced."""
+    """Writes a case's CSV files and gives their names. A file that is there and says something else is a
+    fault, unless forced."""
     files = {name: text.encode() for name, text in csv_files(case, hour_name).items()}
     write_files(Path(folder), files, force)
     return list(files)

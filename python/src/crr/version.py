@@ -27,8 +27,8 @@ class Version(Action):
 
     def __call__(self, parser: ArgumentParser, *_: Any) -> None:
         try:
-            told = about()
+            facts = about()
         except OSError as problem:
             parser.exit(2, f"crr {__version__}: {problem}\n")
-        text = "crr {version}\nlibrary {library}\nfrom    {from}\nsha256  {sha256}\n".format_map(told)
-        raise Shown(text, dict(told))
+        text = "crr {version}\nlibrary {library}\nfrom    {from}\nsha256  {sha256}\n".format_map(facts)
+        raise Shown(text, dict(facts))

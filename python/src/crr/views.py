@@ -1,7 +1,7 @@
 """What the market sees of a book, and what a holder sees of it.
 
-Neither tells more than that by what is written, which is proved of the library. Time is not covered: writing a holder's view takes the longer, the more
-contracts match.
+Neither tells more than that by what is written, which is proved of the library. Time is not covered: writing
+a holder's view takes the longer, the more contracts match.
 """
 
 from __future__ import annotations
@@ -33,17 +33,20 @@ def write_market_view(nodes: int, book: Bytes) -> bytes:
 
 
 def write_holder_view(nodes: int, book: Bytes, holder: int) -> bytes:
-    """The holder's contracts, of both periods and in the order of the book: the number of each in two bytes, then its own bytes."""
+    """The holder's contracts, of both periods and in the order of the book: the number of each in two bytes,
+    then its own bytes."""
     return written(_write_holder_view, MAX_HOLDER_VIEW_BYTES, (nodes, book, holder))
 
 
 def read_holder_view(nodes: int, view: Bytes, form: int = NARROW) -> List[Held]:
-    """The contracts of a holder's view. It does not tell the book's form, which the holder is told beside it. Bytes that are no such view are refused
-    as the book of its contracts is."""
+    """The contracts of a holder's view. It does not tell the book's form, which the holder is told beside it.
+    Bytes that are no such view are refused as the book of its contracts is."""
     if form not in (NARROW, WIDE):
         raise ValueError(f"form: {NARROW} narrow or {WIDE} wide, not {form}")
     step, file = _NUMBER_BYTES + _CONTRACT_BYTES[form], memoryview(lend_bytes(view, "view").owner).tobytes()
     rows = [file[at : at + step] for at in range(0, len(file), step)]
     header = (min(len(rows), 1023) << 6 | _SPARE_BITS[form]).to_bytes(2, "big")
     contracts = read_book(nodes, b"".join([header, *(row[_NUMBER_BYTES:] for row in rows)]))
-    return [Held(int.from_bytes(row[:_NUMBER_BYTES], "big"), contract) for row, contract in zip(rows, contracts)]
+    return [
+        Held(int.from_bytes(row[:_NUMBER_BYTES], "big"), contract) for row, contract in zip(rows, contracts)
+    ]

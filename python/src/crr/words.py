@@ -1,5 +1,5 @@
-"""Kinds, periods and processes by name, and the one table of how each is spelled: in tables, in sentences, on the
-command line and in others' files."""
+"""Kinds, periods and processes by name, and the one table of how each is spelled: in tables, in sentences, on
+the command line and in others' files."""
 
 from __future__ import annotations
 

@@ -23,7 +23,7 @@ from .faults import Fault, raise_any
 _KEYS = ("grid.bin", "constraints.csv")  # without one of these no folder is taken for a case: they go last
 _BEFORE = "before"  # the folder for what was in the way
 
-Ours = Callable[[str, bytes], bool]  # whether a file of this name and these bytes is an earlier answer
+IsAnswer = Callable[[str, bytes], bool]  # whether a file of this name and these bytes is an earlier answer
 
 
 class NotWritten(OSError):
@@ -33,7 +33,7 @@ class NotWritten(OSError):
         super().__init__(f"{path} can't be written: {error.strerror or error}; {left}")
 
 
-def no_answer(name: str, found: bytes) -> bool:
+def no_answer(name: str, data: bytes) -> bool:
     """No file is an earlier answer."""
     return False
 
@@ -46,7 +46,7 @@ def is_output(path: Optional[Path]) -> bool:
         return False
 
 
-def _found(path: Path) -> Optional[os.stat_result]:
+def _status(path: Path) -> Optional[os.stat_result]:
     """What a path leads to, if anything."""
     try:
         return os.stat(path)
@@ -56,8 +56,8 @@ def _found(path: Path) -> Optional[os.stat_result]:
 
 def _takes_bytes(path: Path) -> bool:
     """Whether a path leads to a device, a pipe or standard output."""
-    found = _found(path)
-    file = found is None or stat.S_ISREG(found.st_mode) or stat.S_ISDIR(found.st_mode)
+    status = _status(path)
+    file = status is None or stat.S_ISREG(status.st_mode) or stat.S_ISDIR(status.st_mode)
     return not file or is_output(path)
 
 
@@ -96,22 +96,24 @@ def _uninterrupted() -> Iterator[None]:
         signal.pthread_sigmask(signal.SIG_SETMASK, before)
 
 
-def _spare(name: str, path: Path, data: bytes, force: bool, ours: Ours, choose: str) -> List[Fault]:
+def _spare(
+    name: str, path: Path, data: bytes, force: bool, is_answer: IsAnswer, choose: str
+) -> List[Fault]:
     """A fault where a plain file is there that may be someone's work."""
-    found = path.read_bytes() if path.is_file() else data
-    if force or found == data or ours(path.name, found):
+    there = path.read_bytes() if path.is_file() else data
+    if force or there == data or is_answer(path.name, there):
         return []
     return [Fault(name, 0, "", f"{path} is there and differs: choose {choose}, or --force")]
 
 
-def write_file(path: Path, data: bytes, force: bool = False, ours: Ours = no_answer) -> None:
+def write_file(path: Path, data: bytes, force: bool = False, is_answer: IsAnswer = no_answer) -> None:
     """Writes a file, whole or not at all; a device, a pipe or standard output takes the bytes."""
     made: List[Path] = []
     try:
         if _takes_bytes(path):
             _write_through(path, data)
             return
-        raise_any(_spare(str(path), path, data, force, ours, "another place (-o)"))
+        raise_any(_spare(str(path), path, data, force, is_answer, "another place (-o)"))
         made = _make_folders(path.parent)
         _replace(Path(os.path.realpath(path)), data)
     except NotWritten:
@@ -131,17 +133,17 @@ def _write_through(path: Path, data: bytes) -> None:
 
 def _replace(path: Path, data: bytes) -> None:
     """Writes a plain file beside its place and moves it there. It keeps the rights of the one before it."""
-    found = _found(path)
-    if found and stat.S_ISDIR(found.st_mode):
+    status = _status(path)
+    if status and stat.S_ISDIR(status.st_mode):
         raise IsADirectoryError(errno.EISDIR, os.strerror(errno.EISDIR))
-    if found and not os.access(path, os.W_OK):
+    if status and not os.access(path, os.W_OK):
         raise PermissionError(errno.EACCES, os.strerror(errno.EACCES))
     place = _fresh_name(path.parent)
     try:
         with open(place, "xb") as file:
             file.write(data)
-        if found:
-            os.chmod(place, stat.S_IMODE(found.st_mode))
+        if status:
+            os.chmod(place, stat.S_IMODE(status.st_mode))
         os.replace(place, path)
     finally:
         if os.path.lexists(place):
@@ -167,7 +169,7 @@ def write_files(
     folder: Path,
     files: Mapping[str, bytes],
     force: bool = False,
-    ours: Ours = no_answer,
+    is_answer: IsAnswer = no_answer,
     whole: Callable[[Path], None] = lambda staged: None,
 ) -> None:
     """Writes files below a folder, all or none. `whole` is given the folder in which they stand before they
@@ -178,7 +180,8 @@ def write_files(
     try:
         _refuse_others(folder, names)
         differ = [
-            _spare(name, folder / name, files[name], force, ours, "another folder (-o)") for name in files
+            _spare(name, folder / name, files[name], force, is_answer, "another folder (-o)")
+            for name in files
         ]
         raise_any([fault for faults in differ for fault in faults])
         made = _make_folders(folder.parent)

@@ -54,9 +54,9 @@ pub fn write_holder_view(nodes: usize, book: &[u8], holder: u64) -> Result<Vec<u
     written(MAX_HOLDER_VIEW_BYTES, |view, bytes| lent::write_holder_view(nodes, book, holder, view, bytes))
 }
 
-/// The settled form of a book's file, which all its copies have in common.
-pub fn write_settled_book(nodes: usize, book: &[u8]) -> Result<Vec<u8>, Refused> {
-    written(MAX_BOOK_BYTES, |file, bytes| lent::write_settled_book(nodes, book, file, bytes))
+/// The canonical form of a book's file, which all its copies have in common.
+pub fn write_canonical_book(nodes: usize, book: &[u8]) -> Result<Vec<u8>, Refused> {
+    written(MAX_BOOK_BYTES, |file, bytes| lent::write_canonical_book(nodes, book, file, bytes))
 }
 
 /// What the simultaneous feasibility test finds.

@@ -4,7 +4,7 @@ use crate::lent;
 use std::sync::Once;
 
 /// The number of the interface that this crate is for: CRR_INTERFACE of include/crr.h.
-pub const INTERFACE: u64 = 1;
+pub const INTERFACE: u64 = 2;
 
 /// Panics where the library that was linked has another interface than this crate. Each function at the crate's root asks once.
 pub fn check_interface() {

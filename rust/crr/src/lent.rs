@@ -86,7 +86,7 @@ mod c {
             view_len: usize,
             bytes: *mut usize,
         ) -> u64;
-        pub fn crr_write_settled_book(
+        pub fn crr_write_canonical_book(
             nodes: usize,
             book: *const u8,
             book_len: usize,
@@ -289,8 +289,8 @@ pub fn write_holder_view(nodes: usize, book: &[u8], holder: u64, view: &mut [u8]
     unsafe { c::crr_write_holder_view(nodes, book.as_ptr(), book.len(), holder, view.as_mut_ptr(), view.len(), bytes) }
 }
 
-pub fn write_settled_book(nodes: usize, book: &[u8], file: &mut [u8], bytes: &mut usize) -> u64 {
-    unsafe { c::crr_write_settled_book(nodes, book.as_ptr(), book.len(), file.as_mut_ptr(), file.len(), bytes) }
+pub fn write_canonical_book(nodes: usize, book: &[u8], file: &mut [u8], bytes: &mut usize) -> u64 {
+    unsafe { c::crr_write_canonical_book(nodes, book.as_ptr(), book.len(), file.as_mut_ptr(), file.len(), bytes) }
 }
 
 pub fn read_prices(constraints: usize, file: &[u8], prices: &mut [u64], period: &mut u64) -> u64 {

@@ -33,7 +33,7 @@ mod terms;
 mod texts;
 
 pub use books::{
-    count_contracts, find_cuts, find_flows, remap_book, test_book, write_holder_view, write_market_view, write_settled_book, Book, Cut,
+    count_contracts, find_cuts, find_flows, remap_book, test_book, write_canonical_book, write_holder_view, write_market_view, Book, Cut,
     Flows, Verdict,
 };
 pub use calendar::{month_hours, month_later, weekday};

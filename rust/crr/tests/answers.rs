@@ -52,7 +52,7 @@ fn books_from_books() {
     };
     assert_eq!(ends(&remap_book(3, &file, &[(2, 1)]).unwrap()), [(7, 0, 1), (8, 0, 1), (7, 0, 1), (9, 0, 1)]);
     assert_eq!(ends(&write_market_view(3, &file).unwrap()), [(0, 0, 1), (0, 0, 2), (0, 0, 2), (0, 0, 1)]);
-    assert_eq!(ends(&write_settled_book(3, &file).unwrap()), [(9, 0, 1), (7, 0, 1), (7, 0, 2), (8, 0, 2)]);
+    assert_eq!(ends(&write_canonical_book(3, &file).unwrap()), [(9, 0, 1), (7, 0, 1), (7, 0, 2), (8, 0, 2)]);
     assert_eq!(write_holder_view(3, &file, 7).unwrap().len(), 16);
     assert_eq!(write_holder_view(3, &file, 1_024), Err(Refused::HOLDER_RANGE));
     let hub = Hub { nodes: vec![2, 0, 1], weights: vec![33_333, 33_333, 33_334] };

@@ -26,7 +26,7 @@ guarded! {
     STACK: fn remap_book(nodes: usize, book: &[u8], old: &[u64], new: &[u64], file: &mut [u8], bytes: &mut usize);
     STACK: fn write_market_view(nodes: usize, book: &[u8], file: &mut [u8], bytes: &mut usize);
     STACK: fn write_holder_view(nodes: usize, book: &[u8], holder: u64, view: &mut [u8], bytes: &mut usize);
-    STACK: fn write_settled_book(nodes: usize, book: &[u8], file: &mut [u8], bytes: &mut usize);
+    STACK: fn write_canonical_book(nodes: usize, book: &[u8], file: &mut [u8], bytes: &mut usize);
     STACK: fn add_hub_contract(
         nodes: usize, book: &[u8], kind: u64, period: u64, holder: u64, hub_nodes: &[u64], hub_weights: &[u64], sink: u64, quantity: u64,
         file: &mut [u8], bytes: &mut usize

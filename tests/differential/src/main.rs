@@ -16,7 +16,7 @@ mod vectors;
 
 use draw::{Draw, EXTREMES};
 use rounds::{
-    calendar, cuts, demand, forms, headers, hub_book, hub_mcc, hubs, migration, priced, refusals, reordering, running, settled, shares,
+    calendar, canonical, cuts, demand, forms, headers, hub_book, hub_mcc, hubs, migration, priced, refusals, reordering, running, shares,
     text, view_pairs, views,
 };
 use std::env;
@@ -52,8 +52,8 @@ const ENTRIES: [Entry; 36] = [
     plain("write_market_view", &[1, 2, 4, 5, 9, 10, 11, 13], &[&views::MARKET, &view_pairs::MARKET], views::market_round),
     plain("write_holder_view", &[1, 2, 4, 5, 9, 10, 11, 13, 18], &[&views::HOLDER, &view_pairs::HOLDER], views::holder_round),
     Entry {
-        rounds: settled::FIRST_ROUNDS,
-        ..plain("write_settled_book", &[1, 2, 4, 5, 9, 10, 11, 13], &[&settled::CASES, &forms::BOOKS], settled::round)
+        rounds: canonical::FIRST_ROUNDS,
+        ..plain("write_canonical_book", &[1, 2, 4, 5, 9, 10, 11, 13], &[&canonical::CASES, &forms::BOOKS], canonical::round)
     },
     plain("add_hub_contract", &[1, 2, 4, 5, 9, 10, 11, 13, 17, 18, 24, 25], &[&hub_book::CASES, &hubs::SHAPES], hub_book::round),
     plain("read_prices", &[1, 3, 5, 8, 9, 14, 15], &[], rounds::prices::read),

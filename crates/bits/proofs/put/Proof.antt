@@ -14,7 +14,7 @@ unfolding written
 returns c =
     let a = c .before .before .before .before .args in
     let j = c .before .join in (
-      put-more _ (a .pen .held) _ _ (a .v) (a .width) (j .ensures (a .pen .held) (omega arith)),
+      put-more _ (a .writer .held) _ _ (a .v) (a .width) (j .ensures (a .writer .held) (omega arith)),
       ((omega arith, omega (arith, c .if1 .taken)), record { onward = omega arith; rest = refl }),
     )
 
@@ -27,10 +27,10 @@ returns-2 c =
     let j = i .before .join in
     let w = c .before .before .before .part in
     let st = c .before .before .store4 in
-    let room : a .pen .at + 4 ≤ length (a .buf .now) = omega (arith, s .pre, i .if1 .left) in (
-      bytes-turn 4 (a .buf .now) _ (a .pen .at) (w .result) room (st .ensures) (a .pen .held + a .width) (j .result) (omega (arith, i .if1 .left)) (w .ensures .0)
-          ∙ put-more _ (a .pen .held) _ _ (a .v) (a .width) (j .ensures (a .pen .held) (omega (arith, s .pre))),
-      ((omega (arith, i .if1 .left), omega (arith, s .pre)), record { onward = omega arith; rest = bytes-rest 4 (a .buf .now) _ (a .pen .at) (w .result) room (st .ensures) }),
+    let room : a .writer .at + 4 ≤ length (a .buf .now) = omega (arith, s .pre, i .if1 .left) in (
+      bytes-turn 4 (a .buf .now) _ (a .writer .at) (w .result) room (st .ensures) (a .writer .held + a .width) (j .result) (omega (arith, i .if1 .left)) (w .ensures .0)
+          ∙ put-more _ (a .writer .held) _ _ (a .v) (a .width) (j .ensures (a .writer .held) (omega (arith, s .pre))),
+      ((omega (arith, i .if1 .left), omega (arith, s .pre)), record { onward = omega arith; rest = bytes-rest 4 (a .buf .now) _ (a .writer .at) (w .result) room (st .ensures) }),
     )
 
 pub put-spec : {M : Type 1} → statement M

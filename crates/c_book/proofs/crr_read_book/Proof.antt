@@ -3,7 +3,7 @@ use mathlib.Core.Path.{sym, ap, _∙_}
 use Rattle.tariff.proofs.Answers.{refused-answers, refused-keeps, given-answers, given-count}
 use Rattle.layouts.specs.Forms.{formNumber}
 use Rattle.layouts.specs.BookFile.{contractCountIn, bookFormIn}
-use Rattle.book_file.specs.ReadBook.{readBookCall, readBookChecked, bookOutcome}
+use Rattle.book_rules.specs.ReadBook.{readBookCall, readBookChecked, bookOutcome}
 use borrow.Author.Needs.{needs}
 use Rattle.c_book.proofs.crr_read_book.Statement.{statement}
 use Rattle.c_book.proofs.crr_read_book.Tie as tie

@@ -6,8 +6,8 @@ use lib.ListN.{length, getD}
 use lib.IntN.{ℤ, pos, natAbs}
 use borrow.Author.Needs.{needs}
 use Rattle.tariff.proofs.Answers.{refused-answers, refused-keeps, some-refuses, given-answers, given-count, given-values}
-use Rattle.feasibility_test.specs.TestBook.{testCall}
-use Rattle.least_cuts.specs.FindCuts.{CutsCall, cutsOutcome, listedRows, findCutsChecked, HoldLeastCuts}
+use Rattle.test_rules.specs.TestBook.{testCall}
+use Rattle.cut_rules.specs.FindCuts.{CutsCall, cutsOutcome, listedRows, findCutsChecked, HoldLeastCuts}
 use Rattle.c_cuts.proofs.crr_find_cuts.Statement.{statement}
 use Rattle.c_cuts.proofs.crr_find_cuts.Tie as tie
 

@@ -9,7 +9,7 @@ use Rattle.tariff.specs.declared.refusals.Checked.{Checked}
 use Rattle.tariff.specs.Refusals.{first}
 use Rattle.tariff.specs.Settlement.{wholeCents, parts}
 use Rattle.tariff.proofs.Answers.{refused-answers, refused-keeps, some-refuses, given-answers, given-signed, given-count}
-use Rattle.settlement.specs.SettleHour.{HourCall, hourCall, settleChecks, settleOutcome, sumGiven, exactGiven}
+use Rattle.hour_rules.specs.SettleHour.{HourCall, hourCall, settleChecks, settleOutcome, sumGiven, exactGiven}
 use borrow.Author.Needs.{needs}
 use Rattle.c_hour.proofs.crr_settle_hour.Statement.{statement}
 use Rattle.c_hour.proofs.crr_settle_hour.Tie as tie

@@ -2,7 +2,7 @@
 use mathlib.Core.Path.{sym, ap, _∙_}
 use Rattle.tariff.proofs.Answers.{refused-answers, refused-keeps, given-answers, given-count}
 use Rattle.layouts.specs.PriceFile.{periodIn}
-use Rattle.price_file.specs.ReadPrices.{readPricesCall, readPricesChecked, priceOutcome}
+use Rattle.price_rules.specs.ReadPrices.{readPricesCall, readPricesChecked, priceOutcome}
 use borrow.Author.Needs.{needs}
 use Rattle.c_prices.proofs.crr_read_prices.Statement.{statement}
 use Rattle.c_prices.proofs.crr_read_prices.Tie as tie

@@ -1,11 +1,10 @@
 -- `crr_share_balance`.
 use mathlib.Core.Path.{sym, ap, _∙_, subst}
-use mathlib.Core.List.{[]}
 use lib.IntN.{ℤ}
 use mir.Syntax.{w64}
 use mir.ValLaws.{toZ-ofZ}
-use Rattle.tariff.proofs.Answers.{refused-answers, given-answers}
-use Rattle.share_rules.specs.ShareBalance.{ShareCall, shareCall, shareChecked, shareOutcome, SharesBalance}
+use Rattle.share_rules.specs.ShareBalance.{ShareCall, shareCall, shareOutcome, SharesBalance}
+use Rattle.share_rules.specs.declared.ShareAnswer.{ShareAnswer}
 use borrow.Author.Needs.{needs}
 use Rattle.c_shares.proofs.crr_share_balance.Statement.{statement}
 use Rattle.c_shares.proofs.crr_share_balance.Tie as tie
@@ -24,18 +23,16 @@ shared c =
 returns : tie.Need-returns
 returns c =
     let f = c .before .before .before .before .before in
-    let q = call (f .before .before .before) in
-    let refusal = c .before .before .refusal .given in
-    let told = sym (ap shareOutcome (refusal .1)) ∙ shared f .answer-given in
-    record { refusal-number = refused-answers (shareChecked q) [] (refusal .0 .0) told (c .number .ensures); shares-given = shared f .shares-given; fair = shared f .fair }
+    let told = ap (λ (a : ShareAnswer). shareOutcome a .number) (c .before .before .refusal .given .1) in
+    record { answer = f .share-balance .result; promised = shared f; refusal-number = c .number .ensures ∙ sym told }
 
 returns-2 : tie.Need-returns-2
 returns-2 c =
     let f = c .before .before .before in
-    let q = call (f .before .before .before) in
-    let told = sym (ap shareOutcome (c .enum-told .given .1)) ∙ shared f .answer-given in
-    record { refusal-number = given-answers (shareChecked q) [] [] told; shares-given = shared f .shares-given; fair = shared f .fair }
+    let told = ap (λ (a : ShareAnswer). shareOutcome a .number) (c .enum-told .given .1) in
+    record { answer = f .share-balance .result; promised = shared f; refusal-number = sym told }
 
 pub crr-share-balance-spec : {M : Type 1} → statement M
 crr-share-balance-spec =
-    tie.close (tie.spec (λ c κs. search needs) (λ c. search needs) (λ c κs. search needs) (λ c. search needs) (λ c. search needs) returns (λ c. search needs) returns-2)
+    tie.close (tie.spec
+    (λ c κs. search needs) (λ c. search needs) (λ c κs. search needs) (λ c. search needs) (λ c. search needs) returns (λ c. search needs) returns-2)

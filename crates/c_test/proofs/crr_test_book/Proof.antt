@@ -5,7 +5,7 @@ use lib.IntN.{pos}
 use mir.Syntax.{w64}
 use mir.Facts.{toZ-ofZ}
 use Rattle.tariff.proofs.Answers.{refused-answers, refused-keeps, some-refuses, given-answers, given-values, given-cell}
-use Rattle.feasibility_test.specs.TestBook.{TestCall, testCall, testChecked, testOutcome, testValues, testedGrid, testedProcess, testedContracts, TestCells, testedCells}
+use Rattle.test_rules.specs.TestBook.{TestCall, testCall, testChecked, testOutcome, testValues, testedGrid, testedProcess, testedContracts, TestCells, testedCells}
 use Rattle.c_test.proofs.Testing.{pass-cells, fail-cells, fail-set, pass-demand3, fail-demand3}
 use borrow.Author.Needs.{needs}
 use Rattle.c_test.proofs.crr_test_book.Statement.{statement}

@@ -7,7 +7,7 @@ use borrow.Author.Tests.{lt-ltb, le-ltb}
 use Rattle.tariff.specs.declared.refusals.Checked.the-variants.{Passed}
 use Rattle.tariff.specs.Refusals.{first}
 use Rattle.tariff.proofs.Checks.{first-refuses, last-passes}
-use Rattle.tables.proofs.Passing.{grid-tables}
+use Rattle.grid_tables.proofs.Passing.{grid-tables}
 use Rattle.grid_rules.specs.WriteGrid.{WriteGridCall, writeGridCall, writeGridChecks}
 use Rattle.grid_rules.proofs.Passing.{tableChecks, countCheck, roomCheck, write-checks, short-header}
 use Rattle.grid_writing.proofs.check_write.Statement.{statement}

@@ -6,17 +6,17 @@ use borrow.Author.Needs.{needs}
 use lib.ListN.{length, take}
 use lib.Pow.{pow-pos}
 use lib.Seq.{length-take-le}
-use Rattle.bits.specs.Inner.{place}
+use Rattle.bits.specs.Inner.{bitsWritten}
 use Rattle.layouts.specs.Files.{bytesFor}
 use Rattle.layouts.specs.Forms.{gridHeaderBits}
 use Rattle.layouts.specs.GridFile.{limitWidth, factorWidth, bitsBehind, gridBits, gridBytes}
 use Rattle.layouts.proofs.FormLaws.{header-whole}
 use Rattle.layouts.proofs.GridHeader.{header-total}
-use Rattle.runs.proofs.Penned.{penned-last, penned-run}
+use Rattle.runs.proofs.Written.{written-last, written-run}
 use Rattle.grid_rules.specs.Inner.{coded}
 use Rattle.grid_rules.proofs.Factors.{cell-small, length-coded}
 use Rattle.grid_rules.proofs.Passing.{short-header, length-written}
-use Rattle.grid_rules.proofs.Filling.{grid-penned}
+use Rattle.grid_rules.proofs.Filling.{grid-filled}
 use Rattle.grid_writing.proofs.fill.Statement.{statement}
 use Rattle.grid_writing.proofs.fill.Tie as tie
 
@@ -38,7 +38,7 @@ size c =
     let a = entry c .args in
     sizes c .before .file-bytes .ensures .0 ∙ ap (λ (h : ℕ). bytesFor (bitsBehind h (a .nodes) (a .constraints))) (sizes c .before .before .before .grid-header-bits .ensures)
 
-header-end : (c : tie.After-put-header) → place (c .put-header .result) ≡ gridHeaderBits (entry c .args .form)
+header-end : (c : tie.After-put-header) → bitsWritten (c .put-header .result) ≡ gridHeaderBits (entry c .args .form)
 header-end c = c .put-header .ensures .end ∙ header-total _ _ _
 
 used-bits-requires : tie.Need-used-bits-requires
@@ -55,13 +55,13 @@ put-header-requires c κs =
     let s = c .before .before .before .before .before .before .before in
     (s .pre .nodes-fit, s .pre .good-factors .few, omega (arith, s .pre .room, header-whole (s .args .form)))
 
--- where the pen stands behind the limits and behind the factors
+-- where the writer stands behind the limits and behind the factors
 past-limits : (c : tie.After-write-run) →
-    let a = entry (c .before .before .before .before) .args in place (c .write-run .result) ≡ gridHeaderBits (a .form) + limitWidth * a .constraints
+    let a = entry (c .before .before .before .before) .args in bitsWritten (c .write-run .result) ≡ gridHeaderBits (a .form) + limitWidth * a .constraints
 past-limits c = omega (arith, c .write-run .ensures .1 .0 .0, header-end (c .before .before .before .before))
 
 past-factors : (c : tie.After-write-factors) →
-    let a = entry (c .before .before .before .before .before .before .before .before) .args in place (c .write-factors .result) ≡ gridBits (a .form) (a .nodes) (a .constraints)
+    let a = entry (c .before .before .before .before .before .before .before .before) .args in bitsWritten (c .write-factors .result) ≡ gridBits (a .form) (a .nodes) (a .constraints)
 past-factors c =
     let r = c .before .before .before .before in
     omega (arith, c .write-factors .ensures .1 .0 .0, past-limits r, sizes (r .before .before .before .before) .factor-count .ensures .0)
@@ -115,12 +115,12 @@ returns c =
     let s = entry h in
     let a = s .args in
     let one-limit = length-take-le (a .constraints) (a .limits .now) (s .pre .good-limits .long) in
-    let limits = penned-run (h .put-header .ensures) limitWidth _ _ (take (a .constraints) (a .limits .now)) _ one-limit (r .write-run .ensures) in
+    let limits = written-run (h .put-header .ensures) limitWidth _ _ (take (a .constraints) (a .limits .now)) _ one-limit (r .write-run .ensures) in
     let one-factor = length-coded (a .factors .now) (m .result) (omega (arith, m .ensures .0, s .pre .good-factors .long)) in
-    let factors = penned-run limits factorWidth _ _ (coded (m .result) (a .factors .now)) _ one-factor (f .write-factors .ensures) in
-    let all = penned-last factors _ _ _ 0 (p .ensures) in (
+    let factors = written-run limits factorWidth _ _ (coded (m .result) (a .factors .now)) _ one-factor (f .write-factors .ensures) in
+    let all = written-last factors _ _ _ 0 (p .ensures) in (
       size h ∙ sym (length-written (a .form) (a .nodes) (a .constraints) (a .limits .now) (a .factors .now) (a .file .now) (s .pre)),
-      grid-penned (a .form) (a .nodes) (a .constraints) (a .limits .now) (a .factors .now) (a .file .now) (s .pre) _ _ _ _
+      grid-filled (a .form) (a .nodes) (a .constraints) (a .limits .now) (a .factors .now) (a .file .now) (s .pre) _ _ _ _
           (m .ensures .0) (ap₂ (λ (x y : ℕ). 8 * x - y) (size h) (used h)) all (p .ensures .1 .0 .1)
           (λ i. c .slice-known5 .given i .fits) (p .kept .0 ∙ long-2 f),
     )

@@ -11,8 +11,8 @@ use Rattle.layouts.specs.declared.forms.Form.{Form}
 use Rattle.layouts.specs.declared.forms.Form.the-variants.{Narrow, Wide}
 use Rattle.layouts.specs.Forms.{mostNodes, gridHeaderBytes}
 use Rattle.layouts.specs.GridFile.{gridHeader}
-use Rattle.runs.specs.Inner.{Penned}
-use Rattle.runs.proofs.Penned.{penned-start, penned-put}
+use Rattle.runs.specs.Inner.{WrittenFields}
+use Rattle.runs.proofs.Written.{written-start, written-put}
 use Rattle.grid_writing.proofs.put_header.Statement.{statement}
 use Rattle.grid_writing.proofs.put_header.Tie as tie
 
@@ -28,13 +28,13 @@ start c = c .before .before .before
 fits : (c : tie.After-enum-told) → (start c .args .nodes ≤ maxNarrowNodes) × (2 ≤ length (start c .args .file .now))
 fits c = by-form _ Narrow _ _ (c .enum-told .given .1) (start c .pre .0) (start c .pre .2)
 
-one : (c : tie.After-put) → let a = start (c .before .before) .args in Penned (bits 8 (a .nodes) ∷ []) (a .file .now) (c .put .last .0) (c .put .result)
+one : (c : tie.After-put) → let a = start (c .before .before) .args in WrittenFields (bits 8 (a .nodes) ∷ []) (a .file .now) (c .put .last .0) (c .put .result)
 one c =
     let a = start (c .before .before) .args in
-    penned-put (penned-start (a .file .now) _ (omega arith) refl) 8 _ _ (a .nodes) (c .put .ensures)
+    written-put (written-start (a .file .now) _ (omega arith) refl) 8 _ _ (a .nodes) (c .put .ensures)
 
-two : (c : tie.After-put2) → let a = start (c .before .before .before .before .before .before) .args in Penned (bits 8 (a .nodes) ∷ bits 7 (a .constraints) ∷ []) (a .file .now) (c .put2 .last .0) (c .put2 .result)
-two c = penned-put (one (c .before .before .before .before)) 7 _ _ (start (c .before .before .before .before .before .before) .args .constraints) (c .put2 .ensures)
+two : (c : tie.After-put2) → let a = start (c .before .before .before .before .before .before) .args in WrittenFields (bits 8 (a .nodes) ∷ bits 7 (a .constraints) ∷ []) (a .file .now) (c .put2 .last .0) (c .put2 .result)
+two c = written-put (one (c .before .before .before .before)) 7 _ _ (start (c .before .before .before .before .before .before) .args .constraints) (c .put2 .ensures)
 
 long-2 : (c : tie.After-put2) → length (c .put2 .last .0) ≡ length (start (c .before .before .before .before .before .before) .args .file .now)
 long-2 c = c .put2 .kept .0 ∙ c .before .before .before .before .put .kept .0
@@ -61,7 +61,7 @@ unfolding gridHeader
 returns c =
     let x = c .before .before in
     let e = x .before .before .before .before .before .before .before .before .before .before in
-    rw (e .enum-told .given .1) (penned-put (two (x .before .before .before .before)) 1 _ _ 0 (x .put3 .ensures))
+    rw (e .enum-told .given .1) (written-put (two (x .before .before .before .before)) 1 _ _ 0 (x .put3 .ensures))
 
 -- ---- wide
 
@@ -71,15 +71,15 @@ entry c = c .before .before .before
 wide-fits : (c : tie.After-enum-told2) → (entry c .args .nodes ≤ maxNodes) × (4 ≤ length (entry c .args .file .now))
 wide-fits c = by-form _ Wide _ _ (c .enum-told2 .given .1) (entry c .pre .0) (entry c .pre .2)
 
-wide-one : (c : tie.After-put4) → Penned (bits 8 0 ∷ []) (entry (c .before .before) .args .file .now) (c .put4 .last .0) (c .put4 .result)
-wide-one c = penned-put (penned-start (entry (c .before .before) .args .file .now) _ (omega arith) refl) 8 _ _ 0 (c .put4 .ensures)
+wide-one : (c : tie.After-put4) → WrittenFields (bits 8 0 ∷ []) (entry (c .before .before) .args .file .now) (c .put4 .last .0) (c .put4 .result)
+wide-one c = written-put (written-start (entry (c .before .before) .args .file .now) _ (omega arith) refl) 8 _ _ 0 (c .put4 .ensures)
 
-wide-two : (c : tie.After-put5) → let a = entry (c .before .before .before .before .before .before) .args in Penned (bits 8 0 ∷ bits 7 (a .constraints) ∷ []) (a .file .now) (c .put5 .last .0) (c .put5 .result)
-wide-two c = penned-put (wide-one (c .before .before .before .before)) 7 _ _ (entry (c .before .before .before .before .before .before) .args .constraints) (c .put5 .ensures)
+wide-two : (c : tie.After-put5) → let a = entry (c .before .before .before .before .before .before) .args in WrittenFields (bits 8 0 ∷ bits 7 (a .constraints) ∷ []) (a .file .now) (c .put5 .last .0) (c .put5 .result)
+wide-two c = written-put (wide-one (c .before .before .before .before)) 7 _ _ (entry (c .before .before .before .before .before .before) .args .constraints) (c .put5 .ensures)
 
 wide-three : (c : tie.After-put6) → let a = entry (c .before .before .before .before .before .before .before .before .before .before) .args in
-    Penned (bits 8 0 ∷ bits 7 (a .constraints) ∷ bits 1 1 ∷ []) (a .file .now) (c .put6 .last .0) (c .put6 .result)
-wide-three c = penned-put (wide-two (c .before .before .before .before)) 1 _ _ 1 (c .put6 .ensures)
+    WrittenFields (bits 8 0 ∷ bits 7 (a .constraints) ∷ bits 1 1 ∷ []) (a .file .now) (c .put6 .last .0) (c .put6 .result)
+wide-three c = written-put (wide-two (c .before .before .before .before)) 1 _ _ 1 (c .put6 .ensures)
 
 wide-long-2 : (c : tie.After-put5) → length (c .put5 .last .0) ≡ length (entry (c .before .before .before .before .before .before) .args .file .now)
 wide-long-2 c = c .put5 .kept .0 ∙ c .before .before .before .before .put4 .kept .0
@@ -115,7 +115,7 @@ unfolding gridHeader
 returns-2 c =
     let x = c .before .before in
     let e = x .before .before .before .before .before .before .before .before .before .before .before .before .before .before in
-    rw (e .enum-told2 .given .1) (penned-put (wide-three (x .before .before .before .before)) 16 _ _ (entry e .args .nodes) (x .put7 .ensures))
+    rw (e .enum-told2 .given .1) (written-put (wide-three (x .before .before .before .before)) 16 _ _ (entry e .args .nodes) (x .put7 .ensures))
 
 pub put-header-spec : {M : Type 1} → statement M
 put-header-spec =

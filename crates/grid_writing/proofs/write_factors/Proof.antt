@@ -1,4 +1,4 @@
--- `write_factors`: what was written before, and then the factors passed. The bytes behind the pen are as they were.
+-- `write_factors`: what was written before, and then the factors passed. The bytes behind the writer are as they were.
 use mathlib.Core.Path.{_≡_, refl, sym, ap, _∙_}
 use Prim.Native.Nat.{ℕ, _+_, _-_, _*_, _^_, _≤_}
 use native.Mathlib.Omega.{arith}
@@ -10,7 +10,7 @@ use mir.Val.{toZ, ofZ}
 use mir.ValLaws.{toZ-ofZ}
 use Rattle.bits.specs.Bits.{number}
 use Rattle.bits.specs.Signed.{ofInt}
-use Rattle.bits.specs.Inner.{written, place, Ready, GoesOn}
+use Rattle.bits.specs.Inner.{written, bitsWritten, WriterReady, WritesOn}
 use Rattle.bits.proofs.Writing.{stays, goes-on, run-start, run-turn, run-end}
 use Rattle.layouts.specs.GridFile.{factorWidth}
 use Rattle.grid_rules.specs.Inner.{coded}
@@ -19,13 +19,13 @@ use Rattle.grid_writing.proofs.write_factors.Statement.{statement}
 use Rattle.grid_writing.proofs.write_factors.Tie as tie
 
 abbrev Inv-loop : tie.InvT-loop
-Inv-loop buf₀ factors count pen₀ i₀ buf pen i =
-    (i ≤ count) × (length buf ≡ length buf₀) × Ready pen × (place pen ≡ place pen₀ + factorWidth * i)
-    × (written buf pen ≡ written buf₀ pen₀ * 2 ^ (factorWidth * i) + number factorWidth (take i (coded count factors)))
-    × GoesOn buf₀ pen₀ buf pen
+Inv-loop buf₀ factors count writer₀ i₀ buf writer i =
+    (i ≤ count) × (length buf ≡ length buf₀) × WriterReady writer × (bitsWritten writer ≡ bitsWritten writer₀ + factorWidth * i)
+    × (written buf writer ≡ written buf₀ writer₀ * 2 ^ (factorWidth * i) + number factorWidth (take i (coded count factors)))
+    × WritesOn buf₀ writer₀ buf writer
 
 abbrev μ-loop : tie.MeasureT-loop
-μ-loop buf₀ factors count pen₀ i₀ buf pen i = count - i
+μ-loop buf₀ factors count writer₀ i₀ buf writer i = count - i
 
 loop-holds : tie.Need-loop-holds Inv-loop μ-loop
 loop-holds c =
@@ -58,7 +58,7 @@ loop-again c =
       p .kept .0 ∙ l .inv .1,
       e .1 .0 .1,
       omega (arith, e .1 .0 .0),
-      run-turn factorWidth (coded (a .count) (a .factors .now)) (written (a .buf .now) (a .from)) (l .i) (u .result) (written (l .buf) (l .pen)) _
+      run-turn factorWidth (coded (a .count) (a .factors .now)) (written (a .buf .now) (a .from)) (l .i) (u .result) (written (l .buf) (l .writer)) _
           (rw (length-coded (a .factors .now) (a .count) (omega arith)) (omega arith)) v (l .inv .4) (e .0),
       goes-on (l .inv .5) (e .1 .1),
     )
@@ -71,7 +71,7 @@ returns c =
     let last : l .i ≡ a .count = omega arith in
     let n : length t ≡ a .count = length-coded (a .factors .now) (a .count) (omega arith) in (
       rw n at (run-end factorWidth t (written (a .buf .now) (a .from)) (l .i) _ (last ∙ sym n) (l .inv .4)),
-      ((l .inv .3 ∙ ap (λ (x : ℕ). place (a .from) + factorWidth * x) last, l .inv .2), l .inv .5),
+      ((l .inv .3 ∙ ap (λ (x : ℕ). bitsWritten (a .from) + factorWidth * x) last, l .inv .2), l .inv .5),
     )
 
 pub write-factors-spec : {M : Type 1} → statement M

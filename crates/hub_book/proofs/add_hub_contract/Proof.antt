@@ -4,6 +4,7 @@ use mathlib.Core.List.{List}
 use Prim.Native.Nat.{ℕ, _+_, _≤_}
 use native.Mathlib.Omega.{arith}
 use lib.ListN.{length}
+use Rattle.book_rules.proofs.Accepted.{own-header}
 use Rattle.lists.specs.Lent.{overwrite}
 use Rattle.tariff.specs.declared.refusals.Checked.the-variants.{Passed, Refused}
 use Rattle.tariff.specs.Refusals.{first}
@@ -13,7 +14,6 @@ use Rattle.layouts.specs.declared.forms.Form.{Form}
 use Rattle.layouts.specs.BookFile.{bookBytes, bookFormIn}
 use Rattle.hub_book.specs.AddHubContract.{HubCall, hubCall, countGrown, bookGrown}
 use Rattle.hub_book.specs.Inner.{grownFront}
-use Rattle.hub_book.proofs.Checking.{header-there}
 use Rattle.hub_book.proofs.Growing.{termsOf, givenOf, Given, given-is, given-refuses, too-many, no-room, room, few-nodes, accepted, hub-of-nodes, length-grown}
 use Rattle.hub_book.proofs.Growing.{rows-at-most, count-is, row-fits, front-is}
 use borrow.Author.Needs.{needs}
@@ -48,7 +48,7 @@ hub-rows-requires c κs =
 contract-count-requires : tie.Need-contract-count-requires
 contract-count-requires c κs =
     let s = c .before .before .before .before .before .before .before .before .before .before .before .before in
-    header-there (s .args .nodes) (s .args .book .now) (ok (c .before .before .before .before .before) .own)
+    own-header (s .args .nodes) (s .args .book .now) (ok (c .before .before .before .before .before) .own)
 
 -- the rows that were made
 module _ (c : tie.After-hub-rows) where
@@ -87,7 +87,7 @@ returns-2 c =
     record { length-given = answer-refused (Refused _) _ (sym refused) _ refl _; bytes-written = cells-refused (Refused _) _ (sym refused) _ refl (bookGrown q) _ }
 
 book-form-requires : tie.Need-book-form-requires
-book-form-requires c κs = let h = c .before .before .before .before in header-there (start h .args .nodes) (start h .args .book .now) (ok (told h) .own)
+book-form-requires c κs = let h = c .before .before .before .before in own-header (start h .args .nodes) (start h .args .book .now) (ok (told h) .own)
 
 -- the bytes of the grown book
 grown-bytes : (c : tie.After-book-bytes) → let q = call (start (c .before .before .before .before .before .before)) in c .book-bytes .result ≡ bookBytes (bookFormIn (q .book)) (countGrown q)

@@ -8,10 +8,10 @@ use Rattle.layouts.specs.Forms.{endsBelow}
 use Rattle.layouts.specs.BookFile.{bookFormIn}
 use Rattle.layouts.proofs.BookFile.{ends-some}
 use Rattle.tariff.proofs.Checks.{nodes-some-of}
-use Rattle.books.specs.BookChecks.{ownChecks}
-use Rattle.books.proofs.Accepted.{own-parts}
+use Rattle.book_rules.specs.BookChecks.{ownChecks}
+use Rattle.book_rules.proofs.Accepted.{own-parts, own-header}
 use Rattle.hub_book.specs.Inner.{termChecks}
-use Rattle.hub_book.proofs.Checking.{own-refuses, terms-refuse, shape-next, header-there}
+use Rattle.hub_book.proofs.Checking.{own-refuses, terms-refuse, shape-next}
 use borrow.Author.Needs.{needs}
 use Rattle.hub_book.proofs.check_given.Statement.{statement}
 use Rattle.hub_book.proofs.check_given.Tie as tie
@@ -27,7 +27,7 @@ accepted : (c : tie.After-enum-told) → let a = c .before .before .before .befo
 accepted c = sym (c .before .before .check-own .ensures) ∙ c .enum-told .given .1
 
 book-form-requires : tie.Need-book-form-requires
-book-form-requires c κs = let a = c .before .before .before .before .before .before .args in header-there (a .nodes) (a .book .now) (accepted c)
+book-form-requires c κs = let a = c .before .before .before .before .before .before .args in own-header (a .nodes) (a .book .now) (accepted c)
 
 check-terms-requires : tie.Need-check-terms-requires
 check-terms-requires c κs =

@@ -10,8 +10,8 @@ use Rattle.lists.proofs.Lists.{length-listTo, listTo-more}
 use Rattle.tariff.specs.declared.contracts.Contract.{Contract}
 use Rattle.layouts.specs.BookFile.{bookIn}
 use Rattle.layouts.proofs.BookFile.{record-room, book-bytes-least, length-bookIn}
-use Rattle.books.specs.Inner.{headerBytes, bookFront}
-use Rattle.books.proofs.Making.{front-more}
+use Rattle.book_rules.specs.Inner.{headerBytes, bookFront}
+use Rattle.book_rules.proofs.Making.{front-more}
 use Rattle.hub_book.specs.Inner.{rowContract}
 use Rattle.hub_book.proofs.Copying.{front-kept, shorter}
 use borrow.Author.Needs.{needs}

@@ -5,7 +5,7 @@ use native.Mathlib.Omega.{arith}
 use lib.Dec.{eqb}
 use lib.ListN.{length, drop}
 use Rattle.hub_rules.specs.Hubs.{listed}
-use Rattle.hub_checks.proofs.Rest.{some-here, some-later, some-over}
+use Rattle.hub_checks.proofs.Rest.{anyOf-here, anyOf-later, anyOf-over}
 use borrow.Author.Needs.{needs}
 use borrow.Author.Tests.{eq-eqb, ne-eqb}
 use Rattle.hub_checks.proofs.listed_from.Statement.{statement}
@@ -21,19 +21,19 @@ loop-again : tie.Need-loop-again Inv-loop μ-loop
 loop-again c =
     let l = c .before .before .before .loop in
     let a = c .before .before .before .before .args in
-    (omega arith, sym (some-later (λ x. eqb x (a .node)) (a .nodes .now) (l .j) 0 (omega arith) (ne-eqb _ (a .node) (c .if1 .left))) ∙ l .inv .1)
+    (omega arith, sym (anyOf-later (λ x. eqb x (a .node)) (a .nodes .now) (l .j) 0 (omega arith) (ne-eqb _ (a .node) (c .if1 .left))) ∙ l .inv .1)
 
 returns : tie.Need-returns Inv-loop μ-loop
 returns c =
     let l = c .before .before .before .loop in
     let a = c .before .before .before .before .args in
-    some-here (λ x. eqb x (a .node)) (a .nodes .now) (l .j) 0 (omega arith) (eq-eqb _ (a .node) (c .if1 .taken)) ∙ l .inv .1
+    anyOf-here (λ x. eqb x (a .node)) (a .nodes .now) (l .j) 0 (omega arith) (eq-eqb _ (a .node) (c .if1 .taken)) ∙ l .inv .1
 
 returns-2 : tie.Need-returns-2 Inv-loop μ-loop
 returns-2 c =
     let l = c .before .loop in
     let a = c .before .before .args in
-    some-over (λ x. eqb x (a .node)) (a .nodes .now) (l .j) (omega arith) ∙ l .inv .1
+    anyOf-over (λ x. eqb x (a .node)) (a .nodes .now) (l .j) (omega arith) ∙ l .inv .1
 
 pub listed-from-spec : {M : Type 1} → statement M
 listed-from-spec =

@@ -5,10 +5,11 @@ use Prim.Native.Nat.{ℕ, _+_, _-_, _≤_, _<_}
 use native.Mathlib.Omega.{arith}
 use lib.ListN.{length, getD, drop, take}
 use lib.IntN.{ℤ, pos, natAbs, _+ℤ_, _*ℤ_, +ℤ-idl}
+use Rattle.lists.proofs.Search.{all-below}
 use Rattle.tariff.specs.Units.{factorsOf}
 use Rattle.tariff.specs.Inner.{maxWeighted}
 use Rattle.hub_rules.specs.Hubs.{hubSum}
-use Rattle.hub_mcc.proofs.Weighing.{toCome, node-below, weight-in, plus-fits, room-left, sum-turn, sum-end}
+use Rattle.hub_mcc.proofs.Weighing.{toCome, weight-in, plus-fits, room-left, sum-turn, sum-end}
 use borrow.Author.Needs.{needs}
 use Rattle.hub_mcc.proofs.weighted_sum.Statement.{statement}
 use Rattle.hub_mcc.proofs.weighted_sum.Tie as tie
@@ -32,7 +33,7 @@ loop-holds c = (omega arith, +ℤ-idl _, omega (arith, c .before .before .before
 node-mcc-requires : tie.Need-node-mcc-requires Inv-loop μ-loop
 node-mcc-requires c κs =
     let s = c .before .before .before .before .before .before in
-    (s .pre .0, node-below (s .args .nodes) (s .args .hub .now) (s .pre .1 .low) _ (omega arith))
+    (s .pre .0, all-below (s .args .nodes) (s .args .hub .now) (s .pre .1 .low) _ (omega arith))
 
 shared-slice-read-weighted : tie.Need-shared-slice-read-weighted Inv-loop μ-loop
 shared-slice-read-weighted c = omega (arith, c .before .before .before .before .before .before .before .before .pre .1 .one-each)

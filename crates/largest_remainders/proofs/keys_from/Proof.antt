@@ -7,8 +7,9 @@ use native.Mathlib.Omega.{arith}
 use borrow.Author.Needs.{needs}
 use lib.Dec.{leb}
 use Rattle.lists.specs.Sets.{countOf}
+use Rattle.lists.proofs.Sets.{count-le}
 use Rattle.largest_remainders.specs.Inner.{keyAt, keyLimit}
-use Rattle.largest_remainders.proofs.Counting.{bit, count-start, count-le, count-more}
+use Rattle.largest_remainders.proofs.Counting.{bit, count-start, count-more}
 use Rattle.largest_remainders.proofs.Halving.{lifted-bit}
 use Rattle.largest_remainders.proofs.keys_from.Statement.{statement}
 use Rattle.largest_remainders.proofs.keys_from.Tie as tie

@@ -2,9 +2,9 @@
 use mathlib.Core.Path.{_≡_, sym, _∙_}
 use mathlib.Core.Bool.{true, false}
 use Rattle.tariff.proofs.Checks.{first-passes, first-refuses, last-passes, differs, same}
+use Rattle.tariff.specs.Checks.{listedNodes}
 use Rattle.layouts.specs.Forms.{endsBelow}
 use Rattle.layouts.proofs.BookFile.{ends-some}
-use Rattle.remap_rules.specs.RemapBook.{listedNodes}
 use Rattle.remap_rules.specs.Inner.{listChecks}
 use borrow.Author.Needs.{needs}
 use Rattle.remap_checks.proofs.check_lists.Statement.{statement}

@@ -7,21 +7,21 @@ use borrow.Author.Needs.{needs}
 use mathlib.Core.Bool.{false}
 use Rattle.bits.specs.Bits.{fields}
 use Rattle.bits.proofs.Fields.{length-fields, within}
-use Rattle.lists.specs.Lists.{some, above}
-use Rattle.lists.proofs.Search.{some-start, some-end, above-found, above-turn}
+use Rattle.lists.specs.Lists.{anyOf, above}
+use Rattle.lists.proofs.Search.{anyOf-start, anyOf-end, above-found, above-turn}
 use Rattle.runs.proofs.Runs.{run-at, run-in}
 use Rattle.runs.proofs.field_above.Statement.{statement}
 use Rattle.runs.proofs.field_above.Tie as tie
 
 abbrev Inv-loop : tie.InvT-loop
 Inv-loop s offset width count most at₀ i₀ at i =
-    (i ≤ count) × (at ≡ offset + width * i) × (some (above most) (take i (fields s offset width count)) ≡ false)
+    (i ≤ count) × (at ≡ offset + width * i) × (anyOf (above most) (take i (fields s offset width count)) ≡ false)
 
 abbrev μ-loop : tie.MeasureT-loop
 μ-loop s offset width count most at₀ i₀ at i = count - i
 
 loop-holds : tie.Need-loop-holds Inv-loop μ-loop
-loop-holds c = (search needs, search needs, some-start (above _))
+loop-holds c = (search needs, search needs, anyOf-start (above _))
 
 field-requires : tie.Need-field-requires Inv-loop μ-loop
 field-requires c κs =
@@ -61,7 +61,7 @@ returns-2 : tie.Need-returns-2 Inv-loop μ-loop
 returns-2 c =
     let a = c .before .before .before .args in
     let l = c .before .loop in
-    some-end (above (a .most)) (fields (a .s .now) (a .offset) (a .width) (a .count)) (l .i) (rw length-fields (omega arith)) (l .inv .2)
+    anyOf-end (above (a .most)) (fields (a .s .now) (a .offset) (a .width) (a .count)) (l .i) (rw length-fields (omega arith)) (l .inv .2)
 
 pub field-above-spec : {M : Type 1} → statement M
 field-above-spec = tie.close (tie.spec Inv-loop μ-loop loop-holds field-requires returns add-at (λ c. search needs) (λ c. search needs) loop-again returns-2)

@@ -5,16 +5,8 @@ use Rattle.share_rules.proofs.Signs.{below-range, not-below}
 use Rattle.share_checks.proofs.balance_bad.Statement.{statement}
 use Rattle.share_checks.proofs.balance_bad.Tie as tie
 
-returns : tie.Need-returns
-returns c =
-    let z = c .before .args .balance in
-    below-range z (rw (toZ-ofZ w64 z (c .before .fits .balance)) at (c .if1 .taken))
-
-returns-2 : tie.Need-returns-2
-returns-2 c =
-    let z = c .before .args .balance in
-    let e = toZ-ofZ w64 z (c .before .fits .balance) in
-    rw e (not-below z (rw e at (c .if1 .left)))
-
 pub balance-bad-spec : {M : Type 1} → statement M
-balance-bad-spec = tie.close (tie.spec returns returns-2)
+balance-bad-spec =
+    tie.close (tie.spec
+    (λ c. let z = c .before .args .balance in below-range z (rw (toZ-ofZ w64 z (c .before .fits .balance)) at (c .if1 .taken)))
+    (λ c. let z = c .before .args .balance in let e = toZ-ofZ w64 z (c .before .fits .balance) in rw e (not-below z (rw e at (c .if1 .left)))))

@@ -9,7 +9,7 @@ use lib.IntN.{ℤ}
 use mir.Syntax.{w64}
 use mir.ValLaws.{toZ-ofZ}
 use Rattle.tariff.specs.Checks.{coordinatorCount, balanceRange, demandRange}
-use Rattle.share_rules.specs.ShareBalance.{shareCall, totalOf}
+use Rattle.share_rules.specs.ShareBalance.{shareCall, totalDemand}
 use Rattle.share_rules.proofs.Passing.{all-cells, demands-in, count-refuses, balance-refuses, demand-refuses, none-refuses, room-refuses, all-pass}
 use Rattle.share_checks.proofs.check_share.Statement.{statement}
 use Rattle.share_checks.proofs.check_share.Tie as tie
@@ -33,25 +33,16 @@ searched c = sym (all-cells (c .before .before .before .before .before .before .
 three : (c : tie.Else3) → demandRange (c .before .before .before .before .before .before .before .args .demands .now) .fails ≡ false
 three c = searched (c .before) ∙ c .if3 .left
 
-four : (c : tie.Else4) → eqb (totalOf (c .before .before .before .before .before .before .before .before .before .args .demands .now)) 0 ≡ false
+four : (c : tie.Else4) → eqb (totalDemand (c .before .before .before .before .before .before .before .before .before .args .demands .now)) 0 ≡ false
 four c = ne-eqb _ 0 (λ e. c .if4 .left (c .before .total-of .ensures .0 ∙ e))
-
-count-bad-requires : tie.Need-count-bad-requires
-count-bad-requires c κs = search needs
 
 returns : tie.Need-returns
 returns c = let a = c .before .before .before .args in count-refuses (shareCall (a .balance) (a .demands .now) (a .place .now)) (sym (c .before .count-bad .ensures) ∙ c .if1 .taken)
-
-balance-bad-requires : tie.Need-balance-bad-requires
-balance-bad-requires c κs = search needs
 
 returns-2 : tie.Need-returns-2
 returns-2 c =
     let a = c .before .before .before .before .before .args in
     balance-refuses (shareCall (a .balance) (a .demands .now) (a .place .now)) (one (c .before .before)) (test (c .before) ∙ c .if2 .taken)
-
-cell-above-requires : tie.Need-cell-above-requires
-cell-above-requires c κs = search needs
 
 returns-3 : tie.Need-returns-3
 returns-3 c =
@@ -84,15 +75,5 @@ returns-6 c =
 
 pub check-share-spec : {M : Type 1} → statement M
 check-share-spec =
-    tie.close
-    (tie.spec
-    count-bad-requires
-    returns
-    balance-bad-requires
-    returns-2
-    cell-above-requires
-    returns-3
-    total-of-requires
-    returns-4
-    returns-5
-    returns-6)
+    tie.close (tie.spec
+    (λ c κs. search needs) returns (λ c κs. search needs) returns-2 (λ c κs. search needs) returns-3 total-of-requires returns-4 returns-5 returns-6)

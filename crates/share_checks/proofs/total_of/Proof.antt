@@ -5,7 +5,7 @@ use native.Mathlib.Omega.{arith}
 use lib.ListN.{length}
 use borrow.Author.Needs.{needs}
 use Rattle.largest_remainders.specs.Ranks.{addTo}
-use Rattle.largest_remainders.specs.Shares.{total}
+use Rattle.largest_remainders.specs.Shares.{totalWeight}
 use Rattle.largest_remainders.proofs.Counting.{addTo-more, addTo-none}
 use Rattle.share_rules.specs.ShareBalance.{demandOf}
 use Rattle.share_checks.proofs.total_of.Statement.{statement}
@@ -21,20 +21,8 @@ abbrev μ-loop : tie.MeasureT-loop
 loop-holds : tie.Need-loop-holds Inv-loop μ-loop
 loop-holds c = (omega arith, sym (addTo-none (demandOf (c .args .demands .now))), omega arith)
 
-mul-sum : tie.Need-mul-sum Inv-loop μ-loop
-mul-sum c = search needs
-
-shared-slice-read-sum : tie.Need-shared-slice-read-sum Inv-loop μ-loop
-shared-slice-read-sum c = search needs
-
 add-sum : tie.Need-add-sum Inv-loop μ-loop
 add-sum c = omega (arith, c .before .before .before .pre .small (c .before .before .loop .i) (omega arith), c .before .before .before .pre .few)
-
-add-i : tie.Need-add-i Inv-loop μ-loop
-add-i c = search needs
-
-loop-less : tie.Need-loop-less Inv-loop μ-loop
-loop-less c = search needs
 
 loop-again : tie.Need-loop-again Inv-loop μ-loop
 loop-again c =
@@ -43,7 +31,7 @@ loop-again c =
     (omega arith, omega (arith, addTo-more (l .i) (demandOf (a .args .demands .now))), omega (arith, a .pre .small (l .i) (omega arith)))
 
 returns : tie.Need-returns Inv-loop μ-loop
-unfolding total
+unfolding totalWeight
 returns c =
     let a = c .before .before in
     let l = c .before .loop in
@@ -52,15 +40,5 @@ returns c =
 
 pub total-of-spec : {M : Type 1} → statement M
 total-of-spec =
-    tie.close
-    (tie.spec
-    Inv-loop
-    μ-loop
-    loop-holds
-    mul-sum
-    shared-slice-read-sum
-    add-sum
-    add-i
-    loop-less
-    loop-again
-    returns)
+    tie.close (tie.spec
+    Inv-loop μ-loop loop-holds (λ c. search needs) (λ c. search needs) add-sum (λ c. search needs) (λ c. search needs) loop-again returns)

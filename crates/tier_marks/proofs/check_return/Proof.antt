@@ -2,9 +2,9 @@
 use mathlib.Core.Path.{sym, _∙_}
 use native.Mathlib.Omega.{arith}
 use borrow.Author.Needs.{needs}
-use Rattle.mark_rules.specs.MarkTier.{markTierCall}
-use Rattle.mark_rules.specs.ReturnToTier.{ReturnToTierCall, returnToTierCall}
-use Rattle.mark_rules.proofs.Marks.{tier-refuses, unset, is-set, AtTier, at-tier}
+use Rattle.tier_mark_rules.specs.MarkTier.{markTierCall}
+use Rattle.tier_mark_rules.specs.ReturnToTier.{ReturnToTierCall, returnToTierCall}
+use Rattle.tier_mark_rules.proofs.Marks.{tier-refuses, unset, is-set, AtTier, at-tier}
 use Rattle.tier_marks.proofs.check_return.Statement.{statement}
 use Rattle.tier_marks.proofs.check_return.Tie as tie
 

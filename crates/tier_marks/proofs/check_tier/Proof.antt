@@ -1,7 +1,7 @@
 -- `check_tier`: the buffers, then the tier's number.
 use native.Mathlib.Omega.{arith}
-use Rattle.mark_rules.specs.MarkTier.{MarkTierCall, markTierCall}
-use Rattle.mark_rules.proofs.Marks.{numbers-short, flows-short, no-tier, past-tiers, a-tier}
+use Rattle.tier_mark_rules.specs.MarkTier.{MarkTierCall, markTierCall}
+use Rattle.tier_mark_rules.proofs.Marks.{numbers-short, flows-short, no-tier, past-tiers, a-tier}
 use Rattle.tier_marks.proofs.check_tier.Statement.{statement}
 use Rattle.tier_marks.proofs.check_tier.Tie as tie
 

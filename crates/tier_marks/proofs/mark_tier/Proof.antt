@@ -1,15 +1,13 @@
 -- `mark_tier`: where no check refuses, the numbers and the flows of the mark are written.
 use mathlib.Core.Path.{_≡_, sym, _∙_}
 use mathlib.Core.Logic.{inl}
-use mathlib.Core.List.{[]}
 use native.Mathlib.Omega.{arith}
 use borrow.Author.Needs.{needs}
 use Rattle.tariff.specs.declared.refusals.Checked.the-variants.{Passed}
-use Rattle.tariff.proofs.Answers.{answer-refused, answer-passed}
 use Rattle.tier_rules.specs.Cells.{markedNumbers, markedFlows}
-use Rattle.tier_rules.proofs.Going.{buffer-refused, buffer-passed}
-use Rattle.mark_rules.specs.MarkTier.{MarkTierCall, markTierCall, markTierChecked}
-use Rattle.mark_rules.proofs.Marks.{AtTier, at-tier, marks-tier}
+use Rattle.tier_rules.proofs.Going.{both-kept, both-made}
+use Rattle.tier_mark_rules.specs.MarkTier.{MarkTierCall, markTierCall, markTierChecked, MarksTier}
+use Rattle.tier_mark_rules.proofs.Marks.{AtTier, at-tier, marks-tier}
 use Rattle.tier_marks.proofs.mark_tier.Statement.{statement}
 use Rattle.tier_marks.proofs.mark_tier.Tie as tie
 
@@ -30,21 +28,17 @@ returns : tie.Need-returns
 returns c =
     let k = c .before .before .before in
     let q = call (k .before .before .before .before) in
-    let told = c .before .refusal .given .1 in
-    marks-tier q _ _ _ (answer-refused (k .check-tier .result) (markTierChecked q) (k .check-tier .ensures) _ told [])
-    (buffer-refused (k .check-tier .result) (markTierChecked q) (k .check-tier .ensures) _ told (markedNumbers (q .tier) (q .numbers)) (q .numbers))
-    (buffer-refused (k .check-tier .result) (markTierChecked q) (k .check-tier .ensures) _ told (markedFlows (q .tier) (q .flows)) (q .flows))
+    both-kept (markTierChecked q) (markedNumbers (q .tier) (q .numbers)) (q .numbers) (markedFlows (q .tier) (q .flows)) (q .flows)
+    (MarksTier q) (marks-tier q) (k .check-tier .result) (k .check-tier .ensures) _ (c .before .refusal .given .1)
 
 returns-2 : tie.Need-returns-2
 returns-2 c =
     let e = c .before .before .before .before .before .before .before in
     let k = e .before .before in
     let q = call (k .before .before .before .before) in
-    let told = e .enum-told .given .1 in
-    marks-tier q _ _ _ (answer-passed (k .check-tier .result) (markTierChecked q) (k .check-tier .ensures) told [])
-    (buffer-passed (k .check-tier .result) (markTierChecked q) (k .check-tier .ensures) told (markedNumbers (q .tier) (q .numbers)) (q .numbers) _
-    (c .before .before .before .before .before .mark-numbers .ensures))
-    (buffer-passed (k .check-tier .result) (markTierChecked q) (k .check-tier .ensures) told (markedFlows (q .tier) (q .flows)) (q .flows) _ (c .before .copy-block .ensures))
+    both-made (markTierChecked q) (markedNumbers (q .tier) (q .numbers)) (q .numbers) (markedFlows (q .tier) (q .flows)) (q .flows)
+    (MarksTier q) (marks-tier q) (k .check-tier .result) (k .check-tier .ensures) (e .enum-told .given .1) _ _
+    (c .before .before .before .before .before .mark-numbers .ensures) (c .before .copy-block .ensures)
 
 mul-copy-block : tie.Need-mul-copy-block
 mul-copy-block c = omega (arith, ok (c .before .before .before .before .before) .last-tier)

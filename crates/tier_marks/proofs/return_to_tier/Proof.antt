@@ -1,18 +1,16 @@
 -- `return_to_tier`: where no check refuses, the numbers and the flows are those of the mark.
 use mathlib.Core.Path.{_≡_, sym, _∙_}
 use mathlib.Core.Logic.{inr}
-use mathlib.Core.List.{[]}
 use native.Mathlib.Omega.{arith}
 use borrow.Author.Needs.{needs}
 use Rattle.tariff.specs.declared.refusals.Checked.the-variants.{Passed}
-use Rattle.tariff.proofs.Answers.{answer-refused, answer-passed}
 use lib.Dec.{eqb}
 use lib.ListN.{getD}
 use Rattle.tier_rules.specs.Cells.{flagCell, returnedNumbers, returnedFlows}
-use Rattle.tier_rules.proofs.Going.{buffer-refused, buffer-passed}
-use Rattle.mark_rules.specs.MarkTier.{markTierCall}
-use Rattle.mark_rules.specs.ReturnToTier.{ReturnToTierCall, returnToTierCall, returnToTierChecked}
-use Rattle.mark_rules.proofs.Marks.{AtTier, at-tier, return-parts, returns-to-tier}
+use Rattle.tier_rules.proofs.Going.{both-kept, both-made}
+use Rattle.tier_mark_rules.specs.MarkTier.{markTierCall}
+use Rattle.tier_mark_rules.specs.ReturnToTier.{ReturnToTierCall, returnToTierCall, returnToTierChecked, ReturnsToTier}
+use Rattle.tier_mark_rules.proofs.Marks.{AtTier, at-tier, return-parts, returns-to-tier}
 use Rattle.tier_marks.proofs.return_to_tier.Statement.{statement}
 use Rattle.tier_marks.proofs.return_to_tier.Tie as tie
 
@@ -35,21 +33,17 @@ returns : tie.Need-returns
 returns c =
     let k = c .before .before .before in
     let q = call (k .before .before .before .before) in
-    let told = c .before .refusal .given .1 in
-    returns-to-tier q _ _ _ (answer-refused (k .check-return .result) (returnToTierChecked q) (k .check-return .ensures) _ told [])
-    (buffer-refused (k .check-return .result) (returnToTierChecked q) (k .check-return .ensures) _ told (returnedNumbers (q .tier) (q .numbers)) (q .numbers))
-    (buffer-refused (k .check-return .result) (returnToTierChecked q) (k .check-return .ensures) _ told (returnedFlows (q .tier) (q .flows)) (q .flows))
+    both-kept (returnToTierChecked q) (returnedNumbers (q .tier) (q .numbers)) (q .numbers) (returnedFlows (q .tier) (q .flows)) (q .flows)
+    (ReturnsToTier q) (returns-to-tier q) (k .check-return .result) (k .check-return .ensures) _ (c .before .refusal .given .1)
 
 returns-2 : tie.Need-returns-2
 returns-2 c =
     let e = c .before .before .before .before .before .before .before in
     let k = e .before .before in
     let q = call (k .before .before .before .before) in
-    let told = e .enum-told .given .1 in
-    returns-to-tier q _ _ _ (answer-passed (k .check-return .result) (returnToTierChecked q) (k .check-return .ensures) told [])
-    (buffer-passed (k .check-return .result) (returnToTierChecked q) (k .check-return .ensures) told (returnedNumbers (q .tier) (q .numbers)) (q .numbers) _
-    (c .before .before .before .before .before .return-numbers .ensures))
-    (buffer-passed (k .check-return .result) (returnToTierChecked q) (k .check-return .ensures) told (returnedFlows (q .tier) (q .flows)) (q .flows) _ (c .before .copy-block .ensures))
+    both-made (returnToTierChecked q) (returnedNumbers (q .tier) (q .numbers)) (q .numbers) (returnedFlows (q .tier) (q .flows)) (q .flows)
+    (ReturnsToTier q) (returns-to-tier q) (k .check-return .result) (k .check-return .ensures) (e .enum-told .given .1) _ _
+    (c .before .before .before .before .before .return-numbers .ensures) (c .before .copy-block .ensures)
 
 mul-copy-block : tie.Need-mul-copy-block
 mul-copy-block c = omega (arith, ok (c .before .before .before .before .before) .last-tier)

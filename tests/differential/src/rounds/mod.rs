@@ -2,6 +2,7 @@
 
 pub mod book;
 pub mod calendar;
+pub mod canonical;
 pub mod cuts;
 pub mod demand;
 pub mod flows;
@@ -18,7 +19,6 @@ pub mod refusals;
 pub mod remap;
 pub mod reordering;
 pub mod running;
-pub mod settled;
 pub mod settlement;
 pub mod shares;
 pub mod test;

@@ -3,6 +3,7 @@
 
 pub mod book;
 pub mod calendar;
+pub mod canonical;
 pub mod cuts;
 pub mod flows;
 pub mod grid;
@@ -13,7 +14,6 @@ pub mod prices;
 pub mod refusals;
 pub mod remap;
 pub mod running;
-pub mod settled;
 pub mod settlement;
 pub mod shares;
 pub mod test;

@@ -7,7 +7,8 @@ use crate::second::cuts::{placed, Row, Tested};
 use crate::second::hubs::Hub;
 use crate::second::running::{add_by_cells, mark_by_cells, return_by_cells, Running};
 use crate::second::{
-    book, calendar, flows, grid, hubs, migration, prices, refusals, remap, set_of, settled, settlement, shares, test, text, views, Answer, Form,
+    book, calendar, canonical, flows, grid, hubs, migration, prices, refusals, remap, set_of, settlement, shares, test, text, views,
+    Answer, Form,
 };
 use std::collections::HashMap;
 
@@ -152,8 +153,8 @@ fn write_holder_view(g: &Given) -> Answer<Written> {
     Ok(file("view", views::holder(g.count("nodes"), &g.bytes("book"), g.number("holder"), g.room("view"))?))
 }
 
-fn write_settled_book(g: &Given) -> Answer<Written> {
-    Ok(file("file", settled::settle(g.count("nodes"), &g.bytes("book"), g.room("file"))?))
+fn write_canonical_book(g: &Given) -> Answer<Written> {
+    Ok(file("file", canonical::canonical_file(g.count("nodes"), &g.bytes("book"), g.room("file"))?))
 }
 
 fn add_hub_contract(g: &Given) -> Answer<Written> {
@@ -262,7 +263,7 @@ pub fn answered(function: &str, slots: &[Slot], run: Option<&str>, runs: &mut Ru
         "remap_book" => remap_book(&g),
         "write_market_view" => write_market_view(&g),
         "write_holder_view" => write_holder_view(&g),
-        "write_settled_book" => write_settled_book(&g),
+        "write_canonical_book" => write_canonical_book(&g),
         "add_hub_contract" => add_hub_contract(&g),
         "read_prices" => read_prices(&g),
         "write_prices" => write_prices(&g),

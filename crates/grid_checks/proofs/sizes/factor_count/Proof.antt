@@ -1,7 +1,7 @@
 -- `factor_count`: at most one for each of the most nodes and constraints.
 use mathlib.Core.Path.{refl}
 use native.Mathlib.Omega.{arith}
-use Rattle.tables.proofs.Factors.{count-fits}
+use Rattle.grid_tables.proofs.Factors.{count-fits}
 use Rattle.grid_checks.proofs.sizes.factor_count.Statement.{statement}
 use Rattle.grid_checks.proofs.sizes.factor_count.Tie as tie
 

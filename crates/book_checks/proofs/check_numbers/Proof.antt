@@ -1,0 +1,31 @@
+-- `check_numbers`.
+use mathlib.Core.Path.{sym, _∙_}
+use native.Mathlib.Omega.{arith}
+use Rattle.tariff.specs.Refusals.{first}
+use Rattle.book_rules.proofs.Checking.{end-refused, ends-passed}
+use borrow.Author.Needs.{needs}
+use Rattle.book_checks.proofs.check_numbers.Statement.{statement}
+use Rattle.book_checks.proofs.check_numbers.Tie as tie
+
+returns : tie.Need-returns
+unfolding first
+returns c =
+    let a = c .before .before .args in
+    rw (end-refused (a .nodes) (a .source) (a .sink) (omega (arith, c .if1 .taken, c .before .larger .ensures)))
+
+returns-2 : tie.Need-returns-2
+unfolding first
+returns-2 c =
+    let e = c .before .before in
+    let a = e .before .before .args in
+    rw (ends-passed (a .nodes) (a .source) (a .sink) (omega (arith, e .if1 .left, e .before .larger .ensures)), sym (c .before .quantity-bad .ensures) ∙ c .if2 .taken)
+
+returns-3 : tie.Need-returns-3
+unfolding first
+returns-3 c =
+    let e = c .before .before in
+    let a = e .before .before .args in
+    rw (ends-passed (a .nodes) (a .source) (a .sink) (omega (arith, e .if1 .left, e .before .larger .ensures)), sym (c .before .quantity-bad .ensures) ∙ c .if2 .left)
+
+pub check-numbers-spec : {M : Type 1} → statement M
+check-numbers-spec = tie.close (tie.spec (λ c κs. search needs) returns (λ c κs. search needs) returns-2 returns-3)

@@ -1,3 +1,0 @@
-pub mod ReadBook
-pub mod WriteBook
-pub mod Inner

@@ -1,0 +1,10 @@
+pub mod Checking
+pub mod Accepted
+pub mod Bytes
+pub mod Making
+pub mod Former
+pub mod Theorems
+pub mod Passing
+pub mod Rows
+pub mod RoundTrip
+pub mod Taken

@@ -1,0 +1,5 @@
+pub mod BookChecks
+pub mod Former
+pub mod Inner
+pub mod ReadBook
+pub mod WriteBook

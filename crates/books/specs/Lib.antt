@@ -1,3 +1,0 @@
-pub mod BookChecks
-pub mod Former
-pub mod Inner

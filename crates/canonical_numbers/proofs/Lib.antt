@@ -1,0 +1,3 @@
+pub mod Packing
+pub mod Turning
+pub mod CanonicalRows

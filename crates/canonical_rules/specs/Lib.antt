@@ -1,0 +1,4 @@
+pub mod Canonical
+pub mod CanonicalBook
+pub mod Theorems
+pub mod Inner

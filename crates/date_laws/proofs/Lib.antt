@@ -1,0 +1,3 @@
+pub mod AllMonths
+pub mod ByDays
+pub mod Theorems

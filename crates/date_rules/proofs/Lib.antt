@@ -1,0 +1,3 @@
+pub mod Months
+pub mod Rule
+pub mod Theorems

@@ -1,0 +1,4 @@
+pub mod Dates
+pub mod OnPeak
+pub mod Inner
+pub mod Theorems

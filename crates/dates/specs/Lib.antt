@@ -1,0 +1,4 @@
+pub mod Date
+pub mod Weekday
+pub mod MonthLater
+pub mod Theorems

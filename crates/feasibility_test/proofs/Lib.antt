@@ -1,4 +1,0 @@
-pub mod Checking
-pub mod Flowing
-pub mod Judging
-pub mod Theorems

@@ -1,0 +1,25 @@
+-- `two_differ`: two parts of it.
+use native.Mathlib.Omega.{arith}
+use borrow.Author.Needs.{needs}
+use Rattle.hour_priced.proofs.Rows.{row-part, row-front, differ-parts}
+use Rattle.hour_priced.proofs.two_differ.Statement.{statement}
+use Rattle.hour_priced.proofs.two_differ.Tie as tie
+
+differ-requires : tie.Need-differ-requires
+differ-requires c κs =
+    (row-part (c .args .factors .now) (c .args .a) 2 (c .pre .0) 1 1 (omega arith), row-part (c .args .factors .now) (c .args .b) 2 (c .pre .1) 1 1 (omega arith))
+
+differ-requires-2 : tie.Need-differ-requires-2
+differ-requires-2 c κs =
+    let s = c .before in
+    (row-front (s .args .factors .now) (s .args .a) 2 (s .pre .0) 1 (omega arith), row-front (s .args .factors .now) (s .args .b) 2 (s .pre .1) 1 (omega arith))
+
+returns : tie.Need-returns
+returns c =
+    let a = c .before .before .args in
+    let high = c .before .differ in
+    let low = c .differ2 in
+    (differ-parts (a .factors .now) (a .a) (a .b) 1 1 (high .result) (low .result) (high .ensures .0) (low .ensures .0), omega (arith, high .ensures .1, low .ensures .1))
+
+pub two-differ-spec : {M : Type 1} → statement M
+two-differ-spec = tie.close (tie.spec (λ c. search needs) (λ c. search needs) differ-requires differ-requires-2 (λ c. search needs) (λ c. search needs) returns)

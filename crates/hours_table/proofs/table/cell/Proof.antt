@@ -1,7 +1,0 @@
--- `cell`.
-use borrow.Author.Needs.{needs}
-use Rattle.hours_table.proofs.table.cell.Statement.{statement}
-use Rattle.hours_table.proofs.table.cell.Tie as tie
-
-pub cell-spec : {M : Type 1} → statement M
-cell-spec = tie.close (tie.spec (λ c. search needs) (λ c. search needs) (λ c κs. search needs) (λ c. c .wide .ensures))

@@ -1,2 +1,0 @@
-pub mod FindCuts
-pub mod Inner

@@ -1,2 +1,0 @@
-pub mod SettledBook
-pub mod Inner

@@ -1,3 +1,0 @@
-pub mod Settled
-pub mod Theorems
-pub mod Inner

@@ -1,5 +1,0 @@
-pub mod Passing
-pub mod Amounts
-pub mod HourSums
-pub mod Pricing
-pub mod Theorems

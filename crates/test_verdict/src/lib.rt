@@ -1,0 +1,117 @@
+// The simultaneous feasibility test of a book's bytes against grid tables.
+ghost use mathlib.Core.Path.{_≡_};
+ghost use mathlib.Core.List.{List};
+ghost use Prim.Native.Nat.{ℕ, _*_};
+ghost use lib.ListN.{getD};
+ghost use lib.IntN.{ℤ, pos};
+ghost use lib.Signed.{ltZ};
+ghost use Rattle.lists.specs.Sets.{setOf};
+ghost use Rattle.lists.specs.Lent.{before};
+ghost use Rattle.tariff.specs.declared.contracts.Contract.{Contract};
+ghost use Rattle.tariff.specs.declared.contracts.Period.{Period};
+ghost use Rattle.tariff.specs.Units.{factorsOf, gridOf};
+ghost use Rattle.tariff.specs.Contracts.{ofPeriod};
+ghost use Rattle.tariff.specs.Processes.{percent};
+ghost use Rattle.test_rules.specs.TestBook.{testCall, testChecked, TestsBook};
+ghost use Rattle.test_rules.specs.Inner.{Judgeable, Judges};
+ghost use Rattle.test_rules.specs.Carried.{Carries};
+use tariff::Checked;
+use tariff::Flow;
+use tariff::Period;
+use tariff::Process;
+use test_rules::Flows;
+use test_rules::TestAnswer;
+
+// The set of overloaded constraints, from its highest bit down: bit k is set where the flow on constraint k exceeds its released limit.
+pub fn overload_set(constraints: usize, process: Process, limits: &[u64], flows: Flows) -> u64
+    requires { ⌜ Judgeable constraints (now limits) flows ⌝ }
+    ensures { λ r. ⌜ r ≡ setOf constraints (λ (k : ℕ). ltZ (pos (getD (before limits) k 0 * percent process * 1000)) (getD (flows .flows) k (pos 0))) ⌝ }
+{
+    let cells = flows.flows;
+    let mut set = 0u64;
+    let mut k = constraints;
+    while 0 < k {
+        k -= 1;
+        let flow = Flow(cells[k]);
+        let released = process.released(limits[k]);
+        let bit = flow.exceeds(released) as u64;
+        set = set * 2 + bit;
+    }
+    set
+}
+
+// The answer: pass where the set is empty, else the set, its count of ones, its trailing zeros and the excess there.
+pub fn verdict(constraints: usize, process: Process, limits: &[u64], flows: Flows) -> TestAnswer
+    requires { ⌜ Judgeable constraints (now limits) flows ⌝ }
+    ensures { λ r. ⌜ ((n : ℕ) (fs : List ℤ) (t : Period) (cs : List Contract) → Carries (factorsOf n constraints fs) (ofPeriod t cs) flows
+        → Judges (gridOf n constraints (before limits) fs) process (ofPeriod t cs) r) ⌝ }
+{
+    let set = overload_set(constraints, process, limits, flows);
+    if set == 0 {
+        return TestAnswer::Pass;
+    }
+    let count = u64::count_ones(set) as usize;
+    let lowest = u64::trailing_zeros(set) as usize;
+    let cells = flows.flows;
+    let flow = Flow(cells[lowest]);
+    let released = process.released(limits[lowest]);
+    let excess = flow.minus(released);
+    TestAnswer::Fail {
+        set,
+        count,
+        lowest,
+        excess,
+    }
+}
+
+// The test's checks: those of the tables, then the book's own.
+pub fn check_test(
+    nodes: usize,
+    constraints: usize,
+    process: u64,
+    period: u64,
+    limits: &[u64],
+    factors: &[i64],
+    book: &[u8],
+) -> Checked
+    ensures { λ r. ⌜ r ≡ testChecked (testCall nodes constraints process period (before limits) (before factors) (before book)) ⌝ }
+{
+    let in_tables = grid_tables::check_grid_tables(
+        nodes,
+        constraints,
+        process,
+        period,
+        limits,
+        factors,
+    );
+    if let Checked::Refused(refusal) = in_tables {
+        return Checked::Refused(refusal);
+    }
+    book_checks::check_book(nodes, book)
+}
+
+// Tests a book's bytes against grid tables: whether the contracts of one period are simultaneously feasible in a process.
+pub fn test_book(
+    nodes: usize,
+    constraints: usize,
+    process: u64,
+    period: u64,
+    limits: &[u64],
+    factors: &[i64],
+    book: &[u8],
+) -> TestAnswer
+    ensures { λ r. ⌜ TestsBook (testCall nodes constraints process period (before limits) (before factors) (before book)) r ⌝ }
+{
+    let checked = check_test(nodes, constraints, process, period, limits, factors, book);
+    if let Checked::Refused(refusal) = checked {
+        return TestAnswer::Refused(refusal);
+    }
+    let flows = test_flows::carry(
+        nodes,
+        constraints,
+        factors,
+        Period::from_number(period),
+        book,
+    );
+    verdict(constraints, Process::from_number(process), limits, flows)
+}

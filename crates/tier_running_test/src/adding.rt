@@ -1,0 +1,76 @@
+// Adding an award: its flows are tried, and what is held changes only where none exceeds its released limit.
+ghost use mathlib.Core.Path.{_≡_};
+ghost use Prim.Native.Nat.{_+_, _≤_, _<_};
+ghost use lib.ListN.{length, set};
+ghost use Rattle.lists.specs.Lent.{before, after};
+ghost use Rattle.tariff.specs.Units.{maxContracts};
+ghost use Rattle.tier_rules.specs.Cells.{awardsCells, stateNumbers, heldIn, leftIn, withAwardRow};
+ghost use Rattle.tier_running_rules.specs.AddAward.{addAwardCall, AddsAward};
+use layouts::CONTRACT_CELLS;
+use tariff::Checked;
+use tariff::Contract;
+use tariff::Period;
+use tariff::Process;
+use tariff::Refusal;
+use tier_rules::RunningAnswer;
+
+// Stores an award behind those held.
+fn store_award(c: Contract, awards: &mut [u64], numbers: &mut [u64])
+    requires { ⌜ (awardsCells ≤ length (now awards)) × (stateNumbers ≤ length (now numbers)) × (heldIn (now numbers) < maxContracts) ⌝ }
+    ensures { λ r. ⌜ (after awards ≡ withAwardRow (heldIn (before numbers)) c (before awards))
+        × (after numbers ≡ set (before numbers) 0 (heldIn (before numbers) + 1)) ⌝ }
+{
+    book_rows::store_row(awards, CONTRACT_CELLS * (numbers[0] as usize), c);
+    numbers[0] = numbers[0] + 1;
+}
+
+// Adds an award to a running test, unless some flow would exceed its released limit.
+pub fn add_award(
+    nodes: usize,
+    constraints: usize,
+    process: u64,
+    period: u64,
+    limits: &[u64],
+    factors: &[i64],
+    award: &[u64],
+    awards: &mut [u64],
+    numbers: &mut [u64],
+    flows: &mut [i64],
+) -> RunningAnswer
+    ensures { λ r. ⌜ AddsAward (addAwardCall nodes constraints process period limits factors award awards numbers flows) r (leftIn awards numbers flows) ⌝ }
+{
+    let checked = tier_running_checks::check_award(
+        nodes,
+        constraints,
+        process,
+        period,
+        limits,
+        factors,
+        award,
+        awards,
+        numbers,
+        flows,
+    );
+    if let Checked::Refused(refusal) = checked {
+        return RunningAnswer::Refused(refusal);
+    }
+    let c = book_rows::contract_from(award, 0);
+    let own = c.period;
+    let is_own = own.same(Period::from_number(period));
+    let over = tier_running_flows::add_flows(
+        is_own,
+        nodes,
+        constraints,
+        Process::from_number(process),
+        limits,
+        factors,
+        c,
+        numbers,
+        flows,
+    );
+    if over {
+        return RunningAnswer::Refused(Refusal::AwardOverload);
+    }
+    store_award(c, awards, numbers);
+    RunningAnswer::Held
+}

@@ -1,0 +1,44 @@
+-- `store_row`: the number's two bytes, then the contract's behind them.
+use native.Mathlib.Omega.{arith}
+use Rattle.bits.specs.Bits.{digits}
+use Rattle.bits.proofs.Numbers.{length-digits}
+use Rattle.view_holder.proofs.Rows.{two-blocks}
+use borrow.Author.Needs.{needs}
+use Rattle.view_holder.proofs.store_row.Statement.{statement}
+use Rattle.view_holder.proofs.store_row.Tie as tie
+
+store6-requires : tie.Need-store6-requires
+store6-requires c κs =
+    let s = c .before .before .before .before .before .before .before .before in
+    let room = rw (c .before .enum-told .given .1) at (s .pre) in
+    omega (arith, room, c .before .before .before .before .before .store2 .kept .0)
+
+store7-requires : tie.Need-store7-requires
+store7-requires c κs =
+    let s = c .before .before .before .before .before .before .before .before in
+    let room = rw (c .before .enum-told2 .given .1) at (s .pre) in
+    omega (arith, room, c .before .before .before .before .before .store2 .kept .0)
+
+returns : tie.Need-returns
+returns c =
+    let k = c .before .before .before in
+    let s = k .before .before .before .before .before .before .before .before in
+    let told = k .before .enum-told .given .1 in
+    rw told
+    (two-blocks (digits 8 2 (s .args .i)) (digits 8 6 (s .args .v)) (s .args .view .now) _ _ (s .args .at) 2 6 (length-digits 8 2 (s .args .i)) (omega (arith, s .pre))
+    (k .before .before .before .before .before .store2 .ensures) (c .before .before .store6 .ensures))
+
+returns-2 : tie.Need-returns-2
+returns-2 c =
+    let k = c .before .before .before in
+    let s = k .before .before .before .before .before .before .before .before in
+    let told = k .before .enum-told2 .given .1 in
+    rw told
+    (two-blocks (digits 8 2 (s .args .i)) (digits 8 7 (s .args .v)) (s .args .view .now) _ _ (s .args .at) 2 7 (length-digits 8 2 (s .args .i)) (omega (arith, s .pre))
+    (k .before .before .before .before .before .store2 .ensures) (c .before .before .store7 .ensures))
+
+pub store-row-spec : {M : Type 1} → statement M
+store-row-spec =
+    tie.close (tie.spec
+    (λ c κs. search needs) (λ c. search needs) (λ c. search needs) store6-requires (λ c. search needs) (λ c. search needs) store7-requires
+    (λ c. search needs) returns (λ c. search needs) returns-2)
