@@ -6,9 +6,9 @@
  * (`./library` builds both), for 64-bit machines: x86-64 Linux. It allocates
  * nothing, keeps no state and does no input or output, so any number of threads may
  * call it at once. There is no floating point in it.
- * crr_write_report and crr_write_statement hold a grid's tables on the stack: 200,000
- * bytes (CRR_TEXT_STACK_BYTES) are enough for either. 50,000 (CRR_STACK_BYTES) are
- * enough for any other function.
+ * crr_write_report, crr_write_statement, crr_find_shortfall and crr_find_exposure hold
+ * tables on the stack: 200,000 bytes (CRR_TEXT_STACK_BYTES) are enough for each. 50,000
+ * (CRR_STACK_BYTES) are enough for any other function.
  *
  *
  * INTERFACE. This header's declarations have the number CRR_INTERFACE, and
@@ -617,6 +617,79 @@ uint64_t crr_find_cuts(size_t nodes, size_t constraints,
                        uint64_t *numbers, size_t numbers_len,
                        uint64_t *cuts, size_t cuts_len,
                        size_t *listed);
+
+/*
+ * Finds what a book costs at a price list, for a process and period: net payment,
+ * congestion rent and shortfall of one hour (document 01, "Terms of the third
+ * demand").
+ *
+ * prices has one shadow price for each constraint, in cents. Net payment is the sum of
+ * the exact amounts of the period's contracts, charges negative; rent is the sum over
+ * constraints of released limit times price; shortfall is net payment less rent.
+ *
+ * On success writes each as whole cents rounded down and parts: the figure is whole *
+ * 100,000,000 + parts, in 10^-8 cents.
+ *
+ * At one cent on the constraint that crr_test_book names on a fail, and 0 elsewhere,
+ * the shortfall is the excess that it gives. Where crr_test_book passes, no price
+ * list's shortfall is above 0. Document 01 defines the three figures and asks for no
+ * function that gives them: this one goes beyond it.
+ *
+ * Refusals, in this order: 2 NODE_COUNT, 3 CONSTRAINT_COUNT, 16 PROCESS_NUMBER,
+ * 17 PERIOD_OR_KIND, 9 SHORT_TABLE (limits, factors, prices), 6 LIMIT_RANGE,
+ * 7 FACTOR_RANGE, 15 PRICE_RANGE, then the book's own: 1 SHORT_FILE, 10 CONTRACT_COUNT,
+ * 4 SPARE_BITS, 5 FILE_LENGTH, and contract by contract 11 NODE_NUMBER,
+ * 13 QUANTITY_RANGE.
+ */
+uint64_t crr_find_shortfall(size_t nodes, size_t constraints,
+                            uint64_t process, uint64_t period,
+                            const uint64_t *limits, size_t limits_len,
+                            const int64_t *factors, size_t factors_len,
+                            const uint64_t *prices, size_t prices_len,
+                            const uint8_t *book, size_t book_len,
+                            int64_t *payment_whole, uint64_t *payment_parts,
+                            int64_t *rent_whole, uint64_t *rent_parts,
+                            int64_t *shortfall_whole, uint64_t *shortfall_parts);
+
+/*
+ * Finds what a book can cost in a process and period: how much its holders can be owed
+ * beyond the congestion rent of one hour, at the worst shadow prices.
+ *
+ * The worst shortfall is the most that any list of prices, 0 to 500,000 cents on each
+ * constraint, makes net payment exceed rent. It is at least *least_whole cents and
+ * *least_parts, which the prices written reach, and at most *most_whole and
+ * *most_parts.
+ *
+ * Where at most ten constraints are overloaded the two are one figure, the worst
+ * shortfall itself: 500,000 on every set of them is tried, and the prices written are
+ * those of the set that costs the most (of equals the one whose number, bit k for
+ * constraint k, is the least). Where more are, the prices are 500,000 on every
+ * overloaded constraint or, where that costs more, on the one of the largest excess
+ * alone (the lowest such), and the most is every excess above 0 at 500,000 cents. Even
+ * then the two are equal where the period has no options, and where no option loads
+ * one overloaded constraint and relieves another; the most is never more than the
+ * least times the number of overloaded constraints. Both are 0 exactly where
+ * crr_test_book passes.
+ *
+ * On success writes one price for each constraint to the first cells of prices, 0
+ * wherever nothing is overloaded. crr_find_shortfall at these prices gives the least,
+ * and at none more than the most. Document 01 defines the worst shortfall and asks for
+ * no function that finds it: this one goes beyond it.
+ *
+ * Refusals, in this order: 2 NODE_COUNT, 3 CONSTRAINT_COUNT, 16 PROCESS_NUMBER,
+ * 17 PERIOD_OR_KIND, 9 SHORT_TABLE (limits, factors), 6 LIMIT_RANGE, 7 FACTOR_RANGE,
+ * then the book's own: 1 SHORT_FILE, 10 CONTRACT_COUNT, 4 SPARE_BITS, 5 FILE_LENGTH,
+ * and contract by contract 11 NODE_NUMBER, 13 QUANTITY_RANGE; last 9 SHORT_TABLE if
+ * prices has fewer cells than there are constraints.
+ */
+uint64_t crr_find_exposure(size_t nodes, size_t constraints,
+                           uint64_t process, uint64_t period,
+                           const uint64_t *limits, size_t limits_len,
+                           const int64_t *factors, size_t factors_len,
+                           const uint8_t *book, size_t book_len,
+                           uint64_t *prices, size_t prices_len,
+                           int64_t *least_whole, uint64_t *least_parts,
+                           int64_t *most_whole, uint64_t *most_parts);
 
 /* The state of a running test, which crr_open_running opens. */
 struct crr_running {

@@ -1,5 +1,6 @@
 //! Each public entry on given inputs, proved and plain: first compared, then timed.
 
+use crate::exposure::find_shortfall;
 use crate::inputs::{Inputs, Size, BOOK_BYTES, GRID_BYTES};
 use crate::library;
 use crate::plain::{self, Form, Header, Order, Overload, Totals, MAX_CONTRACTS, MAX_HUB_NODES};
@@ -12,7 +13,7 @@ pub struct Entry {
     pub run: fn(&Inputs) -> Result<Times, String>,
 }
 
-pub const ENTRIES: [Entry; 20] = [
+pub const ENTRIES: [Entry; 21] = [
     Entry { name: "read_grid", run: read_grid },
     Entry { name: "write_grid", run: write_grid },
     Entry { name: "read_book", run: read_book },
@@ -28,6 +29,7 @@ pub const ENTRIES: [Entry; 20] = [
     Entry { name: "test_book", run: test_book },
     Entry { name: "find_flows", run: find_flows },
     Entry { name: "find_cuts", run: find_cuts },
+    Entry { name: "find_shortfall", run: find_shortfall },
     Entry { name: "find_mcc", run: find_mcc },
     Entry { name: "find_hub_mcc", run: find_hub_mcc },
     Entry { name: "settle_hour", run: settle_hour },

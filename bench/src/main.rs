@@ -2,6 +2,7 @@
 
 mod calendar;
 mod entries;
+mod exposure;
 mod inputs;
 mod migration;
 mod plain;
@@ -43,7 +44,7 @@ const BY_WIDE_NODES: [&str; 8] =
     ["read_grid", "write_grid", "read_book", "write_book", "remap_book", "test_book", "find_mcc", "settle_hour"];
 
 /// The entries that take nodes or their numbers, by the largest inputs that they take in the wide form.
-const WIDE: [(&str, Size); 18] = [
+const WIDE: [(&str, Size); 19] = [
     ("read_grid", WIDEST),
     ("write_grid", WIDEST),
     ("read_book", WIDEST),
@@ -57,6 +58,7 @@ const WIDE: [(&str, Size); 18] = [
     ("test_book", WIDEST),
     ("find_flows", WIDEST),
     ("find_cuts", WIDEST),
+    ("find_shortfall", WIDEST),
     ("find_mcc", WIDEST),
     ("find_hub_mcc", WIDEST),
     ("settle_hour", WIDEST),
@@ -110,6 +112,12 @@ fn viewed(label: &str, size: Size, form: Form, matching: usize) -> Result<(), St
     Ok(())
 }
 
+/// What a book that overloads so many constraints can cost.
+fn exposed(label: &str, size: Size, form: Form, over: usize) -> Result<(), String> {
+    row(label, &exposure::find_exposure(size, form, over).map_err(|why| format!("find_exposure, {over}: {why}"))?);
+    Ok(())
+}
+
 /// Migrating so much load.
 fn migrated(label: &str, load: Load, form: Form) -> Result<(), String> {
     row(label, &migration::migrate_load(load, form).map_err(|why| format!("migrate_load, {label}: {why}"))?);
@@ -139,6 +147,7 @@ fn wide() -> Result<(), String> {
             line(&format!("{name}, {} nodes", size.nodes), entry, size, Form::Wide)?;
         }
     }
+    exposed("find_exposure, 4000 nodes", WIDEST, Form::Wide, exposure::OVER)?;
     viewed("write_holder_view, 4000 nodes", WIDEST, Form::Wide, views::MATCHING)?;
     migrated("migrate_load, 4000 nodes", migration::WIDEST, Form::Wide)?;
     tried(WIDEST, ", 4000 nodes")?;
@@ -150,6 +159,7 @@ fn tables() -> Result<(), String> {
     for entry in &ENTRIES {
         line(entry.name, entry, LARGEST, Form::Narrow)?;
     }
+    exposed("find_exposure", LARGEST, Form::Narrow, exposure::OVER)?;
     viewed("write_holder_view", LARGEST, Form::Narrow, views::MATCHING)?;
     shared("share_balance", shares::MOST)?;
     netted("net_transfers", migration::MOST)?;
@@ -163,6 +173,10 @@ fn tables() -> Result<(), String> {
     heading("share_balance, coordinators");
     for coordinators in [4, 16, 64, shares::MOST] {
         shared(&coordinators.to_string(), coordinators)?;
+    }
+    heading("find_exposure, overloaded");
+    for over in [0, 1, 5, 10, 11, 64] {
+        exposed(&over.to_string(), LARGEST, narrow, over)?;
     }
     heading("write_holder_view, matching");
     for matching in [0, 125, 250, 500, 1000] {

@@ -1,10 +1,12 @@
 #!/usr/bin/env python3
 """Prints Differential.v: random cases, figured here from document 01 in exact integers (written from the paper,
-not from Terms.v), which Coq computes again by its definitions.
+not from Terms.v), which Coq computes again by its definitions. What a book can cost is searched here among all
+lists of 0 and 500,000 on the overloaded constraints.
 
 Usage: differential.py [CASES [SEED]] > Differential.v
 """
 
+import itertools
 import random
 import sys
 from decimal import ROUND_FLOOR, ROUND_HALF_UP, Decimal, getcontext
@@ -13,9 +15,10 @@ getcontext().prec = 60
 CAP = 500_000
 SHARE = {"Annual": 65, "TierLt": 60, "Monthly": 100}
 PER_CENT = 10**8
+FEW = 10
 
 HEAD = """From Coq Require Import ZArith List.
-Require Import Terms.
+Require Import Terms Exposure.
 Import ListNotations.
 Open Scope Z_scope.
 
@@ -26,7 +29,8 @@ Definition figures g process t book p :=
    [exactTotal f p cs; wholeCents (exactTotal f p cs); parts (exactTotal f p cs);
     rent g process p; shortfall g process cs p],
    map (excess g process cs) (seq 0 K), map (fun k => shortfall g process cs (oneCent K k)) (seq 0 K),
-   (overloadSet g process cs, overloadCount g process cs, lowestOverload g process cs)).
+   (overloadSet g process cs, overloadCount g process cs, lowestOverload g process cs),
+   (exposurePrices g process cs, leastExposure g process cs, mostExposure g process cs)).
 """
 
 
@@ -67,6 +71,25 @@ def whole(amount):
     return int((Decimal(amount) / PER_CENT).quantize(Decimal(1), ROUND_FLOOR))
 
 
+def exposure(grid, process, book, excess):
+    """The list drawn, the least and the most: of few overloaded constraints every set, of many two lists."""
+    count = len(excess)
+    over = [k for k in range(count) if excess[k] > 0]
+
+    def tried(numbers):
+        prices = [CAP if k in numbers else 0 for k in range(count)]
+        return shortfall(grid, process, book, prices), prices
+
+    if len(over) <= FEW:
+        sets = [numbers for size in range(len(over) + 1) for numbers in itertools.combinations(over, size)]
+        costs = [tried(numbers) for numbers in sorted(sets, key=bits)]
+        worst = max(cost for cost, _ in costs)
+        return next(prices for cost, prices in costs if cost == worst), worst, worst
+    every, alone = tried(over), tried([excess.index(max(excess))])
+    cost, prices = alone if alone[0] > every[0] else every
+    return prices, cost, CAP * sum(excess[k] for k in over)
+
+
 def draw(r):
     """A grid, a process, a period, a book and prices."""
     nodes, constraints = r.choice([1, 2, 3, 3, 4, 5]), r.choice([0, 1, 1, 2, 3, 4, 5])
@@ -85,6 +108,20 @@ def draw(r):
     book = [contract() for _ in range(r.randint(0, 12))]
     prices = [r.choice([0, 1, r.randint(0, CAP), CAP]) for _ in range(constraints)]
     return {"rows": rows, "limits": limits}, r.choice(list(SHARE)), r.choice(["OnPeak", "OffPeak"]), book, prices
+
+
+def draw_overloaded(r):
+    """Contracts that load some constraints and relieve others, of plain figures, and limits a little below the flows: few overloaded and many."""
+    nodes, constraints, process = 4, r.choice([4, 6, 8, 20, 24, 28]), r.choice(list(SHARE))
+    rows = [[r.choice([0, -50_000, 50_000, 100_000]) for _ in range(constraints)] for _ in range(nodes)]
+    kinds = r.choice([["Option", "Option", "Option", "Obligation"], ["Obligation"]])
+    ends = [r.sample(range(nodes), 2) for _ in range(r.randint(3, 6))]
+    book = [{"kind": r.choice(kinds), "period": "OnPeak", "holder": 7, "mw": 1000, "source": a, "sink": b} for a, b in ends]
+    grid = {"rows": rows, "limits": []}
+    for k in range(constraints):
+        flow = sum(loads(contract, grid, k) for contract in book)
+        grid["limits"].append(max(0, flow // (SHARE[process] * 1000) - r.choice([-1, 1, 50, 100])))
+    return grid, process, "OnPeak", book, [r.choice([0, CAP]) for _ in range(constraints)]
 
 
 def listed(figures, scope=""):
@@ -122,7 +159,9 @@ def told(i, grid, process, period, book, prices):
     yield f"   {listed(map(len, priced), '%nat')}, {listed(map(bits, priced), '%N')},"
     yield f"   {listed(totals)},"
     yield f"   {listed(excess)}, {listed(cent)},"
-    yield f"   ({bits(over)}%N, {len(over)}%nat, {over[0] if over else count}%nat))."
+    yield f"   ({bits(over)}%N, {len(over)}%nat, {over[0] if over else count}%nat),"
+    drawn, least, most = exposure(grid, process, counted, excess)
+    yield f"   ({listed(drawn, '%N')}, {least}, {most}))."
     yield "Proof. vm_compute. reflexivity. Qed.\n"
 
 
@@ -131,7 +170,7 @@ def main(cases, seed):
     print(HEAD)
     r = random.Random(seed)
     for i in range(cases):
-        print("\n".join(told(i, *draw(r))))
+        print("\n".join(told(i, *(draw_overloaded(r) if i % 3 == 2 else draw(r)))))
 
 
-main(*(int(word) for word in sys.argv[1:] + ["24", "2024"][len(sys.argv) - 1:]))
+main(*(int(word) for word in sys.argv[1:] + ["24", "2238"][len(sys.argv) - 1:]))

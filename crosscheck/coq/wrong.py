@@ -1,7 +1,7 @@
 #!/usr/bin/env python3
-"""Puts wrong definitions into a copy of Terms.v, one at a time: a proof or a computed value must then fail.
+"""Puts wrong definitions into a copy of Terms.v or Exposure.v, one at a time: a proof or a computed value must then fail.
 
-Prints where each was refused; exit status 1 where one was not, or where its text is no longer in Terms.v.
+Prints where each was refused; exit status 1 where one was not, or where its text is no longer in its file.
 """
 
 import shutil
@@ -11,7 +11,7 @@ import tempfile
 from pathlib import Path
 
 HERE = Path(__file__).resolve().parent
-FILES = ["Terms", "Lemmas", "Demand3", "Checked", "Differential"]
+FILES = ["Terms", "Lemmas", "Demand3", "Exposure", "Checked", "Differential"]
 NEAREST = "Z.sgn a * ((2 * Z.abs a + perCent) / (2 * perCent))"
 FLOW = "Definition flow (f : Factors) (c : Contract) (k : nat) : Z :=\n  "
 WRONG = [
@@ -33,6 +33,12 @@ WRONG = [
     ("rent left out", "netPayment (factors g) cs p - rent g process p", "netPayment (factors g) cs p"),
     ("priced whatever the price", "negb (price p k * (factor", "negb ((factor"),
     ("two cents for one", "then 1%N else 0%N).", "then 2%N else 0%N)."),
+    ("a set is left out", "largestOf (2 ^ overloadCount g process cs)", "largestOf (2 ^ overloadCount g process cs - 1)"),
+    ("the last of equals", "if f best <? f m then m", "if f best <=? f m then m"),
+    ("the largest excess by number", "largestOf (constraints (factors g)) (excess g process cs)", "lowestOverload g process cs"),
+    ("excesses below 0 set off", "Z.max 0 (excess g process cs k)", "excess g process cs k"),
+    ("prices where nothing is overloaded", "(factors g)) (overloaded g process cs).\nDefinition alone", "(factors g)) (fun _ => true).\nDefinition alone"),
+    ("all whatever one alone costs", "then alonePrices else allPrices", "then allPrices else allPrices"),
 ]
 
 
@@ -45,14 +51,15 @@ def refused(folder):
 
 
 def main():
-    right = (HERE / "Terms.v").read_text()
     failed = 0
     for what, old, new in WRONG:
         with tempfile.TemporaryDirectory() as folder:
             for name in FILES:
                 shutil.copy(HERE / f"{name}.v", folder)
-            (Path(folder) / "Terms.v").write_text(right.replace(old, new))
-            where = refused(folder) if old in right else None
+            meant = [file for file in (Path(folder) / "Terms.v", Path(folder) / "Exposure.v") if old in file.read_text()]
+            for file in meant:
+                file.write_text(file.read_text().replace(old, new))
+            where = refused(folder) if meant else None
         failed += where is None
         print(f"{what}: {'refused in ' + where if where else 'NOT REFUSED'}", flush=True)
     print(f"wrong definitions: {len(WRONG) - failed} refused, {failed} not")

@@ -24,7 +24,9 @@ class Statuses(FolderTest):
     def test_passes_and_fails(self):
         self.assertEqual(command("test", CASE_L)[0], 0)
         status, out, err = command("test", IEEE14)
-        self.assertEqual((status, err), (1, ""))
+        said = "ON annual: at worst an hour pays $11,250.00 more than its congestion rent\n"
+        said += "ON Tier LT: at worst an hour pays $26,091.04375 more than its congestion rent\n"
+        self.assertEqual((status, err), (1, said))
         self.assertIn("ON,annual,fail,1,7-8 reverse,2.25000000,7-8 reverse,2.25000000,7-8 reverse\n", out)
         self.assertEqual(command("test", IEEE14, "--process", "monthly")[0], 0)
         self.assertEqual(command("test", IEEE14, "--period", "off")[0], 0)
@@ -56,6 +58,7 @@ class Statuses(FolderTest):
             "lowest_numbered": "7-8 reverse",
         }
         failing.update({"excess_mw": "4.00000000", "worst": "7-8 reverse", "worst_excess_mw": "4.00000000"})
+        failing.update({"exposure_least": "26091.0437500000", "exposure_most": "26091.0437500000"})
         self.assertEqual(answer["verdicts"][4], {**failing, "constraints": ["7-8 reverse", "7-9"]})
         answer = json.loads(command("settle", CASE_L, "--json")[1])
         self.assertEqual((answer["sum"], answer["exact_total"], answer["hours"]), ("8.99", "8.9917000000", 1))

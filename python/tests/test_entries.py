@@ -231,12 +231,13 @@ class Refusals(unittest.TestCase):
     def test_rules(self):
         grid = crr.Grid(2, 1, array("Q", [5]), array("q", [1, 2]))
         empty = b"\0\0"
-        for entry in (crr.test_book, crr.find_cuts):
+        with_process = (crr.test_book, crr.find_cuts, crr.find_exposure)
+        for entry in with_process:
             self.refused(16, entry, grid, empty, 3, 1)
         self.refused(16, crr.released_percent, 3)
-        for entry, arguments in ((crr.test_book, (2, 2)), (crr.find_flows, (2,)), (crr.find_cuts, (2, 2))):
+        for entry, arguments in [(crr.find_flows, (2,)), *((entry, (2, 2)) for entry in with_process)]:
             self.refused(17, entry, grid, empty, *arguments)
-        for entry, arguments in ((crr.test_book, (2, 1)), (crr.find_flows, (1,)), (crr.find_cuts, (2, 1))):
+        for entry, arguments in [(crr.find_flows, (1,)), *((entry, (2, 1)) for entry in with_process)]:
             self.refused(9, entry, crr.Grid(2, 1, array("Q"), grid.factors), empty, *arguments)
             self.refused(6, entry, crr.Grid(2, 1, [100_000_001], grid.factors), empty, *arguments)
             self.refused(7, entry, crr.Grid(2, 1, grid.limits, [100_001, 0]), empty, *arguments)

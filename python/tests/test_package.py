@@ -69,7 +69,8 @@ class Wheel(FolderTest):
         self.assertEqual(installed.returncode, 0, installed.stdout.decode())
         alone = {"env": {}, "cwd": self.folder}
         verdicts = run(place / "crr", "test", IEEE14, **alone)
-        self.assertEqual((verdicts.returncode, verdicts.stdout.decode()), command("test", IEEE14)[:2])
+        status, out, err = command("test", IEEE14)
+        self.assertEqual((verdicts.returncode, verdicts.stdout.decode()), (status, out + err))
         lines = run(place / "crr", "--version", **alone).stdout.decode().splitlines()
         self.assertEqual((lines[0], lines[2]), (f"crr {crr.__version__}", "from    the installed package"))
         self.assertEqual(lines[1], f"library {next(place.parent.rglob('libcrr.so')).resolve()}")

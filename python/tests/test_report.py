@@ -9,6 +9,7 @@ import shutil
 import unittest
 from decimal import Decimal
 from html.parser import HTMLParser
+from itertools import product
 from unittest import mock
 from xml.etree import ElementTree
 
@@ -60,9 +61,9 @@ class Tags(HTMLParser):
 
 
 class Page(FolderTest):
-    def page(self, source):
+    def page(self, source, *more):
         path = self.folder / "page.html"
-        status, out, err = command("report", source, "-o", path)
+        status, out, err = command("report", source, "-o", path, *more)
         self.assertEqual((status, out, err), (0, f"{path} written\n", ""))
         text = path.read_text(encoding="utf-8")
         tags = Tags()
@@ -106,7 +107,7 @@ class Page(FolderTest):
         self.says(
             text,
             "<p>1 constraint overloaded: 7-8 reverse, by 2.25 MW.</p>",
-            "there and 0 elsewhere, an hour pays $0.0225 more than its congestion rent.",
+            "<p>At worst an hour pays $11,250.00 more than its congestion rent.</p>",
         )
         self.says(
             text, "<p>2 constraints overloaded.</p><p>Lowest numbered and worst: 7-8 reverse, by 4 MW.</p>"
@@ -277,8 +278,8 @@ class Page(FolderTest):
             )
 
     def test_rent(self):
-        """By month, from the text of the files; what is left of it is rent less exact payments."""
-        text = self.page(IEEE14)
+        """By month, from the text of the files; the shortfall is exact payments less rent."""
+        pages = {100: self.page(IEEE14), 60: self.page(IEEE14, "--process", "lt")}
         with open(IEEE14 / "constraints.csv", newline="") as file:
             limits = {row["CONSTRAINT_ID"]: Decimal(row["LIMIT_MW"]) for row in csv.DictReader(file)}
         rents = {}
@@ -295,19 +296,41 @@ class Page(FolderTest):
             "2026-08": Decimal("3677.5248020625"),
             "all": Decimal("11034.2220770875"),
         }
-        for month, rent in rents.items():
+        for (percent, text), month in product(pages.items(), rents):
             row = re.search(rf"<th scope=row>{month}</th>(.*?)</tr>", text)[1]
+            rent = rents[month] * percent / 100
             self.says(
                 row,
                 f">{exact_money(str(exact[month]))}<",
-                f">{exact_money(str(rent))}<",
-                f">{exact_money(str(rent - exact[month]))}<",
+                f">{exact_money(f'{rent:f}')}<",
+                f">{exact_money(f'{exact[month] - rent:f}')}<",
             )
         self.says(
-            text,
+            pages[100],
             "the limit that the monthly process releases, 100% of it",
             "release 65% (annual) and 60% (Tier LT)",
+            "Hour by hour, the largest shortfall first; no hour falls short",
         )
+        self.says(
+            pages[60],
+            "the limit that the Tier LT process releases, 60% of it",
+            "release 65% (annual) and 100% (monthly)",
+            "Hour by hour, the largest shortfall first; 2 hours fall short",
+            '<th scope=row>2026-07-31 HE21</th><td class=figure data-name="payments, exact">',
+        )
+        self.assertLess(pages[60].index("2026-07-31 HE21"), pages[60].index("2026-07-31 HE01"))
+
+    def test_at_worst(self):
+        """A bar for each overloaded constraint, the most expensive first, and which are on the list."""
+        text = self.page(IEEE14)
+        listed = "at $5,000.00 per MWh on 7-8 reverse and 7-9, and 0 elsewhere"
+        self.says(text, "<h3>On-peak, Tier LT</h3>", listed)
+        bars = re.findall(r"<title>([^<]*: \$[^<]* alone, [^<]*)</title>", text)
+        lt = ["7-8 reverse: $20,000.00 alone, on the list", "7-9: $6,091.04375 alone, on the list"]
+        self.assertEqual(sorted(bars), sorted(["7-8 reverse: $11,250.00 alone, on the list", *lt]))
+        self.assertFalse("What the book can cost" in self.page(CASE_L))
+        text = self.page(self.case(others="0.010"))
+        self.says(text, "At worst an hour pays between $", " more constraints</summary>", "alone, on the ")
 
     def test_what_is_whose(self):
         text = self.page(CASE_L)

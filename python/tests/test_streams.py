@@ -43,7 +43,9 @@ class Streams(FolderTest):
             )
 
     def test_closed_errors(self):
-        self.assertEqual(self.run_crr("2>&-", "test", IEEE14)[0], 1)  # it has nothing to say there
+        self.assertEqual(self.run_crr("2>&-", "test", CASE_L)[0], 0)  # it has nothing to say there
+        self.assertEqual(self.run_crr("2>&-", "test", IEEE14)[0], 2)  # what it costs at worst
+        self.assertEqual(self.run_crr("2>&-", "test", IEEE14, "--json")[0], 1)
         self.assertEqual(self.run_crr("2>&-", "settle", CASE_L)[0], 2)  # its totals
         self.assertEqual(self.run_crr("2>&-", "check", self.folder), (2, b"", b""))
         self.assertEqual(self.run_crr("2>&-", "tset"), (2, b"", b""))

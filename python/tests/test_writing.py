@@ -154,7 +154,7 @@ class Spared(FolderTest):
             return {name for argument in one.arguments for name in argument.names}
 
         writing = {name for name, one in COMMANDS.items() if "-o" in names(one)}
-        expected = "pack unpack settle report remap market holder canonical hub-add tiers migrate"
+        expected = "pack unpack settle exposure report remap market holder canonical hub-add tiers migrate"
         self.assertEqual(writing, set(expected.split()))
         self.assertEqual({name for name, one in COMMANDS.items() if "--force" in names(one)}, writing)
 

@@ -66,7 +66,7 @@ static void books(void) {
            crr_migrate_load(1, CRR_ON_PEAK, book_file, 2, NULL, 0, NULL, 0, NULL, 0, NULL, 0, NULL, 0, NULL, 0, NULL, 0, &bytes) == CRR_MIGRATION_RANGE);
 }
 
-/* Tests, flows, cuts, prices and amounts on the grid without constraints. */
+/* Tests, flows, cuts, costs, prices and amounts on the grid without constraints. */
 static void figures(void) {
     size_t count = 7, lowest = 7, counted = 7, listed = 7;
     uint64_t set = 7, parts = 7, remainder = 7;
@@ -76,6 +76,11 @@ static void figures(void) {
     expect("the flows", crr_find_flows(1, 0, CRR_ON_PEAK, NULL, 0, NULL, 0, book_file, 2, NULL, 0, &counted) == CRR_OK && counted == 0);
     expect("the cuts",
            crr_find_cuts(1, 0, CRR_MONTHLY, CRR_ON_PEAK, NULL, 0, NULL, 0, book_file, 2, NULL, 0, NULL, 0, &listed) == CRR_OK && listed == 0);
+    expect("the shortfall",
+           crr_find_shortfall(1, 0, CRR_MONTHLY, CRR_ON_PEAK, NULL, 0, NULL, 0, NULL, 0, book_file, 2, &excess, &parts, &sum, &set, &whole, &remainder) == CRR_OK && whole == 0
+               && remainder == 0);
+    expect("the exposure",
+           crr_find_exposure(1, 0, CRR_MONTHLY, CRR_ON_PEAK, NULL, 0, NULL, 0, book_file, 2, NULL, 0, &excess, &parts, &whole, &remainder) == CRR_OK && whole == 0 && remainder == 0);
     expect("the MCC", crr_find_mcc(1, 0, NULL, 0, NULL, 0, signed_cell, 1) == CRR_OK && signed_cell[0] == 0);
     expect("no cell for the MCC", crr_find_mcc(1, 0, NULL, 0, NULL, 0, NULL, 0) == CRR_SHORT_TABLE);
     expect("the MCC of no hub", crr_find_hub_mcc(1, 0, NULL, 0, NULL, 0, NULL, 0, NULL, 0, &quotient, &remainder) == CRR_HUB_SHAPE);

@@ -2,9 +2,9 @@
  * Calls every function of crr.h, on case L of document 01: each file read and written
  * again, the grid and the book in both forms, a node retired, the market's view and a
  * holder's, the canonical book, a contract from a hub added, the test, the flows, the
- * cuts, the released shares, the MCC, that of a hub, the hour, the two texts; the
- * calendar; a balance shared; load migrated; a running test with a tier to come back
- * to; the interface's number and a refusal's sentence. Each is called on a thread whose
+ * cuts, what the book costs, the released shares, the MCC, that of a hub, the hour, the
+ * two texts; the calendar; a balance shared; load migrated; a running test with a tier to
+ * come back to; the interface's number and a refusal's sentence. Each is called on a thread whose
  * stack has what crr.h says is enough. Also a C++ program.
  */
 #include <pthread.h>
@@ -20,6 +20,8 @@ static uint64_t limits[CRR_MAX_CONSTRAINTS], prices[CRR_MAX_CONSTRAINTS], rows[6
 static const uint64_t old_nodes[] = {2}, new_nodes[] = {1};
 /* A first limit that case L's book exceeds. */
 static const uint64_t tight[] = {6001, 50000};
+/* Case L's limits and prices, and one cent on the constraint that the tight limits overload. */
+static const uint64_t case_limits[] = {100000, 50000}, hour_prices[] = {1000, 2550}, one_cent[] = {1, 0};
 /* Case L's grid and book in the wide form, and the cell after each. */
 static const uint8_t wide_grid[] = {0x00, 0x05, 0x00, 0x03, 0x00, 0x30, 0xd4, 0x00, 0x03, 0x0d, 0x40, 0xea, 0x60,
                                     0xec, 0x78, 0x00, 0x00, 0x00, 0x00, 0x03, 0xd8, 0xf0, 0x27, 0x10, 0x00, 7};
@@ -92,6 +94,33 @@ static void *texts(void *nothing) {
                                       && starts_with("contract,holder,kind,cents,priced\n0,7,OBL,900,2\n1,8,OPT,0,2\n", bytes));
     expect("crr_write_statement, wide", crr_write_statement(wide_grid, 25, wide_book, 30, price_file, price_len, text, sizeof text, &bytes) == CRR_OK
                                             && starts_with("contract,holder,kind,cents,priced\n0,7,OBL,900,2\n1,8,OPT,0,2\n", bytes));
+    return nothing;
+}
+
+/* What the book costs at the hour's prices, at one cent, and at worst. */
+static void *costs(void *nothing) {
+    size_t nodes = 3, constraints = 2;
+    uint64_t paid_parts = 7, rent_parts = 7, parts = 7, least_parts = 7, most_parts = 7, worst[] = {7, 7, 7};
+    int64_t paid = 7, rent = 7, shortfall = 7, least = 7, most = 7;
+
+    expect("crr_find_shortfall", crr_find_shortfall(nodes, constraints, CRR_MONTHLY, CRR_ON_PEAK, tight, 2, factors, nodes * constraints, hour_prices, 2,
+                                                    book_file, book_len, &paid, &paid_parts, &rent, &rent_parts, &shortfall, &parts) == CRR_OK
+                                     && paid == 899 && paid_parts == 17000000 && rent == 133501 && rent_parts == 0 && shortfall == -132602 && parts == 17000000);
+    expect("crr_find_shortfall, one cent", crr_find_shortfall(nodes, constraints, CRR_MONTHLY, CRR_ON_PEAK, tight, 2, factors, nodes * constraints, one_cent, 2,
+                                                              book_file, book_len, &paid, &paid_parts, &rent, &rent_parts, &shortfall, &parts) == CRR_OK
+                                               && shortfall == 0 && parts == 34970000);
+    expect("crr_find_shortfall, too few prices", crr_find_shortfall(nodes, constraints, CRR_MONTHLY, CRR_ON_PEAK, tight, 2, factors, nodes * constraints, hour_prices, 1,
+                                                                    book_file, book_len, &paid, &paid_parts, &rent, &rent_parts, &shortfall, &parts) == CRR_SHORT_TABLE
+                                                     && shortfall == 0 && parts == 34970000);
+    expect("crr_find_exposure", crr_find_exposure(nodes, constraints, CRR_ANNUAL, CRR_ON_PEAK, tight, 2, factors, nodes * constraints, book_file, book_len,
+                                                  worst, 3, &least, &least_parts, &most, &most_parts) == CRR_OK
+                                    && least == 1225025 && least_parts == 0 && most == 1225025 && most_parts == 0 && worst[0] == 500000 && worst[1] == 0 && worst[2] == 7);
+    expect("crr_find_exposure, too few cells", crr_find_exposure(nodes, constraints, CRR_MONTHLY, CRR_ON_PEAK, tight, 2, factors, nodes * constraints, book_file, book_len,
+                                                                 worst, 1, &least, &least_parts, &most, &most_parts) == CRR_SHORT_TABLE
+                                                   && least == 1225025 && worst[0] == 500000);
+    expect("crr_find_exposure, a pass", crr_find_exposure(nodes, constraints, CRR_MONTHLY, CRR_ON_PEAK, case_limits, 2, factors, nodes * constraints, book_file, book_len,
+                                                          worst, 2, &least, &least_parts, &most, &most_parts) == CRR_OK
+                                            && least == 0 && least_parts == 0 && most == 0 && most_parts == 0 && worst[0] == 0 && worst[1] == 0);
     return nothing;
 }
 
@@ -292,6 +321,7 @@ int main(void) {
     price_len = load("prices.bin", price_file, sizeof price_file);
     on_thread(others, CRR_STACK_BYTES);
     on_thread(texts, CRR_TEXT_STACK_BYTES);
+    on_thread(costs, CRR_TEXT_STACK_BYTES);
     printf("interface: %d passed, %d failed\n", passed, failed);
     return failed != 0;
 }

@@ -17,7 +17,7 @@ pub fn node_mcc(constraints: usize, factors: &[i64], prices: &[u64], node: usize
     -row.iter().zip(prices).map(|(&factor, &price)| factor * price as i64).sum::<i64>()
 }
 
-fn fill_mcc(constraints: usize, factors: &[i64], prices: &[u64], mcc: &mut [i64]) {
+pub fn fill_mcc(constraints: usize, factors: &[i64], prices: &[u64], mcc: &mut [i64]) {
     for (node, cell) in mcc.iter_mut().enumerate() {
         *cell = node_mcc(constraints, factors, prices, node);
     }
@@ -43,6 +43,11 @@ fn amount(mcc: &[i64], c: Contract) -> i64 {
     } else {
         exact
     }
+}
+
+/// The exact amounts of one period's contracts added.
+pub fn exact_total<const BYTES: usize>(mcc: &[i64], period: u64, book: &[u8]) -> i128 {
+    contracts::<BYTES>(book).filter(|c| c.period == period).map(|c| i128::from(amount(mcc, c))).sum()
 }
 
 /// To the nearest cent, a half away from zero.

@@ -1,29 +1,20 @@
--- Keys collected one contract after the other, and the excesses that they go by.
-use mathlib.Core.Path.{_≡_, refl, sym, ap, _∙_}
+-- Keys collected one contract after the other.
+use mathlib.Core.Path.{_≡_, sym}
 use mathlib.Core.Bool.{true, false, cond}
 use mathlib.Core.List.{List, [], _∷_, _++_, append-nil}
-use Prim.Native.Nat.{ℕ, _+_, _*_, _^_, _≤_, _<_}
+use Prim.Native.Nat.{ℕ, _+_, _*_, _<_}
 use native.Mathlib.Numerals.{add-one}
-use native.Mathlib.Omega.{arith}
 use borrow.Author.Tests.{lt-ltb}
 use lib.Dec.{ltb}
-use lib.ListN.{length, getD, take, set}
+use lib.ListN.{length, take, set}
 use lib.Seq.{take-suc-set}
-use lib.IntN.{ℤ, pos, natAbs, _-ℤ_}
-use mir.Syntax.{w64}
-use mir.Val.{toZ, ofZ}
-use Rattle.integers.proofs.Machine.{back}
-use Rattle.integers.proofs.Sizes.{natAbs-sub}
+use lib.IntN.{ℤ}
 use Rattle.tariff.specs.declared.contracts.Contract.{Contract}
 use Rattle.tariff.specs.declared.contracts.Period.{Period}
-use Rattle.tariff.specs.declared.processes.Process.{Process}
-use Rattle.tariff.specs.Units.{maxLimit}
 use Rattle.tariff.specs.Contracts.{samePeriod}
-use Rattle.tariff.specs.Processes.{percent}
-use Rattle.test_rules.proofs.Judging.{released-small}
 use Rattle.cut_rules.specs.Inner.{cutKey, keysTo}
-use Rattle.cut_needs.specs.Inner.{cellAt, cutIn}
-use Rattle.cut_keys.specs.Inner.{excessIn, periodCut}
+use Rattle.cut_needs.specs.Inner.{cutIn}
+use Rattle.cut_keys.specs.Inner.{periodCut}
 
 -- ---- the cut of a contract of either period
 
@@ -48,16 +39,3 @@ module _ (keys : List ℕ) (count number cut P : ℕ) (is : cut ≡ P) where
 pub keys-more : (cutOf : ℕ → ℕ) (i : ℕ) → keysTo cutOf (i + 1) ≡ keysTo cutOf i ++ cond (ltb 0 (cutOf i)) (cutKey (cutOf i) i ∷ []) []
 unfolding keysTo
 keys-more cutOf i = rw add-one
-
--- ---- the excess at a constraint
-
-pub excess-sized : (limits : List ℕ) (process : Process) (flows : List ℤ) (j : ℕ) → natAbs (cellAt flows j) < 2 ^ 62 → getD limits j 0 ≤ maxLimit → natAbs (excessIn limits process flows j) < 2 ^ 63
-excess-sized limits process flows j hf hl =
-    omega (arith, natAbs-sub (cellAt flows j) (pos (getD limits j 0 * percent process * 1000)), released-small (pos (getD limits j 0 * percent process * 1000)) (getD limits j 0) process hl refl)
-
--- v is what the machine gives
-pub excess-kept : (limits : List ℕ) (process : Process) (flows : List ℤ) (j : ℕ) (y v : ℤ) → natAbs (cellAt flows j) < 2 ^ 62 → getD limits j 0 ≤ maxLimit
-    → y ≡ pos (getD limits j 0 * percent process * 1000) → v ≡ toZ w64 (ofZ w64 (cellAt flows j)) -ℤ y → toZ w64 (ofZ w64 v) ≡ excessIn limits process flows j
-excess-kept limits process flows j y v hf hl ey ev =
-    let is : v ≡ excessIn limits process flows j = ev ∙ rw (ey, back (cellAt flows j) (omega arith)) in
-    ap (λ (z : ℤ). toZ w64 (ofZ w64 z)) is ∙ back (excessIn limits process flows j) (excess-sized limits process flows j hf hl)

@@ -41,8 +41,9 @@ use Rattle.cut_rules.proofs.Rows.{each-row, numbers-rise}
 use Rattle.cut_rules.proofs.Keys.{Few, keys-in-order, keys-are}
 use Rattle.cut_rules.proofs.Theorems.{failing-rows, passing-rows}
 use Rattle.cut_needs.specs.Inner.{Excesses, cellAt, slopeFrom, slopeIn, cutIn}
-use Rattle.cut_keys.specs.Inner.{excessIn, periodCut}
-use Rattle.cut_keys.proofs.Collecting.{excess-sized}
+use Rattle.cut_keys.specs.Inner.{periodCut}
+use Rattle.test_excesses.specs.Inner.{excessIn}
+use Rattle.test_excesses.proofs.Excesses.{excess-sized}
 
 -- ---- the slope that a table gives is the contract's
 

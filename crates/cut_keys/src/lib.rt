@@ -5,49 +5,23 @@ ghost use mathlib.Core.List.{[], _∷_, _++_, map};
 ghost use Prim.Native.Nat.{ℕ, _+_, _≤_, _<_};
 ghost use lib.Dec.{ltb};
 ghost use lib.ListN.{length, take};
-ghost use Rattle.lists.specs.Lists.{listTo};
-ghost use Rattle.lists.specs.Lent.{before, after, overwrite};
+ghost use Rattle.lists.specs.Lent.{before, after};
 ghost use Rattle.tariff.specs.declared.refusals.Checked.the-variants.{Passed};
 ghost use Rattle.tariff.specs.Units.{gridOf, maxContracts, maxLimit};
 ghost use Rattle.tariff.specs.Refusals.{first};
 ghost use Rattle.layouts.specs.BookFile.{bookIn, contractCountIn, contractAt};
 ghost use Rattle.grid_tables.specs.Inner.{GoodFactors, GoodCells};
 ghost use Rattle.book_rules.specs.BookChecks.{bookChecks};
-ghost use Rattle.test_rules.specs.Inner.{Ends, Judgeable};
+ghost use Rattle.test_rules.specs.Inner.{Ends};
 ghost use Rattle.cut_rules.specs.Cuts.{leastCuts};
 ghost use Rattle.cut_rules.specs.Inner.{cutKey, rowKey, keysTo};
 ghost use Rattle.cut_needs.specs.Inner.{Excesses, Overloads};
-ghost use Rattle.cut_keys.specs.Inner.{excessIn, periodCut};
+ghost use Rattle.cut_keys.specs.Inner.{periodCut};
 use cut_rules::KEY_BASE;
 use tariff::Contract;
-use tariff::Flow;
 use tariff::MAX_CONSTRAINTS;
 use tariff::Period;
 use tariff::Process;
-use test_rules::Flows;
-
-// The excess at each constraint, into the first cells of `out`.
-fn fill_excess(
-    constraints: usize,
-    process: Process,
-    limits: &[u64],
-    carried: Flows,
-    out: &mut [i64],
-)
-    requires { ⌜ Judgeable constraints (now limits) carried × (constraints ≤ length (now out)) ⌝ }
-    ensures { λ r. ⌜ after out ≡ overwrite (listTo constraints (excessIn (before limits) process (carried .flows))) (before out) ⌝ }
-{
-    let flows = carried.flows;
-    let mut k = 0;
-    while k < constraints {
-        let flow = Flow(flows[k]);
-        let released = process.released(limits[k]);
-        let excess = flow.minus(released);
-        let cell = excess.0;
-        out[k] = cell;
-        k += 1;
-    }
-}
 
 // The key of a contract that is of the period and has a cut, behind the first `count` keys. Gives how many there are then.
 fn add_key(
@@ -143,7 +117,7 @@ pub fn row_keys(
         return 0;
     }
     let mut excesses = [0i64; MAX_CONSTRAINTS];
-    fill_excess(constraints, process, limits, carried, &mut excesses);
+    test_excesses::fill_excess(constraints, process, limits, carried, &mut excesses);
     let from = cut_needs::first_overload(constraints, &excesses);
     let upto = cut_needs::overloads_end(constraints, &excesses);
     let count = collect_keys(

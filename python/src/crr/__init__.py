@@ -11,6 +11,7 @@ from types import ModuleType
 from typing import TYPE_CHECKING, List
 
 from .dates import month_hours, month_later, weekday
+from .exposure import ExactCents, Exposure, Shortfall, find_exposure, find_shortfall
 from .feasibility import Cut, Flows, Verdict, find_cuts, find_flows, released_percent, test_book
 from .files import (
     Contract,
@@ -73,6 +74,8 @@ __all__ = [
     "TIER_LT",
     "Contract",
     "Cut",
+    "ExactCents",
+    "Exposure",
     "Flows",
     "Grid",
     "Held",
@@ -88,14 +91,17 @@ __all__ = [
     "RunningTest",
     "Settled",
     "Settler",
+    "Shortfall",
     "Verdict",
     "__version__",
     "add_award",
     "add_hub_contract",
     "find_cuts",
+    "find_exposure",
     "find_flows",
     "find_hub_mcc",
     "find_mcc",
+    "find_shortfall",
     "from_csv",
     "mark_tier",
     "migrate_load",

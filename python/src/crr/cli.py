@@ -1,8 +1,8 @@
 """The command `crr`.
 
-Exit status: 0; 1 where `crr test` or `crr cuts` finds that the book fails, `crr same` that two books differ,
-or `crr tiers` that an operation is refused; 2 where the input has faults, or something can't be read or
-written; 130 where it is interrupted (Ctrl-C).
+Exit status: 0; 1 where `crr test`, `crr cuts` or `crr exposure` finds that the book fails, `crr same` that
+two books differ, or `crr tiers` that an operation is refused; 2 where the input has faults, or something
+can't be read or written; 130 where it is interrupted (Ctrl-C).
 """
 
 from __future__ import annotations
@@ -13,7 +13,18 @@ import sys
 from pathlib import Path
 from typing import IO, Dict, List, NoReturn, Optional, Sequence
 
-from . import book_commands, commands, copies, help_commands, hubs, migrate, plain_commands, report, tiers
+from . import (
+    book_commands,
+    commands,
+    copies,
+    exposures,
+    help_commands,
+    hubs,
+    migrate,
+    plain_commands,
+    report,
+    tiers,
+)
 from .command import COMMANDS, FAULTY, INTERRUPTED, PASSES, Answer, Command, Shown
 from .faults import Fault, Faults
 from .native import Refused
@@ -22,7 +33,18 @@ from .version import Version
 from .writing import is_output
 
 # Help lists the commands module by module.
-_ORDER = (commands, report, book_commands, copies, hubs, tiers, migrate, plain_commands, help_commands)
+_ORDER = (
+    commands,
+    exposures,
+    report,
+    book_commands,
+    copies,
+    hubs,
+    tiers,
+    migrate,
+    plain_commands,
+    help_commands,
+)
 _MODULES = [module.__name__ for module in _ORDER]
 
 # Commands that had another name: it still works, and no help lists it.
@@ -61,7 +83,7 @@ def parser() -> argparse.ArgumentParser:
         prog="crr", description="Congestion revenue rights: feasibility test and hourly settlement."
     )
     parser.epilog = (
-        "Exit status: 0; 1 the book fails (crr test, crr cuts), two books differ (crr same), "
+        "Exit status: 0; 1 the book fails (crr test, crr cuts, crr exposure), two books differ (crr same), "
         "or an operation is refused (crr tiers); "
         "2 the input has faults, or something can't be read or written; 130 interrupted."
     )

@@ -123,6 +123,10 @@ PERIOD = _choice("--period", Period, "", required=True, help=_HOURS)
 PROCESS = _choice("--process", Process, "", required=True, help=_SHARE)
 ANY_PERIODS = _choice("--period", Period, "both", default="both", dest="periods", help=_HOURS)
 ANY_PROCESSES = _choice("--process", Process, "all", default="all", dest="processes", help=_SHARE)
+RENT_PROCESS = _choice("--process", Process, "", help="give rent and shortfall too, in this process")
+MONTHLY_RENT = _choice(
+    "--process", Process, "", default="monthly", help="whose rent and shortfall to give; without it, monthly"
+)
 
 
 def counted(number: int, what: str) -> str:

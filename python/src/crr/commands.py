@@ -4,8 +4,9 @@ from __future__ import annotations
 
 import argparse
 import os
+from dataclasses import replace
 from pathlib import Path
-from typing import Dict, List, Optional, Sequence, Tuple, cast
+from typing import Dict, List, Mapping, Optional, Sequence, Tuple, cast
 
 from .bar import Bar
 from .case import Case, Names
@@ -16,6 +17,7 @@ from .command import (
     FOLDER,
     FORCE,
     PASSES,
+    RENT_PROCESS,
     ROUND_PRICES,
     Answer,
     argument,
@@ -24,7 +26,9 @@ from .command import (
     objects,
     writes,
 )
+from .costs import hour_costs
 from .decimals import decimal
+from .exposures import exposure_figures, exposures, worst_words
 from .faults import Fault, raise_any
 from .feasibility import Cut, Verdict, excesses, find_cuts, find_flows, released_percent, test_book, worst
 from .from_csv import load
@@ -34,16 +38,19 @@ from .opening import counts, counts_words, is_csv, opened, rounded_words, settle
 from .packed import only_hour_name, read_bin, write_packed
 from .results import (
     HOLDERS,
-    HOURS,
+    MONTHS_FILE,
+    cost_data,
+    costs_words,
     dollars,
     exact_dollars,
     holder_months,
+    hour_heading,
     hour_rows,
     is_result,
     result_files,
 )
 from .to_csv import csv_text, write_csv
-from .words import PROCESSES, TIMES_OF_USE, Period, Process
+from .words import Line, Period, Process, line_names, line_words
 from .writing import write_files
 
 
@@ -103,8 +110,6 @@ VERDICTS = (
     *("TIME_OF_USE", "PROCESS", "VERDICT", "OVERLOADED", "LOWEST_NUMBERED", "EXCESS_MW"),
     *("WORST", "WORST_EXCESS_MW", "CONSTRAINTS"),
 )
-Line = Tuple[int, int]  # a period and a process
-
 
 def verdicts(
     case: Case, periods: Sequence[int] = tuple(Period), processes: Sequence[int] = tuple(Process)
@@ -121,7 +126,7 @@ def _verdict_rows(case: Case, answers: Dict[Line, Verdict]) -> List[Tuple[object
     flows = {period: find_flows(grid, book, period).flows for period, _ in answers}
     rows: List[Tuple[object, ...]] = []
     for (period, process), verdict in answers.items():
-        line = (TIMES_OF_USE[period], PROCESSES[process])
+        line = line_names((period, process))
         if verdict.passed:
             rows.append((*line, "pass", 0, "", "", "", "", []))
             continue
@@ -134,6 +139,9 @@ def _verdict_rows(case: Case, answers: Dict[Line, Verdict]) -> List[Tuple[object
     return rows
 
 
+AT_WORST = ("EXPOSURE_LEAST", "EXPOSURE_MOST")  # beside the verdicts, for scripts
+
+
 @command("test", "the simultaneous feasibility test", FOLDER, ANY_PERIODS, ANY_PROCESSES)
 def test(folder: Path, periods: Sequence[int], processes: Sequence[int]) -> Answer:
     """The simultaneous feasibility test; status 1 where the book fails in one of the periods and processes
@@ -143,7 +151,12 @@ def test(folder: Path, periods: Sequence[int], processes: Sequence[int]) -> Answ
     rows = _verdict_rows(case, answers)
     status = PASSES if all(verdict.passed for verdict in answers.values()) else FAILS
     text = csv_text(VERDICTS, ((*row[:-1], "; ".join(cast(List[str], row[-1]))) for row in rows))
-    return Answer(status, text, {"passed": status == PASSES, "verdicts": objects(VERDICTS, rows)})
+    found = exposures(case, answers)
+    data = [
+        dict(verdict, **objects(AT_WORST, [exposure_figures(exposure)])[0])
+        for verdict, exposure in zip(objects(VERDICTS, rows), found.values())
+    ]
+    return Answer(status, text, {"passed": status == PASSES, "verdicts": data}, worst_words(found))
 
 
 CUTS = ("CRR_ID", "OWNER", "MW", "CUT_MW", "LEFT_MW")
@@ -182,7 +195,7 @@ def cuts(folder: Path, periods: Sequence[int], processes: Sequence[int]) -> Answ
     answers = verdicts(case, periods, processes)
     listed = cut_rows(case, answers)
     status = FAILS if listed else PASSES
-    table = ((*_line(line), *row) for line, rows in listed.items() for row in rows)
+    table = ((*line_names(line), *row) for line, rows in listed.items() for row in rows)
     text = csv_text(("TIME_OF_USE", "PROCESS", *CUTS), table)
     verdict_objects = objects(VERDICTS, _verdict_rows(case, answers))
     data = [
@@ -191,11 +204,6 @@ def cuts(folder: Path, periods: Sequence[int], processes: Sequence[int]) -> Answ
     ]
     note = _cuts_words(case.names, answers, listed)
     return Answer(status, text, {"passed": status == PASSES, "verdicts": data}, note)
-
-
-def _line(line: Line) -> Tuple[str, str]:
-    period, process = line
-    return TIMES_OF_USE[period], PROCESSES[process]
 
 
 def _cuts_words(names: Names, answers: Dict[Line, Verdict], listed: Dict[Line, List[CutRow]]) -> str:
@@ -210,8 +218,8 @@ def _cuts_words(names: Names, answers: Dict[Line, Verdict], listed: Dict[Line, L
         which = f"any one of the {len(rows):,} contracts" if len(rows) > 1 else "the one contract"
         clears = f"cutting {which} listed clears it" if rows else "no cut of a single contract clears it"
         excess = f"{names.constraints[verdict.lowest]} by {decimal(verdict.excess, FLOW_PLACES)} MW"
-        said.append(f"{' '.join(_line(line))}: the book fails at {excess}{more}; {clears}\n")
-    passing = ", ".join(" ".join(_line(line)) for line in answers if line not in listed)
+        said.append(f"{line_words(line)}: the book fails at {excess}{more}; {clears}\n")
+    passing = ", ".join(line_words(line) for line in answers if line not in listed)
     return "".join(said) + (f"{passing}: the book passes\n" if passing else "")
 
 
@@ -227,6 +235,7 @@ def _jobs(text: str) -> int:
     "settle every hour: holder by month, hour by hour, contract by contract",
     FOLDER,
     ROUND_PRICES,
+    RENT_PROCESS,
     writes("a folder for the result files"),
     FORCE,
     argument(
@@ -238,14 +247,22 @@ def _jobs(text: str) -> int:
         help="how many processes, 1 to 9999; without it, 1",
     ),
 )
-def settle(folder: Path, out: Optional[Path], jobs: int, round_prices: bool, force: bool) -> Answer:
+def settle(
+    folder: Path,
+    out: Optional[Path],
+    jobs: int,
+    round_prices: bool,
+    process: Optional[int],
+    force: bool,
+) -> Answer:
     """Settles every hour; with `out` writes hours.csv, holders.csv and contracts.csv there, over those of
-    before."""
+    before. With a process, each hour's rent and shortfall too, and months.csv."""
     case = opened(folder, round_prices, any_size=True)
+    if process is not None:  # hours are read once: what is settled is what the rent is of
+        case = replace(case, hours=case.priced_hours())
     result = settled(case, jobs, Bar("settle"))
-    if out:
-        files = result_files(result, case.names, case.book, case.times)
-        write_files(out, {name: text.encode() for name, text in files.items()}, force, is_result)
+    costs = None if process is None else hour_costs(case, result.hours, process)
+    text = _written(out, result_files(result, case.names, case.book, case.times, costs), force) if out else ""
     sums = holder_months(result, case.book)
     rows = [(case.names.holder(holder), month, dollars(cents)) for (holder, month), cents in sums.items()]
     total, exact = dollars(result.sum), exact_dollars(result.exact)
@@ -256,8 +273,22 @@ def settle(folder: Path, out: Optional[Path], jobs: int, round_prices: bool, for
         "sum": total,
         "exact_total": exact,
         "by_holder": objects(HOLDERS, rows),
-        "by_hour": objects(HOURS, hour_rows(result, case.times)),
+        "by_hour": objects(hour_heading(costs), hour_rows(result, case.times, costs)),
         "rounded_prices": case.rounded,
     }
-    text = f"{out}: hours.csv, holders.csv and contracts.csv written\n" if out else csv_text(HOLDERS, rows)
-    return Answer(PASSES, text, data, note)
+    if costs:
+        note += costs_words(costs, case.times)
+        data.update(cost_data(costs, case.times))
+    return Answer(PASSES, text or csv_text(HOLDERS, rows), data, note)
+
+
+def _written(out: Path, files: Mapping[str, str], force: bool) -> str:
+    """Writes the result files, and says so. months.csv of an earlier run would stand beside results that it
+    is not of: a fault."""
+    months = out / MONTHS_FILE
+    if MONTHS_FILE not in files and months.is_file() and is_result(MONTHS_FILE, months.read_bytes()):
+        text = f"{months} is there, of a settlement with --process: remove it, or choose another folder (-o)"
+        raise_any([Fault(MONTHS_FILE, 0, "", text)])
+    write_files(out, {name: text.encode() for name, text in files.items()}, force, is_result)
+    *names, last = files
+    return f"{out}: {', '.join(names)} and {last} written\n"

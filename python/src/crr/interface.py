@@ -12,7 +12,7 @@ from typing import Dict, List, NamedTuple
 # The number of the interface that the declarations below are of: a library of another is not loaded.
 INTERFACE = 2
 
-# Stack that is enough, for the two texts and for any other function.
+# Stack that is enough, for the two texts and what a book costs, and for any other function.
 TEXT_STACK_BYTES = 200000
 STACK_BYTES = 50000
 
@@ -157,6 +157,15 @@ DECLARATIONS: Dict[str, str] = {
     "const uint64_t *limits, size_t limits_len, const int64_t *factors, size_t factors_len, "
     "const uint8_t *book, size_t book_len, uint64_t *numbers, size_t numbers_len, uint64_t *cuts, "
     "size_t cuts_len, size_t *listed",
+    "crr_find_shortfall": "size_t nodes, size_t constraints, uint64_t process, uint64_t period, "
+    "const uint64_t *limits, size_t limits_len, const int64_t *factors, size_t factors_len, "
+    "const uint64_t *prices, size_t prices_len, const uint8_t *book, size_t book_len, "
+    "int64_t *payment_whole, uint64_t *payment_parts, int64_t *rent_whole, uint64_t *rent_parts, "
+    "int64_t *shortfall_whole, uint64_t *shortfall_parts",
+    "crr_find_exposure": "size_t nodes, size_t constraints, uint64_t process, uint64_t period, "
+    "const uint64_t *limits, size_t limits_len, const int64_t *factors, size_t factors_len, "
+    "const uint8_t *book, size_t book_len, uint64_t *prices, size_t prices_len, int64_t *least_whole, "
+    "uint64_t *least_parts, int64_t *most_whole, uint64_t *most_parts",
     "crr_open_running": "size_t nodes, size_t constraints, uint64_t process, uint64_t period, "
     "const uint64_t *limits, size_t limits_len, const int64_t *factors, size_t factors_len, "
     "const uint64_t *awards, size_t awards_len, uint64_t *numbers, size_t numbers_len, int64_t *flows, "

@@ -8,7 +8,7 @@ import re
 from array import array
 from dataclasses import replace
 from pathlib import Path
-from typing import Callable, Dict, List, NamedTuple, Tuple, Union, cast
+from typing import Callable, Dict, List, Mapping, NamedTuple, Tuple, Union, cast
 
 from .case import HOUR_FILE, Case, hour_name
 from .faults import Fault, Faults, raise_any
@@ -67,11 +67,16 @@ def bin_files(case: Case) -> Dict[str, bytes]:
 
 
 def write_bin(
-    case: Case, folder: Path, force: bool = False, whole: Callable[[Path], None] = lambda staged: None
+    case: Case,
+    folder: Path,
+    force: bool = False,
+    whole: Callable[[Path], None] = lambda staged: None,
+    beside: Mapping[str, bytes] = {},
 ) -> List[str]:
-    """Writes the files into a folder, as `write_files` does, and gives their names. Price files of other
-    hours that stand there already are faults: they would be settled along with these."""
-    files = bin_files(case)
+    """Writes the files into a folder, as `write_files` does, with others beside them, and gives the names of
+    all. Price files of other hours that stand there already are faults: they would be settled along with
+    these."""
+    files = {**beside, **bin_files(case)}
     stale = [name for name in price_file_names(folder) if name not in files]
     text = "is there and not one of the hours written: remove it first"
     raise_any([Fault(name, 0, "", f"{folder / name} {text}") for name in stale])
@@ -79,9 +84,11 @@ def write_bin(
     return list(files)
 
 
-def write_packed(case: Case, folder: Union[str, Path], force: bool = False) -> List[str]:
-    """Packs a case into a folder. What was written is read back and compared before it is moved to its
-    place."""
+def write_packed(
+    case: Case, folder: Union[str, Path], force: bool = False, beside: Mapping[str, bytes] = {}
+) -> List[str]:
+    """Packs a case into a folder, with other files beside its own. What was written is read back and compared
+    before it is moved to its place."""
 
     def same(staged: Path) -> None:
         try:
@@ -90,7 +97,7 @@ def write_packed(case: Case, folder: Union[str, Path], force: bool = False) -> L
         except (Faults, Refused) as problem:
             raise OSError(f"it does not read back: {problem}") from None
 
-    return write_bin(case, Path(folder), force, same)
+    return write_bin(case, Path(folder), force, same, beside)
 
 
 def unpacked(folder: Union[str, Path]) -> Case:

@@ -5,6 +5,7 @@ What the figures are, and which of them are the library's, stands on the page it
 
 from __future__ import annotations
 
+from fractions import Fraction
 from html import escape
 from typing import Callable, Dict, List, Mapping, NamedTuple, Sequence, Tuple
 
@@ -24,22 +25,25 @@ from .drawing import (
     row,
     share,
 )
+from .exposure import ExactCents, Exposure
+from .exposures import cost_words, dollar_words, price_words
 from .feasibility import Flows, Verdict
 from .inputs import Input
-from .interface import FLOW_PLACES, LIMIT, MONTHLY, PART_PLACES
+from .interface import FLOW_PLACES, LIMIT, SHADOW_PRICE
 from .results import dollars
 from .style import CSS
-from .words import PERIODS, PROCESSES
+from .words import PERIODS, PROCESSES, Line
 
 MOST_LOADED = 15  # constraints shown at once, and all that are overloaded; the others are folded
 MOST_HOLDERS = 25
 MOST_CUTS = 5
+MOST_HOURS = 48
 LONGEST = 1.5  # of a limit; a bar that is longer is broken
 
 
 class Month(NamedTuple):
-    """A month's days and hours, and in dollars its payments, rounded and exact, its congestion rent, and the
-    rent less the exact payments."""
+    """A month's days and hours, and in dollars its payments, rounded and exact, its congestion rent, and its
+    shortfall, the exact payments less the rent."""
 
     name: str
     days: int
@@ -47,11 +51,19 @@ class Month(NamedTuple):
     sum: str
     exact: str
     rent: str
-    left: str
+    shortfall: str
+
+
+class HourRow(NamedTuple):
+    """An hour's exact payments, congestion rent and shortfall in dollars."""
+
+    name: str
+    exact: str
+    rent: str
+    shortfall: str
 
 
 CutRow = Tuple[str, str, str, str, str]  # contract, holder, quantity, cut, and what is left, in MW
-Line = Tuple[int, int]  # a period and a process
 
 
 class Figures(NamedTuple):
@@ -67,9 +79,14 @@ class Figures(NamedTuple):
     excesses: Mapping[Line, Sequence[int]]  # of each constraint; negative where there is room
     worst: Dict[Line, int]  # the constraint of the largest excess, where the book fails
     cuts: Mapping[Line, Sequence[CutRow]]  # where the book fails
+    exposures: Mapping[Line, Exposure]  # where the book fails
+    alone: Mapping[Line, Mapping[int, ExactCents]]  # what each overloaded constraint costs alone
     flows: Sequence[Flows]  # by period
     holders: Sequence[Tuple[str, int]]  # cents
+    process: int  # whose rent and shortfall are given
     months: Sequence[Month]  # the last one: all of them
+    hours: Sequence[HourRow]  # those of the largest shortfalls
+    short: int  # hours whose shortfall is above 0
     inputs: Sequence[Input]
     library: Input
 
@@ -93,13 +110,60 @@ def _verdict_card(figures: Figures, period: int, process: int) -> str:
     head = f"<h3>{PERIODS[period].capitalize()}, {PROCESSES[process]} {percent}</h3>"
     if verdict.passed:
         return f"<li class=pass>{head}<b>\u2713 pass</b></li>"
-    owed = exact_money(decimal(verdict.excess, 2 + PART_PLACES))
-    where = "there" if verdict.count == 1 else f"at {escape(figures.constraints[verdict.lowest])}"
     return (
         f"<li class=fail>{head}<b>\u2717 FAIL</b>{_where(figures, (period, process))}"
-        f"<p>At one cent per MWh {where} and 0 elsewhere, an hour pays {owed} more than its "
-        "congestion rent.</p>"
+        f"<p>{_at_worst(figures, (period, process))}.</p>"
         f"{_cut_table(figures.cuts[period, process])}</li>"
+    )
+
+
+def _at_worst(figures: Figures, at: Line) -> str:
+    """What a failing book costs at worst."""
+    return f"At worst an hour pays {cost_words(figures.exposures[at])} more than its congestion rent"
+
+
+def _alone_row(name: str, cost: ExactCents, listed: bool, full: Fraction) -> str:
+    """What a constraint costs alone, as a bar, and whether it is on the list that costs the most."""
+    amount, said = dollar_words(cost), "on the list" if listed else "not on the list"
+    picture = bar(
+        f"{name}: {amount} alone, {said}",
+        0,
+        float(100 * cost.exact / full),
+        "over" if listed else "some",
+        "",
+    )
+    return row(name, picture, amount, said)
+
+
+def _exposure_part(figures: Figures, at: Line) -> str:
+    """A period and process in which the book fails: what it costs at worst, and a bar by constraint."""
+    exposure, alone, (period, process) = figures.exposures[at], figures.alone[at], at
+    full = max(cost.exact for cost in alone.values())
+    rows = [
+        _alone_row(figures.constraints[k], alone[k], exposure.prices[k] > 0, full)
+        for k in sorted(alone, key=lambda k: (-alone[k].exact, k))
+    ]
+    more = f"<table class=bars>{''.join(rows[MOST_LOADED:])}</table>"
+    rest = folded(f"{len(rows) - MOST_LOADED} more constraints", more) if rows[MOST_LOADED:] else ""
+    prices = escape(price_words(exposure.prices, figures.constraints))
+    return (
+        f"<h3>{PERIODS[period].capitalize()}, {PROCESSES[process]}</h3>"
+        f"<p>{_at_worst(figures, at)}: at {prices}, and 0 elsewhere.</p>"
+        f"<table class=bars>{''.join(rows[:MOST_LOADED])}</table>{rest}"
+    )
+
+
+def _exposure_section(figures: Figures) -> str:
+    lines = sorted(figures.exposures, key=lambda at: (-at[0], at[1]))  # as the verdicts stand
+    parts = "".join(_exposure_part(figures, at) for at in lines)
+    highest = money(decimal(SHADOW_PRICE.high, SHADOW_PRICE.places))
+    return (
+        "<section class=loading><h2>What the book can cost at worst</h2><p class=faint>The most that any "
+        f"list of shadow prices, $0 to {highest} per MWh on each constraint, makes an hour's payments exceed "
+        "its congestion rent, and such a list. Where more than ten constraints are overloaded it may be "
+        "between two figures, the first of which the list reaches. A bar is what an overloaded constraint "
+        f"costs alone, at {highest} per MWh there and 0 elsewhere; together they cost the sum or, with "
+        f"options, less.</p>{parts}</section>"
     )
 
 
@@ -253,7 +317,7 @@ _MONTHS = (
     "payments, rounded cents",
     "payments, exact",
     "congestion rent",
-    "rent less exact payments",
+    "shortfall",
 )
 
 
@@ -263,7 +327,7 @@ def _month_section(figures: Figures) -> str:
         amounts = (
             f"{month.days:,}",
             f"{month.hours:,}",
-            *map(exact_money, (month.sum, month.exact, month.rent, month.left)),
+            *map(exact_money, (month.sum, month.exact, month.rent, month.shortfall)),
         )
         cells = "".join(
             f'<td class=figure data-name="{name}">{figure}</td>' for name, figure in zip(_MONTHS[1:], amounts)
@@ -273,17 +337,39 @@ def _month_section(figures: Figures) -> str:
     others = [
         f"{percent}% ({PROCESSES[process]})"
         for process, percent in enumerate(figures.percents)
-        if process != MONTHLY
+        if process != figures.process
     ]
+    name = PROCESSES[figures.process]
     return (
-        '<section><h2>Payments and congestion rent by month</h2><table class="plain months">'
+        '<section><h2>Payments, congestion rent and shortfall by month</h2><table class="plain months">'
         f"<tr class=heads><th scope=col>{_MONTHS[0]}</th>{heads}</tr>{''.join(rows)}</table>"
         "<p class=faint>Congestion rent: each hour's shadow price of each constraint times the limit that "
-        f"the monthly process releases, {figures.percents[MONTHLY]}% of it, added up over constraints and "
-        f"hours. The other processes release {' and '.join(others)} of each limit, and so of this rent. "
-        "Where the book passes in the monthly process, "
-        "no hour's exact payments exceed its rent.</p></section>"
+        f"the {name} process releases, {figures.percents[figures.process]}% of it, added up over constraints "
+        f"and hours. The other processes release {' and '.join(others)} of each limit. Shortfall: the exact "
+        "payments less this rent, negative where the rent is more than enough. Where the book passes in the "
+        f"{name} process, no hour's is above 0.</p>{_hour_table(figures)}</section>"
     )
+
+
+def _hour_table(figures: Figures) -> str:
+    """The hours of the largest shortfalls, folded."""
+    hours, short = figures.months[-1].hours, figures.short
+    rows = "".join(
+        f"<tr><th scope=row>{escape(hour.name)}</th>"
+        + "".join(
+            f'<td class=figure data-name="{name}">{exact_money(figure)}</td>'
+            for name, figure in zip(_MONTHS[4:], hour[1:])
+        )
+        + "</tr>"
+        for hour in figures.hours
+    )
+    heads = "".join(f"<th scope=col class=figure>{name}</th>" for name in _MONTHS[4:])
+    table = (
+        f'<table class="plain months"><tr class=heads><th scope=col>hour</th>{heads}</tr>{rows}</table>'
+    )
+    which = "Hour by hour" if hours <= MOST_HOURS else f"The first {MOST_HOURS} of {hours:,} hours"
+    falling = "no hour falls" if not short else "1 hour falls" if short == 1 else f"{short:,} hours fall"
+    return folded(f"{which}, the largest shortfall first; {falling} short", table)
 
 
 def _input_section(figures: Figures) -> str:
@@ -302,9 +388,10 @@ def _input_section(figures: Figures) -> str:
 _NOTE = (
     "<p class=faint>The proved library's own figures: whether the book passes, which constraints are "
     "overloaded, how many, the lowest numbered and its excess; the flows; the released shares; the cuts; "
-    "each hour's cents of each contract, their sum and the exact total. Worked out here from these, in whole "
-    "numbers: the excess at every other constraint (its flow less its released limit) and which is the "
-    "worst; the sums over hours, by holder and by month; the congestion rent; the shares in percent.</p>"
+    "what the book can cost at worst, at which prices, and what a constraint costs alone; each hour's cents "
+    "of each contract, their sum and the exact total, its congestion rent and its shortfall. Worked out here "
+    "from these, in whole numbers: the excess at every other constraint (its flow less its released limit) "
+    "and which is the worst; the sums over hours, by holder and by month; the shares in percent.</p>"
 )
 
 
@@ -323,6 +410,7 @@ def page(figures: Figures) -> str:
     )
     about = f"<p class=faint>{escape(figures.summary)}</p><p class=faint>{escape(figures.covered)}</p>"
     parts = [f"<header><h1>{title}</h1>{about}</header>", _verdict_section(figures)]
+    parts += [_exposure_section(figures)] if figures.exposures else []
     parts += [_loading_section(figures, period) for period in (1, 0)]
     parts += [_holder_section(figures), _month_section(figures)] if figures.months else []
     parts += [_input_section(figures), _NOTE]

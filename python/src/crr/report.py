@@ -3,22 +3,25 @@
 from __future__ import annotations
 
 from collections import Counter
+from dataclasses import replace
 from datetime import date
 from fractions import Fraction
 from pathlib import Path
 from typing import Dict, List, NamedTuple, Optional, Sequence, Tuple, cast
 
 from .bar import Bar
-from .case import Case, PricedHour, Time
-from .command import FOLDER, FORCE, PASSES, ROUND_PRICES, Answer, command, counted, writes
+from .case import Case, PricedHour, Time, hour_name
+from .command import FOLDER, FORCE, MONTHLY_RENT, PASSES, ROUND_PRICES, Answer, command, counted, writes
 from .commands import cut_rows, verdicts
-from .feasibility import excesses, find_flows, released_limit, released_percent, worst
+from .costs import Costs, hour_costs, most_short
+from .exposure import Shortfall
+from .exposures import costs_alone, exposures
+from .feasibility import excesses, find_flows, released_percent, worst
 from .hours import PriceFile, Settled, settle_hours
 from .inputs import Input, input_of
-from .interface import PART_PLACES
 from .library import library_path
 from .opening import counts_words, opened, write_beside
-from .page import Figures, Month, is_page, page
+from .page import MOST_HOURS, Figures, HourRow, Month, is_page, page
 from .results import dollars, exact_dollars, holder_sums
 from .settlement import HourTotal
 from .streams import readable
@@ -41,28 +44,21 @@ def _library() -> Input:
     return input_of(f"libcrr.so, version {__version__}", [library_path().read_bytes()])
 
 
-def rent(limits: Sequence[int], prices: Sequence[int], percent: int) -> int:
-    """An hour's congestion rent where so many percent of each limit are released, in 10^-8 cents: the sum
-    over constraints of released limit times price."""
-    return sum(released_limit(limit, percent) * price for limit, price in zip(limits, prices) if price)
-
-
 class _Hour(NamedTuple):
-    """What the page adds up: the day, what the library settled, and the rent in 10^-8 cents."""
+    """What the page adds up: the day, what the library settled, and what the hour costs."""
 
     day: str
     total: HourTotal
-    rent: int
+    cost: Shortfall
 
 
 def _month(name: str, hours: Sequence[_Hour]) -> Month:
     exact = sum((hour.total.exact for hour in hours), Fraction(0))
-    rents = Fraction(sum(hour.rent for hour in hours), 10**PART_PLACES)
+    rent = sum((hour.cost.rent.exact for hour in hours), Fraction(0))
+    shortfall = sum((hour.cost.shortfall.exact for hour in hours), Fraction(0))
     days = len({hour.day for hour in hours if hour.day})
     paid = dollars(sum(hour.total.sum for hour in hours))
-    return Month(
-        name, days, len(hours), paid, exact_dollars(exact), exact_dollars(rents), exact_dollars(rents - exact)
-    )
+    return Month(name, days, len(hours), paid, *map(exact_dollars, (exact, rent, shortfall)))
 
 
 def _months(hours: Sequence[_Hour]) -> List[Month]:
@@ -88,8 +84,23 @@ def covered(times: Sequence[Time]) -> str:
     return said + (f"; {counted(short, 'day')} of fewer than {FULL_DAY} hours" if short else "") + "."
 
 
+def _hours(costs: Costs, times: Sequence[Time]) -> List[HourRow]:
+    """The hours of the largest shortfalls."""
+    return [
+        HourRow(
+            hour_name(day, hour) if hour else "the hour",
+            *(exact_dollars(figure.exact) for figure in (cost.payment, cost.rent, cost.shortfall)),
+        )
+        for (day, hour), cost in most_short(costs, times)[:MOST_HOURS]
+    ]
+
+
 def figures(
-    folder: Path, case: Case, hours: Sequence[Tuple[PriceFile, PricedHour]], result: Settled
+    folder: Path,
+    case: Case,
+    hours: Sequence[Tuple[PriceFile, PricedHour]],
+    result: Settled,
+    process: int = Process.MONTHLY,
 ) -> Figures:
     """All that the page shows of a case."""
     grid, book, limits, answers = case.grid, case.book_file(), case.limits, verdicts(case)
@@ -99,10 +110,11 @@ def figures(
         (period, process): excesses(limits, flows[period].flows, percents[process])
         for period, process in answers
     }
-    rents = [rent(limits, hour.prices, percents[Process.MONTHLY]) for _, hour in hours]
+    costs = hour_costs(replace(case, hours=[hour for _, hour in hours]), result.hours, process)
     totals = [
-        _Hour(day, total, of_hour) for (day, _), total, of_hour in zip(case.times, result.hours, rents)
+        _Hour(day, total, cost) for (day, _), total, cost in zip(case.times, result.hours, costs.hours)
     ]
+    failing = [line for line, verdict in answers.items() if not verdict.passed]
     sums = holder_sums(result, case.book)
     return Figures(
         title=readable(folder.resolve().name),
@@ -115,15 +127,20 @@ def figures(
         excesses=over,
         worst={line: worst(verdict, over[line]) for line, verdict in answers.items() if not verdict.passed},
         cuts=cut_rows(case, answers),
+        exposures=exposures(case, failing),
+        alone={line: costs_alone(case, line, answers[line].overloaded) for line in failing},
         flows=flows,
         holders=[(case.names.holder(holder), cents) for holder, cents in sums.items()],
+        process=process,
         months=_months(totals),
+        hours=_hours(costs, case.times),
+        short=costs.short,
         inputs=_inputs(case, [file for file, _ in hours]),
         library=_library(),
     )
 
 
-_TEXT = "one HTML page: verdicts, loading of constraints, payments and congestion rent"
+_TEXT = "one HTML page: verdicts, what the book can cost, loading of constraints, payments and rent"
 
 
 @command(
@@ -131,15 +148,17 @@ _TEXT = "one HTML page: verdicts, loading of constraints, payments and congestio
     _TEXT,
     FOLDER,
     ROUND_PRICES,
+    MONTHLY_RENT,
     writes("the HTML file; without it, report.html in the folder"),
     FORCE,
 )
-def report(folder: Path, out: Optional[Path], round_prices: bool, force: bool) -> Answer:
+def report(folder: Path, out: Optional[Path], round_prices: bool, process: int, force: bool) -> Answer:
     """Writes the page, over one of before; a book that fails is what it tells and no fault of it."""
     case = opened(folder, round_prices)
     target = out or folder / "report.html"
     hours = case.read_hours()  # read once: what is settled is what is hashed
     files = [file for file, _ in hours]
     result = settle_hours(case.grid_file(), case.book_file(), files, progress=Bar("settle"))
-    write_beside(folder, target, page(figures(folder, case, hours, result)).encode(), force, is_page)
+    text = page(figures(folder, case, hours, result, process))
+    write_beside(folder, target, text.encode(), force, is_page)
     return Answer(PASSES, f"{target} written\n", {"out": str(target)})

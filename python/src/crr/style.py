@@ -17,7 +17,8 @@ body { margin: 0; background: var(--page); color: var(--text); font: 16px/1.5 sy
 main { max-width: 1080px; margin: 0 auto; padding: 24px 16px 48px; }
 h1 { font-size: 1.7em; margin: 0 0 4px; overflow-wrap: anywhere; }
 h2 { font-size: 1.25em; margin: 40px 0 8px; }
-p { margin: 4px 0 12px; max-width: 72ch; }
+h3 { font-size: 1em; margin: 20px 0 4px; }
+p { margin: 4px 0 12px; max-width: 72ch; overflow-wrap: anywhere; }
 .faint, .legend { color: var(--faint); font-size: .9em; }
 .verdicts { list-style: none; padding: 0; margin: 12px 0; display: grid; \
 grid-template-columns: repeat(3, 1fr); gap: 12px; }

@@ -81,3 +81,16 @@ HEDGE_TYPES = tuple(spelling.table for spelling in SPELLINGS[Kind])
 TIMES_OF_USE = tuple(spelling.table for spelling in SPELLINGS[Period])
 PERIODS = tuple(spelling.sentence for spelling in SPELLINGS[Period])
 PROCESSES = tuple(spelling.sentence for spelling in SPELLINGS[Process])
+
+Line = Tuple[int, int]  # a period and a process, as a line of a table has them
+
+
+def line_names(line: Line) -> Tuple[str, str]:
+    """ON and annual."""
+    period, process = line
+    return TIMES_OF_USE[period], PROCESSES[process]
+
+
+def line_words(line: Line) -> str:
+    """ON annual."""
+    return " ".join(line_names(line))

@@ -3,10 +3,12 @@
 //!
 //! [`check_interface`](crate::check_interface) is not called here: a program that uses these functions alone calls it once.
 
+mod exposure;
 mod hubs;
 mod migration;
 mod running;
 
+pub use exposure::{find_exposure, find_shortfall};
 pub use hubs::{add_hub_contract, find_hub_mcc};
 pub use migration::{migrate_load, net_transfers, Migration};
 pub use running::{add_award, mark_tier, open_running, return_to_tier, Opening, State};

@@ -19,6 +19,7 @@
 
 mod books;
 mod calendar;
+mod exposure;
 mod grids;
 mod hubs;
 mod interface;
@@ -37,6 +38,7 @@ pub use books::{
     Flows, Verdict,
 };
 pub use calendar::{month_hours, month_later, weekday};
+pub use exposure::{find_exposure, find_shortfall, ExactCents, Exposure, Shortfall};
 pub use grids::Grid;
 pub use hubs::{add_hub_contract, find_hub_mcc, Hub, HubMcc};
 pub use interface::{check_interface, INTERFACE};

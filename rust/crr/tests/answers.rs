@@ -82,6 +82,26 @@ fn test_flows_and_cuts() {
     assert_eq!([Process::Annual, Process::TierLt, Process::Monthly].map(released_percent), [Ok(65), Ok(60), Ok(100)]);
 }
 
+fn cents(whole: i64, parts: u64) -> ExactCents {
+    ExactCents { whole, parts }
+}
+
+#[test]
+fn shortfall_and_exposure() {
+    let (grid, file, prices) = case();
+    let (process, period) = (Process::Monthly, Period::OnPeak);
+    let found = Shortfall { payment: cents(899, 17_000_000), rent: cents(227_500, 0), shortfall: cents(-226_601, 17_000_000) };
+    assert_eq!(find_shortfall(&grid, process, period, &prices, &file), Ok(found));
+    assert_eq!(find_shortfall(&grid, process, period, &prices[..1], &file), Err(Refused::SHORT_TABLE));
+    assert_eq!(find_shortfall(&grid, process, period, &[500_001, 0], &file[..1]), Err(Refused::PRICE_RANGE));
+    assert_eq!(find_exposure(&grid, process, period, &file), Ok(Exposure { least: cents(0, 0), most: cents(0, 0), prices: vec![0, 0] }));
+    let tight = Grid { limits: vec![6_001, 50_000], ..grid };
+    let worst = Exposure { least: cents(174_850, 0), most: cents(174_850, 0), prices: vec![500_000, 0] };
+    assert_eq!(find_exposure(&tight, process, period, &file), Ok(worst));
+    assert_eq!(find_shortfall(&tight, process, period, &[1, 0], &file).map(|found| found.shortfall), Ok(cents(0, 34_970_000)));
+    assert_eq!(find_exposure(&tight, process, period, &file[..1]), Err(Refused::SHORT_FILE));
+}
+
 #[test]
 fn money() {
     let (grid, file, prices) = case();

@@ -78,7 +78,7 @@ fn in_header() -> Declarations {
 }
 
 fn in_binding() -> Declarations {
-    let files = ["src/lent.rs", "src/lent/hubs.rs", "src/lent/migration.rs", "src/lent/running.rs"];
+    let files = ["src/lent.rs", "src/lent/exposure.rs", "src/lent/hubs.rs", "src/lent/migration.rs", "src/lent/running.rs"];
     let code = files.map(text).join(" ").split_whitespace().collect::<Vec<_>>().join(" ");
     let functions = code.split("pub fn crr_").skip(1).filter_map(|rest| rest.split_once(") -> u64;")?.0.split_once('('));
     let parameter = |words: &str| words.split_once(": ").map(|(name, of)| (name.to_string(), of.to_string()));

@@ -44,6 +44,15 @@ guarded! {
         nodes: usize, constraints: usize, process: u64, period: u64, limits: &[u64], factors: &[i64], book: &[u8],
         numbers: &mut [u64], cuts: &mut [u64], listed: &mut usize
     );
+    TEXT_STACK: fn find_shortfall(
+        nodes: usize, constraints: usize, process: u64, period: u64, limits: &[u64], factors: &[i64], prices: &[u64], book: &[u8],
+        payment_whole: &mut i64, payment_parts: &mut u64, rent_whole: &mut i64, rent_parts: &mut u64,
+        shortfall_whole: &mut i64, shortfall_parts: &mut u64
+    );
+    TEXT_STACK: fn find_exposure(
+        nodes: usize, constraints: usize, process: u64, period: u64, limits: &[u64], factors: &[i64], book: &[u8],
+        prices: &mut [u64], least_whole: &mut i64, least_parts: &mut u64, most_whole: &mut i64, most_parts: &mut u64
+    );
     STACK: fn released_percent(process: u64, percent: &mut u64);
     STACK: fn find_mcc(nodes: usize, constraints: usize, factors: &[i64], prices: &[u64], mcc: &mut [i64]);
     STACK: fn find_hub_mcc(

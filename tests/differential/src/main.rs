@@ -16,8 +16,8 @@ mod vectors;
 
 use draw::{Draw, EXTREMES};
 use rounds::{
-    calendar, canonical, cuts, demand, forms, headers, hub_book, hub_mcc, hubs, migration, priced, refusals, reordering, running, shares,
-    text, view_pairs, views,
+    calendar, canonical, cuts, demand, exposure, forms, headers, hub_book, hub_mcc, hubs, migration, priced, refusals, reordering, running,
+    shares, shortfall, text, view_pairs, views,
 };
 use std::env;
 use std::process::ExitCode;
@@ -41,7 +41,7 @@ const fn plain(name: &'static str, refusals: &'static [u64], cases: &'static [&'
 }
 
 /// Each entry, with the refusals that the papers list for it, each to be drawn and no other, and the cases that the change requests name.
-const ENTRIES: [Entry; 36] = [
+const ENTRIES: [Entry; 38] = [
     plain("read_grid", &[1, 2, 3, 4, 5, 6, 7, 8, 9], &[&forms::GRIDS_READ], rounds::grid::read),
     Entry { rounds: headers::FIRST_BYTES, ..plain("grid_headers", &[1, 2, 3, 4, 5, 6, 7, 8, 9], &[], headers::grid) },
     plain("write_grid", &[2, 3, 6, 7, 9], &[&forms::GRIDS_WRITTEN], rounds::grid::write),
@@ -63,6 +63,12 @@ const ENTRIES: [Entry; 36] = [
     Entry {
         rounds: cuts::FIRST_ROUNDS,
         ..plain("find_cuts", &[1, 2, 3, 4, 5, 6, 7, 9, 10, 11, 13, 16, 17], &[&cuts::CASES, &forms::BOOKS], cuts::round)
+    },
+    // beyond the papers: what a book costs at any prices, and at worst
+    plain("find_shortfall", &[1, 2, 3, 4, 5, 6, 7, 9, 10, 11, 13, 15, 16, 17], &[&shortfall::CASES, &forms::BOOKS], shortfall::round),
+    Entry {
+        rounds: exposure::FIRST_ROUNDS,
+        ..plain("find_exposure", &[1, 2, 3, 4, 5, 6, 7, 9, 10, 11, 13, 16, 17], &[&exposure::CASES, &forms::BOOKS], exposure::round)
     },
     plain("released_percent", &[16], &[], rounds::flows::percent),
     plain("open_running", &[2, 3, 6, 7, 9, 16, 17], &[], running::faults::open),

@@ -1,10 +1,12 @@
 //! Demand 3 by experiment: a book that passes has no shortfall at any price list drawn, and the excess of one that fails is the shortfall of the one-cent list.
 
+use super::shortfall;
+use super::test::Tables;
 use crate::draw::{self, Draw, Size};
 use crate::library;
 use crate::second::book::{self, Contract};
 use crate::second::grid::Grid;
-use crate::second::test::{of_period, rent, shortfall};
+use crate::second::test::{of_period, rent, shortfall as second};
 use crate::second::{first, Answer, Form};
 
 const PRICE_LISTS: u64 = 12;
@@ -67,10 +69,18 @@ impl Case {
         Ok(i128::from(whole) * 100_000_000 + i128::from(parts) - rent(&self.grid, self.process, prices))
     }
 
-    /// Whether both ways to the shortfall agree and it is as `fits` says.
+    /// The shortfall at a price list as the proved entry gives it.
+    fn found_shortfall(&self, prices: &[i128]) -> Answer<i128> {
+        let limits: Vec<u64> = self.grid.limits.iter().map(|&limit| limit as u64).collect();
+        let (factors, book) = (self.factors(), book::file_of(self.form, &self.book));
+        let (nodes, constraints, process, period) = (self.grid.nodes as usize, limits.len(), self.process, self.period);
+        shortfall::proved(&Tables { nodes, constraints, process, period, limits, factors, book }, prices)
+    }
+
+    /// Whether all ways to the shortfall agree and it is as `fits` says.
     fn holds(&self, prices: &[i128], fits: impl Fn(i128) -> bool) -> bool {
-        let own = shortfall(&self.grid, self.process, &of_period(&self.book, self.period), prices);
-        self.settled_shortfall(prices) == Ok(own) && fits(own)
+        let own = second(&self.grid, self.process, &of_period(&self.book, self.period), prices);
+        [self.settled_shortfall(prices), self.found_shortfall(prices)] == [Ok(own); 2] && fits(own)
     }
 }
 

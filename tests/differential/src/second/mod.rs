@@ -5,6 +5,7 @@ pub mod book;
 pub mod calendar;
 pub mod canonical;
 pub mod cuts;
+pub mod exposure;
 pub mod flows;
 pub mod grid;
 pub mod hubs;

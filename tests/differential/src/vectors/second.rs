@@ -4,11 +4,12 @@ use super::Slot;
 use crate::library::{Migration, Opening, State};
 use crate::second::book::Contract;
 use crate::second::cuts::{placed, Row, Tested};
+use crate::second::exposure::Exposed;
 use crate::second::hubs::Hub;
 use crate::second::running::{add_by_cells, mark_by_cells, return_by_cells, Running};
 use crate::second::{
-    book, calendar, canonical, flows, grid, hubs, migration, prices, refusals, remap, set_of, settlement, shares, test, text, views,
-    Answer, Form,
+    book, calendar, canonical, exposure, flows, grid, hubs, migration, prices, refusals, remap, set_of, settlement, shares, test, text,
+    views, Answer, Form,
 };
 use std::collections::HashMap;
 
@@ -191,6 +192,21 @@ fn find_cuts(g: &Given) -> Answer<Written> {
     Ok(vec![("numbers", numbers), ("cuts", cuts), one("listed", rows.len() as i128)])
 }
 
+fn find_shortfall(g: &Given) -> Answer<Written> {
+    let prices = g.list("prices");
+    let cost = tested(g, g.number("process"), |asked| exposure::find_shortfall(asked, &prices))?;
+    let names = ["payment_whole", "payment_parts", "rent_whole", "rent_parts", "shortfall_whole", "shortfall_parts"];
+    Ok(names.into_iter().zip(cost.figures()).map(|(name, figure)| one(name, figure)).collect())
+}
+
+fn find_exposure(g: &Given) -> Answer<Written> {
+    let found = tested(g, g.number("process"), Exposed::new).map(|exposed| exposed.exposure());
+    let found = exposure::placed(&found, g.room("prices"))?;
+    let names = ["least_whole", "least_parts", "most_whole", "most_parts"];
+    let figures = names.into_iter().zip(found.figures()).map(|(name, figure)| one(name, figure));
+    Ok(figures.chain([("prices", found.prices)]).collect())
+}
+
 fn released_percent(g: &Given) -> Answer<Written> {
     Ok(vec![one("percent", flows::released_percent(g.number("process"))?)])
 }
@@ -270,6 +286,8 @@ pub fn answered(function: &str, slots: &[Slot], run: Option<&str>, runs: &mut Ru
         "test_book" => test_book(&g),
         "find_flows" => find_flows(&g),
         "find_cuts" => find_cuts(&g),
+        "find_shortfall" => find_shortfall(&g),
+        "find_exposure" => find_exposure(&g),
         "released_percent" => released_percent(&g),
         "open_running" | "add_award" | "mark_tier" | "return_to_tier" => running(function, &g, run, runs),
         "find_mcc" => find_mcc(&g),

@@ -11,10 +11,10 @@ use Rattle.lists.proofs.Lists.{length-listTo, getD-listTo}
 use Rattle.test_rules.proofs.Flowing.{kept-sized}
 use Rattle.test_rules.proofs.Judging.{released-small}
 use borrow.Author.Needs.{needs}
-use Rattle.cut_keys.specs.Inner.{excessIn}
-use Rattle.cut_keys.proofs.Collecting.{excess-kept}
-use Rattle.cut_keys.proofs.fill_excess.Statement.{statement}
-use Rattle.cut_keys.proofs.fill_excess.Tie as tie
+use Rattle.test_excesses.specs.Inner.{excessIn}
+use Rattle.test_excesses.proofs.Excesses.{excess-kept}
+use Rattle.test_excesses.proofs.fill_excess.Statement.{statement}
+use Rattle.test_excesses.proofs.fill_excess.Tie as tie
 
 abbrev Inv-loop : tie.InvT-loop
 Inv-loop constraints process limits out₀ flows k₀ out k =
@@ -47,7 +47,8 @@ minus-requires c κs =
     let k = c .before .before .before .before .loop .k in
     let t : k < s .args .constraints = omega arith in
     let flow = kept-sized (getD (s .args .carried .flows) k (pos 0)) (2 ^ 62) (lit< tt) (omega (arith, s .pre .0 .flows-sized k t)) in
-    let limit = released-small (c .released .result .0) (getD (s .args .limits .now) k 0) (s .args .process) (s .pre .0 .good-limits .sized k t) (c .released .ensures) in
+    let limit = released-small (c .released .result .0) (getD (s .args .limits .now) k 0) (s .args .process) (s .pre .0 .good-limits .sized k t)
+    (c .released .ensures) in
     omega (arith, flow, limit)
 
 mul-cell : tie.Need-mul-cell Inv-loop μ-loop
@@ -88,7 +89,8 @@ returns c =
     let s = c .before .before .before .before in
     let l = c .before .loop in
     let f = excessIn (s .args .limits .now) (s .args .process) (s .args .carried .flows) in
-    fill-front (listTo (s .args .constraints) f) (l .out) (s .args .out .now) (l .k) (l .inv .2) (l .inv .3) (rw (length-listTo (s .args .constraints) f) (omega arith))
+    fill-front (listTo (s .args .constraints) f) (l .out) (s .args .out .now) (l .k) (l .inv .2) (l .inv .3)
+    (rw (length-listTo (s .args .constraints) f) (omega arith))
 
 pub fill-excess-spec : {M : Type 1} → statement M
 fill-excess-spec =

@@ -1,0 +1,98 @@
+-- `expose`: the excesses of the flows carried; where few are above 0, the worst set's prices, else what of them is above 0 and the better prices.
+use mathlib.Core.Path.{refl, ap, _∙_, subst}
+use native.Mathlib.Omega.{arith}
+use lib.IntN.{ℤ, pos, _*ℤ_}
+use borrow.Author.Needs.{needs}
+use Rattle.tariff.specs.Units.{gridOf, maxPrice}
+use Rattle.tariff.specs.Contracts.{ofPeriod}
+use Rattle.layouts.specs.BookFile.{bookIn}
+use Rattle.test_rules.proofs.Flowing.{carried-judgeable}
+use Rattle.exposure_figures.specs.Inner.{Exactly}
+use Rattle.exposure_prices.specs.Inner.{Excesses}
+use Rattle.exposure_bounds.specs.Inner.{AreExcesses}
+use Rattle.exposure_bounds.proofs.Meaning.{most-is, count-is, few-exposed, many-exposed}
+use Rattle.exposure_bounds.proofs.Entry.{are-excesses, excesses}
+use Rattle.exposure_bounds.proofs.expose.Statement.{statement}
+use Rattle.exposure_bounds.proofs.expose.Tie as tie
+
+fill-excess-requires : tie.Need-fill-excess-requires
+fill-excess-requires c κs =
+    let s = c .before .before .before .before .before in
+    let a = s .args in
+    let j = carried-judgeable (a .nodes) (a .constraints) (a .limits .now) (a .factors .now) (a .period) (a .book .now) (s .pre .0 .0) (s .pre .0 .1) (s .pre .1 .0)
+    (c .before .carry .result) (c .before .carry .ensures) in
+    (j, j .few)
+
+-- the excesses are filled
+module _ (x : tie.After-fill-excess) where
+  abbrev s : tie.Start
+  s = x .before .before .before .before .before .before
+
+  sized : Excesses (s .args .constraints) (x .fill-excess .last .1 .1 .1 .1 .0)
+  sized =
+      let a = s .args in
+      let k = x .before .before .carry in
+      excesses (a .nodes) (a .constraints) (a .limits .now) (a .factors .now) (a .process) (a .period) (a .book .now) (s .pre .0 .0) (s .pre .0 .1) (s .pre .1 .0)
+      (k .result) (k .ensures) _ _ (x .fill-excess .ensures)
+
+  are : AreExcesses (gridOf (s .args .nodes) (s .args .constraints) (s .args .limits .now) (s .args .factors .now)) (s .args .process) (ofPeriod (s .args .period) (bookIn (s .args .book .now)))
+      (x .fill-excess .last .1 .1 .1 .1 .0)
+  are =
+      let a = s .args in
+      let k = x .before .before .carry in
+      are-excesses (a .nodes) (a .constraints) (a .limits .now) (a .factors .now) (a .process) (a .period) (a .book .now) (s .pre .0 .0) (s .pre .0 .1)
+      (s .pre .1 .0)
+      (k .result) (k .ensures) _ _ (x .fill-excess .ensures)
+
+over-count-requires : tie.Need-over-count-requires
+over-count-requires c κs = sized (c .before .before)
+
+-- where few are overloaded
+
+worst-prices-requires : tie.Need-worst-prices-requires
+worst-prices-requires c κs =
+    let x = c .before .before .before .before .before .before in
+    let p = s x .pre in
+    ((sized x, p .0 .0, p .0 .1), ((p .1 .0, p .1 .1), ((omega (arith, c .before .before .if1 .taken), c .before .before .before .over-count .ensures), are x)))
+
+returns : tie.Need-returns
+returns c =
+    let x = c .before .before .before .before .before .before .before .before .before in
+    let a = s x .args in
+    let g = gridOf (a .nodes) (a .constraints) (a .limits .now) (a .factors .now) in
+    let cs = ofPeriod (a .period) (bookIn (a .book .now)) in
+    let n = c .before .before .before .before .before .before .over-count in
+    few-exposed g (a .process) cs _ _ _ (n .result) (n .ensures ∙ count-is g (a .process) cs _ (are x))
+    (omega (arith, c .before .before .before .before .before .if1 .taken))
+    (c .before .before .worst-prices .ensures) refl
+
+-- where many are
+
+total-above-requires : tie.Need-total-above-requires
+total-above-requires c κs = sized (c .before .before .before .before .before)
+
+better-prices-requires : tie.Need-better-prices-requires
+better-prices-requires c κs =
+    let x = c .before .before .before .before .before .before .before .before .before in
+    let p = s x .pre in
+    ((sized x, p .0 .0, p .0 .1), ((p .1 .0, p .1 .1), are x))
+
+returns-2 : tie.Need-returns-2
+returns-2 c =
+    let x = c .before .before .before .before .before .before .before .before .before .before .before .before in
+    let a = s x .args in
+    let g = gridOf (a .nodes) (a .constraints) (a .limits .now) (a .factors .now) in
+    let cs = ofPeriod (a .period) (bookIn (a .book .now)) in
+    let n = c .before .before .before .before .before .before .before .before .before .over-count in
+    let h = c .before .before .before .before .before .at-highest in
+    let all = ap (λ (z : ℤ). z *ℤ pos maxPrice) (c .before .before .before .before .before .before .total-above .ensures .0) ∙ most-is g (a .process) cs _ (are x) in
+    many-exposed g (a .process) cs _ _ _ (n .result) (n .ensures ∙ count-is g (a .process) cs _ (are x))
+    (omega (arith, c .before .before .before .before .before .before .before .before .if1 .left))
+    (c .before .before .better-prices .ensures) (subst (λ (z : ℤ). Exactly z (h .result)) all (h .ensures))
+
+pub expose-spec : {M : Type 1} → statement M
+expose-spec =
+    tie.close (tie.spec
+    (λ c κs. search needs) (λ c. search needs) fill-excess-requires (λ c. search needs) over-count-requires (λ c. search needs) worst-prices-requires
+    (λ c. search needs)
+    returns (λ c. search needs) total-above-requires (λ c κs. search needs) (λ c. search needs) better-prices-requires (λ c. search needs) returns-2)

@@ -1,0 +1,3 @@
+pub mod Shortfall
+pub mod Exposure
+pub mod Theorems

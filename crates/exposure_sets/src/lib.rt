@@ -1,0 +1,221 @@
+// What one cent costs on every set of a few constraints: each contract's amounts are made of those of smaller sets, one constraint at a time.
+ghost use mathlib.Core.Path.{_≡_};
+ghost use Prim.Native.Nat.{ℕ, _+_, _*_, _^_, _≤_, _<_};
+ghost use lib.ListN.{length, getD};
+ghost use lib.IntN.{pos, natAbs};
+ghost use Rattle.lists.specs.Lent.{before, after};
+ghost use Rattle.tariff.specs.declared.refusals.Checked.the-variants.{Passed};
+ghost use Rattle.tariff.specs.Units.{gridOf, maxLimit};
+ghost use Rattle.tariff.specs.Contracts.{counted, ofPeriod};
+ghost use Rattle.tariff.specs.Refusals.{first};
+ghost use Rattle.tariff.specs.Inner.{maxReleased};
+ghost use Rattle.layouts.specs.BookFile.{bookIn};
+ghost use Rattle.grid_tables.specs.Inner.{GoodCells, GoodFactors};
+ghost use Rattle.book_rules.specs.BookChecks.{bookChecks};
+ghost use Rattle.test_rules.specs.Inner.{Ends};
+ghost use Rattle.exposure_sets.specs.Inner.{cellIn, Chosen, maxSum, SmallCells, Grown, Sums, Added, AddedAll, rawIn, dueIn, paidIn, ownIn, bookOwn, UnitCosts};
+use tariff::Amount;
+use tariff::Contract;
+use tariff::Flow;
+use tariff::Kind;
+use tariff::Period;
+use tariff::Process;
+
+// How many sets ten constraints have.
+const MOST_SETS: usize = 1024;
+
+// How many sets so many constraints have.
+pub fn set_count(count: usize) -> usize
+    requires { ⌜ count ≤ 10 ⌝ }
+    ensures { λ r. ⌜ (r ≡ 2 ^ count) × (0 < r) × (r ≤ 1024) ⌝ }
+{
+    1usize << count
+}
+
+// The sums of n sets, and of n more: each has x in addition.
+fn grow(n: usize, x: Flow, sums: &mut [i64])
+    requires { ⌜ (n + n ≤ length (now sums)) × (n ≤ 512) × (natAbs (x .0) ≤ maxReleased) × SmallCells maxSum n (now sums) ⌝ }
+    ensures { λ r. ⌜ Grown n (x .0) (before sums) (after sums) ⌝ }
+{
+    let mut m = 0;
+    while m < n {
+        let base = Flow(sums[m]);
+        let more = base.plus(x);
+        let cell = more.0;
+        sums[n + m] = cell;
+        m += 1;
+    }
+}
+
+// A contract's spread × quantity on each set of the listed constraints.
+fn contract_sums(
+    constraints: usize,
+    factors: &[i64],
+    over: &[usize],
+    count: usize,
+    c: Contract,
+    sums: &mut [i64],
+)
+    requires { ⌜ Ends constraints (now factors) c × Chosen constraints count (now over) × (length (now sums) ≡ 1024) ⌝ }
+    ensures { λ r. ⌜ Sums count (λ (s : ℕ). rawIn constraints (before factors) c (getD (before over) s 0)) (after sums) × (length (after sums) ≡ 1024) ⌝ }
+{
+    let source = c.source * constraints;
+    let sink = c.sink * constraints;
+    let quantity = c.quantity;
+    sums[0] = 0;
+    let mut n = 1;
+    let mut t = 0;
+    while t < count {
+        let k = over[t];
+        let x = quantity.flow(factors[source + k], factors[sink + k]);
+        grow(n, x, sums);
+        n += n;
+        t += 1;
+    }
+}
+
+// The rent at one cent on each set, negative.
+fn rent_sums(
+    constraints: usize,
+    process: Process,
+    limits: &[u64],
+    over: &[usize],
+    count: usize,
+    sums: &mut [i64],
+)
+    requires { ⌜ GoodCells maxLimit constraints (now limits) × Chosen constraints count (now over) × (length (now sums) ≡ 1024) × (cellIn (now sums) 0 ≡ pos 0) ⌝ }
+    ensures { λ r. ⌜ Sums count (λ (s : ℕ). dueIn (before limits) process (getD (before over) s 0)) (after sums) × (length (after sums) ≡ 1024) ⌝ }
+{
+    let mut n = 1;
+    let mut t = 0;
+    while t < count {
+        let k = over[t];
+        let x = Flow(0).minus(process.released(limits[k]));
+        grow(n, x, sums);
+        n += n;
+        t += 1;
+    }
+}
+
+// Each sum, as it counts, added to its set's cost.
+fn add_counted(kind: Kind, n: usize, sums: &[i64], costs: &mut [i64])
+    requires { ⌜ (n ≤ 1024) × (n ≤ length (now sums)) × (n ≤ length (now costs)) × SmallCells maxSum n (now sums) × SmallCells (2 ^ 61) n (now costs) ⌝ }
+    ensures { λ r. ⌜ Added n (λ (m : ℕ). counted kind (cellIn (before sums) m)) (before costs) (after costs) ⌝ }
+{
+    let mut m = 0;
+    while m < n {
+        let amount = Amount(sums[m]).counted(kind);
+        let base = Flow(costs[m]);
+        let more = base.plus(Flow(amount.0));
+        let cell = more.0;
+        costs[m] = cell;
+        m += 1;
+    }
+}
+
+// What a contract pays at one cent on each set, added to the set's cost. `sums` is a place for what it pays.
+fn add_contract(
+    constraints: usize,
+    factors: &[i64],
+    over: &[usize],
+    count: usize,
+    n: usize,
+    c: Contract,
+    sums: &mut [i64],
+    costs: &mut [i64],
+)
+    requires { ⌜ Ends constraints (now factors) c × Chosen constraints count (now over) × (n ≡ 2 ^ count) ⌝ }
+    requires { ⌜ (length (now sums) ≡ 1024) × (length (now costs) ≡ 1024) × SmallCells (2 ^ 61) n (now costs) ⌝ }
+    ensures { λ r. ⌜ Added n (paidIn constraints (before factors) (before over) count c) (before costs) (after costs) × (length (after sums) ≡ 1024) ⌝ }
+{
+    contract_sums(constraints, factors, over, count, c, sums);
+    let kind = c.kind;
+    add_counted(kind, n, sums, costs);
+}
+
+// The same where the contract is of the period.
+fn add_own(
+    constraints: usize,
+    period: Period,
+    factors: &[i64],
+    over: &[usize],
+    count: usize,
+    n: usize,
+    c: Contract,
+    sums: &mut [i64],
+    costs: &mut [i64],
+)
+    requires { ⌜ Ends constraints (now factors) c × Chosen constraints count (now over) × (n ≡ 2 ^ count) ⌝ }
+    requires { ⌜ (length (now sums) ≡ 1024) × (length (now costs) ≡ 1024) × SmallCells (2 ^ 61) n (now costs) ⌝ }
+    ensures { λ r. ⌜ Added n (ownIn constraints (before factors) (before over) count period c) (before costs) (after costs) × (length (after sums) ≡ 1024) ⌝ }
+{
+    let own = c.period;
+    if own.same(period) {
+        add_contract(constraints, factors, over, count, n, c, sums, costs);
+        return;
+    }
+}
+
+// What the book's contracts of the period pay at one cent on each set, added to the set's cost.
+fn add_book(
+    nodes: usize,
+    constraints: usize,
+    period: Period,
+    factors: &[i64],
+    book: &[u8],
+    over: &[usize],
+    count: usize,
+    n: usize,
+    sums: &mut [i64],
+    costs: &mut [i64],
+)
+    requires { ⌜ GoodFactors nodes constraints (now factors) × (first (bookChecks nodes (now book)) ≡ Passed) ⌝ }
+    requires { ⌜ Chosen constraints count (now over) × (n ≡ 2 ^ count) ⌝ }
+    requires { ⌜ (length (now sums) ≡ 1024) × (length (now costs) ≡ 1024) × SmallCells maxSum n (now costs) ⌝ }
+    ensures { λ r. ⌜ AddedAll n (bookOwn constraints (before factors) (before over) count period (before book)) (before costs) (after costs) ⌝ }
+{
+    let contracts = book_bits::contract_count(book);
+    let form = book_bits::book_form(book);
+    let mut i = 0;
+    while i < contracts {
+        let c = book_bits::contract_at(book, form, i);
+        add_own(constraints, period, factors, over, count, n, c, sums, costs);
+        i += 1;
+    }
+}
+
+// What one cent costs on every set of the listed constraints, in 10^-8 cents, into the first cells of `costs`, which are 0.
+pub fn set_costs(
+    nodes: usize,
+    constraints: usize,
+    process: Process,
+    period: Period,
+    limits: &[u64],
+    factors: &[i64],
+    book: &[u8],
+    over: &[usize],
+    count: usize,
+    costs: &mut [i64],
+)
+    requires { ⌜ GoodCells maxLimit constraints (now limits) × GoodFactors nodes constraints (now factors) × (first (bookChecks nodes (now book)) ≡ Passed) ⌝ }
+    requires { ⌜ Chosen constraints count (now over) × (length (now costs) ≡ 1024) × ((m : ℕ) → m < 1024 → cellIn (now costs) m ≡ pos 0) ⌝ }
+    ensures { λ r. ⌜ UnitCosts (gridOf nodes constraints (before limits) (before factors)) process (ofPeriod period (bookIn (before book)))
+        (before over) count (after costs) ⌝ }
+{
+    let n = set_count(count);
+    let mut sums = [0i64; MOST_SETS];
+    rent_sums(constraints, process, limits, over, count, &mut sums);
+    add_counted(Kind::Obligation, n, &sums, costs);
+    add_book(
+        nodes,
+        constraints,
+        period,
+        factors,
+        book,
+        over,
+        count,
+        n,
+        &mut sums,
+        costs,
+    );
+}

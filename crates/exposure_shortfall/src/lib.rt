@@ -1,0 +1,201 @@
+// What a book costs at a price list: net payment, rent and shortfall (document 01, "Terms of the third demand").
+ghost use mathlib.Core.Path.{_≡_};
+ghost use mathlib.Core.List.{[], _∷_};
+ghost use Prim.Native.Nat.{_*_, _≤_};
+ghost use lib.ListN.{length, take};
+ghost use Rattle.lists.specs.Lent.{before};
+ghost use Rattle.tariff.specs.declared.refusals.Checked.the-variants.{Passed};
+ghost use Rattle.tariff.specs.Units.{gridOf, maxConstraints, maxLimit, maxNodes};
+ghost use Rattle.tariff.specs.Contracts.{ofPeriod};
+ghost use Rattle.tariff.specs.Refusals.{first};
+ghost use Rattle.tariff.specs.Checks.{shortTable, limitRange, factorRange, priceRange};
+ghost use Rattle.layouts.specs.BookFile.{bookIn};
+ghost use Rattle.grid_tables.specs.Inner.{GoodCells, Hour};
+ghost use Rattle.book_rules.specs.BookChecks.{bookChecks};
+ghost use Rattle.test_rules.specs.TestBook.{testCall};
+ghost use Rattle.exposure_shortfall.specs.FindShortfall.{shortfallChecked, FindsShortfall};
+ghost use Rattle.exposure_shortfall.specs.Inner.{Costs};
+use exposure_figures::Exact;
+use tariff::Checked;
+use tariff::MAX_CONSTRAINTS;
+use tariff::MAX_CONTRACTS;
+use tariff::MAX_LIMIT;
+use tariff::MAX_PRICE;
+use tariff::Period;
+use tariff::Process;
+use tariff::Refusal;
+
+// What finding the shortfall gives: net payment, rent and shortfall, each as whole cents rounded down and parts.
+pub enum ShortfallAnswer {
+    Found {
+        payment_whole: i64,
+        payment_parts: u64,
+        rent_whole: i64,
+        rent_parts: u64,
+        shortfall_whole: i64,
+        shortfall_parts: u64,
+    },
+    Refused(Refusal),
+}
+
+// What a book costs at a price list.
+pub struct Shortfall {
+    pub payment: Exact,
+    pub rent: Exact,
+    pub shortfall: Exact,
+}
+
+// What a book costs at a price list, where no check refuses: its exact total is what settling the hour gives.
+pub fn shortfall_at(
+    nodes: usize,
+    constraints: usize,
+    process: Process,
+    period: Period,
+    limits: &[u64],
+    factors: &[i64],
+    prices: &[u64],
+    book: &[u8],
+) -> Shortfall
+    requires { ⌜ GoodCells maxLimit constraints (now limits) × Hour nodes constraints (now factors) (now prices) ⌝ }
+    requires { ⌜ first (bookChecks nodes (now book)) ≡ Passed ⌝ }
+    ensures { λ r. ⌜ Costs (gridOf nodes constraints (before limits) (before factors)) process (ofPeriod period (bookIn (before book)))
+        (take constraints (before prices)) r ⌝ }
+{
+    let mut cents = [0i64; MAX_CONTRACTS];
+    let mut priced = [0u64; MAX_CONTRACTS];
+    let totals = hour_contracts::settle(
+        nodes,
+        constraints,
+        period,
+        factors,
+        prices,
+        book,
+        &mut cents,
+        &mut priced,
+    );
+    let payment = Exact {
+        whole: totals.whole,
+        parts: totals.parts,
+    };
+    let owed = exposure_figures::rent(constraints, process, limits, prices);
+    let shortfall = payment.less(owed);
+    Shortfall {
+        payment,
+        rent: owed.exact(),
+        shortfall,
+    }
+}
+
+// 9 for each table and for the prices, 6, 7, 15.
+fn check_cells(
+    nodes: usize,
+    constraints: usize,
+    limits: &[u64],
+    factors: &[i64],
+    prices: &[u64],
+) -> Checked
+    requires { ⌜ (nodes ≤ maxNodes) × (constraints ≤ maxConstraints) ⌝ }
+    ensures { λ r. ⌜ r ≡ first (
+        shortTable (length (before limits)) constraints ∷ shortTable (length (before factors)) (nodes * constraints)
+        ∷ shortTable (length (before prices)) constraints ∷ limitRange (take constraints (before limits))
+        ∷ factorRange (take (nodes * constraints) (before factors)) ∷ priceRange (take constraints (before prices)) ∷ []) ⌝ }
+{
+    let cells = nodes * constraints;
+    if limits.len() < constraints {
+        return Checked::Refused(Refusal::ShortTable);
+    }
+    if factors.len() < cells {
+        return Checked::Refused(Refusal::ShortTable);
+    }
+    if prices.len() < constraints {
+        return Checked::Refused(Refusal::ShortTable);
+    }
+    if grid_tables::cell_above(limits, constraints, MAX_LIMIT) {
+        return Checked::Refused(Refusal::LimitRange);
+    }
+    if grid_tables::factor_out_of_range(factors, cells) {
+        return Checked::Refused(Refusal::FactorRange);
+    }
+    if grid_tables::cell_above(prices, constraints, MAX_PRICE) {
+        return Checked::Refused(Refusal::PriceRange);
+    }
+    Checked::Passed
+}
+
+// The checks of finding the shortfall: 2, 3, 16, 17, those of the cells, the book's own.
+fn check_shortfall(
+    nodes: usize,
+    constraints: usize,
+    process: u64,
+    period: u64,
+    limits: &[u64],
+    factors: &[i64],
+    prices: &[u64],
+    book: &[u8],
+) -> Checked
+    ensures { λ r. ⌜ r ≡ shortfallChecked (testCall nodes constraints process period (before limits) (before factors) (before book)) (before prices) ⌝ }
+{
+    if tariff::nodes_bad(nodes) {
+        return Checked::Refused(Refusal::NodeCount);
+    }
+    if MAX_CONSTRAINTS < constraints {
+        return Checked::Refused(Refusal::ConstraintCount);
+    }
+    if 2 < process {
+        return Checked::Refused(Refusal::ProcessNumber);
+    }
+    if 1 < period {
+        return Checked::Refused(Refusal::PeriodOrKind);
+    }
+    let cells = check_cells(nodes, constraints, limits, factors, prices);
+    if let Checked::Refused(refusal) = cells {
+        return Checked::Refused(refusal);
+    }
+    book_checks::check_book(nodes, book)
+}
+
+// Finds what a book costs at a price list: net payment, rent and shortfall.
+pub fn find_shortfall(
+    nodes: usize,
+    constraints: usize,
+    process: u64,
+    period: u64,
+    limits: &[u64],
+    factors: &[i64],
+    prices: &[u64],
+    book: &[u8],
+) -> ShortfallAnswer
+    ensures { λ r. ⌜ FindsShortfall (testCall nodes constraints process period (before limits) (before factors) (before book)) (before prices) r ⌝ }
+{
+    let checked = check_shortfall(
+        nodes,
+        constraints,
+        process,
+        period,
+        limits,
+        factors,
+        prices,
+        book,
+    );
+    if let Checked::Refused(refusal) = checked {
+        return ShortfallAnswer::Refused(refusal);
+    }
+    let found = shortfall_at(
+        nodes,
+        constraints,
+        Process::from_number(process),
+        Period::from_number(period),
+        limits,
+        factors,
+        prices,
+        book,
+    );
+    ShortfallAnswer::Found {
+        payment_whole: found.payment.whole,
+        payment_parts: found.payment.parts,
+        rent_whole: found.rent.whole,
+        rent_parts: found.rent.parts,
+        shortfall_whole: found.shortfall.whole,
+        shortfall_parts: found.shortfall.parts,
+    }
+}
