@@ -176,7 +176,8 @@ extern "C" {
 /* The number of this interface. */
 #define CRR_INTERFACE 2
 
-/* Stack that is enough: for crr_write_report and crr_write_statement, and for any other. */
+/* Stack that is enough: for crr_write_report, crr_write_statement, crr_find_shortfall and
+ * crr_find_exposure, and for any other. */
 #define CRR_TEXT_STACK_BYTES 200000
 #define CRR_STACK_BYTES 50000
 
