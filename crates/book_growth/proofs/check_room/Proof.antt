@@ -6,8 +6,8 @@ use borrow.Author.Tests.{lt-ltb, le-ltb}
 use Rattle.tariff.specs.Units.{maxContracts}
 use Rattle.layouts.specs.BookFile.{bookBytes}
 use Rattle.tariff.proofs.Checks.{first-passes, first-refuses, last-passes}
-use Rattle.migration_book.proofs.check_room.Statement.{statement}
-use Rattle.migration_book.proofs.check_room.Tie as tie
+use Rattle.book_growth.proofs.check_room.Statement.{statement}
+use Rattle.book_growth.proofs.check_room.Tie as tie
 
 returns : tie.Need-returns
 returns c = sym (first-refuses _ _ (lt-ltb maxContracts (c .before .args .grown) (c .if1 .taken)))

@@ -5,8 +5,8 @@ use native.Mathlib.Omega.{arith}
 use lib.ListN.{length, take, drop, length-set}
 use Rattle.lists.proofs.Fill.{fill-turn, rest-turn, fill-front}
 use borrow.Author.Needs.{needs}
-use Rattle.hub_book.proofs.copy_book.Statement.{statement}
-use Rattle.hub_book.proofs.copy_book.Tie as tie
+use Rattle.book_growth.proofs.copy_book.Statement.{statement}
+use Rattle.book_growth.proofs.copy_book.Tie as tie
 
 abbrev Inv-loop : tie.InvT-loop
 Inv-loop book file₀ i₀ file i = (i ≤ length book) × (length file ≡ length file₀) × (take i file ≡ take i book) × (drop i file ≡ drop i file₀)
