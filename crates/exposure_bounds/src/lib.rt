@@ -1,6 +1,6 @@
 // What a failing book can cost: the worst shortfall, with prices that reach it; between two figures where more than ten constraints are overloaded.
 ghost use mathlib.Core.Path.{_≡_};
-ghost use Prim.Native.Nat.{_^_, _≤_};
+ghost use Prim.Native.Nat.{_≤_};
 ghost use lib.ListN.{length};
 ghost use Rattle.lists.specs.Sets.{countOf};
 ghost use Rattle.lists.specs.Lent.{before, after};
@@ -13,16 +13,16 @@ ghost use Rattle.grid_tables.specs.Inner.{GoodCells, GoodFactors};
 ghost use Rattle.book_rules.specs.BookChecks.{bookChecks};
 ghost use Rattle.test_rules.specs.TestBook.{testCall};
 ghost use Rattle.exposure_rules.specs.Exposure.{fewOverloads};
-ghost use Rattle.exposure_prices.specs.Inner.{Excesses, aboveIn};
+ghost use Rattle.exposure_prices.specs.Inner.{Excesses, aboveIn, Listed};
 ghost use Rattle.exposure_bounds.specs.FindExposure.{exposureChecked, FindsExposure};
-ghost use Rattle.exposure_bounds.specs.Inner.{AreExcesses, BestSet, WorstPrices, BetterPrices, Exposed};
+ghost use Rattle.exposure_bounds.specs.Inner.{AreExcesses, WorstPrices, BetterPrices, Exposed};
 use exposure_figures::Exact;
-use exposure_prices::Best;
 use tariff::Checked;
 use tariff::MAX_CONSTRAINTS;
 use tariff::Period;
 use tariff::Process;
 use tariff::Refusal;
+use test_verdict::check_test;
 
 // Of how many overloaded constraints every set is tried.
 const FEW_OVERLOADS: usize = 10;
@@ -47,42 +47,7 @@ pub struct Exposure {
     pub most: Exact,
 }
 
-// The set that costs the most, of all sets of so many overloaded constraints: the empty one costs nothing.
-fn best_set(
-    nodes: usize,
-    constraints: usize,
-    process: Process,
-    period: Period,
-    limits: &[u64],
-    factors: &[i64],
-    book: &[u8],
-    excesses: &[i64],
-    count: usize,
-) -> Best
-    requires { ⌜ Excesses constraints (now excesses) × GoodCells maxLimit constraints (now limits) × GoodFactors nodes constraints (now factors) ⌝ }
-    requires { ⌜ (first (bookChecks nodes (now book)) ≡ Passed) × (count ≤ fewOverloads) × (count ≡ countOf constraints (aboveIn (now excesses))) ⌝ }
-    requires { ⌜ AreExcesses (gridOf nodes constraints (now limits) (now factors)) process (ofPeriod period (bookIn (now book))) (now excesses) ⌝ }
-    ensures { λ r. ⌜ BestSet (gridOf nodes constraints (before limits) (before factors)) process (ofPeriod period (bookIn (before book))) (2 ^ count) r ⌝ }
-{
-    let mut over = [0usize; MAX_CONSTRAINTS];
-    exposure_prices::fill_over(constraints, excesses, &mut over);
-    let mut costs = [0i64; MOST_SETS];
-    exposure_sets::set_costs(
-        nodes,
-        constraints,
-        process,
-        period,
-        limits,
-        factors,
-        book,
-        &over,
-        count,
-        &mut costs,
-    );
-    exposure_prices::best_of(exposure_sets::set_count(count), &costs)
-}
-
-// The prices of the set that costs the most, where few constraints are overloaded, and what they cost.
+// The prices of the set that costs the most, of all sets of the few constraints that are overloaded, and what they cost: the empty set costs nothing.
 fn worst_prices(
     nodes: usize,
     constraints: usize,
@@ -92,17 +57,20 @@ fn worst_prices(
     factors: &[i64],
     book: &[u8],
     excesses: &[i64],
+    over: &[usize],
     count: usize,
     prices: &mut [u64],
 ) -> Exact
     requires { ⌜ Excesses constraints (now excesses) × GoodCells maxLimit constraints (now limits) × GoodFactors nodes constraints (now factors) ⌝ }
     requires { ⌜ (first (bookChecks nodes (now book)) ≡ Passed) × (constraints ≤ length (now prices)) ⌝ }
     requires { ⌜ (count ≤ fewOverloads) × (count ≡ countOf constraints (aboveIn (now excesses))) ⌝ }
+    requires { ⌜ Listed constraints (aboveIn (now excesses)) (now over) × (length (now over) ≡ 64) ⌝ }
     requires { ⌜ AreExcesses (gridOf nodes constraints (now limits) (now factors)) process (ofPeriod period (bookIn (now book))) (now excesses) ⌝ }
     ensures { λ r. ⌜ WorstPrices (gridOf nodes constraints (before limits) (before factors)) process (ofPeriod period (bookIn (before book)))
         (before prices) (after prices) r ⌝ }
 {
-    let best = best_set(
+    let mut costs = [0i64; MOST_SETS];
+    exposure_sets::set_costs(
         nodes,
         constraints,
         process,
@@ -110,9 +78,11 @@ fn worst_prices(
         limits,
         factors,
         book,
-        excesses,
+        over,
         count,
+        &mut costs,
     );
+    let best = exposure_prices::best_of(exposure_sets::set_count(count), &costs);
     let set = best.set;
     exposure_prices::fill_set(constraints, excesses, set, prices);
     best.cost
@@ -176,7 +146,8 @@ fn expose(
     let carried = test_flows::carry(nodes, constraints, factors, period, book);
     let mut excesses = [0i64; MAX_CONSTRAINTS];
     test_excesses::fill_excess(constraints, process, limits, carried, &mut excesses);
-    let count = exposure_prices::over_count(constraints, &excesses);
+    let mut over = [0usize; MAX_CONSTRAINTS];
+    let count = exposure_prices::fill_over(constraints, &excesses, &mut over);
     if count <= FEW_OVERLOADS {
         let worst = worst_prices(
             nodes,
@@ -187,6 +158,7 @@ fn expose(
             factors,
             book,
             &excesses,
+            &over,
             count,
             prices,
         );
@@ -223,15 +195,7 @@ fn check_exposure(
 ) -> Checked
     ensures { λ r. ⌜ r ≡ exposureChecked (testCall nodes constraints process period (before limits) (before factors) (before book)) (before prices) ⌝ }
 {
-    let tested = test_verdict::check_test(
-        nodes,
-        constraints,
-        process,
-        period,
-        limits,
-        factors,
-        book,
-    );
+    let tested = check_test(nodes, constraints, process, period, limits, factors, book);
     if let Checked::Refused(refusal) = tested {
         return Checked::Refused(refusal);
     }

@@ -13,7 +13,7 @@ ghost use Rattle.layouts.specs.BookFile.{bookIn};
 ghost use Rattle.grid_tables.specs.Inner.{GoodCells, GoodFactors};
 ghost use Rattle.book_rules.specs.BookChecks.{bookChecks};
 ghost use Rattle.test_rules.specs.Inner.{Ends};
-ghost use Rattle.exposure_sets.specs.Inner.{cellIn, Chosen, maxSum, SmallCells, Grown, Sums, Added, AddedAll, rawIn, dueIn, paidIn, ownIn, bookOwn, UnitCosts};
+ghost use Rattle.exposure_sets.specs.Inner.{cellIn, Chosen, maxSum, SmallCells, Grown, Sums, Added, AddedAll, rawIn, dueIn, ownIn, bookOwn, UnitCosts};
 use tariff::Amount;
 use tariff::Contract;
 use tariff::Flow;
@@ -113,28 +113,8 @@ fn add_counted(kind: Kind, n: usize, sums: &[i64], costs: &mut [i64])
     }
 }
 
-// What a contract pays at one cent on each set, added to the set's cost. `sums` is a place for what it pays.
+// What a contract of the period pays at one cent on each set, added to the set's cost. `sums` is a place for what it pays.
 fn add_contract(
-    constraints: usize,
-    factors: &[i64],
-    over: &[usize],
-    count: usize,
-    n: usize,
-    c: Contract,
-    sums: &mut [i64],
-    costs: &mut [i64],
-)
-    requires { ⌜ Ends constraints (now factors) c × Chosen constraints count (now over) × (n ≡ 2 ^ count) ⌝ }
-    requires { ⌜ (length (now sums) ≡ 1024) × (length (now costs) ≡ 1024) × SmallCells (2 ^ 61) n (now costs) ⌝ }
-    ensures { λ r. ⌜ Added n (paidIn constraints (before factors) (before over) count c) (before costs) (after costs) × (length (after sums) ≡ 1024) ⌝ }
-{
-    contract_sums(constraints, factors, over, count, c, sums);
-    let kind = c.kind;
-    add_counted(kind, n, sums, costs);
-}
-
-// The same where the contract is of the period.
-fn add_own(
     constraints: usize,
     period: Period,
     factors: &[i64],
@@ -151,7 +131,9 @@ fn add_own(
 {
     let own = c.period;
     if own.same(period) {
-        add_contract(constraints, factors, over, count, n, c, sums, costs);
+        contract_sums(constraints, factors, over, count, c, sums);
+        let kind = c.kind;
+        add_counted(kind, n, sums, costs);
         return;
     }
 }
@@ -179,7 +161,7 @@ fn add_book(
     let mut i = 0;
     while i < contracts {
         let c = book_bits::contract_at(book, form, i);
-        add_own(constraints, period, factors, over, count, n, c, sums, costs);
+        add_contract(constraints, period, factors, over, count, n, c, sums, costs);
         i += 1;
     }
 }

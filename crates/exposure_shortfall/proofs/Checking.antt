@@ -39,13 +39,18 @@ module _ (q : TestCall) (prices : List ℕ) where
       ∷ priceRange (take (q .constraints) prices)
       ∷ []
 
-  -- where the counts and numbers pass, and x is what the cells' checks found
-  module _ (two : nodeCount (q .nodes) .fails ≡ false) (three : constraintCount (q .constraints) .fails ≡ false)
-      (sixteen : processNumber (q .process) .fails ≡ false)
-      (seventeen : periodNumber (q .period) .fails ≡ false) (x : Checked) (found : x ≡ first cellChecks) where
+  -- the counts and numbers pass
+  pub record Counted : Type 0 where
+    pub two : nodeCount (q .nodes) .fails ≡ false
+    pub three : constraintCount (q .constraints) .fails ≡ false
+    pub sixteen : processNumber (q .process) .fails ≡ false
+    pub seventeen : periodNumber (q .period) .fails ≡ false
+
+  -- and x is what the cells' checks found
+  module _ (n : Counted) (x : Checked) (found : x ≡ first cellChecks) where
     then-cells : shortfallChecked q prices ≡ first (cellChecks ++ bookChecks (q .nodes) (q .book))
     unfolding shortfallChecks
-    then-cells = first-passes _ _ two ∙ first-passes _ _ three ∙ first-passes _ _ sixteen ∙ first-passes _ _ seventeen
+    then-cells = first-passes _ _ (n .two) ∙ first-passes _ _ (n .three) ∙ first-passes _ _ (n .sixteen) ∙ first-passes _ _ (n .seventeen)
 
     pub cells-refuse : (r : Refusal) → x ≡ Refused r → Refused r ≡ shortfallChecked q prices
     cells-refuse r told = sym (then-cells ∙ append-refuses cellChecks (bookChecks (q .nodes) (q .book)) r (sym found ∙ told))

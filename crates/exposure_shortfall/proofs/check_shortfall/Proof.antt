@@ -5,7 +5,7 @@ use borrow.Author.Tests.{lt-ltb, le-ltb}
 use Rattle.tariff.proofs.Checks.{first-passes, first-refuses, nodes-few-of}
 use Rattle.test_rules.specs.TestBook.{TestCall, testCall}
 use Rattle.exposure_shortfall.specs.FindShortfall.{shortfallChecks}
-use Rattle.exposure_shortfall.proofs.Checking.{cells-refuse, then-book}
+use Rattle.exposure_shortfall.proofs.Checking.{Counted, cells-refuse, then-book}
 use Rattle.exposure_shortfall.proofs.check_shortfall.Statement.{statement}
 use Rattle.exposure_shortfall.proofs.check_shortfall.Tie as tie
 
@@ -22,26 +22,31 @@ returns-4 c =
 check-cells-requires : tie.Need-check-cells-requires
 check-cells-requires c κs = let n = c .before .before .before in (nodes-few-of _ (sym (n .before .nodes-bad .ensures) ∙ n .if1 .left), search needs)
 
+-- the cells were checked
+module _ (k : tie.After-check-cells) where
+  abbrev start : tie.Start
+  start = k .before .before .before .before .before .before .before .before .before
+
+  counted : Counted (call start) (start .args .prices .now)
+  counted =
+      let n = k .before .before .before .before in
+      record {
+        two = sym (n .before .nodes-bad .ensures) ∙ n .if1 .left;
+        three = le-ltb _ _ (k .before .before .before .if2 .left);
+        sixteen = le-ltb _ _ (k .before .before .if3 .left);
+        seventeen = le-ltb _ _ (k .before .if4 .left);
+      }
+
 returns-5 : tie.Need-returns-5
 returns-5 c =
     let k = c .before .before .before in
-    let p = k .before in
-    let n = p .before .before .before in
-    let s = c .before .before .before .before .before .before .before .before .before .before .before .before in
-    cells-refuse (call s) (s .args .prices .now) (sym (n .before .nodes-bad .ensures) ∙ n .if1 .left) (le-ltb _ _ (p .before .before .if2 .left))
-    (le-ltb _ _ (p .before .if3 .left))
-    (le-ltb _ _ (p .if4 .left)) (k .check-cells .result) (k .check-cells .ensures) _ (c .before .cells .given .1)
+    cells-refuse (call (start k)) (start k .args .prices .now) (counted k) (k .check-cells .result) (k .check-cells .ensures) _ (c .before .cells .given .1)
 
 returns-6 : tie.Need-returns-6
 returns-6 c =
     let k = c .before .before .before in
-    let p = k .before in
-    let n = p .before .before .before in
-    let s = c .before .before .before .before .before .before .before .before .before .before .before .before in
     c .check-book .ensures
-    ∙ then-book (call s) (s .args .prices .now) (sym (n .before .nodes-bad .ensures) ∙ n .if1 .left) (le-ltb _ _ (p .before .before .if2 .left))
-    (le-ltb _ _ (p .before .if3 .left))
-    (le-ltb _ _ (p .if4 .left)) (k .check-cells .result) (k .check-cells .ensures) (c .before .enum-told .given .1)
+    ∙ then-book (call (start k)) (start k .args .prices .now) (counted k) (k .check-cells .result) (k .check-cells .ensures) (c .before .enum-told .given .1)
 
 pub check-shortfall-spec : {M : Type 1} → statement M
 unfolding shortfallChecks
