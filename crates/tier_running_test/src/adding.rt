@@ -3,9 +3,12 @@ ghost use mathlib.Core.Path.{_≡_};
 ghost use Prim.Native.Nat.{_+_, _≤_, _<_};
 ghost use lib.ListN.{length, set};
 ghost use Rattle.lists.specs.Lent.{before, after};
-ghost use Rattle.tariff.specs.Units.{maxContracts};
+ghost use Rattle.tariff.specs.Units.{factorsOf, maxContracts};
+ghost use Rattle.tariff.specs.Contracts.{samePeriod, periodOf};
+ghost use Rattle.tariff.specs.Processes.{processOf};
 ghost use Rattle.tier_rules.specs.Cells.{awardsCells, stateNumbers, heldIn, leftIn, withAwardRow};
 ghost use Rattle.tier_running_rules.specs.AddAward.{addAwardCall, AddsAward};
+ghost use Rattle.tier_running_rules.specs.Inner.{Addable, AddsFlows};
 use layouts::CONTRACT_CELLS;
 use tariff::Checked;
 use tariff::Contract;
@@ -22,6 +25,37 @@ fn store_award(c: Contract, awards: &mut [u64], numbers: &mut [u64])
 {
     book_rows::store_row(awards, CONTRACT_CELLS * (numbers[0] as usize), c);
     numbers[0] = numbers[0] + 1;
+}
+
+// Tries the flows of an award: those of one of the period are added, unless 21 comes instead, which it says.
+fn try_flows(
+    nodes: usize,
+    constraints: usize,
+    process: u64,
+    period: u64,
+    limits: &[u64],
+    factors: &[i64],
+    c: Contract,
+    numbers: &mut [u64],
+    flows: &mut [i64],
+) -> bool
+    requires { ⌜ (process ≤ 2) × Addable nodes constraints (now limits) (now factors) c (now numbers) (now flows) ⌝ }
+    ensures { λ r. ⌜ AddsFlows (samePeriod (c .period) (periodOf period)) (before limits) (processOf process) (factorsOf nodes constraints (before factors)) c
+        (before numbers) (before flows) r (after numbers) (after flows) ⌝ }
+{
+    let own = c.period;
+    let is_own = own.same(Period::from_number(period));
+    tier_running_flows::add_flows(
+        is_own,
+        nodes,
+        constraints,
+        Process::from_number(process),
+        limits,
+        factors,
+        c,
+        numbers,
+        flows,
+    )
 }
 
 // Adds an award to a running test, unless some flow would exceed its released limit.
@@ -55,13 +89,11 @@ pub fn add_award(
         return RunningAnswer::Refused(refusal);
     }
     let c = book_rows::contract_from(award, 0);
-    let own = c.period;
-    let is_own = own.same(Period::from_number(period));
-    let over = tier_running_flows::add_flows(
-        is_own,
+    let over = try_flows(
         nodes,
         constraints,
-        Process::from_number(process),
+        process,
+        period,
         limits,
         factors,
         c,

@@ -117,7 +117,7 @@ module _ (e : tie.After-enum-told) where
         quantity-cells = omega (arith, few-rows h, h .hub-rows .kept .1 .1 .1 .1 .1 .0);
         bytes = room-left .1;
         fits = λ i b. subst (λ (f : Form). ContractFits (endWidth f) (rowContract (termsOf (q h)) (sources h) (quantities h) i)) (sym (room .before .book-form .ensures))
-        (row-fits (q h) (given h) (made h) (sources h) (quantities h) (h .hub-rows .ensures) i b);
+            (row-fits (q h) (given h) (made h) (sources h) (quantities h) (h .hub-rows .ensures) i b);
       }
 
   front : grownFront form count (termsOf (q h)) (made h) (sources h) (quantities h) (q h .book) ≡ bookGrown (q h)
@@ -150,7 +150,7 @@ returns-2 c =
     record {
       length-given = rw (y .book-bytes .ensures ∙ sized e) (answer-passed _ _ (room-told (room e)) passed _);
       bytes-written = cells-passed _ _ (room-told (room e)) passed (bookGrown (q (h e))) place _
-      (c .before .before .write-grown .ensures ∙ ap (λ (l : List ℕ). overwrite l place) (front e));
+          (c .before .before .write-grown .ensures ∙ ap (λ (l : List ℕ). overwrite l place) (front e));
     }
 
 pub add-made-spec : {M : Type 1} → statement M
