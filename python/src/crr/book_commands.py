@@ -54,7 +54,7 @@ def _pairs(path: Path, nodes: Sequence[str]) -> Tuple[List[int], List[int]]:
 def remap(folder: Path, pairs: Path, out: Path, round_prices: bool, force: bool) -> Answer:
     """Moves the ends of a book's contracts, pair after pair, and writes the whole case to another folder in
     the form that it had."""
-    case = opened(folder, round_prices)
+    case = opened(folder, round_prices, as_given=True)  # prices are handed on as they are
     old, new = _pairs(pairs, case.names.nodes)
     moved = case.with_book(remap_book(len(case.names.nodes), case.book_file(), old, new), case.names)
     changed = sum(before != after for before, after in zip(case.book, moved.book))

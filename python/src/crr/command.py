@@ -87,6 +87,26 @@ ROUND_PRICES = argument(
 )
 
 
+def _as_given(text: str) -> bool:
+    """Whether periods are taken as they are given."""
+    if text not in TIMES:
+        raise argparse.ArgumentTypeError(f"{text!r} is neither {' nor '.join(TIMES)}")
+    return text == TIMES[1]
+
+
+TIMES = ("by-rule", "as-given")
+TIME_OF_USE = argument(
+    "--time-of-use",
+    type=_as_given,
+    default=TIMES[0],
+    dest="as_given",
+    metavar=f"{{{','.join(TIMES)}}}",
+    words=TIMES,
+    help="an hour's period that contradicts the on-peak rule is a fault, or taken as given; without it, "
+    "by-rule",
+)
+
+
 def writes(text: str, required: bool = False) -> Argument:
     """Where the command writes."""
     return argument("-o", "--out", type=a_path, metavar="OUT", required=required, help=text)

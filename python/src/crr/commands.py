@@ -10,6 +10,7 @@ from typing import Dict, List, Mapping, Optional, Sequence, Tuple, cast
 
 from .bar import Bar
 from .case import Case, Names
+from .clock import COVERAGE, coverage, coverage_rows, coverage_words
 from .command import (
     ANY_PERIODS,
     ANY_PROCESSES,
@@ -19,6 +20,7 @@ from .command import (
     PASSES,
     RENT_PROCESS,
     ROUND_PRICES,
+    TIME_OF_USE,
     Answer,
     argument,
     command,
@@ -34,7 +36,7 @@ from .feasibility import Cut, Verdict, excesses, find_cuts, find_flows, released
 from .from_csv import load
 from .interface import FLOW_PLACES, QUANTITY
 from .notes import notes
-from .opening import counts, counts_words, is_csv, opened, rounded_words, settled
+from .opening import check_periods, counts, counts_words, is_csv, opened, rounded_words, settled
 from .packed import only_hour_name, read_bin, write_packed
 from .results import (
     HOLDERS,
@@ -43,28 +45,31 @@ from .results import (
     costs_words,
     dollars,
     exact_dollars,
-    holder_months,
+    holder_rows,
     hour_heading,
     hour_rows,
     is_result,
     result_files,
+    settled_months,
 )
 from .to_csv import csv_text, write_csv
 from .words import Line, Period, Process, line_names, line_words
 from .writing import write_files
 
 
-@command("check", "read everything and list every fault", FOLDER, ROUND_PRICES)
-def check(folder: Path, round_prices: bool) -> Answer:
+@command("check", "read everything and list every fault", FOLDER, ROUND_PRICES, TIME_OF_USE)
+def check(folder: Path, round_prices: bool, as_given: bool) -> Answer:
     """Reads everything; every fault is raised."""
-    case = opened(folder, round_prices)
-    case.priced_hours()  # price files too
+    case = opened(folder, round_prices, as_given=as_given)
+    periods = [hour.period for hour in case.priced_hours()]  # price files too
+    if not as_given:
+        check_periods(case, periods)
     form = "CSV" if case.is_csv else "bin"
     text = f"{folder}: {counts_words(case)}; {form} files without a fault{rounded_words(case)}\n"
-    beside = notes(folder, case.is_csv)
+    beside, months = notes(folder, case.is_csv), coverage(case.times, periods)
     data: Dict[str, object] = {"folder": str(folder), "form": form, **counts(case)}
-    data.update(rounded_prices=case.rounded, notes=beside)
-    return Answer(PASSES, text + "".join(f"{note}\n" for note in beside), data)
+    data.update(coverage=objects(COVERAGE, coverage_rows(months)), rounded_prices=case.rounded, notes=beside)
+    return Answer(PASSES, text + coverage_words(months) + "".join(f"{note}\n" for note in beside), data)
 
 
 _BESIDE = "a folder; without it, the same folder"
@@ -75,17 +80,18 @@ _BESIDE = "a folder; without it, the same folder"
     "CSV files to grid.bin, book.bin, names.csv and price files",
     FOLDER,
     ROUND_PRICES,
+    TIME_OF_USE,
     writes(_BESIDE),
     FORCE,
 )
-def pack(folder: Path, out: Optional[Path], round_prices: bool, force: bool) -> Answer:
+def pack(folder: Path, out: Optional[Path], round_prices: bool, as_given: bool, force: bool) -> Answer:
     """CSV files to bin files, read back and compared. Beside the CSV files, where no other folder is named,
     they replace those of before."""
     target = out or folder
     if not is_csv(folder):
         text = "packed already: grid.bin, and no CSV files; crr unpack makes CSV files of it"
         raise_any([Fault(str(folder), 0, "", text)])
-    case, rounded = load(folder, round_prices=round_prices)
+    case, rounded = load(folder, round_prices=round_prices, as_given=as_given)
     written = write_packed(case, target, force or target.resolve() == folder.resolve())
     hours = f"{counted(len(case.hours), 'hour')} of prices"
     text = f"grid.bin, book.bin, names.csv and {hours} written and read back{rounded_words(case)}"
@@ -235,6 +241,7 @@ def _jobs(text: str) -> int:
     "settle every hour: holder by month, hour by hour, contract by contract",
     FOLDER,
     ROUND_PRICES,
+    TIME_OF_USE,
     RENT_PROCESS,
     writes("a folder for the result files"),
     FORCE,
@@ -252,33 +259,37 @@ def settle(
     out: Optional[Path],
     jobs: int,
     round_prices: bool,
+    as_given: bool,
     process: Optional[int],
     force: bool,
 ) -> Answer:
     """Settles every hour; with `out` writes hours.csv, holders.csv and contracts.csv there, over those of
     before. With a process, each hour's rent and shortfall too, and months.csv."""
-    case = opened(folder, round_prices, any_size=True)
+    case = opened(folder, round_prices, any_size=True, as_given=as_given)
     if process is not None:  # hours are read once: what is settled is what the rent is of
         case = replace(case, hours=case.priced_hours())
     result = settled(case, jobs, Bar("settle"))
+    if not as_given:
+        check_periods(case, [hour.period for hour in result.hours])
     costs = None if process is None else hour_costs(case, result.hours, process)
     text = _written(out, result_files(result, case.names, case.book, case.times, costs), force) if out else ""
-    sums = holder_months(result, case.book)
-    rows = [(case.names.holder(holder), month, dollars(cents)) for (holder, month), cents in sums.items()]
+    rows = holder_rows(result, case.names, case.book, case.times)
+    months = settled_months(result, case.times)
     total, exact = dollars(result.sum), exact_dollars(result.exact)
     hours = counted(len(result.hours), "hour")
-    note = f"{hours}: sum {total}, exact total {exact}{rounded_words(case)}\n"
+    note = f"{coverage_words(months)}{hours}: sum {total}, exact total {exact}{rounded_words(case)}\n"
     data: Dict[str, object] = {
         "hours": len(result.hours),
         "sum": total,
         "exact_total": exact,
         "by_holder": objects(HOLDERS, rows),
         "by_hour": objects(hour_heading(costs), hour_rows(result, case.times, costs)),
+        "coverage": objects(COVERAGE, coverage_rows(months)),
         "rounded_prices": case.rounded,
     }
     if costs:
         note += costs_words(costs, case.times)
-        data.update(cost_data(costs, case.times))
+        data.update(cost_data(costs, case.times, months))
     return Answer(PASSES, text or csv_text(HOLDERS, rows), data, note)
 
 

@@ -7,13 +7,25 @@ from typing import Dict, List, Sequence
 
 from .book_csv import BOOK, Award
 from .case import NARROW_ENDS, Case, Names
-from .command import FOLDER, FORCE, PASSES, ROUND_PRICES, Answer, command, counted, objects, reads, writes
+from .command import (
+    FOLDER,
+    FORCE,
+    PASSES,
+    ROUND_PRICES,
+    TIME_OF_USE,
+    Answer,
+    command,
+    counted,
+    objects,
+    reads,
+    writes,
+)
 from .faults import Fault, raise_any
 from .files import add_hub_contract, read_book, write_book
 from .hubs_csv import Hub, read_hub_contracts, read_hubs
 from .interface import WIDE
 from .native import Refused
-from .opening import opened, owner_numbers, rounded_words, write_like
+from .opening import check_periods, opened, owner_numbers, rounded_words, write_like
 from .results import mcc_dollars
 from .settlement import find_hub_mcc
 from .sheet import Sheet
@@ -25,15 +37,22 @@ HUB_MCC = ("OPR_DT", "OPR_HR", "TIME_OF_USE", "HUB", "MCC")
 
 
 @command(
-    "hub-mcc", "the marginal cost of congestion of trading hubs, hour by hour", FOLDER, ROUND_PRICES, HUBS
+    "hub-mcc",
+    "the marginal cost of congestion of trading hubs, hour by hour",
+    FOLDER,
+    ROUND_PRICES,
+    TIME_OF_USE,
+    HUBS,
 )
-def hub_mcc(folder: Path, hubs: Path, round_prices: bool) -> Answer:
+def hub_mcc(folder: Path, hubs: Path, round_prices: bool, as_given: bool) -> Answer:
     """The MCC of each hub of a file in each hour."""
-    case = opened(folder, round_prices)
+    case = opened(folder, round_prices, as_given=as_given)
     faults: List[Fault] = []
     of_file = read_hubs(hubs, case.names.nodes, faults)
     raise_any(faults)
     grid, hours = case.grid, case.priced_hours()
+    if not as_given:
+        check_periods(case, [hour.period for hour in hours])
     rows = [
         (
             *(hour.day, hour.hour or "", TIMES_OF_USE[hour.period], name),
@@ -93,7 +112,7 @@ def _grown(case: Case, sheet: Sheet, rows: Sequence[Award], hubs: Sequence[Hub])
 def hub_add(folder: Path, hubs: Path, contracts: Path, out: Path, round_prices: bool, force: bool) -> Answer:
     """Adds contracts from hubs to a book, as contracts from their nodes, and writes the whole case to another
     folder in the form that it had."""
-    case = opened(folder, round_prices)
+    case = opened(folder, round_prices, as_given=True)  # prices are handed on as they are
     faults: List[Fault] = []
     of_file = read_hubs(hubs, case.names.nodes, faults)
     sheet, rows = read_hub_contracts(contracts, of_file, case.names.nodes, faults)

@@ -96,7 +96,7 @@ def migrate(
 ) -> Answer:
     """Migrates load in a book for one period: the nets, and the contracts that are added; with `out` the
     whole case is written there in the form that it had."""
-    case = opened(folder, round_prices)
+    case = opened(folder, round_prices, as_given=True)  # prices are handed on as they are
     faults: List[Fault] = []
     migration = read_migration(rows, loads, _holders(folder, case.names), faults)
     raise_any(faults)

@@ -6,13 +6,14 @@ import os
 import signal
 from concurrent.futures import Executor
 from pathlib import Path
-from typing import Dict, Optional, Sequence, Tuple
+from typing import Dict, Iterable, Optional, Sequence, Tuple, Union
 
-from .case import Case, holder_numbers, plain_number
+from .case import Case, PricedHour, holder_numbers, hour_name, plain_number, short_name
+from .clock import contradiction
 from .command import counted
 from .faults import Fault, raise_any
 from .from_csv import load
-from .hours import Progress, Settled, settle_hours
+from .hours import PriceFile, Progress, Settled, settle_hours
 from .interface import HOLDER
 from .packed import only_hour_name, price_file_names, read_bin, write_bin
 from .sheet import Sheet, alike
@@ -44,16 +45,38 @@ def _no_folder(path: Path) -> str:
     return "a file, and a folder is needed" if path.exists() else "no such folder"
 
 
-def opened(folder: Path, round_prices: bool = False, any_size: bool = False, prices: bool = True) -> Case:
+def opened(
+    folder: Path,
+    round_prices: bool = False,
+    any_size: bool = False,
+    prices: bool = True,
+    as_given: bool = False,
+) -> Case:
     """The case of a folder in either form. One that is larger than the library's sizes is a fault, unless any
-    size is asked for."""
+    size is asked for; a period of prices.csv that the on-peak rule contradicts is one, unless taken as
+    given."""
     if not is_csv(folder):
         return read_bin(folder)
-    case, _ = load(folder, any_size, round_prices, prices)
+    case, _ = load(folder, any_size, round_prices, prices, as_given)
     if case.fits:  # the forms that names.csv asks for may be too narrow: the library refuses them then
         case.grid_file()
         case.book_file()
     return case
+
+
+def check_periods(case: Case, periods: Iterable[int]) -> None:
+    """A fault for each price file whose period is not the one of the on-peak rule. Those of prices.csv are
+    looked at while it is read."""
+    hours = [] if case.is_csv else [hour for hour in zip(case.hours, periods) if hour[0].day]
+    wrong = [(hour, contradiction(hour.day, hour.hour, period)) for hour, period in hours]
+    takes = "--time-of-use as-given takes it so"
+    raise_any([Fault(_hour_file(hour), 0, "", f"{text}; {takes}") for hour, text in wrong if text])
+
+
+def _hour_file(hour: Union[PricedHour, PriceFile]) -> str:
+    if isinstance(hour, PriceFile) and isinstance(hour.file, str):
+        return short_name(hour.file)
+    return hour_name(hour.day, hour.hour)
 
 
 def rounded_words(case: Case) -> str:

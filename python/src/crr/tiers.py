@@ -171,7 +171,8 @@ def tiers(
 ) -> Answer:
     """Plays operations on a running test on the grid of a folder, or the contracts of its book as awards;
     with `out` writes the whole case there, with the awards held for its book, in the form that it had."""
-    case = opened(folder, round_prices, prices=out is not None)
+    # prices are handed on as they are
+    case = opened(folder, round_prices, prices=out is not None, as_given=True)
     grid, names, operations = case.grid, case.names, _of_book(case)
     sheet: Optional[Sheet] = None
     if awards:
