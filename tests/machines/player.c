@@ -85,12 +85,13 @@ static void keep(struct lent *slot, struct lent new) {
 static struct lent taken(char form, int succeeds) {
     char type = *word();
     struct lent lent;
-    size_t length, slot;
+    size_t length;
 
     if (form == 'f') return filled(type, 1);
     length = (size_t)number(word());
     if (form == 's') {
-        slot = (size_t)number(word());
+        size_t slot = (size_t)number(word());
+
         if (slot >= SLOTS) exit(2);
         if (strcmp(word(), "new") == 0) keep(&slots[slot], filled(type, length));
         return slots[slot];
@@ -167,6 +168,7 @@ static __attribute__((noinline)) size_t stack_used(int paint) {
     volatile unsigned char stack[PAINTED];
     size_t i;
 
+    /* cppcheck-suppress uninitvar ; it is what earlier calls left there that is read */
     for (i = 0; i < PAINTED && (paint || stack[i] == 0xa5); i++) stack[i] = 0xa5;
     return PAINTED - i;
 }

@@ -27,7 +27,7 @@ const SEED: u64 = 20_130_101;
 /// Fewer than this for an entry is a failure; so many are aimed at.
 const LEAST: u64 = 100_000;
 const CALLS: u64 = 300_000;
-const FEWER_CALLS: u64 = 1_000;
+const FEWER_CALLS: u64 = 3_000;
 const CASES: u64 = 20_000;
 
 const BOOK: &[u64] = &[1, 4, 5, 10, 11, 13];
@@ -137,7 +137,7 @@ fn demand_3(seed: u64) -> u64 {
     wrong + u64::from(passing == 0 || failing == 0)
 }
 
-/// The library of another machine: fewer calls of each entry, and the vectors.
+/// The library of another machine: fewer calls of each entry.
 fn short(seed: u64) -> ExitCode {
     let (mut calls, mut failed) = (0, 0);
     for entry in &ENTRIES {
@@ -145,8 +145,7 @@ fn short(seed: u64) -> ExitCode {
         calls += tally.calls;
         failed += tally.failed + tally.unlisted(entry).len() as u64;
     }
-    failed += vectors::check() as u64;
-    println!("{} calls of {} entries, {failed} differ", calls, ENTRIES.len());
+    println!("{calls} calls of {} entries, {failed} differ", ENTRIES.len());
     ExitCode::from(u8::from(failed > 0))
 }
 
