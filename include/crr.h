@@ -3,7 +3,8 @@
  * hour by hour.
  *
  * The library is libcrr.a, and libcrr.so for programs that load it when they run
- * (`./library` builds both), for 64-bit machines: x86-64 Linux. It allocates
+ * (`./library` builds both), for 64-bit machines: x86-64 and aarch64 Linux. crr.dll
+ * is that for Windows, and crr.wasm, through js/, that for JavaScript. It allocates
  * nothing, keeps no state and does no input or output, so any number of threads may
  * call it at once. There is no floating point in it.
  * crr_write_report, crr_write_statement, crr_find_shortfall and crr_find_exposure hold

@@ -3,7 +3,22 @@
 # tests/dist/run and called in the repository's folder. Bash and coreutils are enough.
 
 # dist/'s folder for this machine.
-machine=x86-64-linux
+case $HOSTTYPE-$OSTYPE in
+aarch64-linux*) machine=aarch64-linux ;;
+*) machine=x86-64-linux ;;
+esac
+
+# The best shared library that dist/ has for this processor, by its name there; crr/library.py takes it by
+# the same flags.
+shared_library_name() { # CPUINFO
+    local line flag best=glibc-hwcaps/x86-64-v3/libcrr.so
+    [ -f "dist/$machine/$best" ] || { echo libcrr.so; return; }
+    while IFS= read -r line && [[ $line != flags* ]]; do :; done < <(cat "$1" 2> /dev/null)
+    for flag in cx16 lahf_lm popcnt sse4_1 sse4_2 ssse3 avx avx2 bmi1 bmi2 f16c fma abm movbe xsave; do
+        [[ " $line " == *[[:space:]]"$flag "* ]] || { echo libcrr.so; return; }
+    done
+    echo "$best"
+}
 
 # What each crate of crates.txt stands on. Comments, blanks and the order of lines have no effect.
 declare -A stands_on=()
@@ -92,7 +107,7 @@ dist_unlike() { # FILE.. -- CRATE.. FILE..
         shift
     done
     shift
-    [[ $HOSTTYPE-$OSTYPE == x86_64-linux* ]] || { echo "dist/ has nothing for this machine, $HOSTTYPE-$OSTYPE"; return; }
+    [[ $HOSTTYPE-$OSTYPE == @(x86_64|aarch64)-linux* ]] || { echo "dist/ has nothing for this machine, $HOSTTYPE-$OSTYPE"; return; }
     for file in MADE-FROM SHA256SUMS "${files[@]}"; do
         [ -f "dist/$file" ] || { echo "there is no dist/$file"; return; }
     done

@@ -2,7 +2,7 @@
 //! lent cell.
 //!
 //! `differential [SEED [ENTRY ROUND]]`: another seed than the usual one; one round of one entry, to see a failure again. `differential vectors`: the
-//! conformance vectors alone.
+//! conformance vectors alone. `differential short`: fewer calls, for a second build of the library; that each refusal is drawn is not asked for.
 
 mod draw;
 mod guarded;
@@ -27,6 +27,7 @@ const SEED: u64 = 20_130_101;
 /// Fewer than this for an entry is a failure; so many are aimed at.
 const LEAST: u64 = 100_000;
 const CALLS: u64 = 300_000;
+const FEWER_CALLS: u64 = 3_000;
 const CASES: u64 = 20_000;
 
 const BOOK: &[u64] = &[1, 4, 5, 10, 11, 13];
@@ -103,10 +104,10 @@ const ENTRIES: [Entry; 39] = [
 ];
 
 /// The rounds of an entry: those that it must have, and then so many that there are enough calls.
-fn run(entry: &Entry, seed: u64) -> Tally {
+fn run(entry: &Entry, seed: u64, calls: u64) -> Tally {
     let mut tally = Tally::default();
     let mut number = 0;
-    while tally.calls < CALLS || number < entry.rounds {
+    while tally.calls < calls || (number < entry.rounds && calls == CALLS) {
         (entry.round)(&mut Round::new(entry.name, seed, number, &mut tally));
         number += 1;
     }
@@ -138,11 +139,23 @@ fn demand_3(seed: u64) -> u64 {
     wrong + u64::from(passing == 0 || failing == 0)
 }
 
+/// The library of another machine: fewer calls of each entry.
+fn short(seed: u64) -> ExitCode {
+    let (mut calls, mut failed) = (0, 0);
+    for entry in &ENTRIES {
+        let tally = run(entry, seed, FEWER_CALLS);
+        calls += tally.calls;
+        failed += tally.failed + tally.unlisted(entry).len() as u64;
+    }
+    println!("{calls} calls of {} entries, {failed} differ", ENTRIES.len());
+    ExitCode::from(u8::from(failed > 0))
+}
+
 fn all(seed: u64) -> ExitCode {
     println!("seed {seed}\n{:<18} | {:>7} | {:>6} | answers (0: none refused), and how often", "entry", "calls", "failed");
     let (mut calls, mut failed, mut lacking) = (0, 0, false);
     for entry in &ENTRIES {
-        let tally = run(entry, seed);
+        let tally = run(entry, seed, CALLS);
         lacking |= report(entry, &tally);
         calls += tally.calls;
         failed += tally.failed;
@@ -174,11 +187,14 @@ fn main() -> ExitCode {
     if words == ["vectors"] {
         return ExitCode::from(u8::from(vectors::check() > 0));
     }
+    if words == ["short"] {
+        return short(SEED);
+    }
     match words.len() {
         0 | 1 => all(number(0, SEED)),
         3 => one(number(0, SEED), &words[1], number(2, 0)),
         _ => {
-            eprintln!("usage: differential [SEED [ENTRY ROUND] | vectors]");
+            eprintln!("usage: differential [SEED [ENTRY ROUND] | vectors | short]");
             ExitCode::from(2)
         }
     }
