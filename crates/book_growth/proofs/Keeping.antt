@@ -13,7 +13,6 @@ use Rattle.tariff.specs.Refusals.{first}
 use Rattle.tariff.specs.Units.{maxContracts}
 use Rattle.tariff.proofs.Checks.{passed-cons}
 use Rattle.layouts.specs.declared.forms.Form.{Form}
-use Rattle.layouts.specs.declared.forms.Form.the-variants.{Narrow, Wide}
 use Rattle.layouts.specs.Forms.{sparePattern}
 use Rattle.layouts.specs.BookFile.{bookBytes, contractCountIn, bookSpareIn, bookFormIn, bookIn}
 use Rattle.layouts.proofs.BookFile.{book-read, book-fits, length-bookIn}
@@ -22,7 +21,8 @@ use Rattle.book_rules.proofs.Accepted.{Accepted}
 use Rattle.book_rules.proofs.Bytes.{length-header, book-bytes, length-front}
 use Rattle.book_growth.specs.Inner.{growthChecks, Whole}
 
-module _ (s : List ℕ) (bytes : Below 8 s) (size : length s ≡ bookBytes (bookFormIn s) (contractCountIn s)) (spare : bookSpareIn s ≡ sparePattern (bookFormIn s)) where
+module _ (s : List ℕ) (bytes : Below 8 s) (size : length s ≡ bookBytes (bookFormIn s) (contractCountIn s))
+    (spare : bookSpareIn s ≡ sparePattern (bookFormIn s)) where
   abbrev f : Form
   f = bookFormIn s
 
@@ -47,7 +47,8 @@ module _ (s : List ℕ) (bytes : Below 8 s) (size : length s ≡ bookBytes (book
       ∙ sym (append-assoc h rows rest)
       ∙ ap (λ (k : ℕ). (h ++ rows) ++ drop k place) long
 
-pub front-kept : (f : Form) (m : ℕ) (s place : List ℕ) → Below 8 s → Whole f s → overwrite (headerBytes f m) (overwrite s place) ≡ overwrite (bookFront f m (bookIn s)) place
+pub front-kept : (f : Form) (m : ℕ) (s place : List ℕ) → Below 8 s → Whole f s → overwrite (headerBytes f m) (overwrite s place)
+    ≡ overwrite (bookFront f m (bookIn s)) place
 front-kept f m s place bytes w =
     subst (λ (g : Form). overwrite (headerBytes g m) (overwrite s place) ≡ overwrite (bookFront g m (bookIn s)) place) (w .form-is)
     (copied s bytes (rw (w .form-is) (w .size)) (rw (w .form-is) (w .spare)) m place)
@@ -55,11 +56,6 @@ front-kept f m s place bytes w =
 -- an accepted book is one
 pub accepted-whole : (n : ℕ) (s : List ℕ) → Accepted n s → Whole (bookFormIn s) s
 accepted-whole n s a = record { form-is = refl; spare = a .spare; size = a .size }
-
--- fewer contracts take no more bytes
-pub shorter : (f : Form) (m k : ℕ) → bookBytes f m ≤ bookBytes f (m + k)
-shorter Narrow m k = omega arith
-shorter Wide m k = omega arith
 
 -- what 10 and 9 leave
 pub room-parts : (f : Form) (grown bytes : ℕ) → first (growthChecks f grown bytes) ≡ Passed → (grown ≤ maxContracts) × (bookBytes f grown ≤ bytes)

@@ -120,10 +120,12 @@ module _ (q : HubCall) (g : Given q) where
   made-below : contractsMade q ≡ listedContracts (q .kind) (q .period) (q .holder) (q .sink) (q .hub-nodes) (q .hub-weights) (q .quantity) (hubEnds q)
   made-below =
       made-is
-      ∙ rows-stop (q .kind) (q .period) (q .holder) (q .sink) (q .hub-nodes) (q .hub-weights) (q .quantity) (hubEnds q) (q .nodes) (ends-fewer form (q .nodes)) (g .hub .low)
+      ∙ rows-stop (q .kind) (q .period) (q .holder) (q .sink) (q .hub-nodes) (q .hub-weights) (q .quantity) (hubEnds q) (q .nodes) (ends-fewer form (q .nodes))
+      (g .hub .low)
 
   -- what holds of the contract of each node with a share holds of all
-  each-made : (P : Contract → Type 0) → ((m : ℕ) → m < hubEnds q → 0 < made m .quantity .0 → made m .quantity .0 ≤ maxQuantity → P (made m)) → Each P (contractsMade q)
+  each-made : (P : Contract → Type 0) → ((m : ℕ) → m < hubEnds q → 0 < made m .quantity .0 → made m .quantity .0 ≤ maxQuantity → P (made m))
+      → Each P (contractsMade q)
   each-made P h =
       rw made-below (rows-every (q .kind) (q .period) (q .holder) (q .sink) (q .hub-nodes) (q .hub-weights) (q .quantity) P (hubEnds q)
       (λ m b p. h m b p (omega (arith, share-most (hubEnds q) (q .hub-nodes) (q .hub-weights) (g .hub) (q .quantity) m b, g .sized))))
@@ -141,7 +143,8 @@ module _ (q : HubCall) (g : Given q) where
           let from : m < q .nodes = omega (arith, ends-fewer form (q .nodes)) in
           let to : q .sink < q .nodes = omega (arith, g .sunk, ends-fewer form (q .nodes)) in
           let ends : nodeNumber (q .nodes) m (q .sink) .fails ≡ false = rw (lt-leb _ _ from, lt-leb _ _ to) in
-          let size : quantityRange (made m .quantity .0) .fails ≡ false = rw (not-same (made m .quantity .0) 0 (λ z. omega arith)) (le-ltb maxQuantity (made m .quantity .0) most) in
+          let size : quantityRange (made m .quantity .0) .fails ≡ false
+          = rw (not-same (made m .quantity .0) 0 (λ z. omega arith)) (le-ltb maxQuantity (made m .quantity .0) most) in
           first-passes _ _ ends ∙ last-passes _ size
 
   count-all : length (bookIn (q .book) ++ contractsMade q) ≡ countGrown q

@@ -29,7 +29,8 @@ use Rattle.migration_rules.specs.Contracts.{gained, countered, newBook}
 use Rattle.migration_rules.specs.Inner.{Within}
 use Rattle.migration_rules.proofs.Books.{all-each}
 use Rattle.migration_transfers.specs.Squares.{lostIn}
-use Rattle.migration_pairs.specs.Inner.{MigrationReady, Appended}
+use Rattle.book_growth.specs.Inner.{Appended}
+use Rattle.migration_pairs.specs.Inner.{MigrationReady}
 use Rattle.migration_pairs.proofs.Pairs.{fits-gained, fits-countered}
 use Rattle.migration_book.specs.Inner.{contractsTo, newTo}
 

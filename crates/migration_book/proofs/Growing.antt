@@ -36,10 +36,12 @@ module _ (f : Form) (book : List ℕ) (t : Period) (square : List (List Transfer
   pub new-more : (i : ℕ) → newTo f book t square loads (i + 1) ≡ newTo f book t square loads i ++ newFrom (lostIn square) loads t (contractIn f book i)
   new-more i = flatMap-more (newFrom (lostIn square) loads t) i (contractIn f book)
 
-  pub length-more : (i : ℕ) → length (newTo f book t square loads (i + 1)) ≡ length (newTo f book t square loads i) + length (newFrom (lostIn square) loads t (contractIn f book i))
+  pub length-more : (i : ℕ) → length (newTo f book t square loads (i + 1)) ≡ length (newTo f book t square loads i)
+      + length (newFrom (lostIn square) loads t (contractIn f book i))
   length-more i = ap length (new-more i) ∙ length-append (newTo f book t square loads i) (newFrom (lostIn square) loads t (contractIn f book i))
 
   pub new-grow : (i m : ℕ) → i ≤ m → length (newTo f book t square loads i) ≤ length (newTo f book t square loads m)
   new-grow zero zero h = omega arith
   new-grow (suc i) zero h = absurd (omega arith)
-  new-grow i (suc m) h = ⊎-elim (λ e. rw e (omega arith)) (λ l. le-trans (new-grow i m (omega arith)) (rw (← add-one m) (omega (arith, length-more m)))) (eq-or-lt-of-le h)
+  new-grow i (suc m) h = ⊎-elim (λ e. rw e (omega arith)) (λ l. le-trans (new-grow i m (omega arith)) (rw (← add-one m) (omega (arith, length-more m))))
+      (eq-or-lt-of-le h)

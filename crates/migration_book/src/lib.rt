@@ -8,7 +8,8 @@ ghost use Rattle.layouts.specs.BookFile.{bookFile, contractCountIn, bookFormIn,
 ghost use Rattle.migration_rules.specs.Transfers.{rowLists};
 ghost use Rattle.migration_rules.specs.Contracts.{newBook};
 ghost use Rattle.migration_transfers.specs.Squares.{lostIn};
-ghost use Rattle.migration_pairs.specs.Inner.{MigrationReady, Appended};
+ghost use Rattle.book_growth.specs.Inner.{Appended};
+ghost use Rattle.migration_pairs.specs.Inner.{MigrationReady};
 ghost use Rattle.migration_book.specs.MigrateLoad.{migrateLoadCall, MigratesLoad};
 ghost use Rattle.migration_book.specs.Inner.{inputChecks, Readable, contractsTo, newTo, grownTo, Roomy, Grows};
 use layouts::Form;

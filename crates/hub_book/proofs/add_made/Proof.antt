@@ -13,11 +13,12 @@ use Rattle.layouts.specs.declared.forms.Form.{Form}
 use Rattle.layouts.specs.Forms.{endWidth}
 use Rattle.layouts.specs.BookFile.{bookBytes}
 use Rattle.layouts.specs.BookTable.{ContractFits}
-use Rattle.book_growth.specs.Inner.{growthChecks}
-use Rattle.book_growth.proofs.Keeping.{room-parts}
+use Rattle.book_growth.specs.Inner.{growthChecks, Whole}
+use Rattle.book_growth.proofs.Keeping.{accepted-whole, room-parts}
 use Rattle.hub_book.specs.AddHubContract.{HubCall, countGrown, hubContractChecked, bookGrown}
 use Rattle.hub_book.specs.Inner.{termsCall, rowContract, HubRoom, grownFront}
-use Rattle.hub_book.proofs.Growing.{termsOf, Given, given-is, few-nodes, accepted, hub-of-nodes, length-grown, growth-next, rows-at-most, count-is, row-fits, front-is}
+use Rattle.hub_book.proofs.Growing.{termsOf, Given, given-is, few-nodes, accepted, hub-of-nodes}
+use Rattle.hub_book.proofs.Growing.{length-grown, growth-next, rows-at-most, count-is, row-fits, front-is}
 use borrow.Author.Needs.{needs}
 use Rattle.hub_book.proofs.add_made.Statement.{statement}
 use Rattle.hub_book.proofs.add_made.Tie as tie
@@ -116,7 +117,8 @@ module _ (e : tie.After-enum-told) where
         source-cells = omega (arith, few-rows h, h .hub-rows .kept .1 .1 .1 .1 .0);
         quantity-cells = omega (arith, few-rows h, h .hub-rows .kept .1 .1 .1 .1 .1 .0);
         bytes = room-left .1;
-        fits = λ i b. subst (λ (f : Form). ContractFits (endWidth f) (rowContract (termsOf (q h)) (sources h) (quantities h) i)) (sym (room .before .book-form .ensures))
+        fits = λ i b. subst (λ (f : Form). ContractFits (endWidth f) (rowContract (termsOf (q h)) (sources h) (quantities h) i))
+            (sym (room .before .book-form .ensures))
             (row-fits (q h) (given h) (made h) (sources h) (quantities h) (h .hub-rows .ensures) i b);
       }
 
@@ -137,9 +139,9 @@ book-bytes-requires c κs = room-left c .0
 write-grown-requires : tie.Need-write-grown-requires
 write-grown-requires c κs =
     let e = c .before .before .before .before in
-    let own = accepted (q (h e)) (given (h e)) in
-    let is = room e .before .book-form .ensures in
-    (record { form-is = sym is; spare = rw is (own .spare); size = rw is (own .size) }, sym (room e .before .before .contract-count .ensures .0), rows-fit e)
+    let book = q (h e) .book in
+    let whole = accepted-whole (q (h e) .nodes) book (accepted (q (h e)) (given (h e))) in
+    (subst (λ (f : Form). Whole f book) (sym (room e .before .book-form .ensures)) whole, sym (room e .before .before .contract-count .ensures .0), rows-fit e)
 
 returns-2 : tie.Need-returns-2
 returns-2 c =

@@ -10,7 +10,7 @@ use Rattle.tariff.specs.declared.contracts.Contract.{Contract}
 use Rattle.layouts.specs.BookFile.{contractIn}
 use Rattle.book_rules.specs.Inner.{bookFront}
 use Rattle.migration_rules.specs.Contracts.{newBook}
-use Rattle.migration_pairs.proofs.Pairs.{room-fewer}
+use Rattle.book_growth.proofs.Appending.{room-fewer}
 use Rattle.migration_book.specs.Inner.{contractsTo, newTo}
 use Rattle.migration_book.proofs.Growing.{contracts-of}
 use Rattle.migration_book.proofs.Accepted.{book-fits, grown-written}
@@ -24,7 +24,8 @@ keep-contracts-requires c κs =
     let ok = s .pre .0 .0 in
     let size = ok .whole .size in
     let old = length-listTo (a .count) (contractIn (a .form) (a .book .now)) in
-    let all = length (contractsTo (a .form) (a .book .now) (a .count)) + length (newTo (a .form) (a .book .now) (a .period) (a .square) (a .loads .now) (a .count)) in
+    let all = length (contractsTo (a .form) (a .book .now) (a .count))
+    + length (newTo (a .form) (a .book .now) (a .period) (a .square) (a .loads .now) (a .count)) in
     let room = room-fewer (a .form) (a .count) all _ (omega (arith, old)) (s .pre .1 .1 .room) in
     (ok .whole, omega (arith, s .pre .1 .0, s .pre .1 .1 .few), omega (arith, rw (ok .count-is) at size, room))
 
@@ -50,7 +51,8 @@ returns c =
     let kept = w .keep-contracts .ensures
     ∙ ap (λ (cs : List Contract). overwrite (bookFront (a .form) (a .grown) cs) (a .file .now)) (contracts-of (a .form) (a .count) (a .book .now) (s .pre .0 .0)) in
     grown-written (a .form) (a .grown) (a .count) _ old (newTo (a .form) (a .book .now) (a .period) (a .square) (a .loads .now) (a .count)) (a .file .now) _ _
-    (length-listTo (a .count) (contractIn (a .form) (a .book .now))) (s .pre .1 .0) (book-fits (a .form) (a .book .now) (a .period) (a .square) (a .loads .now) (a .count) (s .pre .0 .1))
+    (length-listTo (a .count) (contractIn (a .form) (a .book .now))) (s .pre .1 .0)
+    (book-fits (a .form) (a .book .now) (a .period) (a .square) (a .loads .now) (a .count) (s .pre .0 .1))
     kept (n .store-grown .ensures)
 
 pub write-grown-spec : {M : Type 1} → statement M
