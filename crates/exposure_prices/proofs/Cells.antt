@@ -23,6 +23,9 @@ pub read-excess : (n : ℕ) (cells : List ℤ) → Excesses n cells → (k : ℕ
     → (toZ w64 (ofZ w64 (cellAt cells k)) ≡ cellAt cells k) × (natAbs (cellAt cells k) ≤ maxExcess)
 read-excess n cells e k h = let sized = e .sized k h in (back (cellAt cells k) (omega (arith, sized)), sized)
 
+pub sized-read : (n : ℕ) (cells : List ℤ) → Excesses n cells → (k : ℕ) → k < n → natAbs (toZ w64 (ofZ w64 (cellAt cells k))) ≤ maxExcess
+sized-read n cells e k h = let read = read-excess n cells e k h in rw (read .0) (read .1)
+
 -- the first k cells hold the prices of the first k constraints, and those behind are as they were
 pub record Filling (n : ℕ) (chosen : ℕ → Bool) (entry : List ℕ) (k : ℕ) (cells : List ℕ) : Type 0 where
   pub length-kept : length cells ≡ length entry

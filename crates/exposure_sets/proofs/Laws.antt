@@ -164,6 +164,9 @@ module _ (count : ℕ) (x : ℕ → ℤ) (cells : List ℤ) (n t : ℕ) (s : Sum
         sums = sums-grow t x n y cells new (s .sets) e small (s .sums) g;
       }
 
+pub summed-end : (count : ℕ) (x : ℕ → ℤ) (cells : List ℤ) (n t : ℕ) → Summed count x cells n t → count ≤ t → Sums count x cells × (length cells ≡ 1024)
+summed-end count x cells n t s h = let all : t ≡ count = omega (arith, s .upto) in (rw all at (s .sums), s .length-is)
+
 -- ---- what is added
 
 pub pow-most : (count n : ℕ) → n ≡ 2 ^ count → count ≤ 10 → n ≤ 1024

@@ -20,6 +20,7 @@ use tariff::Flow;
 use tariff::Kind;
 use tariff::Period;
 use tariff::Process;
+use test_excesses::Terms;
 
 // How many sets ten constraints have.
 const MOST_SETS: usize = 1024;
@@ -168,10 +169,7 @@ fn add_book(
 
 // What one cent costs on every set of the listed constraints, in 10^-8 cents, into the first cells of `costs`, which are 0.
 pub fn set_costs(
-    nodes: usize,
-    constraints: usize,
-    process: Process,
-    period: Period,
+    terms: Terms,
     limits: &[u64],
     factors: &[i64],
     book: &[u8],
@@ -179,11 +177,16 @@ pub fn set_costs(
     count: usize,
     costs: &mut [i64],
 )
-    requires { ⌜ GoodCells maxLimit constraints (now limits) × GoodFactors nodes constraints (now factors) × (first (bookChecks nodes (now book)) ≡ Passed) ⌝ }
-    requires { ⌜ Chosen constraints count (now over) × (length (now costs) ≡ 1024) × ((m : ℕ) → m < 1024 → cellIn (now costs) m ≡ pos 0) ⌝ }
-    ensures { λ r. ⌜ UnitCosts (gridOf nodes constraints (before limits) (before factors)) process (ofPeriod period (bookIn (before book)))
-        (before over) count (after costs) ⌝ }
+    requires { ⌜ GoodCells maxLimit (terms .constraints) (now limits) × GoodFactors (terms .nodes) (terms .constraints) (now factors)
+        × (first (bookChecks (terms .nodes) (now book)) ≡ Passed) ⌝ }
+    requires { ⌜ Chosen (terms .constraints) count (now over) × (length (now costs) ≡ 1024) × ((m : ℕ) → m < 1024 → cellIn (now costs) m ≡ pos 0) ⌝ }
+    ensures { λ r. ⌜ UnitCosts (gridOf (terms .nodes) (terms .constraints) (before limits) (before factors)) (terms .process)
+        (ofPeriod (terms .period) (bookIn (before book))) (before over) count (after costs) ⌝ }
 {
+    let nodes = terms.nodes;
+    let constraints = terms.constraints;
+    let process = terms.process;
+    let period = terms.period;
     let n = set_count(count);
     let mut sums = [0i64; MOST_SETS];
     rent_sums(constraints, process, limits, over, count, &mut sums);

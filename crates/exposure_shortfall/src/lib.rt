@@ -21,9 +21,8 @@ use tariff::MAX_CONSTRAINTS;
 use tariff::MAX_CONTRACTS;
 use tariff::MAX_LIMIT;
 use tariff::MAX_PRICE;
-use tariff::Period;
-use tariff::Process;
 use tariff::Refusal;
+use test_excesses::Terms;
 
 // What finding the shortfall gives: net payment, rent and shortfall, each as whole cents rounded down and parts.
 pub enum ShortfallAnswer {
@@ -47,20 +46,21 @@ pub struct Shortfall {
 
 // What a book costs at a price list, where no check refuses: its exact total is what settling the hour gives.
 pub fn shortfall_at(
-    nodes: usize,
-    constraints: usize,
-    process: Process,
-    period: Period,
+    terms: Terms,
     limits: &[u64],
     factors: &[i64],
     prices: &[u64],
     book: &[u8],
 ) -> Shortfall
-    requires { ⌜ GoodCells maxLimit constraints (now limits) × Hour nodes constraints (now factors) (now prices) ⌝ }
-    requires { ⌜ first (bookChecks nodes (now book)) ≡ Passed ⌝ }
-    ensures { λ r. ⌜ Costs (gridOf nodes constraints (before limits) (before factors)) process (ofPeriod period (bookIn (before book)))
-        (take constraints (before prices)) r ⌝ }
+    requires { ⌜ GoodCells maxLimit (terms .constraints) (now limits) × Hour (terms .nodes) (terms .constraints) (now factors) (now prices) ⌝ }
+    requires { ⌜ first (bookChecks (terms .nodes) (now book)) ≡ Passed ⌝ }
+    ensures { λ r. ⌜ Costs (gridOf (terms .nodes) (terms .constraints) (before limits) (before factors)) (terms .process)
+        (ofPeriod (terms .period) (bookIn (before book))) (take (terms .constraints) (before prices)) r ⌝ }
 {
+    let nodes = terms.nodes;
+    let constraints = terms.constraints;
+    let process = terms.process;
+    let period = terms.period;
     let mut cents = [0i64; MAX_CONTRACTS];
     let mut priced = [0u64; MAX_CONTRACTS];
     let totals = hour_contracts::settle(
@@ -180,16 +180,8 @@ pub fn find_shortfall(
     if let Checked::Refused(refusal) = checked {
         return ShortfallAnswer::Refused(refusal);
     }
-    let found = shortfall_at(
-        nodes,
-        constraints,
-        Process::from_number(process),
-        Period::from_number(period),
-        limits,
-        factors,
-        prices,
-        book,
-    );
+    let terms = Terms::from_numbers(nodes, constraints, process, period);
+    let found = shortfall_at(terms, limits, factors, prices, book);
     ShortfallAnswer::Found {
         payment_whole: found.payment.whole,
         payment_parts: found.payment.parts,

@@ -44,13 +44,14 @@ returns c =
     let u = k .before .before in
     let a = start u .args in
     let p = start u .pre .1 .1 in
-    let g = gridOf (a .nodes) (a .constraints) (a .limits .now) (a .factors .now) in
-    let cs = ofPeriod (a .period) (bookIn (a .book .now)) in
+    let g = gridOf (a .terms .nodes) (a .terms .constraints) (a .limits .now) (a .factors .now) in
+    let cs = ofPeriod (a .terms .period) (bookIn (a .book .now)) in
     let are = p .1 .1 in
-    let listed = listed-over g (a .process) cs (a .excesses .now) are (a .over .now) (p .1 .0 .0) in
-    let best = best-made g (a .process) cs (a .over .now) listed (a .count) (p .0 .1 ∙ count-is g (a .process) cs (a .excesses .now) are) _ (u .set-costs .ensures)
+    let listed = listed-over g (a .terms .process) cs (a .excesses .now) are (a .over .now) (p .1 .0 .0) in
+    let best = best-made g (a .terms .process) cs (a .over .now) listed (a .count) (p .0 .1 ∙ count-is g (a .terms .process) cs (a .excesses .now) are) _
+    (u .set-costs .ensures)
     (k .set-count .result) (k .set-count .ensures .0) (b .best-of .result) (b .best-of .ensures .0) (b .best-of .ensures .1) in
-    worst-drawn (a .nodes) (a .constraints) (a .limits .now) (a .factors .now) (a .process) cs (a .excesses .now) are
+    worst-drawn (a .terms .nodes) (a .terms .constraints) (a .limits .now) (a .factors .now) (a .terms .process) cs (a .excesses .now) are
     (b .best-of .result .set) (a .prices .now) _ (f .fill-set .ensures) (a .count) (p .0 .1) (b .best-of .result) refl best
 
 pub worst-prices-spec : {M : Type 1} → statement M

@@ -7,15 +7,14 @@ use borrow.Author.Tests.{lt-ltb, le-ltb}
 use Rattle.integers.specs.Sums.{max0}
 use Rattle.tariff.specs.Units.{maxPrice}
 use Rattle.exposure_figures.specs.Inner.{Exactly}
-use Rattle.exposure_prices.proofs.Cells.{read-excess}
+use Rattle.exposure_prices.proofs.Cells.{read-excess, sized-read}
 use Rattle.exposure_prices.proofs.alone_shortfall.Statement.{statement}
 use Rattle.exposure_prices.proofs.alone_shortfall.Tie as tie
 
 above-zero-requires : tie.Need-above-zero-requires
 above-zero-requires c κs =
     let s = c .before .before in
-    let read = read-excess (s .args .constraints) (s .args .excesses .now) (s .pre) (s .args .largest) (omega arith) in
-    rw (read .0) (read .1)
+    sized-read (s .args .constraints) (s .args .excesses .now) (s .pre) (s .args .largest) (omega arith)
 
 returns : tie.Need-returns
 returns c =

@@ -9,7 +9,7 @@ use lib.Signed.{ltZ}
 use borrow.Author.Needs.{needs}
 use Rattle.tariff.specs.Units.{maxPrice}
 use Rattle.exposure_prices.specs.Inner.{chosenIn}
-use Rattle.exposure_prices.proofs.Cells.{read-excess, Filling, fill-start, fill-next, fill-end}
+use Rattle.exposure_prices.proofs.Cells.{read-excess, sized-read, Filling, fill-start, fill-next, fill-end}
 use Rattle.exposure_prices.proofs.fill_prices.Statement.{statement}
 use Rattle.exposure_prices.proofs.fill_prices.Tie as tie
 
@@ -22,8 +22,7 @@ abbrev μ-loop : tie.MeasureT-loop
 price-at-requires : tie.Need-price-at-requires Inv-loop μ-loop
 price-at-requires c κs =
     let s = c .before .before .before .before in
-    let read = read-excess (s .args .constraints) (s .args .excesses .now) (s .pre .0) (c .before .before .loop .k) (omega arith) in
-    rw (read .0) (read .1)
+    sized-read (s .args .constraints) (s .args .excesses .now) (s .pre .0) (c .before .before .loop .k) (omega arith)
 
 slice-write-prices : tie.Need-slice-write-prices Inv-loop μ-loop
 slice-write-prices c = omega (arith, c .before .before .before .before .before .pre .1, c .before .before .before .loop .inv .1 .length-kept)

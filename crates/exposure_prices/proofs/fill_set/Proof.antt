@@ -10,7 +10,7 @@ use borrow.Author.Needs.{needs}
 use Rattle.lists.specs.Sets.{countOf}
 use Rattle.tariff.specs.Units.{maxPrice}
 use Rattle.exposure_prices.specs.Inner.{aboveIn, setIn}
-use Rattle.exposure_prices.proofs.Cells.{read-excess, Filling, fill-start, fill-next, fill-end}
+use Rattle.exposure_prices.proofs.Cells.{read-excess, sized-read, Filling, fill-start, fill-next, fill-end}
 use Rattle.exposure_prices.proofs.Counting.{left-start, left-next}
 use Rattle.exposure_prices.proofs.fill_set.Statement.{statement}
 use Rattle.exposure_prices.proofs.fill_set.Tie as tie
@@ -25,14 +25,13 @@ abbrev μ-loop : tie.MeasureT-loop
 set-price-requires : tie.Need-set-price-requires Inv-loop μ-loop
 set-price-requires c κs =
     let s = c .before .before .before .before in
-    let read = read-excess (s .args .constraints) (s .args .excesses .now) (s .pre .0) (c .before .before .loop .k) (omega arith) in
-    rw (read .0) (read .1)
-
-slice-write-prices : tie.Need-slice-write-prices Inv-loop μ-loop
-slice-write-prices c = omega (arith, c .before .before .before .before .before .pre .1, c .before .before .before .loop .inv .1 .length-kept)
+    sized-read (s .args .constraints) (s .args .excesses .now) (s .pre .0) (c .before .before .loop .k) (omega arith)
 
 set-left-requires : tie.Need-set-left-requires Inv-loop μ-loop
 set-left-requires c κs = set-price-requires (c .before) κs
+
+slice-write-prices : tie.Need-slice-write-prices Inv-loop μ-loop
+slice-write-prices c = omega (arith, c .before .before .before .before .before .pre .1, c .before .before .before .loop .inv .1 .length-kept)
 
 loop-again : tie.Need-loop-again Inv-loop μ-loop
 loop-again c =

@@ -7,7 +7,7 @@ use borrow.Author.Needs.{needs}
 use Rattle.test_excesses.specs.Inner.{cellAt}
 use Rattle.exposure_prices.specs.Inner.{maxExcess}
 use Rattle.integers.specs.Sums.{max0, sumTo}
-use Rattle.exposure_prices.proofs.Cells.{read-excess}
+use Rattle.exposure_prices.proofs.Cells.{read-excess, sized-read}
 use Rattle.exposure_prices.proofs.Figures.{sum-more}
 use Rattle.exposure_prices.proofs.total_above.Statement.{statement}
 use Rattle.exposure_prices.proofs.total_above.Tie as tie
@@ -28,8 +28,7 @@ loop-holds c = (omega arith, refl, omega arith)
 above-zero-requires : tie.Need-above-zero-requires Inv-loop μ-loop
 above-zero-requires c κs =
     let s = c .before .before .before in
-    let read = read-excess (s .args .constraints) (s .args .excesses .now) (s .pre) (c .before .before .loop .k) (omega arith) in
-    rw (read .0) (read .1)
+    sized-read (s .args .constraints) (s .args .excesses .now) (s .pre) (c .before .before .loop .k) (omega arith)
 
 add-total : tie.Need-add-total Inv-loop μ-loop
 add-total c = let t = c .before .before .before .loop .inv .2 in omega (arith, t, near c, c .above-zero .ensures .1)

@@ -47,7 +47,8 @@ contract-at-requires c κs =
     (omega (arith, c .before .before .before .contract-count .ensures .0))
 
 -- contract i is the one that the bytes say, and is in range
-read : (c : tie.After-contract-at Inv-loop μ-loop) → c .contract-at .result ≡ contractAt (c .before .before .before .before .before .before .before .args .book .now) (c .before .before .loop .i)
+read : (c : tie.After-contract-at Inv-loop μ-loop) → c .contract-at .result ≡ contractAt
+    (c .before .before .before .before .before .before .before .args .book .now) (c .before .before .loop .i)
 read c = c .contract-at .ensures ∙ ap (λ (f : Form). contractIn f (c .before .before .before .before .before .before .before .args .book .now)
     (c .before .before .loop .i)) (c .before .before .before .book-form .ensures)
 

@@ -1,5 +1,5 @@
 -- `contract_sums`: the sums of the places passed.
-use mathlib.Core.Path.{_≡_, ap₂, _∙_}
+use mathlib.Core.Path.{ap₂, _∙_}
 use Prim.Native.Nat.{ℕ, _+_, _-_, _*_, _^_, _≤_, _<_}
 use native.Mathlib.Omega.{arith}
 use lib.ListN.{length, getD, length-set}
@@ -13,7 +13,7 @@ use Rattle.tariff.specs.declared.contracts.Kind.the-variants.{Obligation}
 use Rattle.tariff.specs.Inner.{maxReleased}
 use Rattle.test_rules.proofs.Flowing.{rows-kept, part-small}
 use Rattle.exposure_sets.specs.Inner.{rawIn}
-use Rattle.exposure_sets.proofs.Laws.{Summed, summed-start, half, room-to-grow, summed-next}
+use Rattle.exposure_sets.proofs.Laws.{Summed, summed-start, half, room-to-grow, summed-next, summed-end}
 use Rattle.exposure_sets.proofs.contract_sums.Statement.{statement}
 use Rattle.exposure_sets.proofs.contract_sums.Tie as tie
 
@@ -127,18 +127,15 @@ loop-again c =
     (back (getD (a .factors .now) (a .c .sink * a .constraints + k) (pos 0)) (omega (arith, s .pre .0 .sink-sized k b))) in
     summed-next (a .count) (part s) (l .sums) (l .n) (l .t) (l .inv) (omega arith) (s .pre .1 .few) (f .flow .result .0) _ y (small f) (c .before .grow .ensures)
 
-same-length : tie.Need-same-length Inv-loop μ-loop
-same-length c = search needs
-
 returns : tie.Need-returns Inv-loop μ-loop
 returns c =
     let s = c .before .before .before .before .before .before in
     let l = c .before .loop in
-    let last : l .t ≡ s .args .count = omega (arith, l .inv .upto) in
-    (rw last at (l .inv .sums), l .inv .length-is)
+    summed-end (s .args .count) (part s) (l .sums) (l .n) (l .t) (l .inv) (omega arith)
 
 pub contract-sums-spec : {M : Type 1} → statement M
 contract-sums-spec =
     tie.close (tie.spec
-    Inv-loop μ-loop mul-source mul-sink slice-set-of-sums loop-holds (λ c. search needs) shared-slice-read-k add-flow mul-flow shared-slice-copy-out-flow add-flow-2 mul-flow-2
-    shared-slice-copy-out-flow-2 flow-requires grow-requires add-n (λ c. search needs) (λ c. search needs) loop-again same-length returns)
+    Inv-loop μ-loop mul-source mul-sink slice-set-of-sums loop-holds
+    (λ c. search needs) shared-slice-read-k add-flow mul-flow shared-slice-copy-out-flow add-flow-2 mul-flow-2
+    shared-slice-copy-out-flow-2 flow-requires grow-requires add-n (λ c. search needs) (λ c. search needs) loop-again (λ c. search needs) returns)

@@ -1,5 +1,5 @@
 -- `rent_sums`: the sums of the places passed.
-use mathlib.Core.Path.{_≡_, ap, _∙_}
+use mathlib.Core.Path.{ap, _∙_}
 use Prim.Native.Nat.{ℕ, _-_, _≤_}
 use native.Mathlib.Omega.{arith}
 use lib.ListN.{getD}
@@ -9,7 +9,7 @@ use Rattle.integers.proofs.Sizes.{natAbs-sub}
 use Rattle.test_rules.proofs.Judging.{released-small}
 use Rattle.tariff.specs.Inner.{maxReleased}
 use Rattle.exposure_sets.specs.Inner.{dueIn}
-use Rattle.exposure_sets.proofs.Laws.{Summed, summed-start, half, room-to-grow, summed-next}
+use Rattle.exposure_sets.proofs.Laws.{Summed, summed-start, half, room-to-grow, summed-next, summed-end}
 use Rattle.exposure_sets.proofs.rent_sums.Statement.{statement}
 use Rattle.exposure_sets.proofs.rent_sums.Tie as tie
 
@@ -84,20 +84,17 @@ loop-again c =
     let l = c .before .before .before .before .before .before .before .before .loop in
     let m = c .before .before .before in
     let y = m .minus .ensures ∙ ap (λ (z : ℤ). pos 0 -ℤ z) (m .before .released .ensures) in
-    summed-next (s .args .count) (part s) (l .sums) (l .n) (l .t) (l .inv) (omega arith) (s .pre .1 .few) (m .minus .result .0) _ y (due m) (c .before .grow .ensures)
-
-same-length : tie.Need-same-length Inv-loop μ-loop
-same-length c = search needs
+    summed-next (s .args .count) (part s) (l .sums) (l .n) (l .t) (l .inv) (omega arith) (s .pre .1 .few) (m .minus .result .0) _ y (due m)
+    (c .before .grow .ensures)
 
 returns : tie.Need-returns Inv-loop μ-loop
 returns c =
     let s = c .before .before .before .before in
     let l = c .before .loop in
-    let last : l .t ≡ s .args .count = omega (arith, l .inv .upto) in
-    (rw last at (l .inv .sums), l .inv .length-is)
+    summed-end (s .args .count) (part s) (l .sums) (l .n) (l .t) (l .inv) (omega arith)
 
 pub rent-sums-spec : {M : Type 1} → statement M
 rent-sums-spec =
     tie.close (tie.spec
     Inv-loop μ-loop loop-holds (λ c. search needs) shared-slice-read-k mul-released shared-slice-read-released released-requires minus-requires grow-requires add-n
-    (λ c. search needs) (λ c. search needs) loop-again same-length returns)
+    (λ c. search needs) (λ c. search needs) loop-again (λ c. search needs) returns)

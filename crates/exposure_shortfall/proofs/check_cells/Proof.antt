@@ -25,7 +25,8 @@ lengths s rest =
 long : (x : tie.After-cell-above) (rest : List Check) → first (lengths (x .before .before .before .before .before .before) rest) ≡ first rest
 long x rest =
     let t = x .before in
-    first-passes _ _ (le-ltb _ _ (t .before .before .if1 .left)) ∙ first-passes _ _ (le-ltb _ _ (t .before .if2 .left)) ∙ first-passes _ _ (le-ltb _ _ (t .if3 .left))
+    first-passes _ _ (le-ltb _ _ (t .before .before .if1 .left)) ∙ first-passes _ _ (le-ltb _ _ (t .before .if2 .left)) ∙ first-passes _ _
+    (le-ltb _ _ (t .if3 .left))
 
 -- 9, 6 and 7, before the rest
 within : (x : tie.After-cell-above2) (rest : List Check) → let l = x .before .before .before in let s = l .before .before .before .before .before .before .before in

@@ -1,14 +1,18 @@
 -- `find_shortfall`: where no check refuses, what is found is given.
-use mathlib.Core.Path.{sym, _∙_, subst₂}
+use mathlib.Core.Path.{_≡_, sym, _∙_, subst}
 use native.Mathlib.Omega.{arith}
 use borrow.Author.Needs.{needs}
 use Rattle.integers.proofs.Machine.{back}
-use Rattle.tariff.specs.declared.contracts.Period.{Period}
-use Rattle.tariff.specs.declared.processes.Process.{Process}
+use lib.ListN.{take}
+use Rattle.tariff.specs.declared.refusals.Checked.the-variants.{Passed}
+use Rattle.tariff.specs.Units.{gridOf, maxLimit}
 use Rattle.tariff.specs.Contracts.{ofPeriod}
+use Rattle.tariff.specs.Refusals.{first}
 use Rattle.layouts.specs.BookFile.{bookIn}
-use Rattle.test_rules.specs.TestBook.{TestCall, testCall, testedGrid}
-use Rattle.exposure_shortfall.specs.FindShortfall.{askedPrices}
+use Rattle.grid_tables.specs.Inner.{GoodCells, Hour}
+use Rattle.book_rules.specs.BookChecks.{bookChecks}
+use Rattle.test_rules.specs.TestBook.{TestCall, testCall}
+use Rattle.test_excesses.specs.declared.Terms.{Terms}
 use Rattle.exposure_shortfall.specs.Inner.{Costs}
 use Rattle.exposure_shortfall.proofs.Checking.{Asked, asked}
 use Rattle.exposure_shortfall.proofs.Meaning.{refuses, finds}
@@ -30,25 +34,31 @@ ok c =
     let s = c .before .before .before .before .before .before in
     asked (call s) (s .args .prices .now) (sym (c .before .before .check-shortfall .ensures) ∙ c .enum-told .given .1)
 
-from-number-requires : tie.Need-from-number-requires
-from-number-requires c κs = ok c .as-tested .tables .process-number
+from-numbers-requires : tie.Need-from-numbers-requires
+from-numbers-requires c κs = ok c .as-tested .tables .process-number
 
 shortfall-at-requires : tie.Need-shortfall-at-requires
 shortfall-at-requires c κs =
-    let o = ok (c .before .before) in
+    let o = ok (c .before) in
     let t = o .as-tested in
+    let a = c .before .before .before .before .before .before .before .args in
+    subst
+    (λ (x : Terms). (GoodCells maxLimit (x .constraints) (a .limits .now) × Hour (x .nodes) (x .constraints) (a .factors .now) (a .prices .now))
+    × (first (bookChecks (x .nodes) (a .book .now)) ≡ Passed))
+    (sym (c .from-numbers .ensures))
     ((t .tables .good-limits, record { good-factors = t .tables .good-factors; good-prices = o .good-prices }), t .book)
 
 returns-2 : tie.Need-returns-2
 returns-2 c =
-    let e = c .before .before .before .before in
+    let e = c .before .before .before in
     let k = e .before .before .check-shortfall in
-    let s = c .before .before .before .before .before .before .before .before .before .before in
+    let s = e .before .before .before .before .before .before in
     let q = call s in
     let prices = s .args .prices .now in
     let r = c .before .shortfall-at .result in
-    let costs = subst₂ (λ (p : Process) (t : Period). Costs (testedGrid q) p (ofPeriod t (bookIn (q .book))) (askedPrices q prices) r)
-    (c .before .before .before .from-number .ensures) (c .before .before .from-number2 .ensures) (c .before .shortfall-at .ensures) in
+    let costs = subst (λ (t : Terms). Costs (gridOf (t .nodes) (t .constraints) (q .limits) (q .factors)) (t .process) (ofPeriod (t .period) (bookIn (q .book)))
+    (take (t .constraints) prices) r)
+    (c .before .before .from-numbers .ensures) (c .before .shortfall-at .ensures) in
     finds q prices (k .result) (k .ensures) (e .enum-told .given .1) r costs _ _ _
     (back (r .payment .whole) (omega (arith, costs .payment .whole-sized))) (back (r .rent .whole) (omega (arith, costs .rent-is .whole-sized)))
     (back (r .shortfall .whole) (omega (arith, costs .shortfall-is .whole-sized)))
@@ -56,4 +66,4 @@ returns-2 c =
 pub find-shortfall-spec : {M : Type 1} → statement M
 find-shortfall-spec =
     tie.close (tie.spec
-    (λ c κs. search needs) (λ c. search needs) returns (λ c. search needs) from-number-requires (λ c κs. search needs) shortfall-at-requires returns-2)
+    (λ c κs. search needs) (λ c. search needs) returns (λ c. search needs) from-numbers-requires shortfall-at-requires returns-2)
