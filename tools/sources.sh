@@ -8,16 +8,19 @@ aarch64-linux*) machine=aarch64-linux ;;
 *) machine=x86-64-linux ;;
 esac
 
-# The best shared library that dist/ has for this processor, by its name there; crr/library.py takes it by
-# the same flags.
-shared_library_name() { # CPUINFO
-    local line flag best=glibc-hwcaps/x86-64-v3/libcrr.so
-    [ -f "dist/$machine/$best" ] || { echo libcrr.so; return; }
+# Whether the processor is an x86-64-v3, by what Linux says that it can do.
+processor_is_v3() { # CPUINFO
+    local line flag
     while IFS= read -r line && [[ $line != flags* ]]; do :; done < <(cat "$1" 2> /dev/null)
     for flag in cx16 lahf_lm popcnt sse4_1 sse4_2 ssse3 avx avx2 bmi1 bmi2 f16c fma abm movbe xsave; do
-        [[ " $line " == *[[:space:]]"$flag "* ]] || { echo libcrr.so; return; }
+        [[ " $line " == *[[:space:]]"$flag "* ]] || return
     done
-    echo "$best"
+}
+
+# The best shared library that dist/ has for the processor, by its name there. crr/library.py takes it alike.
+shared_library_name() { # CPUINFO
+    local best=glibc-hwcaps/x86-64-v3/libcrr.so
+    if [ -f "dist/$machine/$best" ] && processor_is_v3 "$1"; then echo "$best"; else echo libcrr.so; fi
 }
 
 # What each crate of crates.txt stands on. Comments, blanks and the order of lines have no effect.
