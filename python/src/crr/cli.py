@@ -1,8 +1,8 @@
 """The command `crr`.
 
-Exit status: 0; 1 where `crr test`, `crr cuts` or `crr exposure` finds that the book fails, `crr same` that
-two books differ, or `crr tiers` that an operation is refused; 2 where the input has faults, or something
-can't be read or written; 130 where it is interrupted (Ctrl-C).
+Exit status: 0; 1 where `crr test`, `crr cuts`, `crr flows` or `crr exposure` finds that the book fails, `crr
+same` that two books differ, or `crr tiers` that an operation is refused; 2 where the input has faults, or
+something can't be read or written; 130 where it is interrupted (Ctrl-C).
 """
 
 from __future__ import annotations
@@ -17,9 +17,12 @@ from . import (
     book_commands,
     commands,
     copies,
+    explain,
     exposures,
     help_commands,
+    hour_commands,
     hubs,
+    loading,
     migrate,
     plain_commands,
     report,
@@ -35,7 +38,10 @@ from .writing import is_output
 # Help lists the commands module by module.
 _ORDER = (
     commands,
+    loading,
     exposures,
+    hour_commands,
+    explain,
     report,
     book_commands,
     copies,
@@ -83,8 +89,8 @@ def parser() -> argparse.ArgumentParser:
         prog="crr", description="Congestion revenue rights: feasibility test and hourly settlement."
     )
     parser.epilog = (
-        "Exit status: 0; 1 the book fails (crr test, crr cuts, crr exposure), two books differ (crr same), "
-        "or an operation is refused (crr tiers); "
+        "Exit status: 0; 1 the book fails (crr test, crr cuts, crr flows, crr exposure), two books differ "
+        "(crr same), or an operation is refused (crr tiers); "
         "2 the input has faults, or something can't be read or written; 130 interrupted."
     )
     parser.add_argument(

@@ -68,6 +68,13 @@ def raise_any(faults: Sequence[Fault]) -> None:
         raise Faults(faults)
 
 
+def must_agree(what: str, here: object, library: object) -> None:
+    """Raises a fault where a figure that was worked out here is not the library's."""
+    if here != library:
+        text = f"{what}: {here} worked out here, {library} by the library; please tell its authors"
+        raise Faults([Fault("", 0, "", text)])
+
+
 def brief(text: str, most: int = 60) -> str:
     """A text that may be someone's whole file, cut to a length that a sentence bears."""
     return text if len(text) <= most else f"{text[: most // 2]}..{text[-(most // 4) :]}"
