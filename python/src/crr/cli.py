@@ -28,8 +28,8 @@ from . import (
     report,
     tiers,
 )
-from .command import COMMANDS, FAULTY, INTERRUPTED, PASSES, Answer, Command, Shown
-from .faults import Fault, Faults
+from .command import COMMANDS, FAULTY, INTERRUPTED, PASSES, Answer, Command, Shown, counted
+from .faults import Fault, Faults, faults_of
 from .native import Refused
 from .streams import write_to
 from .version import Version
@@ -116,34 +116,25 @@ def parser() -> argparse.ArgumentParser:
     return parser
 
 
-def _fault_object(fault: Fault) -> Dict[str, object]:
-    """A fault for a script: null where it has no file, line, column or refusal."""
-    return {name: value or None for name, value in fault._asdict().items()}
-
-
 def _places(options: argparse.Namespace, faults: Sequence[Fault]) -> str:
     """Where faults are, behind their number: files that were given beside the folder, or the folder."""
-    if "folder" not in options:
+    folder = options.folders[0] if "folders" in options else getattr(options, "folder", None)
+    if folder is None:
         return ""
     paths = {name: str(value) for name, value in vars(options).items() if isinstance(value, Path)}
     given = [path for name, path in paths.items() if name not in ("folder", "out")]
-    places = dict.fromkeys(fault.file if fault.file in given else paths["folder"] for fault in faults)
+    places = dict.fromkeys(fault.file if fault.file in given else str(folder) for fault in faults)
     return f" in {' and '.join(places)}"
 
 
 def _faulty(options: argparse.Namespace, problem: Exception) -> Answer:
     """The answer where something is wrong, all of it."""
+    faults = faults_of(problem)
+    words = f"crr: {faults[0]}\n"
     if isinstance(problem, Faults):
-        count, where = len(problem.faults), _places(options, problem.faults)
-        text = f"{problem}\ncrr: {count:,} fault{'' if count == 1 else 's'}{where}; nothing was written\n"
-        return Answer(FAULTY, text, {"faults": list(map(_fault_object, problem.faults))})
-    if isinstance(problem, Refused):
-        fault = Fault(problem.file, 0, "", problem.meaning, problem.number)
-    elif isinstance(problem, OSError) and problem.strerror and problem.filename is not None:
-        fault = Fault(str(problem.filename), 0, "", problem.strerror)
-    else:
-        fault = Fault("", 0, "", str(problem))
-    return Answer(FAULTY, f"crr: {fault}\n", {"faults": [_fault_object(fault)]})
+        where = _places(options, faults)
+        words = f"{problem}\ncrr: {counted(len(faults), 'fault')}{where}; nothing was written\n"
+    return Answer(FAULTY, "", {"faults": [fault.object for fault in faults]}, words)
 
 
 def _answer(options: argparse.Namespace) -> Answer:
@@ -184,11 +175,11 @@ def _run(given: List[str]) -> int:
     except Shown as shown:
         answer = Answer(PASSES, str(shown), shown.data)
     except Usage as usage:
-        faults = [_fault_object(Fault("", 0, "", usage.text))]
-        answer = Answer(FAULTY, f"{usage.usage}{usage.text}\n", {"faults": faults, "usage": usage.usage})
+        data: Dict[str, object] = {"faults": [Fault("", 0, "", usage.text).object], "usage": usage.usage}
+        answer = Answer(FAULTY, "", data, f"{usage.usage}{usage.text}\n")
     text = json.dumps(answer.data, indent=1) + "\n" if as_json else answer.text
-    stream = sys.stderr if aside or (answer.status == FAULTY and not as_json) else sys.stdout
-    unwritten = write_to(stream, text)
+    stream = sys.stderr if aside else sys.stdout
+    unwritten = write_to(stream, text) if text else ""
     if unwritten and stream is not sys.stderr:
         write_to(sys.stderr, f"crr: the output can't be written: {unwritten}\n")
     unwritten = unwritten or write_to(sys.stderr, "" if as_json else answer.note)

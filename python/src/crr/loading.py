@@ -2,14 +2,17 @@
 
 from __future__ import annotations
 
+from functools import partial
 from pathlib import Path
 from typing import Dict, List, NamedTuple, Sequence, Tuple
 
 from .case import Case
-from .command import ANY_PERIODS, ANY_PROCESSES, FAILS, FOLDER, PASSES, Answer, command, counted, objects
+from .command import ANY_PERIODS, ANY_PROCESSES, FAILS, FOLDERS, JOBS, PASSES, Answer
+from .command import command, counted, objects
 from .decimals import decimal, nearest
 from .faults import must_agree
 from .feasibility import Verdict, excesses, find_flows, released_limit, released_percent, test_book
+from .folders import each
 from .interface import FLOW_PLACES, LIMIT
 from .opening import opened
 from .to_csv import csv_text
@@ -81,12 +84,17 @@ def _words(case: Case, found: Dict[Line, List[Loading]]) -> str:
 @command(
     "flows",
     "the flow on each constraint, its limit, what the process releases of it, the loading and the excess",
-    FOLDER,
+    FOLDERS,
     ANY_PERIODS,
     ANY_PROCESSES,
+    JOBS,
 )
-def flows(folder: Path, periods: Sequence[int], processes: Sequence[int]) -> Answer:
+def flows(folders: List[Path], periods: Sequence[int], processes: Sequence[int], jobs: int) -> Answer:
     """How full each constraint is; the status is the test's: 1 where one has an excess above 0."""
+    return each(partial(_flows, periods=periods, processes=processes), folders, jobs)
+
+
+def _flows(folder: Path, periods: Sequence[int], processes: Sequence[int]) -> Answer:
     case = opened(folder, prices=False)
     found = loadings(case, [(period, process) for period in periods for process in processes])
     rows = [
