@@ -104,9 +104,6 @@ JOBS = argument(
     metavar="N",
     help="how many processes, 1 to 9999; without it, 1",
 )
-ROUND_PRICES = argument(
-    "--round-prices", action="store_true", help="round prices of more than two decimals to the nearest cent"
-)
 
 
 def writes(text: str, required: bool = False) -> Argument:

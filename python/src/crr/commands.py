@@ -6,7 +6,7 @@ import os
 from dataclasses import replace
 from functools import partial
 from pathlib import Path
-from typing import Dict, List, Mapping, Optional, Sequence, Tuple, cast
+from typing import Callable, Dict, List, Mapping, Optional, Sequence, Tuple, cast
 
 from .bar import Bar
 from .case import Case, Names
@@ -20,7 +20,6 @@ from .command import (
     JOBS,
     PASSES,
     RENT_PROCESS,
-    ROUND_PRICES,
     Answer,
     command,
     counted,
@@ -36,8 +35,9 @@ from .folders import as_counted, as_judged, each
 from .from_csv import load
 from .interface import FLOW_PLACES, QUANTITY
 from .notes import notes
-from .opening import counts, counts_words, is_csv, opened, rounded_words, settled
+from .opening import counts, counts_words, is_csv, opened, rounded_data, rounded_words, settled
 from .packed import only_hour_name, read_bin, write_packed
+from .reading import READING, READING_BOOK, Reading
 from .results import (
     HOLDERS,
     MONTHS_FILE,
@@ -51,25 +51,26 @@ from .results import (
     is_result,
     result_files,
 )
+from .terms import ON, by_span, idle_words
 from .to_csv import csv_text, write_csv
 from .words import Line, Period, Process, line_names, line_words
 from .writing import write_files
 
 
-@command("check", "read everything and list every fault", FOLDERS, ROUND_PRICES, JOBS)
-def check(folders: List[Path], round_prices: bool, jobs: int) -> Answer:
+@command("check", "read everything and list every fault", FOLDERS, *READING, JOBS)
+def check(folders: List[Path], reading: Reading, jobs: int) -> Answer:
     """Reads everything; every fault is raised."""
-    return each(partial(_check, round_prices=round_prices), folders, jobs, as_counted)
+    return each(partial(_check, reading=reading), folders, jobs, as_counted)
 
 
-def _check(folder: Path, round_prices: bool) -> Answer:
-    case = opened(folder, round_prices)
+def _check(folder: Path, reading: Reading) -> Answer:
+    case = opened(folder, reading, terms=True)
     case.priced_hours()  # price files too
     form = "CSV" if case.is_csv else "bin"
     text = f"{folder}: {counts_words(case)}; {form} files without a fault{rounded_words(case)}\n"
     beside = notes(folder, case.is_csv)
     data: Dict[str, object] = {"folder": str(folder), "form": form, **counts(case)}
-    data.update(rounded_prices=case.rounded, notes=beside)
+    data.update(rounded_data(case), notes=beside)
     return Answer(PASSES, text + "".join(f"{note}\n" for note in beside), data)
 
 
@@ -80,22 +81,22 @@ _BESIDE = "a folder; without it, the same folder"
     "pack",
     "CSV files to grid.bin, book.bin, names.csv and price files",
     FOLDER,
-    ROUND_PRICES,
+    *READING,
     writes(_BESIDE),
     FORCE,
 )
-def pack(folder: Path, out: Optional[Path], round_prices: bool, force: bool) -> Answer:
+def pack(folder: Path, out: Optional[Path], reading: Reading, force: bool) -> Answer:
     """CSV files to bin files, read back and compared. Beside the CSV files, where no other folder is named,
     they replace those of before."""
     target = out or folder
     if not is_csv(folder):
         text = "packed already: grid.bin, and no CSV files; crr unpack makes CSV files of it"
         raise_any([Fault(str(folder), 0, "", text)])
-    case, rounded = load(folder, round_prices=round_prices)
+    case, _ = load(folder, **reading._asdict())
     written = write_packed(case, target, force or target.resolve() == folder.resolve())
     hours = f"{counted(len(case.hours), 'hour')} of prices"
     text = f"grid.bin, book.bin, names.csv and {hours} written and read back{rounded_words(case)}"
-    data: Dict[str, object] = {"out": str(target), "written": written, "rounded_prices": rounded}
+    data: Dict[str, object] = {"out": str(target), "written": written, **rounded_data(case)}
     return Answer(PASSES, f"{target}: {text}\n", data)
 
 
@@ -148,15 +149,29 @@ def _verdict_rows(case: Case, answers: Dict[Line, Verdict]) -> List[Tuple[object
 AT_WORST = ("EXPOSURE_LEAST", "EXPOSURE_MOST")  # beside the verdicts, for scripts
 
 
-@command("test", "the simultaneous feasibility test", FOLDERS, ANY_PERIODS, ANY_PROCESSES, JOBS)
-def test(folders: List[Path], periods: Sequence[int], processes: Sequence[int], jobs: int) -> Answer:
+@command(
+    "test", "the simultaneous feasibility test", FOLDERS, ANY_PERIODS, ANY_PROCESSES, ON, *READING_BOOK, JOBS
+)
+def test(
+    folders: List[Path],
+    periods: Sequence[int],
+    processes: Sequence[int],
+    on: Optional[str],
+    reading: Reading,
+    jobs: int,
+) -> Answer:
     """The simultaneous feasibility test; status 1 where the book fails in one of the periods and processes
     asked for."""
-    return each(partial(_test, periods=periods, processes=processes), folders, jobs, as_judged)
+    judge = partial(_test, periods=periods, processes=processes)
+    return each(partial(_by_span, on=on, judge=judge, reading=reading), folders, jobs, as_judged)
 
 
-def _test(folder: Path, periods: Sequence[int], processes: Sequence[int]) -> Answer:
-    case = opened(folder, prices=False)
+def _by_span(folder: Path, on: Optional[str], judge: Callable[[Case], Answer], reading: Reading) -> Answer:
+    """The verdicts on a folder's contracts in force."""
+    return by_span(opened(folder, reading, prices=False, terms=True), on, judge, "verdicts")
+
+
+def _test(case: Case, periods: Sequence[int], processes: Sequence[int]) -> Answer:
     answers = verdicts(case, periods, processes)
     rows = _verdict_rows(case, answers)
     status = PASSES if all(verdict.passed for verdict in answers.values()) else FAILS
@@ -197,16 +212,25 @@ def _cut_row(case: Case, cut: Cut) -> CutRow:
     FOLDERS,
     ANY_PERIODS,
     ANY_PROCESSES,
+    ON,
+    *READING_BOOK,
     JOBS,
 )
-def cuts(folders: List[Path], periods: Sequence[int], processes: Sequence[int], jobs: int) -> Answer:
+def cuts(
+    folders: List[Path],
+    periods: Sequence[int],
+    processes: Sequence[int],
+    on: Optional[str],
+    reading: Reading,
+    jobs: int,
+) -> Answer:
     """What clears a failing book; the status is the test's, since an empty list alone does not tell whether
     the book passes."""
-    return each(partial(_cuts, periods=periods, processes=processes), folders, jobs)
+    judge = partial(_cuts, periods=periods, processes=processes)
+    return each(partial(_by_span, on=on, judge=judge, reading=reading), folders, jobs)
 
 
-def _cuts(folder: Path, periods: Sequence[int], processes: Sequence[int]) -> Answer:
-    case = opened(folder, prices=False)
+def _cuts(case: Case, periods: Sequence[int], processes: Sequence[int]) -> Answer:
     answers = verdicts(case, periods, processes)
     listed = cut_rows(case, answers)
     status = FAILS if listed else PASSES
@@ -242,7 +266,7 @@ def _cuts_words(names: Names, answers: Dict[Line, Verdict], listed: Dict[Line, L
     "settle",
     "settle every hour: holder by month, hour by hour, contract by contract",
     FOLDER,
-    ROUND_PRICES,
+    *READING,
     RENT_PROCESS,
     writes("a folder for the result files"),
     FORCE,
@@ -252,13 +276,13 @@ def settle(
     folder: Path,
     out: Optional[Path],
     jobs: int,
-    round_prices: bool,
+    reading: Reading,
     process: Optional[int],
     force: bool,
 ) -> Answer:
     """Settles every hour; with `out` writes hours.csv, holders.csv and contracts.csv there, over those of
     before. With a process, each hour's rent and shortfall too, and months.csv."""
-    case = opened(folder, round_prices, any_size=True)
+    case = opened(folder, reading, any_size=True, terms=True)
     if process is not None:  # hours are read once: what is settled is what the rent is of
         case = replace(case, hours=case.priced_hours())
     result = settled(case, jobs, Bar("settle"))
@@ -268,14 +292,14 @@ def settle(
     rows = [(case.names.holder(holder), month, dollars(cents)) for (holder, month), cents in sums.items()]
     total, exact = dollars(result.sum), exact_dollars(result.exact)
     hours = counted(len(result.hours), "hour")
-    note = f"{hours}: sum {total}, exact total {exact}{rounded_words(case)}\n"
+    note = f"{hours}: sum {total}, exact total {exact}{rounded_words(case)}{idle_words(case)}\n"
     data: Dict[str, object] = {
         "hours": len(result.hours),
         "sum": total,
         "exact_total": exact,
         "by_holder": objects(HOLDERS, rows),
         "by_hour": objects(hour_heading(costs), hour_rows(result, case.times, costs)),
-        "rounded_prices": case.rounded,
+        **rounded_data(case),
     }
     if costs:
         note += costs_words(costs, case.times)

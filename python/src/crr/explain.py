@@ -9,17 +9,19 @@ from __future__ import annotations
 from pathlib import Path
 from typing import Dict, List, NamedTuple, Optional, Sequence, Tuple
 
-from .case import Case, PricedHour, Time
-from .command import FOLDER, PASSES, ROUND_PRICES, Answer, argument, command, counted, objects
+from .case import Case, PricedHour, Term, Time
+from .command import FOLDER, PASSES, Answer, argument, command, counted, objects
 from .decimals import decimal
 from .faults import Fault, Faults, brief, must_agree
 from .feasibility import find_flows
 from .files import Contract, write_book, write_prices
 from .hour_commands import a_time, hour_of, time_words
 from .interface import FLOW_PLACES, PART_PLACES, QUANTITY, SHADOW_PRICE, SHIFT_FACTOR
-from .opening import opened, rounded_words
+from .opening import opened, rounded_data, rounded_words
+from .reading import READING, Reading
 from .results import CENT_PLACES, dollars
 from .settlement import Settler
+from .terms import on_day
 from .to_csv import book_row, csv_text
 from .words import TIMES_OF_USE, Kind
 
@@ -139,6 +141,17 @@ def _number(case: Case, crr_id: str) -> int:
     return case.names.contracts.index(crr_id)
 
 
+def _term(case: Case, crr_id: str) -> Term:
+    """When the contract of a name is in force."""
+    number = _number(case, crr_id)
+    return case.terms[number] if case.terms else Term()
+
+
+def _check_in_force(crr_id: str, term: Term, day: str) -> None:
+    if not term.covers(day):
+        raise Faults([Fault("CRR_ID", 0, "", f"{crr_id} is in force {term.words}, and not on {day}")])
+
+
 @command(
     "explain",
     "a contract constraint by constraint: price * (source factor - sink factor) * MW, which add up to what "
@@ -153,15 +166,19 @@ def _number(case: Case, crr_id: str) -> int:
         help="such as '2026-07-01 HE08' or 2026-07-01/8: what priced it then; without it, every constraint "
         "that it loads, and all hours together",
     ),
-    ROUND_PRICES,
+    *READING,
 )
-def explain(folder: Path, crr_id: str, time: Optional[Time], round_prices: bool) -> Answer:
+def explain(folder: Path, crr_id: str, time: Optional[Time], reading: Reading) -> Answer:
     """What a contract is paid and what it loads, constraint by constraint."""
-    case = opened(folder, round_prices)
+    case = opened(folder, reading, terms=time is not None)
+    term = _term(case, crr_id)
+    asked = [hour_of(case, time)] if time else case.priced_hours()
+    if time:
+        _check_in_force(crr_id, term, time[0])
+        case = on_day(case, time[0])
     number = _number(case, crr_id)
     contract, names = case.book[number], case.names
-    asked = [hour_of(case, time)] if time else case.priced_hours()
-    hours = [hour for hour in asked if hour.period == contract.period]
+    hours = [hour for hour in asked if hour.period == contract.period and term.covers(hour.day)]
     paid = _paid(case, number, hours)
     rows = _rows(case, number, paid, priced_alone=time is not None)
     period = TIMES_OF_USE[contract.period]
@@ -174,5 +191,5 @@ def explain(folder: Path, crr_id: str, time: Optional[Time], round_prices: bool)
         note += _words(paid, which)
     data: Dict[str, object] = {"crr_id": crr_id, "hours": len(hours), "constraints": objects(EXPLAINED, rows)}
     data.update(constraints_total=_exact(sum(paid.amounts)), not_charged=_exact(paid.not_charged))
-    data.update(exact_total=_exact(paid.exact), amount=dollars(paid.cents), rounded_prices=case.rounded)
+    data.update(exact_total=_exact(paid.exact), amount=dollars(paid.cents), **rounded_data(case))
     return Answer(PASSES, csv_text(EXPLAINED, rows), data, note + rounded_words(case).lstrip("; "))
