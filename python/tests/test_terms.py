@@ -198,6 +198,12 @@ class Terms(FolderTest):
         self.assertEqual((status, err.splitlines()[0]), (2, text))
         status, out, _ = command("explain", self.case, "CRR-003", "2026-08-01/12")
         flow = table(out)[0]["CONSTRAINT_FLOW_MW"]
+        whole = table(command("explain", self.case, "CRR-002")[1])
+        self.assertEqual({row["CONSTRAINT_FLOW_MW"] for row in whole}, {""})
+        command("settle", self.case, "-o", self.folder / "out")
+        contracts = table((self.folder / "out" / "contracts.csv").read_text())
+        data = json.loads(command("explain", self.case, "CRR-002", "--json")[1])
+        self.assertEqual(data["amount"], contracts[1]["AMOUNT"])
         flows = table(command("flows", self.case, "--on", "2026-08-01", "--period", "on")[1])
         of_line = next(row["FLOW_MW"] for row in flows if row["CONSTRAINT_ID"] == "2-4")
         self.assertEqual((status, flow), (0, of_line))

@@ -21,7 +21,7 @@ from .opening import opened, rounded_data, rounded_words
 from .reading import READING, Reading
 from .results import CENT_PLACES, dollars
 from .settlement import Settler
-from .terms import on_day
+from .terms import differ, on_day
 from .to_csv import book_row, csv_text
 from .words import TIMES_OF_USE, Kind
 
@@ -62,13 +62,15 @@ class Paid(NamedTuple):
 
 
 def _flows(case: Case, number: int) -> Tuple[List[int], List[int]]:
-    """The contract's flow on each constraint as it counts, and that of all contracts of its period; with that
-    of the others the one must be the other."""
+    """The contract's flow on each constraint as it counts, and that of all contracts of its period, none where
+    they are in force on different days. With that of the others the one must be the other."""
     contract, nodes, grid = case.book[number], len(case.names.nodes), case.grid
     alone = write_book(nodes, [contract], case.book_form)
+    own = find_flows(grid, alone, contract.period).flows
+    if differ(case):
+        return own, []
     without = write_book(nodes, [*case.book[:number], *case.book[number + 1 :]], case.book_form)
-    books = (alone, without, case.book_file())
-    own, others, together = (find_flows(grid, book, contract.period).flows for book in books)
+    others, together = (find_flows(grid, book, contract.period).flows for book in (without, case.book_file()))
     must_agree("flows, one by one", [a + b for a, b in zip(own, others)], together)
     return own, together
 
@@ -119,7 +121,7 @@ def _rows(case: Case, number: int, paid: Paid, priced_alone: bool) -> List[Tuple
             *(decimal(factors[k], SHIFT_FACTOR.places) for factors in ends),
             decimal(contract.quantity, QUANTITY.places),
             _exact(paid.amounts[k]),
-            *(decimal(flows[k], FLOW_PLACES) for flows in (own, together)),
+            *(decimal(flows[k], FLOW_PLACES) if flows else "" for flows in (own, together)),
         )
         for k in sorted(shown, key=lambda k: (-abs(paid.amounts[k]), k))
     ]
@@ -170,7 +172,7 @@ def _check_in_force(crr_id: str, term: Term, day: str) -> None:
 )
 def explain(folder: Path, crr_id: str, time: Optional[Time], reading: Reading) -> Answer:
     """What a contract is paid and what it loads, constraint by constraint."""
-    case = opened(folder, reading, terms=time is not None)
+    case = opened(folder, reading, terms=True)
     term = _term(case, crr_id)
     asked = [hour_of(case, time)] if time else case.priced_hours()
     if time:

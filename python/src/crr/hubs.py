@@ -30,7 +30,7 @@ HUB_MCC = ("OPR_DT", "OPR_HR", "TIME_OF_USE", "HUB", "MCC")
 )
 def hub_mcc(folder: Path, hubs: Path, reading: Reading) -> Answer:
     """The MCC of each hub of a file in each hour."""
-    case = opened(folder, reading)
+    case = opened(folder, reading, terms=True)
     faults: List[Fault] = []
     of_file = read_hubs(hubs, case.names.nodes, faults)
     raise_any(faults)
