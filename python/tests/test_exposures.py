@@ -267,7 +267,7 @@ class RentAndShortfall(FolderTest):
         )
 
 
-ORDINARY = ["by_holder", "by_hour", "exact_total", "hours", "rounded_prices", "sum"]
+ORDINARY = ["by_holder", "by_hour", "exact_total", "hours", "rounded_factors", "rounded_prices", "sum"]
 
 if __name__ == "__main__":
     unittest.main()
