@@ -41,6 +41,8 @@
  *   tier           1, 2, 3, or 4 for LT: the name of a mark, and no process
  *   date           year 2010 to 2037, month 1 to 12, day from 1 to the month's last
  *   weekday        1 Monday to 7 Sunday
+ *   hour ending    1 to 24; 25 for the hour that comes twice where the clock is set
+ *                  back
  *
  * Nodes, constraints, contracts and coordinators are numbered from 0: nodes up to
  * 3,999. Load-serving entities (LSEs) are numbered from 1, each being the holder of
@@ -1007,6 +1009,21 @@ uint64_t crr_write_statement(const uint8_t *grid_file, size_t grid_file_len,
  * Refusals: 19 NO_SUCH_DATE (a year not 2010 to 2037, a month not 1 to 12).
  */
 uint64_t crr_month_hours(uint64_t year, uint64_t month, uint64_t *hours);
+
+/*
+ * Gives the period of an hour of a date, by the rule of crr_month_hours: on-peak are
+ * the hours ending 7 to 22 of the days that it counts. Hours ending are 1 to 24; 25 is
+ * the hour that comes twice on the day whose clock is set back, and is off-peak. Of
+ * the hours ending 1 to 24 of a month's days as many are on-peak as crr_month_hours
+ * gives. This goes beyond the papers, which ask for the months' counts alone.
+ *
+ * On success writes it to *period: 0 off-peak, 1 on-peak.
+ *
+ * Refusals, in this order: 19 NO_SUCH_DATE (the date, as for crr_weekday), 19
+ * NO_SUCH_DATE (an hour ending not 1 to 25).
+ */
+uint64_t crr_hour_period(uint64_t year, uint64_t month, uint64_t day,
+                         uint64_t hour_ending, uint64_t *period);
 
 /*
  * Gives the weekday of a date.

@@ -36,12 +36,12 @@ class Remap(FolderTest):
     def test_no_other_hours(self):
         command("pack", IEEE14, "-o", self.folder / "bin")
         shutil.copytree(self.folder / "bin", self.folder / "out")
-        (self.folder / "bin" / "prices" / "2026-08-01" / "HE24.bin").unlink()
+        (self.folder / "bin" / "prices" / "2026-08-01" / "HE12.bin").unlink()
         (self.folder / "pairs.csv").write_text(self.PAIRS)
         status, _, err = command(
             "remap", self.folder / "bin", self.folder / "pairs.csv", "-o", self.folder / "out"
         )
-        self.assertEqual((status, err.count("HE24.bin is there and not one of the hours written")), (2, 1))
+        self.assertEqual((status, err.count("HE12.bin is there and not one of the hours written")), (2, 1))
 
     def test_same_ends(self):
         (self.folder / "pairs.csv").write_text("OLD_NODE,NEW_NODE\nBus 1,Bus 4\n")

@@ -58,7 +58,7 @@ class BrokenOff(FolderTest):
         self.addCleanup(held.cleanup)
         self.case = Path(held.name)
         command("unpack", CASE_L, "-o", self.case)
-        hours = "2026-01-31,24,OFF,K0,1.00\n2026-02-01,1,OFF,,\n2026-02-01,8,ON,K1,2.50\n"
+        hours = "2026-01-31,24,OFF,K0,1.00\n2026-02-01,1,OFF,,\n2026-02-02,8,ON,K1,2.50\n"
         (self.case / "prices.csv").write_text(
             f"OPR_DT,OPR_HR,TIME_OF_USE,CONSTRAINT_ID,SHADOW_PRICE\n{hours}"
         )

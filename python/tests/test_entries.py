@@ -268,11 +268,15 @@ class Refusals(unittest.TestCase):
         for year, month in ((2009, 12), (2038, 1), (2024, 0), (2024, 13), (2**64 - 1, 1)):
             self.refused(19, crr.month_hours, year, month)
             self.refused(19, crr.weekday, year, month, 1)
+            self.refused(19, crr.hour_period, year, month, 1, 8)
             self.refused(19, crr.month_later, year, month, 1)
         for month, day in ((2, 30), (4, 31), (4, 0), (1, 32), (1, 2**64 - 1)):
             self.refused(19, crr.weekday, 2024, month, day)
             self.refused(19, crr.month_later, 2024, month, day)
+            self.refused(19, crr.hour_period, 2024, month, day, 8)
         self.refused(19, crr.month_later, 2037, 12, 1)  # reached
+        for hour in (0, 26, 2**32 + 8, 2**64 - 1):
+            self.refused(19, crr.hour_period, 2024, 1, 2, hour)
         with self.assertRaises(OverflowError):
             crr.month_hours(-1, 1)
 

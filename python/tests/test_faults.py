@@ -148,7 +148,8 @@ DAMAGED = [
         "prices.csv",
         "15,ON,5-6",
         "15,OFF,5-6",
-        "prices.csv:17:TIME_OF_USE: OFF, and the other one in an earlier row of this hour",
+        "prices.csv:17:TIME_OF_USE: OFF, and 2026-07-31 HE15 is on-peak; correct it, leave the column out, "
+        "or --time-of-use as-given",
     ),
     ("prices.csv", "15,ON,5-6", "15,ON,2-4", "prices.csv:17:CONSTRAINT_ID: 2-4 occurs twice in this hour"),
 ]

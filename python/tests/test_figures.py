@@ -206,7 +206,10 @@ class Figures(unittest.TestCase):
         for day in days:
             self.assertEqual(crr.weekday(day.year, day.month, day.day), day.isoweekday())
             month = (day.year, day.month)
-            hours[month] = hours.get(month, 0) + (16 if day.isoweekday() < 7 and day not in off else 0)
+            on_peak = day.isoweekday() < 7 and day not in off
+            hours[month] = hours.get(month, 0) + 16 * on_peak
+            periods = [crr.hour_period(*month, day.day, hour) for hour in (1, 6, 7, 22, 23, 24, 25)]
+            self.assertEqual(periods, [0, 0, on_peak, on_peak, 0, 0, 0], day)
             if month < (2037, 12):
                 year, number = (day.year, day.month + 1) if day.month < 12 else (day.year + 1, 1)
                 self.assertEqual(

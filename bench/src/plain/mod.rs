@@ -18,7 +18,7 @@ mod text;
 mod views;
 
 pub use book::{read_book, remap_book, write_book};
-pub use calendar::{month_hours, month_later, weekday};
+pub use calendar::{hour_period, month_hours, month_later, weekday};
 pub use canonical::write_canonical_book;
 pub use cuts::find_cuts;
 pub use exposure::{find_exposure, find_shortfall, ExactCents};

@@ -10,7 +10,7 @@ from importlib import import_module
 from types import ModuleType
 from typing import TYPE_CHECKING, List
 
-from .dates import month_hours, month_later, weekday
+from .dates import hour_period, month_hours, month_later, weekday
 from .exposure import ExactCents, Exposure, Shortfall, find_exposure, find_shortfall
 from .feasibility import Cut, Flows, Verdict, find_cuts, find_flows, released_percent, test_book
 from .files import (
@@ -103,6 +103,7 @@ __all__ = [
     "find_mcc",
     "find_shortfall",
     "from_csv",
+    "hour_period",
     "mark_tier",
     "migrate_load",
     "month_hours",

@@ -26,7 +26,7 @@ from .faults import Fault, Faults, raise_any
 from .files import remap_book
 from .interface import HOLDER
 from .opening import counts, opened, write_beside, write_like
-from .reading import READING, Reading
+from .reading import HANDING_ON, Reading
 from .sheet import Sheet
 from .terms import on_day
 from .to_csv import book_row, csv_text
@@ -50,7 +50,7 @@ def _pairs(path: Path, nodes: Sequence[str]) -> Tuple[List[int], List[int]]:
     "remap",
     "move the ends of contracts from old nodes to new ones",
     FOLDER,
-    *READING,
+    *HANDING_ON,
     reads("pairs", "a CSV file OLD_NODE,NEW_NODE"),
     writes("a folder", required=True),
     FORCE,
@@ -58,7 +58,7 @@ def _pairs(path: Path, nodes: Sequence[str]) -> Tuple[List[int], List[int]]:
 def remap(folder: Path, pairs: Path, out: Path, reading: Reading, force: bool) -> Answer:
     """Moves the ends of a book's contracts, pair after pair, and writes the whole case to another folder in
     the form that it had."""
-    case = opened(folder, reading, terms=True)
+    case = opened(folder, reading.handed_on, terms=True)
     old, new = _pairs(pairs, case.names.nodes)
     moved = case.with_book(remap_book(len(case.names.nodes), case.book_file(), old, new), case.names)
     changed = sum(before != after for before, after in zip(case.book, moved.book))
@@ -73,14 +73,14 @@ def remap(folder: Path, pairs: Path, out: Path, reading: Reading, force: bool) -
     "in-force",
     "the case of a day: the contracts in force on it, and its hours",
     FOLDER,
-    *READING,
+    *HANDING_ON,
     argument("day", type=a_day, metavar="DATE", help="YYYY-MM-DD"),
     writes("a folder", required=True),
     FORCE,
 )
 def in_force(folder: Path, day: str, out: Path, reading: Reading, force: bool) -> Answer:
     """Writes the case of a day in the form that the whole case has."""
-    case = opened(folder, reading, terms=True)
+    case = opened(folder, reading.handed_on, terms=True)
     of_day = replace(on_day(case, day), hours=[hour for hour in case.hours if hour.day == day])
     write_like(of_day, out, force)
     contracts, hours = len(of_day.book), counted(len(of_day.hours), "hour")
@@ -96,7 +96,7 @@ VIEW_FILE = "a file for the view alone, as the library writes it"
     "market",
     "the case as the market sees it: holder 0 in every contract, and no names of holders or contracts",
     FOLDER,
-    *READING,
+    *HANDING_ON,
     writes("a folder for the whole case"),
     argument("--file", type=a_path, metavar="FILE", help=VIEW_FILE),
     argument("--names", action="store_true", help="publish the contracts' own names too"),
@@ -109,7 +109,7 @@ def market(
     if not out and not file:
         text = "where to: -o FOLDER for the whole case, --file FILE for the view alone"
         raise Faults([Fault("", 0, "", text)])
-    case = opened(folder, reading, prices=out is not None, terms=True)
+    case = opened(folder, reading.handed_on, prices=out is not None, terms=True)
     view = write_market_view(len(case.names.nodes), case.book_file())
     many = counts(case)
     contracts, holders = counted(many["contracts"], "contract"), counted(many["holders"], "holder")
@@ -152,7 +152,7 @@ def _holders_case(case: Case, number: int, held: Sequence[Held]) -> Case:
     "what one holder sees of the book: its contracts, each with its number",
     FOLDER,
     argument("asked", metavar="HOLDER", help="its name, as in OWNER, or its number, 0 to 1023"),
-    *READING,
+    *HANDING_ON,
     writes("a folder for the case of these contracts, with view.csv for their numbers"),
     argument("--file", type=a_path, metavar="FILE", help=VIEW_FILE),
     FORCE,
@@ -162,7 +162,7 @@ def holder(
 ) -> Answer:
     """What a holder sees of the book, read from the view; with `out` writes the case of it there, in the form
     that the whole had, with `file` the view itself."""
-    case = opened(folder, reading, prices=out is not None, terms=True)
+    case = opened(folder, reading.handed_on, prices=out is not None, terms=True)
     names, nodes, number = case.names, len(case.names.nodes), _holder(asked, case.names)
     view = write_holder_view(nodes, case.book_file(), number)
     held = read_holder_view(nodes, view, case.book_form)

@@ -134,9 +134,9 @@ class Case:
                 prices = read_prices(len(self.names.constraints), data)
                 hours.append((hour._replace(file=data), PricedHour(hour.day, hour.hour, *prices)))
             except Refused as refused:
-                faults.append(Fault(_short(name), 0, "", refused.meaning, refused.number))
+                faults.append(Fault(short_name(name), 0, "", refused.meaning, refused.number))
             except OSError as error:
-                faults.append(Fault(_short(name), 0, "", unread(Path(name), error)))
+                faults.append(Fault(short_name(name), 0, "", unread(Path(name), error)))
         raise_any(faults)
         return hours
 
@@ -170,7 +170,7 @@ def hour_name(day: str, hour: int) -> str:
     return f"{day} HE{hour:02}"
 
 
-def _short(path: str) -> str:
+def short_name(path: str) -> str:
     """prices.bin, or prices/2026-07-01/HE08.bin."""
     parts = Path(path).parts
     return "/".join(parts[-3:]) if HOUR_FILE.fullmatch(parts[-1]) else parts[-1]

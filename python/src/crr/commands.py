@@ -10,6 +10,7 @@ from typing import Callable, Dict, List, Mapping, Optional, Sequence, Tuple, cas
 
 from .bar import Bar
 from .case import Case, Names
+from .clock import COVERAGE, coverage, coverage_rows, coverage_words
 from .command import (
     ANY_PERIODS,
     ANY_PROCESSES,
@@ -35,7 +36,17 @@ from .folders import as_counted, as_judged, each
 from .from_csv import load
 from .interface import FLOW_PLACES, QUANTITY
 from .notes import notes
-from .opening import counts, counts_words, is_csv, opened, rounded_data, rounded_words, settled
+from .opening import (
+    check_periods,
+    counts,
+    counts_words,
+    is_csv,
+    judged_hours,
+    opened,
+    rounded_data,
+    rounded_words,
+    settled,
+)
 from .packed import only_hour_name, read_bin, write_packed
 from .reading import READING, READING_BOOK, Reading
 from .results import (
@@ -45,11 +56,12 @@ from .results import (
     costs_words,
     dollars,
     exact_dollars,
-    holder_months,
+    holder_rows,
     hour_heading,
     hour_rows,
     is_result,
     result_files,
+    settled_months,
 )
 from .terms import ON, by_span, idle_words
 from .to_csv import csv_text, write_csv
@@ -65,13 +77,13 @@ def check(folders: List[Path], reading: Reading, jobs: int) -> Answer:
 
 def _check(folder: Path, reading: Reading) -> Answer:
     case = opened(folder, reading, terms=True)
-    case.priced_hours()  # price files too
+    periods = [hour.period for hour in judged_hours(case, reading)]  # price files too
     form = "CSV" if case.is_csv else "bin"
     text = f"{folder}: {counts_words(case)}; {form} files without a fault{rounded_words(case)}\n"
-    beside = notes(folder, case.is_csv)
+    beside, months = notes(folder, case.is_csv), coverage(case.times, periods)
     data: Dict[str, object] = {"folder": str(folder), "form": form, **counts(case)}
-    data.update(rounded_data(case), notes=beside)
-    return Answer(PASSES, text + "".join(f"{note}\n" for note in beside), data)
+    data.update(coverage=objects(COVERAGE, coverage_rows(months)), **rounded_data(case), notes=beside)
+    return Answer(PASSES, text + coverage_words(months) + "".join(f"{note}\n" for note in beside), data)
 
 
 _BESIDE = "a folder; without it, the same folder"
@@ -286,24 +298,28 @@ def settle(
     if process is not None:  # hours are read once: what is settled is what the rent is of
         case = replace(case, hours=case.priced_hours())
     result = settled(case, jobs, Bar("settle"))
+    if not reading.as_given:
+        check_periods(case, [hour.period for hour in result.hours])
     costs = None if process is None else hour_costs(case, result.hours, process)
     text = _written(out, result_files(result, case.names, case.book, case.times, costs), force) if out else ""
-    sums = holder_months(result, case.book)
-    rows = [(case.names.holder(holder), month, dollars(cents)) for (holder, month), cents in sums.items()]
+    rows = holder_rows(result, case.names, case.book, case.times)
+    months = settled_months(result, case.times)
     total, exact = dollars(result.sum), exact_dollars(result.exact)
     hours = counted(len(result.hours), "hour")
-    note = f"{hours}: sum {total}, exact total {exact}{rounded_words(case)}{idle_words(case)}\n"
+    note = f"{coverage_words(months)}{hours}: sum {total}, exact total {exact}"
+    note += f"{rounded_words(case)}{idle_words(case)}\n"
     data: Dict[str, object] = {
         "hours": len(result.hours),
         "sum": total,
         "exact_total": exact,
         "by_holder": objects(HOLDERS, rows),
         "by_hour": objects(hour_heading(costs), hour_rows(result, case.times, costs)),
+        "coverage": objects(COVERAGE, coverage_rows(months)),
         **rounded_data(case),
     }
     if costs:
         note += costs_words(costs, case.times)
-        data.update(cost_data(costs, case.times))
+        data.update(cost_data(costs, case.times, months))
     return Answer(PASSES, text or csv_text(HOLDERS, rows), data, note)
 
 

@@ -17,7 +17,7 @@ from .feasibility import find_flows
 from .files import Contract, write_book, write_prices
 from .hour_commands import a_time, hour_of, time_words
 from .interface import FLOW_PLACES, PART_PLACES, QUANTITY, SHADOW_PRICE, SHIFT_FACTOR
-from .opening import opened, rounded_data, rounded_words
+from .opening import judged_hours, opened, rounded_data, rounded_words
 from .reading import READING, Reading
 from .results import CENT_PLACES, dollars
 from .settlement import Settler
@@ -174,7 +174,8 @@ def explain(folder: Path, crr_id: str, time: Optional[Time], reading: Reading) -
     """What a contract is paid and what it loads, constraint by constraint."""
     case = opened(folder, reading, terms=True)
     term = _term(case, crr_id)
-    asked = [hour_of(case, time)] if time else case.priced_hours()
+    priced = judged_hours(case, reading)
+    asked = [hour_of(priced, time)] if time else priced
     if time:
         _check_in_force(crr_id, term, time[0])
         case = on_day(case, time[0])

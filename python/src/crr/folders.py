@@ -18,11 +18,17 @@ Rows = List[Dict[str, str]]  # by heading
 OneFolder = Callable[[Path], Answer]
 
 
+def _note(answer: Answer) -> List[str]:
+    return answer.note.splitlines()
+
+
 class Table(NamedTuple):
-    """The heading and rows of several answers. What an answer has no column for is empty."""
+    """The heading and rows of several answers, and the lines that are told beside them. What an answer has no
+    column for is empty."""
 
     heading: Sequence[str]
     rows: Callable[[Answer], Rows]
+    beside: Callable[[Answer], List[str]] = _note
 
 
 def _read(text: str) -> "csv.DictReader[str]":
@@ -39,14 +45,15 @@ _COUNTS = ("FORM", "NODES", "CONSTRAINTS", "CONTRACTS", "HOLDERS", "HOURS")
 
 
 def as_counted(answers: Sequence[Answer]) -> Table:
-    """What crr check counts, a row for each folder; one that has faults has their number alone."""
+    """What crr check counts, a row for each folder, and what it tells below that; one that has faults has
+    their number alone."""
 
     def rows(answer: Answer) -> Rows:
         faults = answer.data.get("faults", [])
         counts = {name: str(answer.data.get(name.lower(), "")) for name in _COUNTS}
         return [{**counts, "FAULTS": str(len(faults) if isinstance(faults, list) else 0)}]
 
-    return Table((*_COUNTS, "FAULTS"), rows)
+    return Table((*_COUNTS, "FAULTS"), rows, lambda answer: answer.text.splitlines()[1:])
 
 
 def as_judged(answers: Sequence[Answer]) -> Table:
@@ -65,13 +72,11 @@ def _tried(one: OneFolder, folder: Path) -> Answer:
         return Answer(FAULTY, "", {"faults": [fault.object for fault in faults]}, f"{Faults(faults)}\n")
 
 
-def _told(folder: Path, answer: Answer) -> str:
+def _told(table: Table, folder: Path, answer: Answer) -> str:
     """What is told beside the table, each line with its folder; a fault has it already."""
     if answer.status == FAULTY:
         return answer.note
-    notes = answer.data.get("notes", [])
-    lines = [*answer.note.splitlines(), *(notes if isinstance(notes, list) else [])]
-    return "".join(f"{folder}: {line}\n" for line in lines)
+    return "".join(f"{folder}: {line}\n" for line in table.beside(answer))
 
 
 def _summary(answers: Sequence[Answer]) -> str:
@@ -103,5 +108,5 @@ def each(
         {"folder": str(folder), "status": answer.status, **answer.data}
         for folder, answer in zip(folders, answers)
     ]
-    note = "".join(map(_told, folders, answers)) + _summary(answers)
+    note = "".join(map(partial(_told, table), folders, answers)) + _summary(answers)
     return Answer(worst, csv_text(("FOLDER", *table.heading), rows), data, note)

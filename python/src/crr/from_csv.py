@@ -6,8 +6,8 @@ book.csv         CRR_ID,OWNER,HEDGE_TYPE,TIME_OF_USE,SOURCE,SINK,MW, and START_D
 prices.csv       OPR_DT,OPR_HR,TIME_OF_USE,CONSTRAINT_ID,SHADOW_PRICE
 names.csv        TABLE,NUMBER,NAME
 
-The last two may be missing. A price that is not listed is 0; names.csv has the numbers that holders had
-before.
+The last two may be missing, and of prices.csv TIME_OF_USE: the on-peak rule gives an hour's period. A price
+that is not listed is 0; names.csv has the numbers that holders had before.
 """
 
 from __future__ import annotations
@@ -19,20 +19,24 @@ from typing import Dict, List, Optional, Set, Tuple, Union
 
 from .book_csv import read_book, word_in
 from .case import FORMS, Case, Names, PricedHour, book_form, grid_form
+from .clock import contradiction, last_missing, no_such_hour, period_of
 from .days import ORDERS, is_date, no_day, plain_day, plain_hour
 from .faults import Fault, raise_any
 from .files import Contract
 from .inputs import Input
-from .interface import LIMIT, MAX_CONSTRAINTS, MAX_NODES, SHADOW_PRICE, SHIFT_FACTOR
+from .interface import FIRST_YEAR, LAST_YEAR, LIMIT, MAX_CONSTRAINTS, MAX_NODES, SHADOW_PRICE, SHIFT_FACTOR
 from .names_csv import read_names
 from .reading import Reading
 from .sheet import Sheet, is_there
-from .words import Period
+from .words import TIMES_OF_USE, Period
 
-_HOUR = re.compile(r"0?[1-9]|1[0-9]|2[0-5]")  # hour ending; the day on which clocks go back has 25
+_HOUR = re.compile(r"0?[1-9]|1[0-9]|2[0-5]")  # hour ending; the day whose clock is set back has 25
 
 CONSTRAINTS = ("CONSTRAINT_ID", "LIMIT_MW")
 PRICES = ("OPR_DT", "OPR_HR", "TIME_OF_USE", "CONSTRAINT_ID", "SHADOW_PRICE")
+_GIVEN = "TIME_OF_USE"  # may be missing
+_NEEDED = tuple(column for column in PRICES if column != _GIVEN)
+_WAYS = "correct it, leave the column out, or --time-of-use as-given"
 
 
 class Loaded:
@@ -64,15 +68,17 @@ def load(
     prices: bool = True,
     round_factors: bool = False,
     dates: str = ORDERS[0],
+    as_given: bool = False,
 ) -> Tuple[Case, int]:
     """The case of a folder, and how many of its prices were rounded. Raises `Faults`.
 
     With `any_size` counts above the library's are taken, for settling by slices. With `round_prices` a price
     of more than two decimals is rounded to the nearest cent, a half away from zero; it is a fault otherwise.
     `round_factors` does so with factors of more than five. `dates` is the order of a date's parts, "mdy" or
-    "dmy" where they are not YYYY-MM-DD. Without `prices`
-    prices.csv is not looked at."""
-    loaded = Loaded(Path(folder), any_size, Reading(round_prices, round_factors, dates))
+    "dmy" where they are not YYYY-MM-DD. Without `prices` prices.csv is not looked at. With `as_given` a
+    TIME_OF_USE of prices.csv is taken as it stands; it is a fault otherwise where the on-peak rule says the
+    other one."""
+    loaded = Loaded(Path(folder), any_size, Reading(round_prices, round_factors, dates, as_given))
     _read_constraints(loaded)
     _read_factors(loaded)
     tables = read_names(loaded.folder, loaded.faults, loaded.inputs)
@@ -171,16 +177,22 @@ def _read_factors(loaded: Loaded) -> None:
 
 def _read_prices(loaded: Loaded) -> List[PricedHour]:
     sheet = Sheet(
-        loaded.folder / "prices.csv", PRICES, loaded.faults, name="prices.csv", inputs=loaded.inputs
+        loaded.folder / "prices.csv",
+        _NEEDED,
+        loaded.faults,
+        name="prices.csv",
+        inputs=loaded.inputs,
+        may=(_GIVEN,),
     )
-    if len(sheet.at) < len(PRICES):
+    if len(sheet.at) < len(_NEEDED):
         return []
-    day_at, hour_at, period_at, constraint_at, price_at = (sheet.at[column] for column in PRICES)
-    times = _Times(sheet, len(loaded.constraints))
+    day_at, hour_at, constraint_at, price_at = (sheet.at[column] for column in _NEEDED)
+    period_at = sheet.also.get(_GIVEN)
+    times = _Times(sheet, len(loaded.constraints), loaded.reading.as_given)
     listed: Set[Tuple[str, int, int]] = set()
     for line, row in sheet.rows():
         time = plain_day(row[day_at], loaded.reading.dates), plain_hour(row[hour_at])
-        hour = times.hour(line, *time, row[period_at])
+        hour = times.hour(line, *time, "" if period_at is None else row[period_at])
         name, price = row[constraint_at], row[price_at]
         if hour is None or not (name or price):  # a row of neither tells an hour without congestion
             continue
@@ -195,15 +207,17 @@ def _read_prices(loaded: Loaded) -> List[PricedHour]:
         listed.add(key)
         hour.prices[k] = sheet.figure(line, price_at, price, SHADOW_PRICE, loaded.reading.round_prices)
     loaded.rounded = sheet.rounded
+    times.check_days()
     return times.in_order()
 
 
 class _Times:
     """The hours of prices.csv, each made when its first row comes."""
 
-    def __init__(self, sheet: Sheet, constraints: int) -> None:
-        self._sheet, self._constraints = sheet, constraints
+    def __init__(self, sheet: Sheet, constraints: int, as_given: bool) -> None:
+        self._sheet, self._constraints, self._as_given = sheet, constraints, as_given
         self._hours: Dict[Tuple[str, int], PricedHour] = {}
+        self._lines: Dict[Tuple[str, int], int] = {}  # of each hour's first row
         self._seen: Dict[Tuple[str, str, str], Optional[PricedHour]] = {}
 
     def hour(self, line: int, day: str, hour: str, time_of_use: str) -> Optional[PricedHour]:
@@ -214,22 +228,41 @@ class _Times:
         return self._seen[key]
 
     def _new(self, line: int, day: str, hour: str, time_of_use: str) -> Optional[PricedHour]:
-        period = word_in(self._sheet, line, "TIME_OF_USE", time_of_use, Period)
-        if not self._is_time(line, day, hour) or period is None:
+        right = self._is_time(line, day, hour)
+        number = int(hour or 0) if right else 0
+        period = self._period(line, day, number, time_of_use)
+        if not right or period is None:
             return None
-        number = int(hour or 0)
         alone = not number or ("", 0) in self._hours
         if alone and self._hours and (day, number) not in self._hours:
             self._sheet.fault(line, "OPR_DT", "an hour without day and hour is the only one of its file")
             return None
         fresh = PricedHour(day, number, period, array("Q", bytes(8 * self._constraints)))
         known = self._hours.setdefault((day, number), fresh)
+        self._lines.setdefault((day, number), line)
         if known.period != period:
+            given = time_of_use or TIMES_OF_USE[period]
             self._sheet.fault(
-                line, "TIME_OF_USE", f"{time_of_use}, and the other one in an earlier row of this hour"
+                line, "TIME_OF_USE", f"{given}, and the other one in an earlier row of this hour"
             )
             return None
         return known
+
+    def _period(self, line: int, day: str, hour: int, time_of_use: str) -> Optional[Period]:
+        """The period of a row's hour: as it is given, or by the on-peak rule. One that contradicts the rule
+        is a fault, unless it is to be taken as given. The hour is 0 where there is none, or it is a fault."""
+        if time_of_use:
+            period = word_in(self._sheet, line, "TIME_OF_USE", time_of_use, Period)
+            wrong = "" if period is None or not hour or self._as_given else contradiction(day, hour, period)
+            if wrong:
+                self._sheet.fault(line, "TIME_OF_USE", f"{wrong}; {_WAYS}")
+            return None if wrong else period
+        rule = period_of(day, hour) if hour else None
+        if rule is None and (hour or not day):
+            reach = f"the on-peak rule reaches from {FIRST_YEAR} to {LAST_YEAR}"
+            needed = reach if hour else "an hour without day and hour has its period from there alone"
+            self._sheet.fault(line, "TIME_OF_USE", f"ON or OFF is needed: {needed}")
+        return rule
 
     def _is_time(self, line: int, day: str, hour: str) -> bool:
         if not day and not hour:
@@ -241,7 +274,20 @@ class _Times:
         if not _HOUR.fullmatch(hour):
             self._sheet.fault(line, "OPR_HR", f"{hour!r} is not an hour ending, 1 to 25")
             right = False
+        if right and no_such_hour(day, int(hour)):
+            self._sheet.fault(line, "OPR_HR", no_such_hour(day, int(hour)))
+            right = False
         return right
+
+    def check_days(self) -> None:
+        """A fault for each day that has all hours but the last."""
+        days: Dict[str, List[int]] = {}
+        for day, hour in self._hours:
+            days.setdefault(day, []).append(hour)
+        for day, hours in days.items():
+            missing = last_missing(day, hours) if day else ""
+            if missing:
+                self._sheet.fault(self._lines[day, 23], "OPR_HR", missing)
 
     def in_order(self) -> List[PricedHour]:
         """All hours by day and hour."""

@@ -7,13 +7,13 @@ import re
 from pathlib import Path
 from typing import Dict, List, Optional, Sequence, Tuple, cast
 
-from .case import Case, PricedHour, Time, hour_name
+from .case import PricedHour, Time, hour_name
 from .command import FOLDER, PASSES, Answer, argument, command, counted, objects
 from .days import is_date
 from .decimals import decimal
 from .faults import Fault, Faults, raise_any
 from .interface import MCC_PLACES
-from .opening import opened, rounded_data, rounded_words
+from .opening import judged_hours, opened, rounded_data, rounded_words
 from .reading import READING, Reading
 from .results import CENT_PLACES, dollars, exact_dollars
 from .settlement import find_mcc, settle_hour
@@ -47,9 +47,8 @@ def time_words(hour: PricedHour) -> str:
     return f"{time} {TIMES_OF_USE[hour.period]}"
 
 
-def hour_of(case: Case, time: Optional[Time]) -> PricedHour:
+def hour_of(hours: Sequence[PricedHour], time: Optional[Time]) -> PricedHour:
     """The hour that is asked for, or the only one; a fault where there is no such hour."""
-    hours = case.priced_hours()
     found = [hour for hour in hours if time in (None, (hour.day, hour.hour))]
     if len(found) == 1:
         return found[0]
@@ -89,7 +88,8 @@ def mcc(folder: Path, hour: Optional[Time], node: Optional[List[str]], reading: 
     """The MCC of each node in each hour."""
     case = opened(folder, reading, terms=True)
     nodes, grid = _nodes(case.names.nodes, node), case.grid
-    hours = [hour_of(case, hour)] if hour else case.priced_hours()
+    hours = judged_hours(case, reading)
+    hours = [hour_of(hours, hour)] if hour else hours
     rows = []
     for each in hours:
         cells = find_mcc(grid, each.prices)
@@ -122,7 +122,7 @@ def members(bits: int, names: Sequence[str]) -> List[str]:
 def statement(folder: Path, time: Optional[Time], reading: Reading) -> Answer:
     """An hour's statement, contract by contract, of those in force on its day."""
     case = opened(folder, reading, terms=True)
-    hour = hour_of(case, time)
+    hour = hour_of(judged_hours(case, reading), time)
     case = on_day(case, hour.day)
     names = case.names
     settled = settle_hour(case.grid, case.book_file(), hour.period, hour.prices)

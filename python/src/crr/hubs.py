@@ -13,8 +13,8 @@ from .files import add_hub_contract, read_book, write_book
 from .hubs_csv import Hub, read_hub_contracts, read_hubs
 from .interface import WIDE
 from .native import Refused
-from .opening import opened, owner_numbers, rounded_data, rounded_words, write_like
-from .reading import READING, Reading
+from .opening import judged_hours, opened, owner_numbers, rounded_data, rounded_words, write_like
+from .reading import HANDING_ON, READING, Reading
 from .results import mcc_dollars
 from .settlement import find_hub_mcc
 from .sheet import Sheet
@@ -34,7 +34,7 @@ def hub_mcc(folder: Path, hubs: Path, reading: Reading) -> Answer:
     faults: List[Fault] = []
     of_file = read_hubs(hubs, case.names.nodes, faults)
     raise_any(faults)
-    grid, hours = case.grid, case.priced_hours()
+    grid, hours = case.grid, judged_hours(case, reading)
     rows = [
         (
             *(hour.day, hour.hour or "", TIMES_OF_USE[hour.period], name),
@@ -85,7 +85,7 @@ def _grown(case: Case, sheet: Sheet, rows: Sequence[Award], hubs: Sequence[Hub])
     "hub-add",
     "add contracts from trading hubs to the book, as contracts from their nodes",
     FOLDER,
-    *READING,
+    *HANDING_ON,
     HUBS,
     reads("contracts", "a CSV file like book.csv, with hubs for sources"),
     writes("a folder", required=True),
@@ -94,7 +94,7 @@ def _grown(case: Case, sheet: Sheet, rows: Sequence[Award], hubs: Sequence[Hub])
 def hub_add(folder: Path, hubs: Path, contracts: Path, out: Path, reading: Reading, force: bool) -> Answer:
     """Adds contracts from hubs to a book, as contracts from their nodes, and writes the whole case to another
     folder in the form that it had."""
-    case = opened(folder, reading)
+    case = opened(folder, reading.handed_on)
     faults: List[Fault] = []
     of_file = read_hubs(hubs, case.names.nodes, faults)
     sheet, rows = read_hub_contracts(contracts, of_file, case.names.nodes, faults)

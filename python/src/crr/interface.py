@@ -203,6 +203,7 @@ DECLARATIONS: Dict[str, str] = {
     "size_t book_file_len, const uint8_t *price_file, size_t price_file_len, uint8_t *text, size_t text_len, "
     "size_t *bytes",
     "crr_month_hours": "uint64_t year, uint64_t month, uint64_t *hours",
+    "crr_hour_period": "uint64_t year, uint64_t month, uint64_t day, uint64_t hour_ending, uint64_t *period",
     "crr_weekday": "uint64_t year, uint64_t month, uint64_t day, uint64_t *weekday",
     "crr_month_later": "uint64_t year, uint64_t month, uint64_t day, uint64_t *later_year, "
     "uint64_t *later_month, uint64_t *later_day",

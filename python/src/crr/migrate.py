@@ -17,7 +17,7 @@ from .migration import migrate_load
 from .migration_csv import Migration, read_migration
 from .names_csv import read_names
 from .opening import opened, write_like
-from .reading import READING, Reading
+from .reading import HANDING_ON, Reading
 from .to_csv import book_row, csv_text
 from .words import Period
 
@@ -79,7 +79,7 @@ def _migrated(case: Case, period: Period, migration: Migration) -> Case:
     "migrate",
     "the transfer of contracts between load-serving entities whose customers moved, for one period",
     FOLDER,
-    *READING,
+    *HANDING_ON,
     reads("rows", "a CSV file CUSTOMER_CLASS,CUSTOMERS,MW_PER_CUSTOMER,OLD_LSE,NEW_LSE"),
     reads("loads", "a CSV file LSE,LOAD_MW"),
     PERIOD.with_help("whose rates and loads these are"),
@@ -97,7 +97,7 @@ def migrate(
 ) -> Answer:
     """Migrates load in a book for one period: the nets, and the contracts that are added; with `out` the
     whole case is written there in the form that it had."""
-    case = opened(folder, reading)
+    case = opened(folder, reading.handed_on)
     faults: List[Fault] = []
     migration = read_migration(rows, loads, _holders(folder, case.names), faults)
     raise_any(faults)

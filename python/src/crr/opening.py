@@ -7,13 +7,14 @@ import signal
 from concurrent.futures import Executor
 from contextlib import contextmanager
 from pathlib import Path
-from typing import Dict, Iterator, Mapping, Optional, Sequence, Tuple
+from typing import Dict, Iterable, Iterator, List, Mapping, Optional, Sequence, Tuple, Union
 
-from .case import Case, holder_numbers, plain_number
+from .case import Case, PricedHour, holder_numbers, hour_name, plain_number, short_name
+from .clock import contradiction
 from .command import counted
 from .faults import Fault, raise_any
 from .from_csv import load
-from .hours import Progress, Settled, settle_hours
+from .hours import PriceFile, Progress, Settled, settle_hours
 from .interface import HOLDER
 from .packed import only_hour_name, price_file_names, read_bin, write_bin
 from .reading import Reading
@@ -55,7 +56,8 @@ def opened(
     terms: bool = False,
 ) -> Case:
     """The case of a folder in either form. One that is larger than the library's sizes is a fault, unless any
-    size is asked for; one whose contracts are in force on different days, unless terms are."""
+    size is asked for; one whose contracts are in force on different days, unless terms are; a period of
+    prices.csv that the on-peak rule contradicts, unless it is taken as given."""
     case = _opened(folder, reading, any_size, prices)
     if differ(case) and not terms:
         one = f"crr in-force {folder} DATE -o OUT writes the case of one"
@@ -72,6 +74,30 @@ def _opened(folder: Path, reading: Reading, any_size: bool, prices: bool) -> Cas
         case.grid_file()
         case.book_file()
     return case
+
+
+def judged_hours(case: Case, reading: Reading) -> List[PricedHour]:
+    """Each hour's prices; a period that the on-peak rule contradicts is a fault, unless it is taken as
+    given."""
+    hours = case.priced_hours()
+    if not reading.as_given:
+        check_periods(case, [hour.period for hour in hours])
+    return hours
+
+
+def check_periods(case: Case, periods: Iterable[int]) -> None:
+    """A fault for each price file whose period is not the one of the on-peak rule. Those of prices.csv are
+    looked at while it is read."""
+    hours = [] if case.is_csv else [hour for hour in zip(case.hours, periods) if hour[0].day]
+    wrong = [(hour, contradiction(hour.day, hour.hour, period)) for hour, period in hours]
+    takes = "--time-of-use as-given takes it so"
+    raise_any([Fault(_hour_file(hour), 0, "", f"{text}; {takes}") for hour, text in wrong if text])
+
+
+def _hour_file(hour: Union[PricedHour, PriceFile]) -> str:
+    if isinstance(hour, PriceFile) and isinstance(hour.file, str):
+        return short_name(hour.file)
+    return hour_name(hour.day, hour.hour)
 
 
 def rounded_words(case: Case) -> str:

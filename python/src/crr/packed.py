@@ -10,7 +10,8 @@ from dataclasses import replace
 from pathlib import Path
 from typing import Callable, Dict, List, Mapping, NamedTuple, Tuple, Union, cast
 
-from .case import HOUR_FILE, Case, hour_name
+from .case import HOUR_FILE, Case, hour_name, short_name
+from .clock import last_missing, no_such_hour
 from .days import is_date
 from .faults import Fault, Faults, raise_any
 from .files import Contract, Grid, read_book, read_book_form, read_grid
@@ -141,12 +142,28 @@ def _strays(folder: Path) -> List[Fault]:
     return faults
 
 
+def _clock_faults(hours: List[PriceFile]) -> List[Fault]:
+    """The hours that their days do not have, and the days that have all hours but the last."""
+    days: Dict[str, List[PriceFile]] = {}
+    for hour in hours:
+        if is_date(hour.day):
+            days.setdefault(hour.day, []).append(hour)
+    faults = []
+    for day, files in days.items():
+        wrong = [(file, no_such_hour(day, file.hour)) for file in files]
+        wrong.append((files[-1], last_missing(day, [file.hour for file in files])))
+        faults += [Fault(short_name(str(file.file)), 0, "", text) for file, text in wrong if text]
+    return faults
+
+
 def _hours(folder: Path, names: Dict[int, str], faults: List[Fault]) -> List[PriceFile]:
     """A bin folder's hours, by path. The names are those of hours in names.csv."""
     files = price_file_names(folder)
     faults += _strays(folder)
     if files[:1] != ["prices.bin"]:
-        return [PriceFile(file[7:17], int(file[20:22]), os.path.join(folder, file)) for file in files]
+        hours = [PriceFile(file[7:17], int(file[20:22]), os.path.join(folder, file)) for file in files]
+        faults += _clock_faults(hours)
+        return hours
     if len(files) > 1:
         text = "prices.bin and prices/ are both there: which hours are meant?"
         faults.append(Fault("prices.bin", 0, "", text))
@@ -155,6 +172,8 @@ def _hours(folder: Path, names: Dict[int, str], faults: List[Fault]) -> List[Pri
         text = f"hour 0 is called {names.get(0, '')!r} and not YYYY-MM-DD HEhh"
         faults.append(Fault("names.csv", 0, "", text))
     day, hour = (match[1], int(match[2])) if match else ("", 0)
+    if match and is_date(day) and no_such_hour(day, hour):
+        faults.append(Fault("names.csv", 0, "", no_such_hour(day, hour)))
     return [PriceFile(day, hour, os.path.join(folder, "prices.bin"))]
 
 

@@ -7,10 +7,11 @@ from dataclasses import replace
 from datetime import date
 from fractions import Fraction
 from pathlib import Path
-from typing import Dict, List, NamedTuple, Optional, Sequence, Tuple, cast
+from typing import Dict, Iterable, List, NamedTuple, Optional, Sequence, Tuple, cast
 
 from .bar import Bar
 from .case import Case, PricedHour, Time, hour_name
+from .clock import Coverage, coverage
 from .command import FOLDER, FORCE, MONTHLY_RENT, PASSES, Answer, command, counted, writes
 from .commands import cut_rows, verdicts
 from .costs import Costs, hour_costs, most_short
@@ -20,7 +21,7 @@ from .feasibility import excesses, find_flows, released_percent, worst
 from .hours import PriceFile, Settled
 from .inputs import Input, input_of
 from .library import library_path
-from .opening import counts_words, opened, settled, write_beside
+from .opening import check_periods, counts_words, opened, settled, write_beside
 from .page import MOST_HOURS, Figures, HourRow, Month, is_page, page
 from .reading import READING, Reading
 from .results import dollars, exact_dollars, holder_sums
@@ -53,13 +54,23 @@ class _Hour(NamedTuple):
     cost: Shortfall
 
 
-def _month(name: str, hours: Sequence[_Hour]) -> Month:
+def _month(name: str, hours: Sequence[_Hour], months: Sequence[Coverage]) -> Month:
     exact = sum((hour.total.exact for hour in hours), Fraction(0))
     rent = sum((hour.cost.rent.exact for hour in hours), Fraction(0))
     shortfall = sum((hour.cost.shortfall.exact for hour in hours), Fraction(0))
     days = len({hour.day for hour in hours if hour.day})
     paid = dollars(sum(hour.total.sum for hour in hours))
-    return Month(name, days, len(hours), paid, *map(exact_dollars, (exact, rent, shortfall)))
+    found = tuple(sum(hour.total.period == period for hour in hours) for period in Period)
+    there = tuple(_sum(month.there[period] for month in months) for period in Period)
+    whole = all(month.whole for month in months)
+    counts = (name, days, len(hours), found, there, whole)
+    return Month(*counts, paid, *map(exact_dollars, (exact, rent, shortfall)))
+
+
+def _sum(counts: Iterable[Optional[int]]) -> Optional[int]:
+    """The counts added; none where one is not known, or there is none."""
+    known = list(counts)
+    return None if None in known or not known else sum(cast(List[int], known))
 
 
 def _months(hours: Sequence[_Hour]) -> List[Month]:
@@ -67,8 +78,9 @@ def _months(hours: Sequence[_Hour]) -> List[Month]:
     months: Dict[str, List[_Hour]] = {}
     for hour in hours:
         months.setdefault(hour.day[:7], []).append(hour)
-    return [_month(name, months[name]) for name in sorted(months) if name] + (
-        [_month("all", hours)] if hours else []
+    found = coverage([(hour.day, 0) for hour in hours], [hour.total.period for hour in hours])
+    return [_month(name, months[name], [found[name]]) for name in sorted(months) if name] + (
+        [_month("all", hours, list(found.values()))] if hours else []
     )
 
 
@@ -158,6 +170,8 @@ def report(folder: Path, out: Optional[Path], reading: Reading, process: int, fo
     case = opened(folder, reading)
     target = out or folder / "report.html"
     hours = case.read_hours()  # read once: what is settled is what is hashed
+    if not reading.as_given:
+        check_periods(case, [hour.period for _, hour in hours])
     files = [file for file, _ in hours]
     result = settled(replace(case, hours=files), 1, Bar("settle"))
     text = page(figures(folder, case, hours, result, process))

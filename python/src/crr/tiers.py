@@ -29,7 +29,7 @@ from .files import Contract, Grid, write_book
 from .interface import FLOW_PLACES, WIDE
 from .native import Refused
 from .opening import opened, owner_numbers, write_like
-from .reading import READING, Reading
+from .reading import HANDING_ON, Reading
 from .running import TIERS, RunningTest
 from .sheet import Sheet
 from .tiers_csv import ADD, MARK, Operation, read_operations
@@ -153,7 +153,7 @@ _AWARDS = (
     "awards tried one after another on the grid, with tiers to mark and to come back to, "
     "for one period and process",
     FOLDER,
-    *READING,
+    *HANDING_ON,
     reads("awards", _AWARDS, nargs="?"),
     PERIOD,
     PROCESS,
@@ -171,7 +171,7 @@ def tiers(
 ) -> Answer:
     """Plays operations on a running test on the grid of a folder, or the contracts of its book as awards;
     with `out` writes the whole case there, with the awards held for its book, in the form that it had."""
-    case = opened(folder, reading, prices=out is not None)
+    case = opened(folder, reading.handed_on, prices=out is not None)
     grid, names, operations = case.grid, case.names, _of_book(case)
     sheet: Optional[Sheet] = None
     if awards:

@@ -37,7 +37,7 @@ pub use books::{
     count_contracts, find_cuts, find_flows, remap_book, test_book, write_canonical_book, write_holder_view, write_market_view, Book, Cut,
     Flows, Verdict,
 };
-pub use calendar::{month_hours, month_later, weekday};
+pub use calendar::{hour_period, month_hours, month_later, weekday};
 pub use exposure::{find_exposure, find_shortfall, ExactCents, Exposure, Shortfall};
 pub use grids::Grid;
 pub use hubs::{add_hub_contract, find_hub_mcc, Hub, HubMcc};

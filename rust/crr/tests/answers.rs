@@ -137,6 +137,10 @@ fn texts_and_dates() {
     assert!(write_report(&grid, &book).unwrap().starts_with("period,process,"));
     assert!(write_statement(&grid, &book, &prices).unwrap().starts_with("contract,holder,kind,cents,priced\n"));
     assert_eq!(write_statement(&grid, &[], &prices), Ok("refused,book,1\n".to_string()));
+    assert_eq!(hour_period(2024, 7, 5, 22), Ok(Period::OnPeak));
+    assert_eq!(hour_period(2024, 7, 4, 22), Ok(Period::OffPeak));
+    assert_eq!(hour_period(2024, 11, 3, 25), Ok(Period::OffPeak));
+    assert_eq!(hour_period(2024, 7, 5, 26), Err(Refused::NO_SUCH_DATE));
     assert_eq!(weekday(2024, 2, 29), Ok(4));
     assert_eq!(month_later(2024, 1, 31), Ok((2024, 2, 29)));
     assert_eq!(month_later(2037, 12, 1), Err(Refused::NO_SUCH_DATE));

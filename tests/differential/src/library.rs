@@ -67,6 +67,7 @@ guarded! {
     TEXT_STACK: fn write_report(grid_file: &[u8], book_file: &[u8], text: &mut [u8], bytes: &mut usize);
     TEXT_STACK: fn write_statement(grid_file: &[u8], book_file: &[u8], price_file: &[u8], text: &mut [u8], bytes: &mut usize);
     STACK: fn month_hours(year: u64, month: u64, hours: &mut u64);
+    STACK: fn hour_period(year: u64, month: u64, day: u64, hour_ending: u64, period: &mut u64);
     STACK: fn weekday(year: u64, month: u64, day: u64, weekday: &mut u64);
     STACK: fn month_later(year: u64, month: u64, day: u64, later_year: &mut u64, later_month: &mut u64, later_day: &mut u64);
 }

@@ -41,7 +41,7 @@ const fn plain(name: &'static str, refusals: &'static [u64], cases: &'static [&'
 }
 
 /// Each entry, with the refusals that the papers list for it, each to be drawn and no other, and the cases that the change requests name.
-const ENTRIES: [Entry; 38] = [
+const ENTRIES: [Entry; 39] = [
     plain("read_grid", &[1, 2, 3, 4, 5, 6, 7, 8, 9], &[&forms::GRIDS_READ], rounds::grid::read),
     Entry { rounds: headers::FIRST_BYTES, ..plain("grid_headers", &[1, 2, 3, 4, 5, 6, 7, 8, 9], &[], headers::grid) },
     plain("write_grid", &[2, 3, 6, 7, 9], &[&forms::GRIDS_WRITTEN], rounds::grid::write),
@@ -96,6 +96,8 @@ const ENTRIES: [Entry; 38] = [
     // beyond the papers: what a refusal's number means
     Entry { rounds: refusals::FIRST_ROUNDS, ..plain("refusal_text", &[9], &[&refusals::CASES], refusals::round) },
     Entry { rounds: calendar::YEARS, ..plain("month_hours", &[19], &[&calendar::HOURS], calendar::hours) },
+    // beyond the papers: an hour's period by the rule
+    Entry { rounds: calendar::MONTHS, ..plain("hour_period", &[19], &[&calendar::PERIODS], calendar::periods) },
     Entry { rounds: calendar::MONTHS, ..plain("weekday", &[19], &[&calendar::WEEKDAYS], calendar::weekdays) },
     Entry { rounds: calendar::MONTHS, ..plain("month_later", &[19], &[&calendar::LATER], calendar::later) },
 ];

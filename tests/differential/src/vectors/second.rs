@@ -259,6 +259,11 @@ fn month_hours(g: &Given) -> Answer<Written> {
     Ok(vec![one("hours", calendar::month_hours(g.number("year"), g.number("month"))?)])
 }
 
+fn hour_period(g: &Given) -> Answer<Written> {
+    let date = (g.number("year"), g.number("month"), g.number("day"));
+    Ok(vec![one("period", calendar::hour_period(date, g.number("hour_ending"))?)])
+}
+
 fn weekday(g: &Given) -> Answer<Written> {
     Ok(vec![one("weekday", calendar::weekday((g.number("year"), g.number("month"), g.number("day")))?)])
 }
@@ -302,6 +307,7 @@ pub fn answered(function: &str, slots: &[Slot], run: Option<&str>, runs: &mut Ru
         "write_report" => write_report(&g),
         "write_statement" => write_statement(&g),
         "month_hours" => month_hours(&g),
+        "hour_period" => hour_period(&g),
         "weekday" => weekday(&g),
         "month_later" => month_later(&g),
         _ => panic!("the second implementation has no {function}"),
