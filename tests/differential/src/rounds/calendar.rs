@@ -21,7 +21,7 @@ const OTHER_DAYS: [u64; 7] = [0, 32, 33, 256 + 5, (1 << 32) + 5, (1 << 63) + 5, 
 pub const HOURS: [&str; 8] =
     ["384", "400", "416", "432", "29 days", "a holiday on Sunday", "a holiday on Saturday", "a month of no holiday"];
 pub const PERIODS: [&str; 7] =
-    ["on-peak", "off-peak", "hour 25", "a Sunday", "a holiday", "a Monday after a holiday", "a date that is none, and an hour that is none"];
+    ["on-peak", "off-peak", "hour 25", "a Sunday", "a holiday", "a Monday after a holiday", "neither date nor hour"];
 pub const WEEKDAYS: [&str; 5] =
     ["29 February", "29 February in a year of 365 days", "31 of a month of 30", "the first day", "the last day"];
 pub const LATER: [&str; 7] =
