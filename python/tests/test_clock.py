@@ -175,11 +175,14 @@ class TimeOfUse(Prices):
     def test_what_else_is_wrong(self):
         """A word that is none, and an hour that is none beside a period that is missing."""
         self.assertEqual(
-            self.faults("2026-07-05,8,sometimes,K0,1", "2026-07-05,27,,K0,1", "July,8,,K0,1"),
+            self.faults("2026-07-05,8,sometimes,K0,1", "2026-07-05,27,,K0,1", "July,8,,K0,1", ",8,24H,K0,1"),
             [
                 "prices.csv:2:TIME_OF_USE: 'sometimes' is neither ON nor OFF (refusal 17)",
                 "prices.csv:3:OPR_HR: '27' is not an hour ending, 1 to 25",
                 "prices.csv:4:OPR_DT: 'July' is not a day, YYYY-MM-DD",
+                "prices.csv:5:OPR_DT: '' is not a day, YYYY-MM-DD",
+                "prices.csv:5:TIME_OF_USE: '24H' is neither ON nor OFF; split such a contract into an ON and "
+                "an OFF row (refusal 17)",
             ],
         )
 

@@ -228,10 +228,13 @@ class _Times:
         return self._seen[key]
 
     def _new(self, line: int, day: str, hour: str, time_of_use: str) -> Optional[PricedHour]:
-        right = self._is_time(line, day, hour)
-        number = int(hour or 0) if right else 0
+        if not self._is_time(line, day, hour):
+            if time_of_use:
+                word_in(self._sheet, line, "TIME_OF_USE", time_of_use, Period)  # told along with it
+            return None
+        number = int(hour or 0)
         period = self._period(line, day, number, time_of_use)
-        if not right or period is None:
+        if period is None:
             return None
         alone = not number or ("", 0) in self._hours
         if alone and self._hours and (day, number) not in self._hours:
@@ -250,7 +253,7 @@ class _Times:
 
     def _period(self, line: int, day: str, hour: int, time_of_use: str) -> Optional[Period]:
         """The period of a row's hour: as it is given, or by the on-peak rule. One that contradicts the rule
-        is a fault, unless it is to be taken as given. The hour is 0 where there is none, or it is a fault."""
+        is a fault, unless it is to be taken as given. The hour is 0 where there is none."""
         if time_of_use:
             period = word_in(self._sheet, line, "TIME_OF_USE", time_of_use, Period)
             wrong = "" if period is None or not hour or self._as_given else contradiction(day, hour, period)
@@ -258,7 +261,7 @@ class _Times:
                 self._sheet.fault(line, "TIME_OF_USE", f"{wrong}; {_WAYS}")
             return None if wrong else period
         rule = period_of(day, hour) if hour else None
-        if rule is None and (hour or not day):
+        if rule is None:
             reach = f"the on-peak rule reaches from {FIRST_YEAR} to {LAST_YEAR}"
             needed = reach if hour else "an hour without day and hour has its period from there alone"
             self._sheet.fault(line, "TIME_OF_USE", f"ON or OFF is needed: {needed}")
