@@ -78,18 +78,24 @@ def load(
     "dmy" where they are not YYYY-MM-DD. Without `prices` prices.csv is not looked at. With `as_given` a
     TIME_OF_USE of prices.csv is taken as it stands; it is a fault otherwise where the on-peak rule says the
     other one."""
-    loaded = Loaded(Path(folder), any_size, Reading(round_prices, round_factors, dates, as_given))
+    reading = Reading(round_prices, round_factors, dates, as_given)
+    case = _read(Loaded(Path(folder), any_size, reading), prices)
+    return case, case.rounded
+
+
+def _read(loaded: Loaded, prices: bool) -> Case:
+    """The case of a folder, file by file; all faults are raised together."""
     _read_constraints(loaded)
     _read_factors(loaded)
     tables = read_names(loaded.folder, loaded.faults, loaded.inputs)
-    known, noting = tables["holder"], (loaded.faults, loaded.inputs, dates)
-    book, ids, holders, terms = read_book(loaded.folder / "book.csv", loaded.nodes, known, any_size, *noting)
+    known, noting = tables["holder"], (loaded.any_size, loaded.faults, loaded.inputs, loaded.reading.dates)
+    book, ids, holders, terms = read_book(loaded.folder / "book.csv", loaded.nodes, known, *noting)
     hours = _read_prices(loaded) if prices and is_there(loaded.folder / "prices.csv") else []
     raise_any(loaded.faults)
     holders = {**_without_contract(known, book, holders), **holders}
     names = Names(list(loaded.nodes), list(loaded.constraints), ids, holders)
     forms = {number: FORMS.index(name) for number, name in tables["form"].items()}
-    case = Case(
+    return Case(
         names,
         loaded.limits,
         loaded.factors,
@@ -102,7 +108,6 @@ def load(
         rounded_factors=loaded.rounded_factors,
         terms=terms,
     )
-    return case, loaded.rounded
 
 
 def _without_contract(
