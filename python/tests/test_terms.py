@@ -190,6 +190,33 @@ class Terms(FolderTest):
         self.assertEqual((status, len(table(out))), (1, 8))
         self.assertIn("Alder Power from 2026-08-01,OBL,ON,Bus 1,Bus 4,30.000,0.000,-30.000\n", out)
 
+    def test_hub_contracts_have_their_own(self):
+        (self.folder / "hubs.csv").write_text("HUB,NODE_ID,PERCENT\nH,Bus 1,50\nH,Bus 2,50\n")
+        heading = "CRR_ID,OWNER,HEDGE_TYPE,TIME_OF_USE,SOURCE,SINK,MW"
+        for case, heads, row, ends in (
+            (self.case, ",StartDate", ",07/06/2026", ",2026-07-06,"),
+            (self.case, "", "", ",,"),
+            (IEEE14, ",EndDate", ",07/06/2026", ",,2026-07-06"),
+            (IEEE14, "", "", ""),
+        ):
+            rows = f"{heading}{heads}\nH-1,Gum Wind,OBL,ON,H,Bus 4,2{row}\n"
+            (self.folder / "contracts.csv").write_text(rows)
+            given = (case, self.folder / "hubs.csv", self.folder / "contracts.csv")
+            asked = ("hub-add", *given, "-o", self.folder / "out", "--force", "--dates", "mdy")
+            self.assertEqual(command(*asked)[0], 0)
+            last = (self.folder / "out" / "book.csv").read_text().splitlines()[-1]
+            self.assertEqual(last, f"H-1 Bus 2,Gum Wind,OBL,ON,Bus 2,Bus 4,1.000{ends}")
+
+    def test_awards_have_none(self):
+        heading = "OPERATION,TIER,CRR_ID,OWNER,HEDGE_TYPE,TIME_OF_USE,SOURCE,SINK,MW,START_DATE\n"
+        row = "add,,A,Gum Wind,OBL,ON,Bus 1,Bus 4,2,"
+        for day, count in (("", 0), ("2026-07-01", 1)):
+            (self.folder / "awards.csv").write_text(f"{heading}{row}{day}\n")
+            asked = ("tiers", IEEE14, self.folder / "awards.csv", "--period", "on", "--process", "lt")
+            status, _, err = command(*asked)
+            text = "awards are tried together: one with a first or last day can't be"
+            self.assertEqual((status, err.count(text)), (2 * count, count))
+
     def test_hours_by_name(self):
         numbers = [row["CRR_ID"] for row in table(command("statement", self.case, "2026-07-31/12")[1])]
         self.assertEqual(("CRR-001" in numbers, "CRR-011" in numbers), (False, True))

@@ -62,8 +62,8 @@ class Paid(NamedTuple):
 
 
 def _flows(case: Case, number: int) -> Tuple[List[int], List[int]]:
-    """The contract's flow on each constraint as it counts, and that of all contracts of its period, none where
-    they are in force on different days. With that of the others the one must be the other."""
+    """The contract's flow on each constraint as it counts, and that of all contracts of its period, none
+    where they are in force on different days. With that of the others the one must be the other."""
     contract, nodes, grid = case.book[number], len(case.names.nodes), case.grid
     alone = write_book(nodes, [contract], case.book_form)
     own = find_flows(grid, alone, contract.period).flows

@@ -2,11 +2,12 @@
 
 from __future__ import annotations
 
+from dataclasses import replace
 from pathlib import Path
 from typing import Dict, List, Sequence
 
 from .book_csv import BOOK, Award
-from .case import NARROW_ENDS, Case, Names
+from .case import NARROW_ENDS, Case, Names, Term
 from .command import FOLDER, FORCE, PASSES, Answer, command, counted, objects, reads, writes
 from .faults import Fault, raise_any
 from .files import add_hub_contract, read_book, write_book
@@ -56,17 +57,18 @@ def _book_for(case: Case, rows: Sequence[Award], hubs: Sequence[Hub]) -> bytes:
 
 def _grown(case: Case, sheet: Sheet, rows: Sequence[Award], hubs: Sequence[Hub]) -> Case:
     """The case with every row's contracts behind those of the book. A contract is called by its row's name
-    and its node's."""
+    and its node's, and has its row's term."""
     names, owners = case.names, owner_numbers(case, sheet, [(row.line, row.owner) for row in rows])
     raise_any(sheet.faults)
     book, nodes = _book_for(case, rows, hubs), len(names.nodes)
     ids, taken = list(names.contracts), set(names.contracts)
+    terms = case.terms or [Term()] * len(case.book)
     for row in rows:
         kind, period, _, place, sink, quantity = row.contract
         hub = hubs[place]
         try:
-            terms = (kind, period, owners[row.owner], hub.nodes, hub.weights, sink, quantity)
-            book = add_hub_contract(nodes, book, *terms)
+            given = (kind, period, owners[row.owner], hub.nodes, hub.weights, sink, quantity)
+            book = add_hub_contract(nodes, book, *given)
         except Refused as refused:  # for too many contracts: all else was looked at
             sheet.fault(row.line, "CRR_ID", refused.meaning, refused.number)
             break
@@ -76,9 +78,11 @@ def _grown(case: Case, sheet: Sheet, rows: Sequence[Award], hubs: Sequence[Hub])
             sheet.fault(row.line, "CRR_ID", f"{crr_id} occurs twice")
         ids += new
         taken.update(new)
+        terms = terms + [row.term] * len(new)
     raise_any(sheet.faults)
     holders = {**names.holders, **{number: name for name, number in owners.items() if name != str(number)}}
-    return case.with_book(book, Names(names.nodes, names.constraints, ids, holders))
+    grown = case.with_book(book, Names(names.nodes, names.constraints, ids, holders))
+    return replace(grown, terms=terms if any(map(any, terms)) else [])
 
 
 @command(
@@ -94,10 +98,10 @@ def _grown(case: Case, sheet: Sheet, rows: Sequence[Award], hubs: Sequence[Hub])
 def hub_add(folder: Path, hubs: Path, contracts: Path, out: Path, reading: Reading, force: bool) -> Answer:
     """Adds contracts from hubs to a book, as contracts from their nodes, and writes the whole case to another
     folder in the form that it had."""
-    case = opened(folder, reading.handed_on)
+    case = opened(folder, reading.handed_on, terms=True)
     faults: List[Fault] = []
     of_file = read_hubs(hubs, case.names.nodes, faults)
-    sheet, rows = read_hub_contracts(contracts, of_file, case.names.nodes, faults)
+    sheet, rows = read_hub_contracts(contracts, of_file, case.names.nodes, faults, reading.dates)
     raise_any(faults)
     grown = _grown(case, sheet, rows, list(of_file.values()))
     write_like(grown, out, force)
