@@ -268,7 +268,8 @@ class RentAndShortfall(FolderTest):
         )
 
 
-ORDINARY = ["by_holder", "by_hour", "coverage", "exact_total", "hours", "rounded_prices", "sum"]
+ORDINARY = ["by_holder", "by_hour", "coverage", "exact_total", "hours"]
+ORDINARY += ["rounded_factors", "rounded_prices", "sum"]
 
 if __name__ == "__main__":
     unittest.main()

@@ -81,29 +81,28 @@ def a_path(text: str) -> Path:
     return Path(text)
 
 
+def _jobs(text: str) -> int:
+    """How many processes: at least one."""
+    if not (text.isascii() and text.isdigit() and len(text) < 5 and int(text)):
+        raise argparse.ArgumentTypeError(f"{text!r} is no number of processes, from 1 to 9999")
+    return int(text)
+
+
 FOLDER = argument("folder", type=a_path, metavar="FOLDER", help="a folder of CSV files, or of bin files")
-ROUND_PRICES = argument(
-    "--round-prices", action="store_true", help="round prices of more than two decimals to the nearest cent"
+FOLDERS = argument(
+    "folders",
+    nargs="+",
+    type=a_path,
+    metavar="FOLDER",
+    help="a folder of CSV files, or of bin files; several give one table, the folder first",
 )
-
-
-def _as_given(text: str) -> bool:
-    """Whether periods are taken as they are given."""
-    if text not in TIMES:
-        raise argparse.ArgumentTypeError(f"{text!r} is neither {' nor '.join(TIMES)}")
-    return text == TIMES[1]
-
-
-TIMES = ("by-rule", "as-given")
-TIME_OF_USE = argument(
-    "--time-of-use",
-    type=_as_given,
-    default=TIMES[0],
-    dest="as_given",
-    metavar=f"{{{','.join(TIMES)}}}",
-    words=TIMES,
-    help="an hour's period that contradicts the on-peak rule is a fault, or taken as given; without it, "
-    "by-rule",
+JOBS = argument(
+    "-j",
+    "--jobs",
+    type=_jobs,
+    default=1,
+    metavar="N",
+    help="how many processes, 1 to 9999; without it, 1",
 )
 
 

@@ -2,11 +2,11 @@
 
 from __future__ import annotations
 
-import argparse
 import os
 from dataclasses import replace
+from functools import partial
 from pathlib import Path
-from typing import Dict, List, Mapping, Optional, Sequence, Tuple, cast
+from typing import Callable, Dict, List, Mapping, Optional, Sequence, Tuple, cast
 
 from .bar import Bar
 from .case import Case, Names
@@ -16,13 +16,12 @@ from .command import (
     ANY_PROCESSES,
     FAILS,
     FOLDER,
+    FOLDERS,
     FORCE,
+    JOBS,
     PASSES,
     RENT_PROCESS,
-    ROUND_PRICES,
-    TIME_OF_USE,
     Answer,
-    argument,
     command,
     counted,
     objects,
@@ -33,11 +32,23 @@ from .decimals import decimal
 from .exposures import exposure_figures, exposures, worst_words
 from .faults import Fault, raise_any
 from .feasibility import Cut, Verdict, excesses, find_cuts, find_flows, released_percent, test_book, worst
+from .folders import as_counted, as_judged, each
 from .from_csv import load
 from .interface import FLOW_PLACES, QUANTITY
 from .notes import notes
-from .opening import check_periods, counts, counts_words, is_csv, opened, rounded_words, settled
+from .opening import (
+    check_periods,
+    counts,
+    counts_words,
+    is_csv,
+    judged_hours,
+    opened,
+    rounded_data,
+    rounded_words,
+    settled,
+)
 from .packed import only_hour_name, read_bin, write_packed
+from .reading import READING, READING_BOOK, Reading
 from .results import (
     HOLDERS,
     MONTHS_FILE,
@@ -52,23 +63,26 @@ from .results import (
     result_files,
     settled_months,
 )
+from .terms import ON, by_span, idle_words
 from .to_csv import csv_text, write_csv
 from .words import Line, Period, Process, line_names, line_words
 from .writing import write_files
 
 
-@command("check", "read everything and list every fault", FOLDER, ROUND_PRICES, TIME_OF_USE)
-def check(folder: Path, round_prices: bool, as_given: bool) -> Answer:
+@command("check", "read everything and list every fault", FOLDERS, *READING, JOBS)
+def check(folders: List[Path], reading: Reading, jobs: int) -> Answer:
     """Reads everything; every fault is raised."""
-    case = opened(folder, round_prices, as_given=as_given)
-    periods = [hour.period for hour in case.priced_hours()]  # price files too
-    if not as_given:
-        check_periods(case, periods)
+    return each(partial(_check, reading=reading), folders, jobs, as_counted)
+
+
+def _check(folder: Path, reading: Reading) -> Answer:
+    case = opened(folder, reading, terms=True)
+    periods = [hour.period for hour in judged_hours(case, reading)]  # price files too
     form = "CSV" if case.is_csv else "bin"
     text = f"{folder}: {counts_words(case)}; {form} files without a fault{rounded_words(case)}\n"
     beside, months = notes(folder, case.is_csv), coverage(case.times, periods)
     data: Dict[str, object] = {"folder": str(folder), "form": form, **counts(case)}
-    data.update(coverage=objects(COVERAGE, coverage_rows(months)), rounded_prices=case.rounded, notes=beside)
+    data.update(coverage=objects(COVERAGE, coverage_rows(months)), **rounded_data(case), notes=beside)
     return Answer(PASSES, text + coverage_words(months) + "".join(f"{note}\n" for note in beside), data)
 
 
@@ -79,23 +93,22 @@ _BESIDE = "a folder; without it, the same folder"
     "pack",
     "CSV files to grid.bin, book.bin, names.csv and price files",
     FOLDER,
-    ROUND_PRICES,
-    TIME_OF_USE,
+    *READING,
     writes(_BESIDE),
     FORCE,
 )
-def pack(folder: Path, out: Optional[Path], round_prices: bool, as_given: bool, force: bool) -> Answer:
+def pack(folder: Path, out: Optional[Path], reading: Reading, force: bool) -> Answer:
     """CSV files to bin files, read back and compared. Beside the CSV files, where no other folder is named,
     they replace those of before."""
     target = out or folder
     if not is_csv(folder):
         text = "packed already: grid.bin, and no CSV files; crr unpack makes CSV files of it"
         raise_any([Fault(str(folder), 0, "", text)])
-    case, rounded = load(folder, round_prices=round_prices, as_given=as_given)
+    case, _ = load(folder, **reading._asdict())
     written = write_packed(case, target, force or target.resolve() == folder.resolve())
     hours = f"{counted(len(case.hours), 'hour')} of prices"
     text = f"grid.bin, book.bin, names.csv and {hours} written and read back{rounded_words(case)}"
-    data: Dict[str, object] = {"out": str(target), "written": written, "rounded_prices": rounded}
+    data: Dict[str, object] = {"out": str(target), "written": written, **rounded_data(case)}
     return Answer(PASSES, f"{target}: {text}\n", data)
 
 
@@ -148,11 +161,29 @@ def _verdict_rows(case: Case, answers: Dict[Line, Verdict]) -> List[Tuple[object
 AT_WORST = ("EXPOSURE_LEAST", "EXPOSURE_MOST")  # beside the verdicts, for scripts
 
 
-@command("test", "the simultaneous feasibility test", FOLDER, ANY_PERIODS, ANY_PROCESSES)
-def test(folder: Path, periods: Sequence[int], processes: Sequence[int]) -> Answer:
+@command(
+    "test", "the simultaneous feasibility test", FOLDERS, ANY_PERIODS, ANY_PROCESSES, ON, *READING_BOOK, JOBS
+)
+def test(
+    folders: List[Path],
+    periods: Sequence[int],
+    processes: Sequence[int],
+    on: Optional[str],
+    reading: Reading,
+    jobs: int,
+) -> Answer:
     """The simultaneous feasibility test; status 1 where the book fails in one of the periods and processes
     asked for."""
-    case = opened(folder, prices=False)
+    judge = partial(_test, periods=periods, processes=processes)
+    return each(partial(_by_span, on=on, judge=judge, reading=reading), folders, jobs, as_judged)
+
+
+def _by_span(folder: Path, on: Optional[str], judge: Callable[[Case], Answer], reading: Reading) -> Answer:
+    """The verdicts on a folder's contracts in force."""
+    return by_span(opened(folder, reading, prices=False, terms=True), on, judge, "verdicts")
+
+
+def _test(case: Case, periods: Sequence[int], processes: Sequence[int]) -> Answer:
     answers = verdicts(case, periods, processes)
     rows = _verdict_rows(case, answers)
     status = PASSES if all(verdict.passed for verdict in answers.values()) else FAILS
@@ -190,14 +221,28 @@ def _cut_row(case: Case, cut: Cut) -> CutRow:
 @command(
     "cuts",
     "what clears a failing book: each contract whose quantity, lowered alone, lets it pass, and by how much",
-    FOLDER,
+    FOLDERS,
     ANY_PERIODS,
     ANY_PROCESSES,
+    ON,
+    *READING_BOOK,
+    JOBS,
 )
-def cuts(folder: Path, periods: Sequence[int], processes: Sequence[int]) -> Answer:
+def cuts(
+    folders: List[Path],
+    periods: Sequence[int],
+    processes: Sequence[int],
+    on: Optional[str],
+    reading: Reading,
+    jobs: int,
+) -> Answer:
     """What clears a failing book; the status is the test's, since an empty list alone does not tell whether
     the book passes."""
-    case = opened(folder, prices=False)
+    judge = partial(_cuts, periods=periods, processes=processes)
+    return each(partial(_by_span, on=on, judge=judge, reading=reading), folders, jobs)
+
+
+def _cuts(case: Case, periods: Sequence[int], processes: Sequence[int]) -> Answer:
     answers = verdicts(case, periods, processes)
     listed = cut_rows(case, answers)
     status = FAILS if listed else PASSES
@@ -229,47 +274,31 @@ def _cuts_words(names: Names, answers: Dict[Line, Verdict], listed: Dict[Line, L
     return "".join(said) + (f"{passing}: the book passes\n" if passing else "")
 
 
-def _jobs(text: str) -> int:
-    """How many processes: at least one."""
-    if not (text.isascii() and text.isdigit() and len(text) < 5 and int(text)):
-        raise argparse.ArgumentTypeError(f"{text!r} is no number of processes, from 1 to 9999")
-    return int(text)
-
-
 @command(
     "settle",
     "settle every hour: holder by month, hour by hour, contract by contract",
     FOLDER,
-    ROUND_PRICES,
-    TIME_OF_USE,
+    *READING,
     RENT_PROCESS,
     writes("a folder for the result files"),
     FORCE,
-    argument(
-        "-j",
-        "--jobs",
-        type=_jobs,
-        default=1,
-        metavar="N",
-        help="how many processes, 1 to 9999; without it, 1",
-    ),
+    JOBS,
 )
 def settle(
     folder: Path,
     out: Optional[Path],
     jobs: int,
-    round_prices: bool,
-    as_given: bool,
+    reading: Reading,
     process: Optional[int],
     force: bool,
 ) -> Answer:
     """Settles every hour; with `out` writes hours.csv, holders.csv and contracts.csv there, over those of
     before. With a process, each hour's rent and shortfall too, and months.csv."""
-    case = opened(folder, round_prices, any_size=True, as_given=as_given)
+    case = opened(folder, reading, any_size=True, terms=True)
     if process is not None:  # hours are read once: what is settled is what the rent is of
         case = replace(case, hours=case.priced_hours())
     result = settled(case, jobs, Bar("settle"))
-    if not as_given:
+    if not reading.as_given:
         check_periods(case, [hour.period for hour in result.hours])
     costs = None if process is None else hour_costs(case, result.hours, process)
     text = _written(out, result_files(result, case.names, case.book, case.times, costs), force) if out else ""
@@ -277,7 +306,8 @@ def settle(
     months = settled_months(result, case.times)
     total, exact = dollars(result.sum), exact_dollars(result.exact)
     hours = counted(len(result.hours), "hour")
-    note = f"{coverage_words(months)}{hours}: sum {total}, exact total {exact}{rounded_words(case)}\n"
+    note = f"{coverage_words(months)}{hours}: sum {total}, exact total {exact}"
+    note += f"{rounded_words(case)}{idle_words(case)}\n"
     data: Dict[str, object] = {
         "hours": len(result.hours),
         "sum": total,
@@ -285,7 +315,7 @@ def settle(
         "by_holder": objects(HOLDERS, rows),
         "by_hour": objects(hour_heading(costs), hour_rows(result, case.times, costs)),
         "coverage": objects(COVERAGE, coverage_rows(months)),
-        "rounded_prices": case.rounded,
+        **rounded_data(case),
     }
     if costs:
         note += costs_words(costs, case.times)

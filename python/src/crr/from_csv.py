@@ -2,7 +2,7 @@
 
 constraints.csv  CONSTRAINT_ID,LIMIT_MW
 factors.csv      NODE_ID, and a column for each constraint
-book.csv         CRR_ID,OWNER,HEDGE_TYPE,TIME_OF_USE,SOURCE,SINK,MW
+book.csv         CRR_ID,OWNER,HEDGE_TYPE,TIME_OF_USE,SOURCE,SINK,MW, and START_DATE,END_DATE where there are
 prices.csv       OPR_DT,OPR_HR,TIME_OF_USE,CONSTRAINT_ID,SHADOW_PRICE
 names.csv        TABLE,NUMBER,NAME
 
@@ -14,22 +14,22 @@ from __future__ import annotations
 
 import re
 from array import array
-from datetime import date
 from pathlib import Path
 from typing import Dict, List, Optional, Set, Tuple, Union
 
 from .book_csv import read_book, word_in
 from .case import FORMS, Case, Names, PricedHour, book_form, grid_form
 from .clock import contradiction, last_missing, no_such_hour, period_of
+from .days import ORDERS, is_date, no_day, plain_day, plain_hour
 from .faults import Fault, raise_any
 from .files import Contract
 from .inputs import Input
 from .interface import FIRST_YEAR, LAST_YEAR, LIMIT, MAX_CONSTRAINTS, MAX_NODES, SHADOW_PRICE, SHIFT_FACTOR
 from .names_csv import read_names
+from .reading import Reading
 from .sheet import Sheet, is_there
 from .words import TIMES_OF_USE, Period
 
-_DAY = re.compile(r"[0-9]{4}-[0-9]{2}-[0-9]{2}")
 _HOUR = re.compile(r"0?[1-9]|1[0-9]|2[0-5]")  # hour ending; the day whose clock is set back has 25
 
 CONSTRAINTS = ("CONSTRAINT_ID", "LIMIT_MW")
@@ -42,12 +42,11 @@ _WAYS = "correct it, leave the column out, or --time-of-use as-given"
 class Loaded:
     """A folder while it is read: the tables so far and every fault found."""
 
-    def __init__(self, folder: Path, any_size: bool, round_prices: bool, as_given: bool) -> None:
-        self.folder, self.any_size = folder, any_size
-        self.round_prices, self.as_given = round_prices, as_given
+    def __init__(self, folder: Path, any_size: bool, reading: Reading) -> None:
+        self.folder, self.any_size, self.reading = folder, any_size, reading
         self.faults: List[Fault] = []
         self.inputs: List[Input] = []
-        self.rounded = 0
+        self.rounded = self.rounded_factors = 0
         self.constraints_read = False  # else nothing is said of names that would not be found
         self.constraints: Dict[str, int] = {}
         self.nodes: Dict[str, int] = {}
@@ -67,26 +66,36 @@ def load(
     any_size: bool = False,
     round_prices: bool = False,
     prices: bool = True,
+    round_factors: bool = False,
+    dates: str = ORDERS[0],
     as_given: bool = False,
 ) -> Tuple[Case, int]:
     """The case of a folder, and how many of its prices were rounded. Raises `Faults`.
 
     With `any_size` counts above the library's are taken, for settling by slices. With `round_prices` a price
-    of more than two decimals is rounded to the nearest cent; it is a fault otherwise. Without `prices`
-    prices.csv is not looked at. With `as_given` a TIME_OF_USE of prices.csv is taken as it stands; it is a
-    fault otherwise where the on-peak rule says the other one."""
-    loaded = Loaded(Path(folder), any_size, round_prices, as_given)
+    of more than two decimals is rounded to the nearest cent, a half away from zero; it is a fault otherwise.
+    `round_factors` does so with factors of more than five. `dates` is the order of a date's parts, "mdy" or
+    "dmy" where they are not YYYY-MM-DD. Without `prices` prices.csv is not looked at. With `as_given` a
+    TIME_OF_USE of prices.csv is taken as it stands; it is a fault otherwise where the on-peak rule says the
+    other one."""
+    reading = Reading(round_prices, round_factors, dates, as_given)
+    case = _read(Loaded(Path(folder), any_size, reading), prices)
+    return case, case.rounded
+
+
+def _read(loaded: Loaded, prices: bool) -> Case:
+    """The case of a folder, file by file; all faults are raised together."""
     _read_constraints(loaded)
     _read_factors(loaded)
     tables = read_names(loaded.folder, loaded.faults, loaded.inputs)
-    known, noting = tables["holder"], (loaded.faults, loaded.inputs)
-    book, ids, holders = read_book(loaded.folder / "book.csv", loaded.nodes, known, any_size, *noting)
+    known, noting = tables["holder"], (loaded.any_size, loaded.faults, loaded.inputs, loaded.reading.dates)
+    book, ids, holders, terms = read_book(loaded.folder / "book.csv", loaded.nodes, known, *noting)
     hours = _read_prices(loaded) if prices and is_there(loaded.folder / "prices.csv") else []
     raise_any(loaded.faults)
     holders = {**_without_contract(known, book, holders), **holders}
     names = Names(list(loaded.nodes), list(loaded.constraints), ids, holders)
     forms = {number: FORMS.index(name) for number, name in tables["form"].items()}
-    case = Case(
+    return Case(
         names,
         loaded.limits,
         loaded.factors,
@@ -96,8 +105,9 @@ def load(
         forms.get(1, book_form(book)),
         loaded.inputs,
         rounded=loaded.rounded,
+        rounded_factors=loaded.rounded_factors,
+        terms=terms,
     )
-    return case, loaded.rounded
 
 
 def _without_contract(
@@ -162,8 +172,10 @@ def _read_factors(loaded: Loaded) -> None:
     line = 1
     for line, fields in sheet.rows():
         if sheet.new_name(line, "NODE_ID", fields[0], loaded.nodes):
-            loaded.factors.extend([sheet.figure(line, at, fields[at], SHIFT_FACTOR) for at in columns])
+            unit, rounded = SHIFT_FACTOR, loaded.reading.round_factors
+            loaded.factors.extend([sheet.figure(line, at, fields[at], unit, rounded) for at in columns])
             loaded.count(sheet, line, "NODE_ID", len(loaded.nodes), MAX_NODES, "nodes", 2)
+    loaded.rounded_factors = sheet.rounded
     if not loaded.nodes:
         sheet.fault(line, "NODE_ID", "no node", 2)
 
@@ -181,11 +193,11 @@ def _read_prices(loaded: Loaded) -> List[PricedHour]:
         return []
     day_at, hour_at, constraint_at, price_at = (sheet.at[column] for column in _NEEDED)
     period_at = sheet.also.get(_GIVEN)
-    times = _Times(sheet, len(loaded.constraints), loaded.as_given)
+    times = _Times(sheet, len(loaded.constraints), loaded.reading.as_given)
     listed: Set[Tuple[str, int, int]] = set()
     for line, row in sheet.rows():
-        given = "" if period_at is None else row[period_at]
-        hour = times.hour(line, row[day_at], row[hour_at], given)
+        time = plain_day(row[day_at], loaded.reading.dates), plain_hour(row[hour_at])
+        hour = times.hour(line, *time, "" if period_at is None else row[period_at])
         name, price = row[constraint_at], row[price_at]
         if hour is None or not (name or price):  # a row of neither tells an hour without congestion
             continue
@@ -198,10 +210,8 @@ def _read_prices(loaded: Loaded) -> List[PricedHour]:
         if key in listed:
             sheet.fault(line, "CONSTRAINT_ID", f"{name} occurs twice in this hour")
         listed.add(key)
-        hour.prices[k] = sheet.figure(line, price_at, price, SHADOW_PRICE, loaded.round_prices)
-        loaded.rounded += (
-            loaded.round_prices and len(price.partition(".")[2].rstrip("0")) > SHADOW_PRICE.places
-        )
+        hour.prices[k] = sheet.figure(line, price_at, price, SHADOW_PRICE, loaded.reading.round_prices)
+    loaded.rounded = sheet.rounded
     times.check_days()
     return times.in_order()
 
@@ -267,7 +277,7 @@ class _Times:
             return True
         right = True
         if not is_date(day):
-            self._sheet.fault(line, "OPR_DT", f"{day!r} is not a day, YYYY-MM-DD")
+            self._sheet.fault(line, "OPR_DT", no_day(day))
             right = False
         if not _HOUR.fullmatch(hour):
             self._sheet.fault(line, "OPR_HR", f"{hour!r} is not an hour ending, 1 to 25")
@@ -290,14 +300,3 @@ class _Times:
     def in_order(self) -> List[PricedHour]:
         """All hours by day and hour."""
         return [self._hours[key] for key in sorted(self._hours)]
-
-
-def is_date(day: str) -> bool:
-    """Whether a text is a day, YYYY-MM-DD."""
-    if not _DAY.fullmatch(day):
-        return False
-    try:
-        date.fromisoformat(day)
-        return True
-    except ValueError:
-        return False

@@ -11,6 +11,7 @@ from decimal import Decimal
 from fractions import Fraction
 from typing import List, NamedTuple, Sequence, Union
 
+from .decimals import nearest
 from .interface import SHIFT_FACTOR
 
 Number = Union[Fraction, Decimal, int, float]
@@ -67,9 +68,10 @@ def ptdf(lines: Sequence[Line], nodes: int, slack: int = 0) -> List[List[Fractio
 
 
 def factor(value: Number) -> int:
-    """A PTDF as a shift factor in hundred-thousandths, the nearest, a half to the even one. Beyond -1 to 1 it
+    """A PTDF as a shift factor in hundred-thousandths, the nearest, a half away from zero. Beyond -1 to 1 it
     is a ValueError: choose another slack."""
-    number = int(round(Fraction(value) * 10**SHIFT_FACTOR.places))
+    exact = Fraction(value) * 10**SHIFT_FACTOR.places
+    number = nearest(exact.numerator, exact.denominator)
     if not SHIFT_FACTOR.low <= number <= SHIFT_FACTOR.high:
         advice = "subtract one node's column from all, which changes no flow between two nodes"
         raise ValueError(f"a factor of {float(value)}: {advice}")

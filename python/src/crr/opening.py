@@ -5,8 +5,9 @@ from __future__ import annotations
 import os
 import signal
 from concurrent.futures import Executor
+from contextlib import contextmanager
 from pathlib import Path
-from typing import Dict, Iterable, Optional, Sequence, Tuple, Union
+from typing import Dict, Iterable, Iterator, List, Mapping, Optional, Sequence, Tuple, Union
 
 from .case import Case, PricedHour, holder_numbers, hour_name, plain_number, short_name
 from .clock import contradiction
@@ -16,8 +17,10 @@ from .from_csv import load
 from .hours import PriceFile, Progress, Settled, settle_hours
 from .interface import HOLDER
 from .packed import only_hour_name, price_file_names, read_bin, write_bin
+from .reading import Reading
 from .sheet import Sheet, alike
 from .slices import settle_sliced
+from .terms import differ, settle_in_force
 from .to_csv import write_csv
 from .writing import IsAnswer, no_answer, write_file
 
@@ -47,21 +50,39 @@ def _no_folder(path: Path) -> str:
 
 def opened(
     folder: Path,
-    round_prices: bool = False,
+    reading: Reading = Reading(),
     any_size: bool = False,
     prices: bool = True,
-    as_given: bool = False,
+    terms: bool = False,
 ) -> Case:
     """The case of a folder in either form. One that is larger than the library's sizes is a fault, unless any
-    size is asked for; a period of prices.csv that the on-peak rule contradicts is one, unless taken as
-    given."""
+    size is asked for; one whose contracts are in force on different days, unless terms are; a period of
+    prices.csv that the on-peak rule contradicts, unless it is taken as given."""
+    case = _opened(folder, reading, any_size, prices)
+    if differ(case) and not terms:
+        one = f"crr in-force {folder} DATE -o OUT writes the case of one"
+        file = "book.csv" if case.is_csv else "names.csv"
+        raise_any([Fault(file, 0, "", f"contracts in force on different days: {one}")])
+    return case
+
+
+def _opened(folder: Path, reading: Reading, any_size: bool, prices: bool) -> Case:
     if not is_csv(folder):
         return read_bin(folder)
-    case, _ = load(folder, any_size, round_prices, prices, as_given)
+    case, _ = load(folder, any_size, prices=prices, **reading._asdict())
     if case.fits:  # the forms that names.csv asks for may be too narrow: the library refuses them then
         case.grid_file()
         case.book_file()
     return case
+
+
+def judged_hours(case: Case, reading: Reading) -> List[PricedHour]:
+    """Each hour's prices; a period that the on-peak rule contradicts is a fault, unless it is taken as
+    given."""
+    hours = case.priced_hours()
+    if not reading.as_given:
+        check_periods(case, [hour.period for hour in hours])
+    return hours
 
 
 def check_periods(case: Case, periods: Iterable[int]) -> None:
@@ -80,8 +101,15 @@ def _hour_file(hour: Union[PricedHour, PriceFile]) -> str:
 
 
 def rounded_words(case: Case) -> str:
-    """How many prices were rounded, behind other words."""
-    return f"; {counted(case.rounded, 'price')} rounded to cents" if case.rounded else ""
+    """How many prices and factors were rounded, behind other words."""
+    prices = f"; {counted(case.rounded, 'price')} rounded to cents" if case.rounded else ""
+    factors = counted(case.rounded_factors, "factor")
+    return prices + (f"; {factors} rounded to five decimals" if case.rounded_factors else "")
+
+
+def rounded_data(case: Case) -> Dict[str, int]:
+    """The same for a script."""
+    return {"rounded_prices": case.rounded, "rounded_factors": case.rounded_factors}
 
 
 def counts(case: Case) -> Dict[str, int]:
@@ -102,14 +130,22 @@ def counts_words(case: Case) -> str:
 
 def settled(case: Case, jobs: int, progress: Progress) -> Settled:
     """All hours of a case."""
+    with workers(jobs) as pool:
+        return settle_in_force(case, lambda part, told: _settled(part, pool, told), progress)
+
+
+@contextmanager
+def workers(jobs: int) -> Iterator[Optional[Executor]]:
+    """So many processes, or none where one is enough."""
     if jobs <= 1:
-        return _settled(case, None, progress)
+        yield None
+        return
     from concurrent.futures import ProcessPoolExecutor  # a tenth of a second that other commands do without
     from concurrent.futures.process import BrokenProcessPool
 
     try:
         with ProcessPoolExecutor(jobs, initializer=_end_at_once) as pool:
-            return _settled(case, pool, progress)
+            yield pool
     except BrokenProcessPool:
         text = "a worker process was ended from outside, for lack of memory perhaps: take fewer with -j"
         raise OSError(text) from None
@@ -130,12 +166,12 @@ def _settled(case: Case, executor: Optional[Executor], progress: Progress) -> Se
     return settle_hours(*files, executor, progress=progress)
 
 
-def write_like(case: Case, out: Path, force: bool) -> None:
-    """Writes a case to a folder as CSV or bin files, whichever it was read from."""
+def write_like(case: Case, out: Path, force: bool, beside: Mapping[str, bytes] = {}) -> None:
+    """Writes a case to a folder as CSV or bin files, whichever it was read from, with others beside them."""
     if case.is_csv:
-        write_csv(case, out, only_hour_name(case), force)
+        write_csv(case, out, only_hour_name(case), force, beside)
     else:
-        write_bin(case, out, force)
+        write_bin(case, out, force, beside=beside)
 
 
 _BIN = ("grid.bin", "book.bin", "prices.bin")

@@ -12,28 +12,18 @@ from typing import Dict, Iterable, List, NamedTuple, Optional, Sequence, Tuple, 
 from .bar import Bar
 from .case import Case, PricedHour, Time, hour_name
 from .clock import Coverage, coverage
-from .command import (
-    FOLDER,
-    FORCE,
-    MONTHLY_RENT,
-    PASSES,
-    ROUND_PRICES,
-    TIME_OF_USE,
-    Answer,
-    command,
-    counted,
-    writes,
-)
+from .command import FOLDER, FORCE, MONTHLY_RENT, PASSES, Answer, command, counted, writes
 from .commands import cut_rows, verdicts
 from .costs import Costs, hour_costs, most_short
 from .exposure import Shortfall
 from .exposures import costs_alone, exposures
 from .feasibility import excesses, find_flows, released_percent, worst
-from .hours import PriceFile, Settled, settle_hours
+from .hours import PriceFile, Settled
 from .inputs import Input, input_of
 from .library import library_path
-from .opening import check_periods, counts_words, opened, write_beside
+from .opening import check_periods, counts_words, opened, settled, write_beside
 from .page import MOST_HOURS, Figures, HourRow, Month, is_page, page
+from .reading import READING, Reading
 from .results import dollars, exact_dollars, holder_sums
 from .settlement import HourTotal
 from .streams import readable
@@ -170,23 +160,20 @@ _TEXT = "one HTML page: verdicts, what the book can cost, loading of constraints
     "report",
     _TEXT,
     FOLDER,
-    ROUND_PRICES,
-    TIME_OF_USE,
+    *READING,
     MONTHLY_RENT,
     writes("the HTML file; without it, report.html in the folder"),
     FORCE,
 )
-def report(
-    folder: Path, out: Optional[Path], round_prices: bool, as_given: bool, process: int, force: bool
-) -> Answer:
+def report(folder: Path, out: Optional[Path], reading: Reading, process: int, force: bool) -> Answer:
     """Writes the page, over one of before; a book that fails is what it tells and no fault of it."""
-    case = opened(folder, round_prices, as_given=as_given)
+    case = opened(folder, reading)
     target = out or folder / "report.html"
     hours = case.read_hours()  # read once: what is settled is what is hashed
-    if not as_given:
+    if not reading.as_given:
         check_periods(case, [hour.period for _, hour in hours])
     files = [file for file, _ in hours]
-    result = settle_hours(case.grid_file(), case.book_file(), files, progress=Bar("settle"))
+    result = settled(replace(case, hours=files), 1, Bar("settle"))
     text = page(figures(folder, case, hours, result, process))
     write_beside(folder, target, text.encode(), force, is_page)
     return Answer(PASSES, f"{target} written\n", {"out": str(target)})

@@ -93,6 +93,7 @@ class Sheet:
         self.heading: List[str] = []
         self.at: Dict[str, int] = {}
         self.also: Dict[str, int] = {}  # columns that may be missing
+        self.rounded = 0  # how many figures were
         self._text, self._doubtful = self._decoded(path, need, inputs)
         self._delimiter = _delimiter(self._text)
         self._reader = csv.reader(_lines(self._text), delimiter=self._delimiter, strict=True)
@@ -185,6 +186,7 @@ class Sheet:
             low, high = decimal(unit.low, unit.places), decimal(unit.high, unit.places)
             self._note(line, self.column(at), f"{text} is outside {low} to {high}", unit.refusal)
             return 0
+        self.rounded += rounded and len(text.partition(".")[2].rstrip("0")) > unit.places
         return number
 
     def name_in(self, line: int, column: str, text: str) -> bool:
