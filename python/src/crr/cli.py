@@ -1,8 +1,8 @@
 """The command `crr`.
 
-Exit status: 0; 1 where `crr test`, `crr cuts` or `crr exposure` finds that the book fails, `crr same` that
-two books differ, or `crr tiers` that an operation is refused; 2 where the input has faults, or something
-can't be read or written; 130 where it is interrupted (Ctrl-C).
+Exit status: 0; 1 where `crr test`, `crr cuts`, `crr flows` or `crr exposure` finds that the book fails, `crr
+same` that two books differ, or `crr tiers` that an operation is refused; 2 where the input has faults, or
+something can't be read or written; 130 where it is interrupted (Ctrl-C).
 """
 
 from __future__ import annotations
@@ -17,17 +17,20 @@ from . import (
     book_commands,
     commands,
     copies,
+    explain,
     exposures,
     grid_command,
     help_commands,
+    hour_commands,
     hubs,
+    loading,
     migrate,
     plain_commands,
     report,
     tiers,
 )
-from .command import COMMANDS, FAULTY, INTERRUPTED, PASSES, Answer, Command, Shown
-from .faults import Fault, Faults
+from .command import COMMANDS, FAULTY, INTERRUPTED, PASSES, Answer, Command, Shown, counted
+from .faults import Fault, Faults, faults_of
 from .native import Refused
 from .streams import write_to
 from .version import Version
@@ -36,9 +39,12 @@ from .writing import is_output
 # Help lists the commands module by module.
 _ORDER = (
     commands,
+    loading,
     exposures,
-    grid_command,
+    hour_commands,
+    explain,
     report,
+    grid_command,
     book_commands,
     copies,
     hubs,
@@ -85,8 +91,8 @@ def parser() -> argparse.ArgumentParser:
         prog="crr", description="Congestion revenue rights: feasibility test and hourly settlement."
     )
     parser.epilog = (
-        "Exit status: 0; 1 the book fails (crr test, crr cuts, crr exposure), two books differ (crr same), "
-        "or an operation is refused (crr tiers); "
+        "Exit status: 0; 1 the book fails (crr test, crr cuts, crr flows, crr exposure), two books differ "
+        "(crr same), or an operation is refused (crr tiers); "
         "2 the input has faults, or something can't be read or written; 130 interrupted."
     )
     parser.add_argument(
@@ -112,34 +118,25 @@ def parser() -> argparse.ArgumentParser:
     return parser
 
 
-def _fault_object(fault: Fault) -> Dict[str, object]:
-    """A fault for a script: null where it has no file, line, column or refusal."""
-    return {name: value or None for name, value in fault._asdict().items()}
-
-
 def _places(options: argparse.Namespace, faults: Sequence[Fault]) -> str:
     """Where faults are, behind their number: files that were given beside the folder, or the folder."""
-    if "folder" not in options:
+    folder = options.folders[0] if "folders" in options else getattr(options, "folder", None)
+    if folder is None:
         return ""
     paths = {name: str(value) for name, value in vars(options).items() if isinstance(value, Path)}
     given = [path for name, path in paths.items() if name not in ("folder", "out")]
-    places = dict.fromkeys(fault.file if fault.file in given else paths["folder"] for fault in faults)
+    places = dict.fromkeys(fault.file if fault.file in given else str(folder) for fault in faults)
     return f" in {' and '.join(places)}"
 
 
 def _faulty(options: argparse.Namespace, problem: Exception) -> Answer:
     """The answer where something is wrong, all of it."""
+    faults = faults_of(problem)
+    words = f"crr: {faults[0]}\n"
     if isinstance(problem, Faults):
-        count, where = len(problem.faults), _places(options, problem.faults)
-        text = f"{problem}\ncrr: {count:,} fault{'' if count == 1 else 's'}{where}; nothing was written\n"
-        return Answer(FAULTY, text, {"faults": list(map(_fault_object, problem.faults))})
-    if isinstance(problem, Refused):
-        fault = Fault(problem.file, 0, "", problem.meaning, problem.number)
-    elif isinstance(problem, OSError) and problem.strerror and problem.filename is not None:
-        fault = Fault(str(problem.filename), 0, "", problem.strerror)
-    else:
-        fault = Fault("", 0, "", str(problem))
-    return Answer(FAULTY, f"crr: {fault}\n", {"faults": [_fault_object(fault)]})
+        where = _places(options, faults)
+        words = f"{problem}\ncrr: {counted(len(faults), 'fault')}{where}; nothing was written\n"
+    return Answer(FAULTY, "", {"faults": [fault.object for fault in faults]}, words)
 
 
 def _answer(options: argparse.Namespace) -> Answer:
@@ -180,11 +177,11 @@ def _run(given: List[str]) -> int:
     except Shown as shown:
         answer = Answer(PASSES, str(shown), shown.data)
     except Usage as usage:
-        faults = [_fault_object(Fault("", 0, "", usage.text))]
-        answer = Answer(FAULTY, f"{usage.usage}{usage.text}\n", {"faults": faults, "usage": usage.usage})
+        data: Dict[str, object] = {"faults": [Fault("", 0, "", usage.text).object], "usage": usage.usage}
+        answer = Answer(FAULTY, "", data, f"{usage.usage}{usage.text}\n")
     text = json.dumps(answer.data, indent=1) + "\n" if as_json else answer.text
-    stream = sys.stderr if aside or (answer.status == FAULTY and not as_json) else sys.stdout
-    unwritten = write_to(stream, text)
+    stream = sys.stderr if aside else sys.stdout
+    unwritten = write_to(stream, text) if text else ""
     if unwritten and stream is not sys.stderr:
         write_to(sys.stderr, f"crr: the output can't be written: {unwritten}\n")
     unwritten = unwritten or write_to(sys.stderr, "" if as_json else answer.note)

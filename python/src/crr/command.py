@@ -81,7 +81,29 @@ def a_path(text: str) -> Path:
     return Path(text)
 
 
+def _jobs(text: str) -> int:
+    """How many processes: at least one."""
+    if not (text.isascii() and text.isdigit() and len(text) < 5 and int(text)):
+        raise argparse.ArgumentTypeError(f"{text!r} is no number of processes, from 1 to 9999")
+    return int(text)
+
+
 FOLDER = argument("folder", type=a_path, metavar="FOLDER", help="a folder of CSV files, or of bin files")
+FOLDERS = argument(
+    "folders",
+    nargs="+",
+    type=a_path,
+    metavar="FOLDER",
+    help="a folder of CSV files, or of bin files; several give one table, the folder first",
+)
+JOBS = argument(
+    "-j",
+    "--jobs",
+    type=_jobs,
+    default=1,
+    metavar="N",
+    help="how many processes, 1 to 9999; without it, 1",
+)
 ROUND_PRICES = argument(
     "--round-prices", action="store_true", help="round prices of more than two decimals to the nearest cent"
 )

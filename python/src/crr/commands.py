@@ -2,9 +2,9 @@
 
 from __future__ import annotations
 
-import argparse
 import os
 from dataclasses import replace
+from functools import partial
 from pathlib import Path
 from typing import Dict, List, Mapping, Optional, Sequence, Tuple, cast
 
@@ -15,12 +15,13 @@ from .command import (
     ANY_PROCESSES,
     FAILS,
     FOLDER,
+    FOLDERS,
     FORCE,
+    JOBS,
     PASSES,
     RENT_PROCESS,
     ROUND_PRICES,
     Answer,
-    argument,
     command,
     counted,
     objects,
@@ -31,6 +32,7 @@ from .decimals import decimal
 from .exposures import exposure_figures, exposures, worst_words
 from .faults import Fault, raise_any
 from .feasibility import Cut, Verdict, excesses, find_cuts, find_flows, released_percent, test_book, worst
+from .folders import as_counted, as_judged, each
 from .from_csv import load
 from .interface import FLOW_PLACES, QUANTITY
 from .notes import notes
@@ -54,9 +56,13 @@ from .words import Line, Period, Process, line_names, line_words
 from .writing import write_files
 
 
-@command("check", "read everything and list every fault", FOLDER, ROUND_PRICES)
-def check(folder: Path, round_prices: bool) -> Answer:
+@command("check", "read everything and list every fault", FOLDERS, ROUND_PRICES, JOBS)
+def check(folders: List[Path], round_prices: bool, jobs: int) -> Answer:
     """Reads everything; every fault is raised."""
+    return each(partial(_check, round_prices=round_prices), folders, jobs, as_counted)
+
+
+def _check(folder: Path, round_prices: bool) -> Answer:
     case = opened(folder, round_prices)
     case.priced_hours()  # price files too
     form = "CSV" if case.is_csv else "bin"
@@ -142,10 +148,14 @@ def _verdict_rows(case: Case, answers: Dict[Line, Verdict]) -> List[Tuple[object
 AT_WORST = ("EXPOSURE_LEAST", "EXPOSURE_MOST")  # beside the verdicts, for scripts
 
 
-@command("test", "the simultaneous feasibility test", FOLDER, ANY_PERIODS, ANY_PROCESSES)
-def test(folder: Path, periods: Sequence[int], processes: Sequence[int]) -> Answer:
+@command("test", "the simultaneous feasibility test", FOLDERS, ANY_PERIODS, ANY_PROCESSES, JOBS)
+def test(folders: List[Path], periods: Sequence[int], processes: Sequence[int], jobs: int) -> Answer:
     """The simultaneous feasibility test; status 1 where the book fails in one of the periods and processes
     asked for."""
+    return each(partial(_test, periods=periods, processes=processes), folders, jobs, as_judged)
+
+
+def _test(folder: Path, periods: Sequence[int], processes: Sequence[int]) -> Answer:
     case = opened(folder, prices=False)
     answers = verdicts(case, periods, processes)
     rows = _verdict_rows(case, answers)
@@ -184,13 +194,18 @@ def _cut_row(case: Case, cut: Cut) -> CutRow:
 @command(
     "cuts",
     "what clears a failing book: each contract whose quantity, lowered alone, lets it pass, and by how much",
-    FOLDER,
+    FOLDERS,
     ANY_PERIODS,
     ANY_PROCESSES,
+    JOBS,
 )
-def cuts(folder: Path, periods: Sequence[int], processes: Sequence[int]) -> Answer:
+def cuts(folders: List[Path], periods: Sequence[int], processes: Sequence[int], jobs: int) -> Answer:
     """What clears a failing book; the status is the test's, since an empty list alone does not tell whether
     the book passes."""
+    return each(partial(_cuts, periods=periods, processes=processes), folders, jobs)
+
+
+def _cuts(folder: Path, periods: Sequence[int], processes: Sequence[int]) -> Answer:
     case = opened(folder, prices=False)
     answers = verdicts(case, periods, processes)
     listed = cut_rows(case, answers)
@@ -223,13 +238,6 @@ def _cuts_words(names: Names, answers: Dict[Line, Verdict], listed: Dict[Line, L
     return "".join(said) + (f"{passing}: the book passes\n" if passing else "")
 
 
-def _jobs(text: str) -> int:
-    """How many processes: at least one."""
-    if not (text.isascii() and text.isdigit() and len(text) < 5 and int(text)):
-        raise argparse.ArgumentTypeError(f"{text!r} is no number of processes, from 1 to 9999")
-    return int(text)
-
-
 @command(
     "settle",
     "settle every hour: holder by month, hour by hour, contract by contract",
@@ -238,14 +246,7 @@ def _jobs(text: str) -> int:
     RENT_PROCESS,
     writes("a folder for the result files"),
     FORCE,
-    argument(
-        "-j",
-        "--jobs",
-        type=_jobs,
-        default=1,
-        metavar="N",
-        help="how many processes, 1 to 9999; without it, 1",
-    ),
+    JOBS,
 )
 def settle(
     folder: Path,

@@ -126,11 +126,6 @@ def _differences(books: Sequence[List[Contract]], numbers: Numbers) -> List[Tupl
     ]
 
 
-def _placed(fault: Fault, folder: Path) -> Fault:
-    """A fault named with its folder."""
-    return fault if fault.file == str(folder) else fault._replace(file=str(folder / fault.file))
-
-
 def _both(folders: Sequence[Path]) -> List[Case]:
     """The cases of two folders; the faults of either are named with their folder."""
     cases: List[Case] = []
@@ -139,7 +134,7 @@ def _both(folders: Sequence[Path]) -> List[Case]:
         try:
             cases.append(opened(folder, prices=False))
         except Faults as problem:
-            faults += [_placed(fault, folder) for fault in problem.faults]
+            faults += [fault.within(folder) for fault in problem.faults]
     raise_any(faults)
     return cases
 

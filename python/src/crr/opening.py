@@ -5,8 +5,9 @@ from __future__ import annotations
 import os
 import signal
 from concurrent.futures import Executor
+from contextlib import contextmanager
 from pathlib import Path
-from typing import Dict, Optional, Sequence, Tuple
+from typing import Dict, Iterator, Optional, Sequence, Tuple
 
 from .case import Case, holder_numbers, plain_number
 from .command import counted
@@ -79,14 +80,22 @@ def counts_words(case: Case) -> str:
 
 def settled(case: Case, jobs: int, progress: Progress) -> Settled:
     """All hours of a case."""
+    with workers(jobs) as pool:
+        return _settled(case, pool, progress)
+
+
+@contextmanager
+def workers(jobs: int) -> Iterator[Optional[Executor]]:
+    """So many processes, or none where one is enough."""
     if jobs <= 1:
-        return _settled(case, None, progress)
+        yield None
+        return
     from concurrent.futures import ProcessPoolExecutor  # a tenth of a second that other commands do without
     from concurrent.futures.process import BrokenProcessPool
 
     try:
         with ProcessPoolExecutor(jobs, initializer=_end_at_once) as pool:
-            return _settled(case, pool, progress)
+            yield pool
     except BrokenProcessPool:
         text = "a worker process was ended from outside, for lack of memory perhaps: take fewer with -j"
         raise OSError(text) from None

@@ -17,22 +17,22 @@ from .settlement import HubMcc
 from .to_csv import csv_text
 from .words import HEDGE_TYPES, PROCESSES, TIMES_OF_USE
 
-_CENTS = 2  # decimals of a dollar
+CENT_PLACES = 2  # decimals of a dollar
 
 
 def dollars(cents: int) -> str:
     """1250 cents are '12.50'."""
-    return decimal(cents, _CENTS)
+    return decimal(cents, CENT_PLACES)
 
 
 def exact_dollars(cents: Fraction) -> str:
     """An exact total of cents in dollars, with every one of its ten decimals."""
-    return decimal(int(cents * 10**PART_PLACES), _CENTS + PART_PLACES)
+    return decimal(int(cents * 10**PART_PLACES), CENT_PLACES + PART_PLACES)
 
 
 def mcc_dollars(mcc: HubMcc) -> str:
     """A hub's MCC in dollars per MWh, with every one of its twelve decimals."""
-    return decimal(mcc.quotient * HUB_WEIGHT + mcc.remainder, _CENTS + MCC_PLACES + HUB_PLACES)
+    return decimal(mcc.quotient * HUB_WEIGHT + mcc.remainder, CENT_PLACES + MCC_PLACES + HUB_PLACES)
 
 
 def holder_months(settled: Settled, book: Sequence[Contract]) -> Dict[Tuple[int, str], int]:

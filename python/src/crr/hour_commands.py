@@ -1,0 +1,139 @@
+"""The commands on hours by name: mcc, statement."""
+
+from __future__ import annotations
+
+import argparse
+import re
+from pathlib import Path
+from typing import Dict, List, Optional, Sequence, Tuple, cast
+
+from .case import Case, PricedHour, Time, hour_name
+from .command import FOLDER, PASSES, ROUND_PRICES, Answer, argument, command, counted, objects
+from .decimals import decimal
+from .faults import Fault, Faults, raise_any
+from .from_csv import is_date
+from .interface import MCC_PLACES
+from .opening import opened, rounded_words
+from .results import CENT_PLACES, dollars, exact_dollars
+from .settlement import find_mcc, settle_hour
+from .to_csv import book_row, csv_text
+from .words import TIMES_OF_USE
+
+_TIME = re.compile(r"(\S{10})[ T/]?(?:HE)?([0-9]{1,2})", re.IGNORECASE)
+
+
+def a_time(text: str) -> Time:
+    """An hour of the command line: '2026-07-01 HE08', or without the blank or the HE."""
+    match = _TIME.fullmatch(text)
+    if not match or not is_date(match[1]) or not 1 <= int(match[2]) <= 25:
+        raise argparse.ArgumentTypeError(f"{text!r} is no hour, such as '2026-07-01 HE08' or 2026-07-01/8")
+    return match[1], int(match[2])
+
+
+HOUR = argument(
+    "time",
+    nargs="?",
+    type=a_time,
+    metavar="HOUR",
+    help="such as '2026-07-01 HE08' or 2026-07-01/8; without it, the only one",
+)
+
+
+def time_words(hour: PricedHour) -> str:
+    """2026-07-01 HE08 ON."""
+    time = hour_name(hour.day, hour.hour) if hour.hour else "the hour"
+    return f"{time} {TIMES_OF_USE[hour.period]}"
+
+
+def hour_of(case: Case, time: Optional[Time]) -> PricedHour:
+    """The hour that is asked for, or the only one; a fault where there is no such hour."""
+    hours = case.priced_hours()
+    found = [hour for hour in hours if time in (None, (hour.day, hour.hour))]
+    if len(found) == 1:
+        return found[0]
+    if not hours:
+        raise Faults([Fault("", 0, "", "no prices, so there is no hour")])
+    first, last = (hour_name(hour.day, hour.hour) if hour.hour else "" for hour in (hours[0], hours[-1]))
+    there = f"the prices have {counted(len(hours), 'hour')}, "
+    there += (first + (f" to {last}" if last != first else "")) or "without a day"
+    raise Faults([Fault("HOUR", 0, "", f"{there}{f', and not {hour_name(*time)}' if time else ': which?'}")])
+
+
+MCC = ("OPR_DT", "OPR_HR", "TIME_OF_USE", "NODE_ID", "MCC")
+
+
+def _nodes(names: Sequence[str], asked: Optional[List[str]]) -> List[int]:
+    """The numbers of the nodes asked for, or of all."""
+    numbers = {name: number for number, name in enumerate(names)}
+    unknown = [name for name in asked or () if name not in numbers]
+    raise_any([Fault("--node", 0, "", f"no node {name!r}", 11) for name in unknown])
+    return [numbers[name] for name in asked] if asked else list(range(len(names)))
+
+
+@command(
+    "mcc",
+    "the marginal cost of congestion of each node, hour by hour, in dollars per MWh",
+    FOLDER,
+    argument(
+        "--hour",
+        type=a_time,
+        metavar="HOUR",
+        help="such as '2026-07-01 HE08' or 2026-07-01/8; without it, every hour",
+    ),
+    argument("--node", action="append", metavar="NODE", help="this node alone; may be said again for more"),
+    ROUND_PRICES,
+)
+def mcc(folder: Path, hour: Optional[Time], node: Optional[List[str]], round_prices: bool) -> Answer:
+    """The MCC of each node in each hour."""
+    case = opened(folder, round_prices)
+    nodes, grid = _nodes(case.names.nodes, node), case.grid
+    hours = [hour_of(case, hour)] if hour else case.priced_hours()
+    rows = []
+    for each in hours:
+        cells = find_mcc(grid, each.prices)
+        at = (each.day, each.hour or "", TIMES_OF_USE[each.period])
+        rows += [(*at, case.names.nodes[n], decimal(cells[n], CENT_PLACES + MCC_PLACES)) for n in nodes]
+    note = f"{counted(len(nodes), 'node')}, {counted(len(hours), 'hour')}{rounded_words(case)}\n"
+    data: Dict[str, object] = {"mcc": objects(MCC, rows), "rounded_prices": case.rounded}
+    return Answer(PASSES, csv_text(MCC, rows), data, note)
+
+
+STATEMENT = (
+    *("CRR_ID", "OWNER", "HEDGE_TYPE", "TIME_OF_USE", "SOURCE", "SINK", "MW"),
+    *("AMOUNT", "PRICED", "CONSTRAINTS"),
+)
+
+
+def members(bits: int, names: Sequence[str]) -> List[str]:
+    """The names of a set's members: bit k is the k-th."""
+    return [name for k, name in enumerate(names) if bits >> k & 1]
+
+
+@command(
+    "statement",
+    "an hour's statement by names: what each contract of its period is paid, and the constraints that priced "
+    "it",
+    FOLDER,
+    HOUR,
+    ROUND_PRICES,
+)
+def statement(folder: Path, time: Optional[Time], round_prices: bool) -> Answer:
+    """An hour's statement, contract by contract."""
+    case = opened(folder, round_prices)
+    hour, names = hour_of(case, time), case.names
+    settled = settle_hour(case.grid, case.book_file(), hour.period, hour.prices)
+    rows: List[Tuple[object, ...]] = []
+    for number, contract in enumerate(case.book):
+        if contract.period == hour.period:
+            priced = members(settled.priced[number], names.constraints)
+            terms = book_row(names, names.contracts[number], contract)
+            rows.append((*terms, dollars(settled.cents[number]), len(priced), priced))
+    total = settled.total
+    figures = {"sum": dollars(total.sum), "exact_total": exact_dollars(total.exact)}
+    note = f"{time_words(hour)}: {counted(len(rows), 'contract')}, sum {figures['sum']}, "
+    note += f"exact total {figures['exact_total']}{rounded_words(case)}\n"
+    data: Dict[str, object] = {"hour": hour_name(hour.day, hour.hour) if hour.hour else None}
+    data.update(time_of_use=TIMES_OF_USE[hour.period], contracts=objects(STATEMENT, rows), **figures)
+    data["rounded_prices"] = case.rounded
+    text = csv_text(STATEMENT, ((*row[:-1], "; ".join(cast(List[str], row[-1]))) for row in rows))
+    return Answer(PASSES, text, data, note)
