@@ -153,7 +153,8 @@
  *     bytes. A figure's pointer is never null.
  *   - The length cells from the pointer on are one object's, readable, and
  *     writable where the parameter is not const. What is lent to be written need
- *     not be set before the call: any bytes there will do.
+ *     not be set before the call: any bytes there will do. The state of a running test
+ *     and the totals of crr_add_flows are read and written.
  *   - What is passed to be written, buffer or figure, overlaps nothing else that
  *     is passed in the same call. Buffers that are only read may overlap.
  *   - No other thread writes what is passed, or reads what is passed to be
@@ -186,6 +187,7 @@ extern "C" {
 #define CRR_MAX_NARROW_NODES 200 /* of a grid's file in the narrow form */
 #define CRR_MAX_CONSTRAINTS 64
 #define CRR_MAX_CONTRACTS 1000
+#define CRR_MAX_SUMMED 20000000 /* contracts whose flows are added up */
 #define CRR_MAX_COORDINATORS 256
 #define CRR_MAX_HUB_NODES 32
 #define CRR_MAX_LSES 16
@@ -583,6 +585,66 @@ uint64_t crr_find_flows(size_t nodes, size_t constraints, uint64_t period,
                         const uint8_t *book, size_t book_len,
                         int64_t *flows, size_t flows_len,
                         size_t *counted);
+
+/*
+ * Adds the flow on each constraint of the contracts of one period, of a book's file, to
+ * running totals: a step of a test of any size.
+ *
+ * A grid and a book beyond the sizes above are tested block by block: a block is any
+ * 64 of the constraints or fewer, and each constraint is in one. A block's totals
+ * begin as flows of 0 and a *count of 0. Then the whole book's contracts are added in
+ * any order, at most 1,000 at a call, as a small book on a small grid: limits are the
+ * block's, nodes are numbered as the caller likes, and each has the factors on the
+ * block's constraints of the node that it stands for. When all are added
+ * crr_judge_flows judges the block.
+ *
+ * On success adds to the first cells of flows, one for each constraint, what
+ * crr_find_flows would write there, and to *count how many contracts the period has,
+ * which it writes to *counted. flows and *count are read, too: they are what the call
+ * before left, or 0. Document 01 knows the sizes of one call alone: this function goes
+ * beyond it.
+ *
+ * Refusals, in this order: 2 NODE_COUNT, 3 CONSTRAINT_COUNT, 17 PERIOD_OR_KIND,
+ * 9 SHORT_TABLE (limits, factors), 6 LIMIT_RANGE, 7 FACTOR_RANGE, then the book's
+ * own: 1 SHORT_FILE, 10 CONTRACT_COUNT, 4 SPARE_BITS, 5 FILE_LENGTH, and contract by
+ * contract 11 NODE_NUMBER, 13 QUANTITY_RANGE; 9 SHORT_TABLE if flows has fewer cells
+ * than there are constraints; last 10 CONTRACT_COUNT if *count is above CRR_MAX_SUMMED
+ * or would become so, or if some flow exceeds 200,000,000,000 * *count in size, which
+ * no total of so many contracts does.
+ */
+uint64_t crr_add_flows(size_t nodes, size_t constraints, uint64_t period,
+                       const uint64_t *limits, size_t limits_len,
+                       const int64_t *factors, size_t factors_len,
+                       const uint8_t *book, size_t book_len,
+                       int64_t *flows, size_t flows_len,
+                       size_t *count, size_t *counted);
+
+/*
+ * Judges the running totals of a block of constraints, as the test judges: the last
+ * step of a test of any size, for each block.
+ *
+ * flows has the totals that crr_add_flows left, and summed is its *count: how many
+ * contracts they are of.
+ *
+ * On success writes to *set, *count, *lowest and *excess what crr_test_book writes, 0
+ * to all four on pass. Constraints are numbered as they stand in the block.
+ *
+ * Where crr_add_flows added every contract of the period once for each block, *set is 0
+ * for all blocks exactly when no list of shadow prices on the whole grid makes the net
+ * payment of these contracts exceed the congestion rent. Where it is not, prices of 1
+ * cent at the block's constraint *lowest and 0 elsewhere do, by *excess in 10^-8 cents
+ * for an hour. This function goes beyond document 01, as crr_add_flows does.
+ *
+ * Refusals, in this order: 3 CONSTRAINT_COUNT, 16 PROCESS_NUMBER, 9 SHORT_TABLE
+ * (limits, flows), 6 LIMIT_RANGE, 10 CONTRACT_COUNT (summed above CRR_MAX_SUMMED, or a
+ * flow that exceeds 200,000,000,000 * summed in size).
+ */
+uint64_t crr_judge_flows(size_t constraints, uint64_t process,
+                         const uint64_t *limits, size_t limits_len,
+                         const int64_t *flows, size_t flows_len,
+                         size_t summed,
+                         uint64_t *set, size_t *count, size_t *lowest,
+                         int64_t *excess);
 
 /*
  * Finds, for a book that fails the test, every contract of the period tested whose

@@ -6,6 +6,7 @@ use Rattle.layouts.specs.BookFile.{bookIn}
 use Rattle.text_format.proofs.Putting.{put-same, _then_}
 use Rattle.test_rules.specs.Inner.{Judges}
 use Rattle.test_rules.proofs.Flowing.{carried-judgeable}
+use Rattle.test_verdict.proofs.Judging.{judges}
 use Rattle.text_report_rules.proofs.Answering.{over-bound, line-text}
 use borrow.Author.Needs.{needs}
 use Rattle.text_report_lines.proofs.put_line.Statement.{statement}
@@ -17,7 +18,8 @@ judged : (c : tie.After-verdict) → let a = c .before .before .before .before .
 judged c =
     let s = c .before .before .before .before in
     let a = s .args in
-    c .verdict .ensures (a .nodes) (a .factors .now) (a .period) (bookIn (a .book .now)) (s .pre .1 .1)
+    judges (a .nodes) (a .constraints) (s .pre .1 .0 .good-factors .few) (a .limits .now) (a .factors .now) (a .process) (a .period) (bookIn (a .book .now)) (a .flows) (s .pre .1 .1)
+    (c .verdict .result) (c .verdict .ensures)
 
 verdict-requires : tie.Need-verdict-requires
 verdict-requires c κs =
