@@ -16,16 +16,19 @@ import re
 from array import array
 from datetime import date
 from pathlib import Path
-from typing import Dict, List, Optional, Set, Tuple, Union
+from typing import Dict, List, Optional, Sequence, Set, Tuple, Union
 
+from .blocks import MEMORY, Blocks
 from .book_csv import read_book, word_in
 from .case import FORMS, Case, Names, PricedHour, book_form, grid_form
+from .decimals import whole
 from .faults import Fault, raise_any
 from .files import Contract
 from .inputs import Input
 from .interface import LIMIT, MAX_CONSTRAINTS, MAX_NODES, SHADOW_PRICE, SHIFT_FACTOR
 from .names_csv import read_names
 from .sheet import Sheet, is_there
+from .streamed import StreamedSheet, is_large
 from .words import Period
 
 _DAY = re.compile(r"[0-9]{4}-[0-9]{2}-[0-9]{2}")
@@ -38,8 +41,8 @@ PRICES = ("OPR_DT", "OPR_HR", "TIME_OF_USE", "CONSTRAINT_ID", "SHADOW_PRICE")
 class Loaded:
     """A folder while it is read: the tables so far and every fault found."""
 
-    def __init__(self, folder: Path, any_size: bool, round_prices: bool) -> None:
-        self.folder, self.any_size, self.round_prices = folder, any_size, round_prices
+    def __init__(self, folder: Path, any_size: bool, round_prices: bool, memory: int) -> None:
+        self.folder, self.any_size, self.round_prices, self.memory = folder, any_size, round_prices, memory
         self.faults: List[Fault] = []
         self.inputs: List[Input] = []
         self.rounded = 0
@@ -48,6 +51,7 @@ class Loaded:
         self.nodes: Dict[str, int] = {}
         self.limits = array("Q")
         self.factors = array("q")
+        self.blocks: Optional[Blocks] = None  # of a large factors.csv
 
     def count(
         self, sheet: Sheet, line: int, column: str, count: int, most: int, what: str, refusal: int
@@ -58,14 +62,18 @@ class Loaded:
 
 
 def load(
-    folder: Union[str, Path], any_size: bool = False, round_prices: bool = False, prices: bool = True
+    folder: Union[str, Path],
+    any_size: bool = False,
+    round_prices: bool = False,
+    prices: bool = True,
+    memory: int = MEMORY,
 ) -> Tuple[Case, int]:
     """The case of a folder, and how many of its prices were rounded. Raises `Faults`.
 
-    With `any_size` counts above the library's are taken, for settling by slices. With `round_prices` a price
-    of more than two decimals is rounded to the nearest cent; it is a fault otherwise. Without `prices`
-    prices.csv is not looked at."""
-    loaded = Loaded(Path(folder), any_size, round_prices)
+    With `any_size` counts above the library's are taken, for slices; a large factors.csv is then streamed, and
+    at most so many bytes of `memory` hold its factors. With `round_prices` a price of more than two decimals
+    is rounded to the nearest cent; it is a fault otherwise. Without `prices` prices.csv is not looked at."""
+    loaded = Loaded(Path(folder), any_size, round_prices, memory)
     _read_constraints(loaded)
     _read_factors(loaded)
     tables = read_names(loaded.folder, loaded.faults, loaded.inputs)
@@ -86,6 +94,7 @@ def load(
         forms.get(1, book_form(book)),
         loaded.inputs,
         rounded=loaded.rounded,
+        blocks=loaded.blocks,
     )
     return case, loaded.rounded
 
@@ -137,23 +146,50 @@ def _factor_columns(loaded: Loaded, sheet: Sheet) -> List[int]:
     return [places[name] for name in loaded.constraints if name in places]
 
 
+class _Figures(Dict[str, int]):
+    """Factors by their texts: of millions of fields few are different. What is none is a ValueError."""
+
+    def __missing__(self, text: str) -> int:
+        number = whole(text, SHIFT_FACTOR.places)
+        if not SHIFT_FACTOR.low <= number <= SHIFT_FACTOR.high:
+            raise ValueError(text)
+        if len(self) < 10**6:
+            self[text] = number
+        return number
+
+
+def _factor_row(
+    sheet: Sheet, line: int, fields: List[str], columns: Sequence[int], figures: _Figures
+) -> List[int]:
+    """A node's factors in the order of constraints. A fault is noted for each that is none."""
+    try:
+        return [figures[fields[at]] for at in columns]
+    except ValueError:
+        return [sheet.figure(line, at, fields[at], SHIFT_FACTOR) for at in columns]
+
+
 def _read_factors(loaded: Loaded) -> None:
-    sheet = Sheet(
-        loaded.folder / "factors.csv",
-        ("NODE_ID",),
-        loaded.faults,
-        first=True,
-        name="factors.csv",
-        inputs=loaded.inputs,
+    path = loaded.folder / "factors.csv"
+    large = loaded.any_size and is_large(path)
+    sheet = (StreamedSheet if large else Sheet)(
+        path, ("NODE_ID",), loaded.faults, first=True, name="factors.csv", inputs=loaded.inputs
     )
     if not sheet.at:
         return
     columns = _factor_columns(loaded, sheet) if loaded.constraints_read else []
-    line = 1
+    if large and len(columns) == len(loaded.limits):
+        loaded.blocks = Blocks(loaded.limits, loaded.memory)
+    line, figures = 1, _Figures()
     for line, fields in sheet.rows():
         if sheet.new_name(line, "NODE_ID", fields[0], loaded.nodes):
-            loaded.factors.extend([sheet.figure(line, at, fields[at], SHIFT_FACTOR) for at in columns])
+            row = _factor_row(sheet, line, fields, columns, figures)
+            if loaded.blocks is None:
+                loaded.factors.extend(row)
+            elif not loaded.faults:
+                loaded.blocks.add(row)
             loaded.count(sheet, line, "NODE_ID", len(loaded.nodes), MAX_NODES, "nodes", 2)
+    if loaded.blocks is not None and not loaded.faults:
+        loaded.blocks.close()
     if not loaded.nodes:
         sheet.fault(line, "NODE_ID", "no node", 2)
 

@@ -6,11 +6,14 @@ import os
 import signal
 from concurrent.futures import Executor
 from contextlib import contextmanager
+from dataclasses import replace
 from pathlib import Path
 from typing import Dict, Iterator, Optional, Sequence, Tuple
 
+from .blocks import MEMORY
 from .case import Case, holder_numbers, plain_number
 from .command import counted
+from .dense import is_dense, read_dense
 from .faults import Fault, raise_any
 from .from_csv import load
 from .hours import Progress, Settled, settle_hours
@@ -45,12 +48,24 @@ def _no_folder(path: Path) -> str:
     return "a file, and a folder is needed" if path.exists() else "no such folder"
 
 
-def opened(folder: Path, round_prices: bool = False, any_size: bool = False, prices: bool = True) -> Case:
+def opened(
+    folder: Path,
+    round_prices: bool = False,
+    any_size: bool = False,
+    prices: bool = True,
+    memory: int = MEMORY,
+    jobs: int = 1,
+) -> Case:
     """The case of a folder in either form. One that is larger than the library's sizes is a fault, unless any
-    size is asked for."""
+    size is asked for; its factors then take at most so much memory, and so many processes share its slices."""
+    if is_dense(folder):
+        if prices or not any_size:
+            text = "a case larger than the library's sizes, packed without prices: crr test and crr cuts take it"
+            raise_any([Fault(str(folder), 0, "", text)])
+        return replace(read_dense(folder), jobs=jobs)
     if not is_csv(folder):
         return read_bin(folder)
-    case, _ = load(folder, any_size, round_prices, prices)
+    case = replace(load(folder, any_size, round_prices, prices, memory)[0], jobs=jobs)
     if case.fits:  # the forms that names.csv asks for may be too narrow: the library refuses them then
         case.grid_file()
         case.book_file()

@@ -96,7 +96,7 @@ class Sheet:
         self.heading: List[str] = []
         self.at: Dict[str, int] = {}
         self._text, self._doubtful = self._decoded(path, need, inputs)
-        self._delimiter = _delimiter(self._text)
+        self._delimiter = delimiter_of(self._text)
         self._reader = csv.reader(_lines(self._text), delimiter=self._delimiter, strict=True)
         self._starts: List[int] = []  # of lines, found when a fault needs them
         if self._text:
@@ -238,7 +238,11 @@ class Sheet:
         not closed or not followed by a separator."""
         if not self._starts:
             self._starts = [0, *accumulate(map(len, _lines(self._text)))]
-        text, at, column = self._text, self._starts[line - 1], 0
+        return self.column(self._broken_in(self._text, self._starts[line - 1]))
+
+    def _broken_in(self, text: str, at: int) -> int:
+        """The place of that column, for lines that begin at a place of a text."""
+        column = 0
         while at < len(text) and text[at] not in "\r\n":
             start = at
             if text[at] == '"':
@@ -251,7 +255,7 @@ class Sheet:
                 break
             if text[at : at + 1] == self._delimiter:
                 at, column = at + 1, column + 1
-        return self.column(column)
+        return column
 
 
 def _reason(error: csv.Error) -> str:
@@ -308,7 +312,8 @@ def _lines(text: str) -> io.StringIO:
     return io.StringIO(text, newline="")
 
 
-def _delimiter(text: str) -> str:
+def delimiter_of(text: str) -> str:
+    """What separates the fields of a heading."""
     heading = text.split("\n", 1)[0]
     return max(",;\t", key=heading.count)
 
