@@ -67,7 +67,7 @@ module _ (q : JudgeCall) where
   pub judge-refused : (r : Refusal) → judgeChecked q ≡ Refused r → JudgesFlows q (is.Refused r)
   judge-refused r e =
       record {
-        figures = answer-refused (Refused r) (judgeChecked q) (sym e) r refl (judgedValues (q .limits) (processOf (q .process)) (q .flows) (q .constraints));
+        figures = answer-refused (Refused r) (judgeChecked q) (sym e) r refl _;
       }
 
   pub judged : judgeChecked q ≡ Passed → (held : Flows) → SameFlows (q .constraints) (q .flows) held → (process : Process) → process ≡ processOf (q .process) → (answer : TestAnswer)

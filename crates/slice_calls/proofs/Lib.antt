@@ -1,0 +1,4 @@
+pub mod Judging
+pub mod Taking
+pub mod Hours
+pub mod Theorems
