@@ -46,6 +46,9 @@ class Documents(FolderTest):
     def test_tiers(self):
         self.walk((ROOT / "docs" / "TIERS.md").read_text(), 10)
 
+    def test_any_size(self):
+        self.walk((ROOT / "docs" / "tutorial" / "any-size.md").read_text(), 14)
+
     def test_readme(self):
         text = (ROOT / "README.md").read_text()
         files = re.findall(r"`(\w+\.csv)`[^\n]*\n\n```csv\n(.*?)```", text, re.S)

@@ -131,7 +131,8 @@ class Blocks:
 
     def check(self, path: Path) -> None:
         """A fault where a file is not as long as the pieces that should stand in it."""
-        expected = sum(piece.length for block in self.blocks for piece in block.pieces if isinstance(piece, Place))
+        pieces = [piece for block in self.blocks for piece in block.pieces]
+        expected = sum(piece.length for piece in pieces if isinstance(piece, Place))
         size = os.stat(path).st_size
         short = any(len(block.pieces) != -(-self.nodes // PIECE_NODES) for block in self.blocks)
         if size != expected or short:

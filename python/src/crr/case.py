@@ -71,7 +71,7 @@ class Case:
     rounded: int = field(default=0, compare=False)  # how many prices were, when they were read
     jobs: int = field(default=1, compare=False)  # processes that the slices of a large case are shared among
     blocks: Optional[Blocks] = field(default=None, compare=False)  # of a large grid, in place of its factors
-    flows: Dict[int, List[int]] = field(default_factory=dict, compare=False)  # of a large case that was tested
+    flows: Dict[int, List[int]] = field(default_factory=dict, compare=False)  # of a large case, tested
 
     @property
     def grid(self) -> Grid:
@@ -176,6 +176,8 @@ def check_lengths(case: Case) -> None:
             raise ValueError(f"case: {count:,} {what}, and names for {expected:,}")
 
 
+# Behind a fault of a size, for commands that take no other.
+TAKE_MORE = "; crr test, cuts, settle, report and pack take more"
 FORMS = ("narrow", "wide")  # by number
 NARROW_ENDS = 256  # node numbers that a narrow book has room for
 

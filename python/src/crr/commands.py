@@ -189,7 +189,7 @@ def _test(
     data = [
         dict(verdict, **cost) for verdict, cost in zip(objects(VERDICTS, rows), objects(AT_WORST, at_worst))
     ]
-    note = worst_words(found) + large_words(case)
+    note = worst_words(found) + large_words(case, status == PASSES)
     return Answer(status, text, {"passed": status == PASSES, "verdicts": data}, note)
 
 

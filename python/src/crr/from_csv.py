@@ -20,7 +20,7 @@ from typing import Dict, List, Optional, Sequence, Set, Tuple, Union
 
 from .blocks import MEMORY, Blocks
 from .book_csv import read_book, word_in
-from .case import FORMS, Case, Names, PricedHour, book_form, grid_form
+from .case import FORMS, TAKE_MORE, Case, Names, PricedHour, book_form, grid_form
 from .decimals import whole
 from .faults import Fault, raise_any
 from .files import Contract
@@ -58,7 +58,7 @@ class Loaded:
     ) -> None:
         """A fault at the first row beyond the library's size."""
         if not self.any_size and count == most + 1:
-            sheet.fault(line, column, f"more than {most} {what}", refusal)
+            sheet.fault(line, column, f"more than {most} {what}{TAKE_MORE}", refusal)
 
 
 def load(
@@ -70,9 +70,10 @@ def load(
 ) -> Tuple[Case, int]:
     """The case of a folder, and how many of its prices were rounded. Raises `Faults`.
 
-    With `any_size` counts above the library's are taken, for slices; a large factors.csv is then streamed, and
-    at most so many bytes of `memory` hold its factors. With `round_prices` a price of more than two decimals
-    is rounded to the nearest cent; it is a fault otherwise. Without `prices` prices.csv is not looked at."""
+    With `any_size` counts above the library's are taken, for slices; a large factors.csv is then streamed,
+    and at most so many bytes of `memory` hold its factors. With `round_prices` a price of more than two
+    decimals is rounded to the nearest cent; it is a fault otherwise. Without `prices` prices.csv is not
+    looked at."""
     loaded = Loaded(Path(folder), any_size, round_prices, memory)
     _read_constraints(loaded)
     _read_factors(loaded)

@@ -32,8 +32,8 @@ def _megabytes(size: int) -> str:
     return f"{size / 1e6:,.0f} MB"
 
 
-def large_words(case: Case) -> str:
-    """How a large case was tested, and what memory its factors took."""
+def large_words(case: Case, passed: bool) -> str:
+    """How a large case was tested, what memory its factors took, and what is not told of one that fails."""
     if case.fits:
         return ""
     blocks = counted(-(-len(case.names.constraints) // MAX_CONSTRAINTS), "block")
@@ -41,7 +41,8 @@ def large_words(case: Case) -> str:
     if case.blocks is not None:
         said += f"; factors: {_megabytes(case.blocks.held)} in memory"
         said += f", {_megabytes(case.blocks.spilled)} in a file" if case.blocks.spilled else ""
-    return f"{said}; what an hour costs at worst is told up to {MAX_CONSTRAINTS} constraints\n"
+    at_worst = f"; what an hour costs at worst is told up to {MAX_CONSTRAINTS} constraints"
+    return f"{said}{'' if passed else at_worst}\n"
 
 
 Needs = Dict[int, int]  # by contract: the least cut that may clear the book

@@ -57,10 +57,11 @@ def opened(
     jobs: int = 1,
 ) -> Case:
     """The case of a folder in either form. One that is larger than the library's sizes is a fault, unless any
-    size is asked for; its factors then take at most so much memory, and so many processes share its slices."""
+    size is asked for; its factors then take at most so much memory, and so many processes share its
+    slices."""
     if is_dense(folder):
         if prices or not any_size:
-            text = "a case larger than the library's sizes, packed without prices: crr test and crr cuts take it"
+            text = "larger than the library's sizes, and packed without prices: crr test and crr cuts take it"
             raise_any([Fault(str(folder), 0, "", text)])
         return replace(read_dense(folder), jobs=jobs)
     if not is_csv(folder):
