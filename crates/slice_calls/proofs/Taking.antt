@@ -41,7 +41,8 @@ use Rattle.hour_rules.specs.SettleHour.{settleChecks, settleChecked}
 use Rattle.slice_rules.specs.Slices.{Block, Pairwise, AllStandFor}
 use Rattle.slice_rules.specs.Cutting.{renumbered, Renumbered}
 use Rattle.slice_rules.proofs.Cutting.{all-stand}
-use Rattle.slice_calls.specs.Taking.{BlockInRange, BlockLimits, BlockPrices, Held, SliceInRange, sliceCall, hourSliceCall, sliceFactors, TotalsInRange, SlicesAreTaken}
+use Rattle.slice_calls.specs.Taking.{BlockInRange, BlockLimits, BlockPrices, Held, SliceInRange, TotalsInRange}
+use Rattle.slice_calls.specs.Taking.{sliceCall, hourSliceCall, sliceFactors, SlicesAreTaken}
 
 -- ---- none of the first cells is bad
 
@@ -227,7 +228,8 @@ module _ (whole : Factors) (b : Block) (form : Form) (nodes : List ℕ) (ds : Li
           ∙ first-passes _ _ (factors-good whole b ok nodes (own .nodes-of-whole))
           ∙ last-passes _ (none-bad (above maxPrice) (b .size) prices 0 (λ j h. le-ltb maxPrice _ (p .prices-sized j h)))
 
-      hour-taken : length ds ≤ length (before cents) → length ds ≤ length (before sets) → settleChecked (hourSliceCall whole b period prices form nodes ds) cents sets ≡ Passed
+      hour-taken : length ds ≤ length (before cents) → length ds ≤ length (before sets)
+          → settleChecked (hourSliceCall whole b period prices form nodes ds) cents sets ≡ Passed
       unfolding settleChecks
       hour-taken room-cents room-sets =
           append-passes tables (bookChecks n file ++ rooms) hour-tables-pass

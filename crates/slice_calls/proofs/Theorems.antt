@@ -56,7 +56,8 @@ module _ (q : AddFlowsCall) (flows : List ℤ) (count : ℕ) (left : TotalsLeft 
   flows-left : flows ≡ overwrite (flowsSummed q) (q .asked .place)
   flows-left = left .flows-added ∙ ap (λ (x : Checked). cellsAfter x (flowsSummed q) (q .asked .place)) passed
 
-  cell-is : (j : ℕ) → j < q .asked .constraints → getD flows j (pos 0) ≡ getD (q .asked .place) j (pos 0) +ℤ totalFlow (addedFactors q) (countedContracts (q .asked)) j
+  cell-is : (j : ℕ) → j < q .asked .constraints
+      → getD flows j (pos 0) ≡ getD (q .asked .place) j (pos 0) +ℤ totalFlow (addedFactors q) (countedContracts (q .asked)) j
   cell-is j b =
       let f : ℕ → ℤ = λ j. getD (q .asked .place) j (pos 0) +ℤ totalFlow (addedFactors q) (countedContracts (q .asked)) j in
       ap (λ (cells : List ℤ). getD cells j (pos 0)) flows-left
@@ -95,7 +96,8 @@ module _ (whole : Factors) (b : Block) (t : Period) where
       } in
       subst (λ (l : List Contract). Totals whole b l (s .flows-left) (s .count-left))
       (ap (λ (p : Period). ofPeriod t cs ++ ofPeriod p (s .contracts)) (s .period-is) ∙ sym (ofPeriod-append t cs (s .contracts)))
-      (more-totals q (s .flows-left) (s .count-left) (left-by q (s .flows-left) (s .count-left) (s .added)) (s .none-refused) whole b (s .size-is) (ofPeriod t cs) (s .contracts) lent (s .stands))
+      (more-totals q (s .flows-left) (s .count-left) (left-by q (s .flows-left) (s .count-left) (s .added)) (s .none-refused) whole b (s .size-is) (ofPeriod t cs)
+      (s .contracts) lent (s .stands))
 
   totals-of : {cs : List Contract} {flows : List ℤ} {count : ℕ} → Summed whole b t cs flows count → Totals whole b (ofPeriod t cs) flows count
   unfolding ofPeriod totalFlow sumOver

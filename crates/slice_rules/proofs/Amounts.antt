@@ -87,7 +87,8 @@ module _ (whole : Factors) (prices : List ℕ) (b : Block) (slice : Factors) (ow
       ap negℤ
       (ap (λ (k : ℕ). sumTo k s) size
       ∙ sumTo-cong (b .size) (λ j h. ap₂ (λ (x : ℤ) (l : ℕ). x *ℤ pos l) (same j h) (p .prices-same j h))
-      ∙ sym (sum-picked (whole .constraints) (b .size) (b .number) f (p .inside) (p .once) (λ k h none. times-zero (factor whole n k) (price prices k) (p .others-free k h none))))
+      ∙ sym (sum-picked (whole .constraints) (b .size) (b .number) f (p .inside) (p .once)
+      (λ k h none. times-zero (factor whole n k) (price prices k) (p .others-free k h none))))
 
   module _ (c d : Contract) (st : StandsFor whole b slice c d) where
     amount-is : amount slice own d ≡ amount whole prices c
@@ -102,7 +103,8 @@ module _ (whole : Factors) (prices : List ℕ) (b : Block) (slice : Factors) (ow
     not-priced : (k : ℕ) → k < whole .constraints → ((j : ℕ) → j < b .size → b .number j ≡ k → ⊥) → pricedAt whole prices c k ≡ false
     unfolding pricedAt spreadAt
     not-priced k h none =
-        ap nonzero (ap (λ (l : ℕ). pos l *ℤ (factor whole (c .source) k -ℤ factor whole (c .sink) k)) (p .others-free k h none) ∙ zero-*ℤ (factor whole (c .source) k -ℤ factor whole (c .sink) k))
+        let x = factor whole (c .source) k -ℤ factor whole (c .sink) k in
+        ap nonzero (ap (λ (l : ℕ). pos l *ℤ x) (p .others-free k h none) ∙ zero-*ℤ x)
 
 pub amount-same : AmountIsTheWhole
 amount-same whole prices b slice own size p c d st =

@@ -13,7 +13,8 @@ use Rattle.lists.proofs.Lists.{getD-listTo}
 use Rattle.tariff.specs.declared.contracts.Contract.{Contract}
 use Rattle.tariff.specs.Units.{Factors, factor, Grid, limit, maxConstraints, maxContracts}
 use Rattle.slice_rules.specs.Slices.{Block, StandsFor, Pairwise, AllStandFor, Slice, Cut, Sliced}
-use Rattle.slice_rules.specs.Cutting.{blockOf, renumbered, At, Renumbered, placeIn, numberedBy, Has, HasEnds, EndsNumbered, endsOf, chunks, SliceFits, CanBeSliced}
+use Rattle.slice_rules.specs.Cutting.{blockOf, renumbered, At, Renumbered, placeIn, numberedBy, Has, HasEnds, EndsNumbered, endsOf, chunks}
+use Rattle.slice_rules.specs.Cutting.{SliceFits, CanBeSliced}
 
 -- ---- nodes numbered anew
 
@@ -30,7 +31,8 @@ module _ (whole : Factors) (b : Block) (nodes : List ℕ) where
   pub renumbered-factor : (n j : ℕ) → n < length nodes → j < b .size → factor (renumbered whole b nodes) n j ≡ factor whole (getD nodes n 0) (b .number j)
   unfolding renumbered
   renumbered-factor n j hn hj =
-      getD-listTo (length nodes * b .size) (λ x. factor whole (getD nodes (x / b .size) 0) (b .number (x % b .size))) (n * b .size + j) (pos 0) (place-in (length nodes) (b .size) n j hn hj)
+      getD-listTo (length nodes * b .size) (λ x. factor whole (getD nodes (x / b .size) 0) (b .number (x % b .size))) (n * b .size + j) (pos 0)
+      (place-in (length nodes) (b .size) n j hn hj)
       ∙ ap₂ (λ (s c : ℕ). factor whole (getD nodes s 0) (b .number c)) (row-is (b .size) n j hj) (column-is (b .size) n j hj)
 
   pub renumbered-stands : (c d : Contract) → Renumbered nodes c d → StandsFor whole b (renumbered whole b nodes) c d
@@ -152,7 +154,8 @@ module _ (whole : Factors) (b : Block) where
   thousands-all zero [] h = refl
   thousands-all zero (c ∷ cs) h = absurd (omega arith)
   thousands-all (suc n) cs h =
-      ap (λ (l : List Contract). take maxContracts cs ++ l) (thousands-all n (drop maxContracts cs) (omega (arith, length-drop maxContracts cs))) ∙ take-append-drop maxContracts cs
+      ap (λ (l : List Contract). take maxContracts cs ++ l) (thousands-all n (drop maxContracts cs) (omega (arith, length-drop maxContracts cs)))
+      ∙ take-append-drop maxContracts cs
 
   -- no list is empty where there are no more than the contracts fill
   thousands-fit : b .size ≤ maxConstraints → (n : ℕ) (cs : List Contract) → n * maxContracts < length cs + maxContracts → Each (SliceFits whole b) (thousands n cs)
@@ -206,4 +209,8 @@ module _ (g : Grid) (book : List Contract) where
 
   pub can-be-sliced : CanBeSliced g book
   unfolding in-slices by-64
-  can-be-sliced = record { sliced = in-slices; all-fit = λ i. thousands-fit (g .factors) (blockOf k i) (min-le-left maxConstraints (k - maxConstraints * i)) lists book (omega arith) }
+  can-be-sliced =
+      record {
+        sliced = in-slices;
+        all-fit = λ i. thousands-fit (g .factors) (blockOf k i) (min-le-left maxConstraints (k - maxConstraints * i)) lists book (omega arith);
+      }

@@ -62,7 +62,8 @@ module _ (g : Grid) (process : Process) (t : Period) (book : List Contract) (s :
         within = λ k h.
             let w : Place (s .cut .blocks) (s .cut .block) k = s .cut .covers k h in
             subst (λ (k : ℕ). total k ≤ℤ pos (released (g .limits) process k)) (w .is-there)
-            (subst₂ (λ (x : ℤ) (l : ℕ). x ≤ℤ pos l) (flow-same (w .in-block) (w .at) (w .block-below) (w .at-below)) (released-same (w .in-block) (w .at) (w .block-below) (w .at-below))
+            (subst₂ (λ (x : ℤ) (l : ℕ). x ≤ℤ pos l) (flow-same (w .in-block) (w .at) (w .block-below) (w .at-below))
+            (released-same (w .in-block) (w .at) (w .block-below) (w .at-below))
             (p .within (w .in-block) (w .at) (w .block-below) (w .at-below)));
       }
 
