@@ -114,7 +114,7 @@ class BrokenOff(FolderTest):
     def test_single_file(self):
         (self.folder / "market.bin").write_text("mine")
         full = OSError(28, os.strerror(28))
-        for said in self.each(full, 2, "market", CASE_L, "-o", self.folder / "market.bin", "--force"):
+        for said in self.each(full, 2, "market", CASE_L, "--file", self.folder / "market.bin", "--force"):
             why = "No space left on device; nothing was changed"
             self.assertEqual(said, f"crr: {self.folder / 'market.bin'} can't be written: {why}\n")
 
@@ -174,6 +174,8 @@ class Interrupted(FolderTest):
         given = {
             "remap": "case pairs -o out",
             "market": "case -o out",
+            "in-force": "case 2026-07-01 -o out",
+            "explain": "case A",
             "holder": "case 1",
             "same": "case other",
             "hub-mcc": "case hubs",

@@ -121,7 +121,10 @@ DAMAGED = [
         "prices.csv",
         "2026-07-31,1,OFF",
         "31.07.2026,1,OFF",
-        "prices.csv:2:OPR_DT: '31.07.2026' is not a day, YYYY-MM-DD",
+        (
+            "prices.csv:2:OPR_DT: '31.07.2026' is not a day, YYYY-MM-DD; "
+            "--dates mdy or --dates dmy tells which part is the month"
+        ),
     ),
     (
         "prices.csv",
@@ -279,7 +282,8 @@ class Damaged(FolderTest):
         for row, message in (
             (
                 "nodes,0,x",
-                "names.csv:2:TABLE: 'nodes' is none of node, constraint, contract, holder, hour, form",
+                "names.csv:2:TABLE: 'nodes' is none of "
+                "node, constraint, contract, holder, start, end, hour, form",
             ),
             ("node,-1,x", "names.csv:2:NUMBER: '-1' is not a number from 0 on"),
             ("holder,1024,x", "names.csv:2:NUMBER: holder 1024 is above 1023 (refusal 18)"),

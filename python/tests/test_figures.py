@@ -184,6 +184,8 @@ class Figures(unittest.TestCase):
             with self.assertRaises(crr.Refused) as caught:
                 crr.read_holder_view(2, data)
             self.assertEqual(caught.exception.number, number)
+        with self.assertRaisesRegex(ValueError, "row 1 of the view has the number 03e8, of no contract"):
+            crr.read_holder_view(2, one + b"\x03\xe8" + one[2:])
 
     def test_mcc(self):
         grid = crr.read_grid((CASE_L / "grid.bin").read_bytes())

@@ -88,7 +88,7 @@ class Factors(FolderTest):
         self.assertEqual((rounding.rounded, rounding.factors, rounding.close), (2, 3, 0))
         self.assertAlmostEqual(rounding.largest, 1 / 300_000)
         half = [Branch("a", "1", "2", Fraction(199_999), 1000), Branch("b", "1", "2", Fraction(1))]
-        self.assertEqual([list(row) for row in grid_of(half).rows], [[0, 0]])  # 1/200,000, to the even one
+        self.assertEqual([list(row) for row in grid_of(half).rows], [[0, -1]])  # -1/200,000
 
     def test_emergency_limits(self):
         branches = [branch._replace(emergency=branch.limit + 7) for branch in ieee14()]
@@ -175,7 +175,7 @@ class Command(FolderTest):
         self.assertEqual(
             err,
             "slack 1; 280 factors by exact fractions, 247 of them rounded to five decimals (the nearest, a "
-            "half to the even one), by at most 0.0000049975\n",
+            "half away from zero), by at most 0.0000049975\n",
         )
         book = (IEEE14 / "book.csv").read_text().replace("Bus ", "")
         (made / "book.csv").write_text(book)
@@ -202,10 +202,10 @@ class Command(FolderTest):
             (a + "b,2,2,0.1,5\n", None, (), "branches.csv:3:TO_BUS: from 2 to itself\n"),
             (a + "a,2,3,0.1,5\n", None, (), "branches.csv:3:BRANCH_ID: a occurs twice\n"),
             (a + "b,2,3,0.1,5.0005\n", None, (), "branches.csv:3:LIMIT_MW: 5.0005 has more than 3 "),
-            (a + "b,7,8,0.1,5\n", None, (), "branches.csv:3:FROM_BUS: an island: no branches connect "),
+            (a + "b,7,8,0.1,5\n", None, (), "branches.csv:3:FROM_BUS: an island: nothing connects "),
             (b, None, (), "branches.csv:2:LIMIT_MW: no branch has a limit: nothing is monitored\n"),
             ("", None, (), "branches.csv: no branch\n"),
-            (a + b, "x,a\n", (), "out.csv:2:CONTINGENCY_ID: its outage splits buses 2, 3 off the network: "),
+            (a + b, "x,a\n", (), "out.csv:2:CONTINGENCY_ID: its outage splits off 2 buses (2, 3): "),
             (a + b, "x,c\n", (), "out.csv:2:BRANCH_ID: no branch 'c'\n"),
             (a + b, "x,a\ny,b\nx,a\n", (), "out.csv:4:BRANCH_ID: a occurs twice in this contingency\n"),
             (a + b, None, ("--slack", "9"), "--slack: no bus '9' in the branches\n"),

@@ -43,7 +43,7 @@ class Targets(FolderTest):
         got = []
         reader = threading.Thread(target=lambda: got.append((self.place / "pipe").read_bytes()), daemon=True)
         reader.start()
-        self.assertEqual(command("market", CASE_L, "-o", self.place / "pipe")[0], 0)
+        self.assertEqual(command("market", CASE_L, "--file", self.place / "pipe")[0], 0)
         reader.join(10)
         self.assertEqual([len(data) for data in got], [26])
         self.assertEqual(everything(self.place), {"pipe": stat.S_IFIFO})
@@ -64,30 +64,30 @@ class Targets(FolderTest):
 
     def test_full(self):
         device = self.device(7)
-        status, _, err = command("market", CASE_L, "-o", device)
+        status, _, err = command("market", CASE_L, "--file", device)
         said = f"crr: {device} can't be written: No space left on device; it may have taken a part\n"
         self.assertEqual((status, err), (2, said))
         self.assertEqual(everything(self.place), {"device": stat.S_IFCHR})
 
     def test_standard_output(self):
         """By whatever name: the bytes alone, whether it is a pipe, a file, or a file that is written on."""
-        command("market", CASE_L, "-o", self.folder / "market.bin")
+        command("market", CASE_L, "--file", self.folder / "market.bin")
         view = (self.folder / "market.bin").read_bytes()
         (self.place / "stdout").symlink_to(
             "/proc/self/fd/1"
         )  # as /dev/stdout is, which must not be the one that is replaced
-        done = started("market", CASE_L, "-o", self.place / "stdout")
+        done = started("market", CASE_L, "--file", self.place / "stdout")
         out, err = done.communicate()
         self.assertEqual((done.returncode, out, err.count(b"26 bytes written\n")), (0, view, 1))
         self.assertEqual(os.readlink(self.place / "stdout"), "/proc/self/fd/1")
-        done = started("market", CASE_L, "-o", self.place / "stdout", "--json")
+        done = started("market", CASE_L, "--file", self.place / "stdout", "--json")
         out, err = done.communicate()
         self.assertEqual((done.returncode, out, json.loads(err)["bytes"]), (0, view, 26))
         for mode, before in (("wb", b""), ("ab", b"before")):
             with open(self.place / "file", mode) as file:
                 file.write(before)
                 file.flush()
-                done = started("market", CASE_L, "-o", self.place / "file", stdout=file)
+                done = started("market", CASE_L, "--file", self.place / "file", stdout=file)
                 self.assertEqual((done.wait(), done.communicate()[1].count(b"26 bytes")), (0, 1))
             self.assertEqual(
                 (self.place / "file").read_bytes(), before + view if mode == "wb" else view + before + view
@@ -135,7 +135,7 @@ class Targets(FolderTest):
             self.skipTest("run as root, to whom everything is allowed")
         (self.place / "view.bin").write_bytes(b"mine")
         os.chmod(self.place / "view.bin", 0o444)
-        status, _, err = command("market", CASE_L, "-o", self.place / "view.bin", "--force")
+        status, _, err = command("market", CASE_L, "--file", self.place / "view.bin", "--force")
         self.assertEqual((status, "Permission denied; nothing was changed" in err), (2, True))
 
 
@@ -154,8 +154,9 @@ class Spared(FolderTest):
             return {name for argument in one.arguments for name in argument.names}
 
         writing = {name for name, one in COMMANDS.items() if "-o" in names(one)}
-        expected = "pack unpack settle exposure report grid remap market holder canonical hub-add"
-        self.assertEqual(writing, {*expected.split(), "tiers", "migrate"})
+        expected = "pack unpack settle exposure report grid remap in-force market holder canonical hub-add"
+        expected += " tiers migrate"
+        self.assertEqual(writing, set(expected.split()))
         self.assertEqual({name for name, one in COMMANDS.items() if "--force" in names(one)}, writing)
 
     def test_remap_onto_itself(self):
@@ -205,10 +206,10 @@ class Spared(FolderTest):
         self.assertEqual(command("settle", IEEE14, "-o", self.folder)[0], 0)
 
     def test_views(self):
-        for arguments in (("market",), ("holder", 7), ("canonical",)):
+        for arguments in (("market", "--file"), ("holder", 7, "--file"), ("canonical", "-o")):
             place = self.folder / arguments[0]
             place.write_text("mine")
-            self.refused(arguments[0], CASE_L, *arguments[1:], "-o", place)
+            self.refused(arguments[0], CASE_L, *arguments[1:], place)
 
     def test_inputs(self):
         """A file of the case is never written over, forced or not, by whatever name."""
@@ -221,9 +222,14 @@ class Spared(FolderTest):
         before = everything(self.folder)
         for case, names in places.items():
             for name in names:
-                for arguments in (("report",), ("canonical",), ("market",), ("report", "--force")):
+                for asked, out in (
+                    (("report",), "-o"),
+                    (("canonical",), "-o"),
+                    (("market",), "--file"),
+                    (("report", "--force"), "-o"),
+                ):
                     place = self.folder / case / name
-                    status, _, err = command(*arguments, self.folder / case, "-o", place)
+                    status, _, err = command(*asked, self.folder / case, out, place)
                     said = f"{place}: that is a file of the case itself: choose another"
                     self.assertEqual(
                         (status, err.splitlines()[0], everything(self.folder)), (2, said, before)

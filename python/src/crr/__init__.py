@@ -53,13 +53,13 @@ from .views import Held, read_holder_view, write_holder_view, write_market_view
 from .words import PERIODS, PROCESSES, Kind, Period, Process
 
 if TYPE_CHECKING:
-    from . import from_csv, network, packed, to_csv
+    from . import from_csv, network, packed, terms, to_csv
 
 OBLIGATION, OPTION = Kind.OBLIGATION, Kind.OPTION
 OFF_PEAK, ON_PEAK = Period.OFF_PEAK, Period.ON_PEAK
 ANNUAL, TIER_LT, MONTHLY = Process.ANNUAL, Process.TIER_LT, Process.MONTHLY
 
-_MODULES = ("from_csv", "network", "packed", "to_csv")  # imported when they are first asked for
+_MODULES = ("from_csv", "network", "packed", "terms", "to_csv")  # imported when they are first asked for
 
 
 def __getattr__(name: str) -> ModuleType:
@@ -138,6 +138,7 @@ __all__ = [
     "settle_hour",
     "settle_hours",
     "share_balance",
+    "terms",
     "test_book",
     "to_csv",
     "weekday",

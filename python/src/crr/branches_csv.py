@@ -58,12 +58,12 @@ def _name(row: Sequence[str], sheet: Sheet, ends: Tuple[str, str], count: Dict[T
 
 def read_branches(path: Path, faults: List[Fault]) -> Tuple[List[Branch], List[int]]:
     """The branches of a file, and the line of each."""
-    sheet = Sheet(path, BRANCHES, faults)
+    sheet = Sheet(path, BRANCHES, faults, may=_BESIDE)
     branches: List[Branch] = []
     lines: List[int] = []
     if len(sheet.at) < len(BRANCHES):
         return branches, lines
-    sheet.optional(BRANCHES, *_BESIDE)
+    sheet.at.update(sheet.also)
     count: Dict[Tuple[str, str], int] = {}
     for line, row in sheet.rows():
         start, end = row[sheet.at["FROM_BUS"]], row[sheet.at["TO_BUS"]]

@@ -32,6 +32,7 @@ from . import (
 from .command import COMMANDS, FAULTY, INTERRUPTED, PASSES, Answer, Command, Shown, counted
 from .faults import Fault, Faults, faults_of
 from .native import Refused
+from .reading import gathered
 from .streams import write_to
 from .version import Version
 from .writing import is_output
@@ -54,6 +55,8 @@ _ORDER = (
     help_commands,
 )
 _MODULES = [module.__name__ for module in _ORDER]
+
+_WRITTEN = ("out", "file")  # arguments that say where to write
 
 # Commands that had another name: it still works, and no help lists it.
 _FORMER = {"settled": "canonical"}
@@ -124,7 +127,7 @@ def _places(options: argparse.Namespace, faults: Sequence[Fault]) -> str:
     if folder is None:
         return ""
     paths = {name: str(value) for name, value in vars(options).items() if isinstance(value, Path)}
-    given = [path for name, path in paths.items() if name not in ("folder", "out")]
+    given = [path for name, path in paths.items() if name not in ("folder", *_WRITTEN)]
     places = dict.fromkeys(fault.file if fault.file in given else str(folder) for fault in faults)
     return f" in {' and '.join(places)}"
 
@@ -143,7 +146,7 @@ def _answer(options: argparse.Namespace) -> Answer:
     """What the command that was asked for answers; its function has the arguments' names."""
     given = {name: value for name, value in vars(options).items() if name not in ("command", "json")}
     try:
-        return COMMANDS[options.command].function(**given)
+        return COMMANDS[options.command].function(**gathered(given))
     except (Faults, Refused, OSError) as problem:
         return _faulty(options, problem)
 
@@ -173,7 +176,7 @@ def _run(given: List[str]) -> int:
     try:
         options = parser().parse_args(_by_present_names(given))
         as_json, answer = options.json, _answer(options)
-        aside = is_output(getattr(options, "out", None))  # which has bytes of another kind
+        aside = any(is_output(getattr(options, name, None)) for name in _WRITTEN)  # bytes of another kind
     except Shown as shown:
         answer = Answer(PASSES, str(shown), shown.data)
     except Usage as usage:

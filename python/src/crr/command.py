@@ -104,6 +104,8 @@ JOBS = argument(
     metavar="N",
     help="how many processes, 1 to 9999; without it, 1",
 )
+
+
 def _megabytes(text: str) -> int:
     """So many MB, as bytes."""
     if not (text.isascii() and text.isdigit() and len(text) < 8):
@@ -118,9 +120,6 @@ MEMORY = argument(
     metavar="MB",
     help="of a grid beyond the library's sizes, hold at most so many MB of factors, and the others in a "
     "temporary file; without it, 1000",
-)
-ROUND_PRICES = argument(
-    "--round-prices", action="store_true", help="round prices of more than two decimals to the nearest cent"
 )
 
 

@@ -21,7 +21,6 @@ from .command import (
     MEMORY,
     PASSES,
     RENT_PROCESS,
-    ROUND_PRICES,
     Answer,
     command,
     counted,
@@ -39,8 +38,9 @@ from .from_csv import load
 from .interface import FLOW_PLACES, QUANTITY
 from .large import flows_of, judged, large_cuts, large_words
 from .notes import notes
-from .opening import counts, counts_words, is_csv, opened, rounded_words, settled
+from .opening import counts, counts_words, is_csv, opened, rounded_data, rounded_words, settled
 from .packed import only_hour_name, read_bin, write_packed
+from .reading import READING, READING_BOOK, Reading
 from .results import (
     HOLDERS,
     MONTHS_FILE,
@@ -54,25 +54,26 @@ from .results import (
     is_result,
     result_files,
 )
+from .terms import ON, by_span, idle_words
 from .to_csv import csv_text, write_csv
 from .words import Line, Period, Process, line_names, line_words
 from .writing import write_files
 
 
-@command("check", "read everything and list every fault", FOLDERS, ROUND_PRICES, JOBS)
-def check(folders: List[Path], round_prices: bool, jobs: int) -> Answer:
+@command("check", "read everything and list every fault", FOLDERS, *READING, JOBS)
+def check(folders: List[Path], reading: Reading, jobs: int) -> Answer:
     """Reads everything; every fault is raised."""
-    return each(partial(_check, round_prices=round_prices), folders, jobs, as_counted)
+    return each(partial(_check, reading=reading), folders, jobs, as_counted)
 
 
-def _check(folder: Path, round_prices: bool) -> Answer:
-    case = opened(folder, round_prices)
+def _check(folder: Path, reading: Reading) -> Answer:
+    case = opened(folder, reading, terms=True)
     case.priced_hours()  # price files too
     form = "CSV" if case.is_csv else "bin"
     text = f"{folder}: {counts_words(case)}; {form} files without a fault{rounded_words(case)}\n"
     beside = notes(folder, case.is_csv)
     data: Dict[str, object] = {"folder": str(folder), "form": form, **counts(case)}
-    data.update(rounded_prices=case.rounded, notes=beside)
+    data.update(rounded_data(case), notes=beside)
     return Answer(PASSES, text + "".join(f"{note}\n" for note in beside), data)
 
 
@@ -83,31 +84,35 @@ _BESIDE = "a folder; without it, the same folder"
     "pack",
     "CSV files to grid.bin, book.bin, names.csv and price files",
     FOLDER,
-    ROUND_PRICES,
+    *READING,
     writes(_BESIDE),
     FORCE,
     MEMORY,
 )
-def pack(folder: Path, out: Optional[Path], round_prices: bool, force: bool, memory: int) -> Answer:
+def pack(folder: Path, out: Optional[Path], reading: Reading, force: bool, memory: int) -> Answer:
     """CSV files to bin files, read back and compared. Beside the CSV files, where no other folder is named,
     they replace those of before."""
     target = out or folder
     if not is_csv(folder):
         text = "packed already: grid.bin, and no CSV files; crr unpack makes CSV files of it"
         raise_any([Fault(str(folder), 0, "", text)])
-    case, rounded = load(folder, True, round_prices, memory=memory)
+    case, _ = load(folder, True, memory=memory, **reading._asdict())
     force = force or target.resolve() == folder.resolve()
     if not case.fits:
         return _packed_large(case, target, force)
     written = write_packed(case, target, force)
     hours = f"{counted(len(case.hours), 'hour')} of prices"
     text = f"grid.bin, book.bin, names.csv and {hours} written and read back{rounded_words(case)}"
-    data: Dict[str, object] = {"out": str(target), "written": written, "rounded_prices": rounded}
+    data: Dict[str, object] = {"out": str(target), "written": written, **rounded_data(case)}
     return Answer(PASSES, f"{target}: {text}\n", data)
 
 
 def _packed_large(case: Case, target: Path, force: bool) -> Answer:
-    """A case that the library does not take whole, in a form of its own; prices are left out."""
+    """A case that the library does not take whole, in a form of its own; prices are left out, and terms are a
+    fault."""
+    if case.terms:
+        text = "first or last days are not packed at this size: crr in-force writes the case of a day"
+        raise_any([Fault("book.csv", 0, "", text)])
     written = write_dense(case, target, force)
     text = f"larger than the library's sizes: {', '.join(written)} written and read back, for crr test"
     left = f"; {counted(len(case.hours), 'hour')} of prices not packed: crr settle takes the CSV files"
@@ -166,20 +171,50 @@ def _verdict_rows(case: Case, answers: Dict[Line, Verdict]) -> List[Tuple[object
 AT_WORST = ("EXPOSURE_LEAST", "EXPOSURE_MOST")  # beside the verdicts, for scripts
 
 
-@command("test", "the simultaneous feasibility test", FOLDERS, ANY_PERIODS, ANY_PROCESSES, JOBS, MEMORY)
+@command(
+    "test",
+    "the simultaneous feasibility test",
+    FOLDERS,
+    ANY_PERIODS,
+    ANY_PROCESSES,
+    ON,
+    *READING_BOOK,
+    JOBS,
+    MEMORY,
+)
 def test(
-    folders: List[Path], periods: Sequence[int], processes: Sequence[int], jobs: int, memory: int
+    folders: List[Path],
+    periods: Sequence[int],
+    processes: Sequence[int],
+    on: Optional[str],
+    reading: Reading,
+    jobs: int,
+    memory: int,
 ) -> Answer:
     """The simultaneous feasibility test; status 1 where the book fails in one of the periods and processes
-    asked for. Processes share folders or, of one folder, slices."""
-    taken = partial(opened, prices=False, any_size=True, memory=memory, jobs=jobs if len(folders) == 1 else 1)
-    return each(partial(_test, taken, periods=periods, processes=processes), folders, jobs, as_judged)
+    asked for."""
+    judge = partial(_test, periods=periods, processes=processes)
+    taken = _taken(reading, memory, jobs, folders)
+    return each(partial(_by_span, taken, on=on, judge=judge), folders, jobs, as_judged)
 
 
-def _test(
-    taken: Callable[[Path], Case], folder: Path, periods: Sequence[int], processes: Sequence[int]
-) -> Answer:
-    case = taken(folder)
+Taken = Callable[[Path], Case]
+
+
+def _taken(reading: Reading, memory: int, jobs: int, folders: Sequence[Path]) -> Taken:
+    """How a folder is opened to be tested, at any size. Processes share folders or, of one folder, slices."""
+    shared = jobs if len(folders) == 1 else 1
+    return partial(
+        opened, reading=reading, any_size=True, prices=False, terms=True, memory=memory, jobs=shared
+    )
+
+
+def _by_span(taken: Taken, folder: Path, on: Optional[str], judge: Callable[[Case], Answer]) -> Answer:
+    """The verdicts on a folder's contracts in force."""
+    return by_span(taken(folder), on, judge, "verdicts")
+
+
+def _test(case: Case, periods: Sequence[int], processes: Sequence[int]) -> Answer:
     answers = verdicts(case, periods, processes)
     rows = _verdict_rows(case, answers)
     status = PASSES if all(verdict.passed for verdict in answers.values()) else FAILS
@@ -222,22 +257,27 @@ def _cut_row(case: Case, cut: Cut) -> CutRow:
     FOLDERS,
     ANY_PERIODS,
     ANY_PROCESSES,
+    ON,
+    *READING_BOOK,
     JOBS,
     MEMORY,
 )
 def cuts(
-    folders: List[Path], periods: Sequence[int], processes: Sequence[int], jobs: int, memory: int
+    folders: List[Path],
+    periods: Sequence[int],
+    processes: Sequence[int],
+    on: Optional[str],
+    reading: Reading,
+    jobs: int,
+    memory: int,
 ) -> Answer:
     """What clears a failing book; the status is the test's, since an empty list alone does not tell whether
-    the book passes. Processes share as those of the test do."""
-    taken = partial(opened, prices=False, any_size=True, memory=memory, jobs=jobs if len(folders) == 1 else 1)
-    return each(partial(_cuts, taken, periods=periods, processes=processes), folders, jobs)
+    the book passes."""
+    judge = partial(_cuts, periods=periods, processes=processes)
+    return each(partial(_by_span, _taken(reading, memory, jobs, folders), on=on, judge=judge), folders, jobs)
 
 
-def _cuts(
-    taken: Callable[[Path], Case], folder: Path, periods: Sequence[int], processes: Sequence[int]
-) -> Answer:
-    case = taken(folder)
+def _cuts(case: Case, periods: Sequence[int], processes: Sequence[int]) -> Answer:
     answers = verdicts(case, periods, processes)
     listed = cut_rows(case, answers)
     status = FAILS if listed else PASSES
@@ -273,7 +313,7 @@ def _cuts_words(names: Names, answers: Dict[Line, Verdict], listed: Dict[Line, L
     "settle",
     "settle every hour: holder by month, hour by hour, contract by contract",
     FOLDER,
-    ROUND_PRICES,
+    *READING,
     RENT_PROCESS,
     writes("a folder for the result files"),
     FORCE,
@@ -284,14 +324,15 @@ def settle(
     folder: Path,
     out: Optional[Path],
     jobs: int,
-    round_prices: bool,
+    reading: Reading,
     process: Optional[int],
     force: bool,
     memory: int,
 ) -> Answer:
     """Settles every hour; with `out` writes hours.csv, holders.csv and contracts.csv there, over those of
     before. With a process, each hour's rent and shortfall too, and months.csv."""
-    case = opened(folder, round_prices, any_size=True, memory=0 if jobs > 1 else memory)
+    memory = 0 if jobs > 1 else memory  # processes read the factors from a file, each what it needs
+    case = opened(folder, reading, any_size=True, terms=True, memory=memory)
     if process is not None:  # hours are read once: what is settled is what the rent is of
         case = replace(case, hours=case.priced_hours())
     result = settled(case, jobs, Bar("settle"))
@@ -301,14 +342,14 @@ def settle(
     rows = [(case.names.holder(holder), month, dollars(cents)) for (holder, month), cents in sums.items()]
     total, exact = dollars(result.sum), exact_dollars(result.exact)
     hours = counted(len(result.hours), "hour")
-    note = f"{hours}: sum {total}, exact total {exact}{rounded_words(case)}\n"
+    note = f"{hours}: sum {total}, exact total {exact}{rounded_words(case)}{idle_words(case)}\n"
     data: Dict[str, object] = {
         "hours": len(result.hours),
         "sum": total,
         "exact_total": exact,
         "by_holder": objects(HOLDERS, rows),
         "by_hour": objects(hour_heading(costs), hour_rows(result, case.times, costs)),
-        "rounded_prices": case.rounded,
+        **rounded_data(case),
     }
     if costs:
         note += costs_words(costs, case.times)

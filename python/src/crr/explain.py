@@ -9,17 +9,19 @@ from __future__ import annotations
 from pathlib import Path
 from typing import Dict, List, NamedTuple, Optional, Sequence, Tuple
 
-from .case import Case, PricedHour, Time
-from .command import FOLDER, PASSES, ROUND_PRICES, Answer, argument, command, counted, objects
+from .case import Case, PricedHour, Term, Time
+from .command import FOLDER, PASSES, Answer, argument, command, counted, objects
 from .decimals import decimal
 from .faults import Fault, Faults, brief, must_agree
 from .feasibility import find_flows
 from .files import Contract, write_book, write_prices
 from .hour_commands import a_time, hour_of, time_words
 from .interface import FLOW_PLACES, PART_PLACES, QUANTITY, SHADOW_PRICE, SHIFT_FACTOR
-from .opening import opened, rounded_words
+from .opening import opened, rounded_data, rounded_words
+from .reading import READING, Reading
 from .results import CENT_PLACES, dollars
 from .settlement import Settler
+from .terms import differ, on_day
 from .to_csv import book_row, csv_text
 from .words import TIMES_OF_USE, Kind
 
@@ -60,13 +62,15 @@ class Paid(NamedTuple):
 
 
 def _flows(case: Case, number: int) -> Tuple[List[int], List[int]]:
-    """The contract's flow on each constraint as it counts, and that of all contracts of its period; with that
-    of the others the one must be the other."""
+    """The contract's flow on each constraint as it counts, and that of all contracts of its period, none where
+    they are in force on different days. With that of the others the one must be the other."""
     contract, nodes, grid = case.book[number], len(case.names.nodes), case.grid
     alone = write_book(nodes, [contract], case.book_form)
+    own = find_flows(grid, alone, contract.period).flows
+    if differ(case):
+        return own, []
     without = write_book(nodes, [*case.book[:number], *case.book[number + 1 :]], case.book_form)
-    books = (alone, without, case.book_file())
-    own, others, together = (find_flows(grid, book, contract.period).flows for book in books)
+    others, together = (find_flows(grid, book, contract.period).flows for book in (without, case.book_file()))
     must_agree("flows, one by one", [a + b for a, b in zip(own, others)], together)
     return own, together
 
@@ -117,7 +121,7 @@ def _rows(case: Case, number: int, paid: Paid, priced_alone: bool) -> List[Tuple
             *(decimal(factors[k], SHIFT_FACTOR.places) for factors in ends),
             decimal(contract.quantity, QUANTITY.places),
             _exact(paid.amounts[k]),
-            *(decimal(flows[k], FLOW_PLACES) for flows in (own, together)),
+            *(decimal(flows[k], FLOW_PLACES) if flows else "" for flows in (own, together)),
         )
         for k in sorted(shown, key=lambda k: (-abs(paid.amounts[k]), k))
     ]
@@ -139,6 +143,17 @@ def _number(case: Case, crr_id: str) -> int:
     return case.names.contracts.index(crr_id)
 
 
+def _term(case: Case, crr_id: str) -> Term:
+    """When the contract of a name is in force."""
+    number = _number(case, crr_id)
+    return case.terms[number] if case.terms else Term()
+
+
+def _check_in_force(crr_id: str, term: Term, day: str) -> None:
+    if not term.covers(day):
+        raise Faults([Fault("CRR_ID", 0, "", f"{crr_id} is in force {term.words}, and not on {day}")])
+
+
 @command(
     "explain",
     "a contract constraint by constraint: price * (source factor - sink factor) * MW, which add up to what "
@@ -153,15 +168,19 @@ def _number(case: Case, crr_id: str) -> int:
         help="such as '2026-07-01 HE08' or 2026-07-01/8: what priced it then; without it, every constraint "
         "that it loads, and all hours together",
     ),
-    ROUND_PRICES,
+    *READING,
 )
-def explain(folder: Path, crr_id: str, time: Optional[Time], round_prices: bool) -> Answer:
+def explain(folder: Path, crr_id: str, time: Optional[Time], reading: Reading) -> Answer:
     """What a contract is paid and what it loads, constraint by constraint."""
-    case = opened(folder, round_prices)
+    case = opened(folder, reading, terms=True)
+    term = _term(case, crr_id)
+    asked = [hour_of(case, time)] if time else case.priced_hours()
+    if time:
+        _check_in_force(crr_id, term, time[0])
+        case = on_day(case, time[0])
     number = _number(case, crr_id)
     contract, names = case.book[number], case.names
-    asked = [hour_of(case, time)] if time else case.priced_hours()
-    hours = [hour for hour in asked if hour.period == contract.period]
+    hours = [hour for hour in asked if hour.period == contract.period and term.covers(hour.day)]
     paid = _paid(case, number, hours)
     rows = _rows(case, number, paid, priced_alone=time is not None)
     period = TIMES_OF_USE[contract.period]
@@ -174,5 +193,5 @@ def explain(folder: Path, crr_id: str, time: Optional[Time], round_prices: bool)
         note += _words(paid, which)
     data: Dict[str, object] = {"crr_id": crr_id, "hours": len(hours), "constraints": objects(EXPLAINED, rows)}
     data.update(constraints_total=_exact(sum(paid.amounts)), not_charged=_exact(paid.not_charged))
-    data.update(exact_total=_exact(paid.exact), amount=dollars(paid.cents), rounded_prices=case.rounded)
+    data.update(exact_total=_exact(paid.exact), amount=dollars(paid.cents), **rounded_data(case))
     return Answer(PASSES, csv_text(EXPLAINED, rows), data, note + rounded_words(case).lstrip("; "))

@@ -2,7 +2,7 @@
 
 constraints.csv  CONSTRAINT_ID,LIMIT_MW
 factors.csv      NODE_ID, and a column for each constraint
-book.csv         CRR_ID,OWNER,HEDGE_TYPE,TIME_OF_USE,SOURCE,SINK,MW
+book.csv         CRR_ID,OWNER,HEDGE_TYPE,TIME_OF_USE,SOURCE,SINK,MW, and START_DATE,END_DATE where there are
 prices.csv       OPR_DT,OPR_HR,TIME_OF_USE,CONSTRAINT_ID,SHADOW_PRICE
 names.csv        TABLE,NUMBER,NAME
 
@@ -14,24 +14,24 @@ from __future__ import annotations
 
 import re
 from array import array
-from datetime import date
 from pathlib import Path
 from typing import Dict, List, Optional, Sequence, Set, Tuple, Union
 
 from .blocks import MEMORY, Blocks
 from .book_csv import read_book, word_in
 from .case import FORMS, TAKE_MORE, Case, Names, PricedHour, book_form, grid_form
+from .days import ORDERS, is_date, no_day, plain_day, plain_hour
 from .decimals import whole
 from .faults import Fault, raise_any
 from .files import Contract
 from .inputs import Input
 from .interface import LIMIT, MAX_CONSTRAINTS, MAX_NODES, SHADOW_PRICE, SHIFT_FACTOR
 from .names_csv import read_names
+from .reading import Reading
 from .sheet import Sheet, is_there
 from .streamed import StreamedSheet, is_large
 from .words import Period
 
-_DAY = re.compile(r"[0-9]{4}-[0-9]{2}-[0-9]{2}")
 _HOUR = re.compile(r"0?[1-9]|1[0-9]|2[0-5]")  # hour ending; the day on which clocks go back has 25
 
 CONSTRAINTS = ("CONSTRAINT_ID", "LIMIT_MW")
@@ -41,11 +41,11 @@ PRICES = ("OPR_DT", "OPR_HR", "TIME_OF_USE", "CONSTRAINT_ID", "SHADOW_PRICE")
 class Loaded:
     """A folder while it is read: the tables so far and every fault found."""
 
-    def __init__(self, folder: Path, any_size: bool, round_prices: bool, memory: int) -> None:
-        self.folder, self.any_size, self.round_prices, self.memory = folder, any_size, round_prices, memory
+    def __init__(self, folder: Path, any_size: bool, reading: Reading, memory: int) -> None:
+        self.folder, self.any_size, self.reading, self.memory = folder, any_size, reading, memory
         self.faults: List[Fault] = []
         self.inputs: List[Input] = []
-        self.rounded = 0
+        self.rounded = self.rounded_factors = 0
         self.constraints_read = False  # else nothing is said of names that would not be found
         self.constraints: Dict[str, int] = {}
         self.nodes: Dict[str, int] = {}
@@ -66,20 +66,23 @@ def load(
     any_size: bool = False,
     round_prices: bool = False,
     prices: bool = True,
+    round_factors: bool = False,
+    dates: str = ORDERS[0],
     memory: int = MEMORY,
 ) -> Tuple[Case, int]:
     """The case of a folder, and how many of its prices were rounded. Raises `Faults`.
 
     With `any_size` counts above the library's are taken, for slices; a large factors.csv is then streamed,
     and at most so many bytes of `memory` hold its factors. With `round_prices` a price of more than two
-    decimals is rounded to the nearest cent; it is a fault otherwise. Without `prices` prices.csv is not
-    looked at."""
-    loaded = Loaded(Path(folder), any_size, round_prices, memory)
+    decimals is rounded to the nearest cent, a half away from zero; it is a fault otherwise. `round_factors`
+    does so with factors of more than five. `dates` is the order of a date's parts, "mdy" or "dmy" where they
+    are not YYYY-MM-DD. Without `prices` prices.csv is not looked at."""
+    loaded = Loaded(Path(folder), any_size, Reading(round_prices, round_factors, dates), memory)
     _read_constraints(loaded)
     _read_factors(loaded)
     tables = read_names(loaded.folder, loaded.faults, loaded.inputs)
-    known, noting = tables["holder"], (loaded.faults, loaded.inputs)
-    book, ids, holders = read_book(loaded.folder / "book.csv", loaded.nodes, known, any_size, *noting)
+    known, noting = tables["holder"], (loaded.faults, loaded.inputs, dates)
+    book, ids, holders, terms = read_book(loaded.folder / "book.csv", loaded.nodes, known, any_size, *noting)
     hours = _read_prices(loaded) if prices and is_there(loaded.folder / "prices.csv") else []
     raise_any(loaded.faults)
     holders = {**_without_contract(known, book, holders), **holders}
@@ -95,6 +98,8 @@ def load(
         forms.get(1, book_form(book)),
         loaded.inputs,
         rounded=loaded.rounded,
+        rounded_factors=loaded.rounded_factors,
+        terms=terms,
         blocks=loaded.blocks,
     )
     return case, loaded.rounded
@@ -160,13 +165,13 @@ class _Figures(Dict[str, int]):
 
 
 def _factor_row(
-    sheet: Sheet, line: int, fields: List[str], columns: Sequence[int], figures: _Figures
+    sheet: Sheet, line: int, fields: List[str], columns: Sequence[int], figures: _Figures, rounded: bool
 ) -> List[int]:
     """A node's factors in the order of constraints. A fault is noted for each that is none."""
     try:
         return [figures[fields[at]] for at in columns]
     except ValueError:
-        return [sheet.figure(line, at, fields[at], SHIFT_FACTOR) for at in columns]
+        return [sheet.figure(line, at, fields[at], SHIFT_FACTOR, rounded) for at in columns]
 
 
 def _read_factors(loaded: Loaded) -> None:
@@ -183,7 +188,7 @@ def _read_factors(loaded: Loaded) -> None:
     line, figures = 1, _Figures()
     for line, fields in sheet.rows():
         if sheet.new_name(line, "NODE_ID", fields[0], loaded.nodes):
-            row = _factor_row(sheet, line, fields, columns, figures)
+            row = _factor_row(sheet, line, fields, columns, figures, loaded.reading.round_factors)
             if loaded.blocks is None:
                 loaded.factors.extend(row)
             elif not loaded.faults:
@@ -191,6 +196,7 @@ def _read_factors(loaded: Loaded) -> None:
             loaded.count(sheet, line, "NODE_ID", len(loaded.nodes), MAX_NODES, "nodes", 2)
     if loaded.blocks is not None and not loaded.faults:
         loaded.blocks.close()
+    loaded.rounded_factors = sheet.rounded
     if not loaded.nodes:
         sheet.fault(line, "NODE_ID", "no node", 2)
 
@@ -205,7 +211,8 @@ def _read_prices(loaded: Loaded) -> List[PricedHour]:
     times = _Times(sheet, len(loaded.constraints))
     listed: Set[Tuple[str, int, int]] = set()
     for line, row in sheet.rows():
-        hour = times.hour(line, row[day_at], row[hour_at], row[period_at])
+        time = plain_day(row[day_at], loaded.reading.dates), plain_hour(row[hour_at])
+        hour = times.hour(line, *time, row[period_at])
         name, price = row[constraint_at], row[price_at]
         if hour is None or not (name or price):  # a row of neither tells an hour without congestion
             continue
@@ -218,10 +225,8 @@ def _read_prices(loaded: Loaded) -> List[PricedHour]:
         if key in listed:
             sheet.fault(line, "CONSTRAINT_ID", f"{name} occurs twice in this hour")
         listed.add(key)
-        hour.prices[k] = sheet.figure(line, price_at, price, SHADOW_PRICE, loaded.round_prices)
-        loaded.rounded += (
-            loaded.round_prices and len(price.partition(".")[2].rstrip("0")) > SHADOW_PRICE.places
-        )
+        hour.prices[k] = sheet.figure(line, price_at, price, SHADOW_PRICE, loaded.reading.round_prices)
+    loaded.rounded = sheet.rounded
     return times.in_order()
 
 
@@ -263,7 +268,7 @@ class _Times:
             return True
         right = True
         if not is_date(day):
-            self._sheet.fault(line, "OPR_DT", f"{day!r} is not a day, YYYY-MM-DD")
+            self._sheet.fault(line, "OPR_DT", no_day(day))
             right = False
         if not _HOUR.fullmatch(hour):
             self._sheet.fault(line, "OPR_HR", f"{hour!r} is not an hour ending, 1 to 25")
@@ -273,14 +278,3 @@ class _Times:
     def in_order(self) -> List[PricedHour]:
         """All hours by day and hour."""
         return [self._hours[key] for key in sorted(self._hours)]
-
-
-def is_date(day: str) -> bool:
-    """Whether a text is a day, YYYY-MM-DD."""
-    if not _DAY.fullmatch(day):
-        return False
-    try:
-        date.fromisoformat(day)
-        return True
-    except ValueError:
-        return False

@@ -65,7 +65,7 @@ def rounding_words(grid: NetworkGrid) -> str:
     rounding = grid.rounding
     way = "exact fractions" if grid.exact else "floating point"
     counts = f"{rounding.factors:,} factors by {way}, {rounding.rounded:,} of them rounded to five decimals"
-    said = f"slack {grid.slack}; {counts} (the nearest, a half to the even one)"
+    said = f"slack {grid.slack}; {counts} (the nearest, a half away from zero)"
     said += f", by at most {rounding.largest:.10f}"
     if rounding.close:
         said += f"; {counted(rounding.close, 'factor')} so near a half that floating point may have decided"

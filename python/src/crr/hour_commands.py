@@ -8,14 +8,16 @@ from pathlib import Path
 from typing import Dict, List, Optional, Sequence, Tuple, cast
 
 from .case import Case, PricedHour, Time, hour_name
-from .command import FOLDER, PASSES, ROUND_PRICES, Answer, argument, command, counted, objects
+from .command import FOLDER, PASSES, Answer, argument, command, counted, objects
+from .days import is_date
 from .decimals import decimal
 from .faults import Fault, Faults, raise_any
-from .from_csv import is_date
 from .interface import MCC_PLACES
-from .opening import opened, rounded_words
+from .opening import opened, rounded_data, rounded_words
+from .reading import READING, Reading
 from .results import CENT_PLACES, dollars, exact_dollars
 from .settlement import find_mcc, settle_hour
+from .terms import on_day
 from .to_csv import book_row, csv_text
 from .words import TIMES_OF_USE
 
@@ -81,11 +83,11 @@ def _nodes(names: Sequence[str], asked: Optional[List[str]]) -> List[int]:
         help="such as '2026-07-01 HE08' or 2026-07-01/8; without it, every hour",
     ),
     argument("--node", action="append", metavar="NODE", help="this node alone; may be said again for more"),
-    ROUND_PRICES,
+    *READING,
 )
-def mcc(folder: Path, hour: Optional[Time], node: Optional[List[str]], round_prices: bool) -> Answer:
+def mcc(folder: Path, hour: Optional[Time], node: Optional[List[str]], reading: Reading) -> Answer:
     """The MCC of each node in each hour."""
-    case = opened(folder, round_prices)
+    case = opened(folder, reading, terms=True)
     nodes, grid = _nodes(case.names.nodes, node), case.grid
     hours = [hour_of(case, hour)] if hour else case.priced_hours()
     rows = []
@@ -94,7 +96,7 @@ def mcc(folder: Path, hour: Optional[Time], node: Optional[List[str]], round_pri
         at = (each.day, each.hour or "", TIMES_OF_USE[each.period])
         rows += [(*at, case.names.nodes[n], decimal(cells[n], CENT_PLACES + MCC_PLACES)) for n in nodes]
     note = f"{counted(len(nodes), 'node')}, {counted(len(hours), 'hour')}{rounded_words(case)}\n"
-    data: Dict[str, object] = {"mcc": objects(MCC, rows), "rounded_prices": case.rounded}
+    data: Dict[str, object] = {"mcc": objects(MCC, rows), **rounded_data(case)}
     return Answer(PASSES, csv_text(MCC, rows), data, note)
 
 
@@ -115,12 +117,14 @@ def members(bits: int, names: Sequence[str]) -> List[str]:
     "it",
     FOLDER,
     HOUR,
-    ROUND_PRICES,
+    *READING,
 )
-def statement(folder: Path, time: Optional[Time], round_prices: bool) -> Answer:
-    """An hour's statement, contract by contract."""
-    case = opened(folder, round_prices)
-    hour, names = hour_of(case, time), case.names
+def statement(folder: Path, time: Optional[Time], reading: Reading) -> Answer:
+    """An hour's statement, contract by contract, of those in force on its day."""
+    case = opened(folder, reading, terms=True)
+    hour = hour_of(case, time)
+    case = on_day(case, hour.day)
+    names = case.names
     settled = settle_hour(case.grid, case.book_file(), hour.period, hour.prices)
     rows: List[Tuple[object, ...]] = []
     for number, contract in enumerate(case.book):
@@ -134,6 +138,6 @@ def statement(folder: Path, time: Optional[Time], round_prices: bool) -> Answer:
     note += f"exact total {figures['exact_total']}{rounded_words(case)}\n"
     data: Dict[str, object] = {"hour": hour_name(hour.day, hour.hour) if hour.hour else None}
     data.update(time_of_use=TIMES_OF_USE[hour.period], contracts=objects(STATEMENT, rows), **figures)
-    data["rounded_prices"] = case.rounded
+    data.update(rounded_data(case))
     text = csv_text(STATEMENT, ((*row[:-1], "; ".join(cast(List[str], row[-1]))) for row in rows))
     return Answer(PASSES, text, data, note)

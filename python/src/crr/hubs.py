@@ -7,13 +7,14 @@ from typing import Dict, List, Sequence
 
 from .book_csv import BOOK, Award
 from .case import NARROW_ENDS, Case, Names
-from .command import FOLDER, FORCE, PASSES, ROUND_PRICES, Answer, command, counted, objects, reads, writes
+from .command import FOLDER, FORCE, PASSES, Answer, command, counted, objects, reads, writes
 from .faults import Fault, raise_any
 from .files import add_hub_contract, read_book, write_book
 from .hubs_csv import Hub, read_hub_contracts, read_hubs
 from .interface import WIDE
 from .native import Refused
-from .opening import opened, owner_numbers, rounded_words, write_like
+from .opening import opened, owner_numbers, rounded_data, rounded_words, write_like
+from .reading import READING, Reading
 from .results import mcc_dollars
 from .settlement import find_hub_mcc
 from .sheet import Sheet
@@ -25,11 +26,11 @@ HUB_MCC = ("OPR_DT", "OPR_HR", "TIME_OF_USE", "HUB", "MCC")
 
 
 @command(
-    "hub-mcc", "the marginal cost of congestion of trading hubs, hour by hour", FOLDER, ROUND_PRICES, HUBS
+    "hub-mcc", "the marginal cost of congestion of trading hubs, hour by hour", FOLDER, *READING, HUBS
 )
-def hub_mcc(folder: Path, hubs: Path, round_prices: bool) -> Answer:
+def hub_mcc(folder: Path, hubs: Path, reading: Reading) -> Answer:
     """The MCC of each hub of a file in each hour."""
-    case = opened(folder, round_prices)
+    case = opened(folder, reading, terms=True)
     faults: List[Fault] = []
     of_file = read_hubs(hubs, case.names.nodes, faults)
     raise_any(faults)
@@ -43,7 +44,7 @@ def hub_mcc(folder: Path, hubs: Path, round_prices: bool) -> Answer:
         for name, hub in of_file.items()
     ]
     note = f"{counted(len(of_file), 'hub')}, {counted(len(hours), 'hour')}{rounded_words(case)}\n"
-    data: Dict[str, object] = {"mcc": objects(HUB_MCC, rows), "rounded_prices": case.rounded}
+    data: Dict[str, object] = {"mcc": objects(HUB_MCC, rows), **rounded_data(case)}
     return Answer(PASSES, csv_text(HUB_MCC, rows), data, note)
 
 
@@ -84,16 +85,16 @@ def _grown(case: Case, sheet: Sheet, rows: Sequence[Award], hubs: Sequence[Hub])
     "hub-add",
     "add contracts from trading hubs to the book, as contracts from their nodes",
     FOLDER,
-    ROUND_PRICES,
+    *READING,
     HUBS,
     reads("contracts", "a CSV file like book.csv, with hubs for sources"),
     writes("a folder", required=True),
     FORCE,
 )
-def hub_add(folder: Path, hubs: Path, contracts: Path, out: Path, round_prices: bool, force: bool) -> Answer:
+def hub_add(folder: Path, hubs: Path, contracts: Path, out: Path, reading: Reading, force: bool) -> Answer:
     """Adds contracts from hubs to a book, as contracts from their nodes, and writes the whole case to another
     folder in the form that it had."""
-    case = opened(folder, round_prices)
+    case = opened(folder, reading)
     faults: List[Fault] = []
     of_file = read_hubs(hubs, case.names.nodes, faults)
     sheet, rows = read_hub_contracts(contracts, of_file, case.names.nodes, faults)

@@ -4,7 +4,7 @@ from __future__ import annotations
 
 from functools import partial
 from pathlib import Path
-from typing import Dict, List, NamedTuple, Sequence, Tuple
+from typing import Callable, Dict, List, NamedTuple, Optional, Sequence, Tuple
 
 from .case import Case
 from .command import ANY_PERIODS, ANY_PROCESSES, FAILS, FOLDERS, JOBS, PASSES, Answer
@@ -15,6 +15,8 @@ from .feasibility import Verdict, excesses, find_flows, released_limit, released
 from .folders import each
 from .interface import FLOW_PLACES, LIMIT
 from .opening import opened
+from .reading import READING_BOOK, Reading
+from .terms import ON, by_span
 from .to_csv import csv_text
 from .words import Line, line_names, line_words
 
@@ -87,15 +89,28 @@ def _words(case: Case, found: Dict[Line, List[Loading]]) -> str:
     FOLDERS,
     ANY_PERIODS,
     ANY_PROCESSES,
+    ON,
+    *READING_BOOK,
     JOBS,
 )
-def flows(folders: List[Path], periods: Sequence[int], processes: Sequence[int], jobs: int) -> Answer:
+def flows(
+    folders: List[Path],
+    periods: Sequence[int],
+    processes: Sequence[int],
+    on: Optional[str],
+    reading: Reading,
+    jobs: int,
+) -> Answer:
     """How full each constraint is; the status is the test's: 1 where one has an excess above 0."""
-    return each(partial(_flows, periods=periods, processes=processes), folders, jobs)
+    judge = partial(_loaded, periods=periods, processes=processes)
+    return each(partial(_flows, on=on, judge=judge, reading=reading), folders, jobs)
 
 
-def _flows(folder: Path, periods: Sequence[int], processes: Sequence[int]) -> Answer:
-    case = opened(folder, prices=False)
+def _flows(folder: Path, on: Optional[str], judge: Callable[[Case], Answer], reading: Reading) -> Answer:
+    return by_span(opened(folder, reading, prices=False, terms=True), on, judge, "flows")
+
+
+def _loaded(case: Case, periods: Sequence[int], processes: Sequence[int]) -> Answer:
     found = loadings(case, [(period, process) for period in periods for process in processes])
     rows = [
         _row(case, line, k, loading) for line, of_line in found.items() for k, loading in enumerate(of_line)

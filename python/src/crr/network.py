@@ -5,7 +5,7 @@ The DC approximation: a branch's flow is the difference of its ends' angles over
 a node and taken out at the slack flows over each branch by that branch's factor for the node. After an outage
 the others carry its flow by their line outage distribution factors (LODF).
 
-Rounding, once and at the end: the nearest hundred-thousandth, a half to the even one.
+Rounding, once and at the end: the nearest hundred-thousandth, a half away from zero.
 """
 
 from __future__ import annotations
@@ -16,6 +16,7 @@ from decimal import Decimal
 from fractions import Fraction
 from typing import Dict, Iterator, List, NamedTuple, Optional, Sequence, Tuple, Union
 
+from .decimals import nearest
 from .elimination import Elimination
 from .interface import SHIFT_FACTOR
 from .topology import Topology
@@ -62,9 +63,10 @@ def ptdf(lines: Sequence[Line], nodes: int, slack: int = 0) -> List[List[Fractio
 
 
 def factor(value: Number) -> int:
-    """A PTDF as a shift factor in hundred-thousandths, the nearest, a half to the even one. Beyond -1 to 1 it
+    """A PTDF as a shift factor in hundred-thousandths, the nearest, a half away from zero. Beyond -1 to 1 it
     is a ValueError: choose another slack."""
-    number = int(round(Fraction(value) * 10**SHIFT_FACTOR.places))
+    exact = Fraction(value) * 10**SHIFT_FACTOR.places
+    number = nearest(exact.numerator, exact.denominator)
     if not SHIFT_FACTOR.low <= number <= SHIFT_FACTOR.high:
         advice = "subtract one node's column from all, which changes no flow between two nodes"
         raise ValueError(f"a factor of {float(value)}: {advice}")

@@ -6,6 +6,7 @@ from array import array
 from fractions import Fraction
 from typing import TYPE_CHECKING, Dict, List, Sequence, Tuple
 
+from .decimals import nearest
 from .elimination import Elimination
 from .interface import SHIFT_FACTOR
 from .network import Branch, Line, NetworkGrid, Problem, Unsolved, _eliminated, _row
@@ -18,8 +19,8 @@ Rows = Dict[int, List[Fraction]]  # the factors of a branch by its number
 
 
 def _rounded(grid: NetworkGrid, branch: int, name: str, row: Sequence[Fraction]) -> "array[int]":
-    """A row of factors to the nearest hundred-thousandth, a half to the even one."""
-    whole = [round(value * _ONE) for value in row]
+    """A row of factors to the nearest hundred-thousandth, a half away from zero."""
+    whole = [nearest(value.numerator * _ONE, value.denominator) for value in row]
     if min(whole) < SHIFT_FACTOR.low or max(whole) > SHIFT_FACTOR.high:
         text = f"{name}: a factor beyond -1 to 1, of a negative reactance; choose another slack"
         raise Unsolved([Problem("branches", branch, "REACTANCE", text)])

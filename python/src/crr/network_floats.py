@@ -70,9 +70,9 @@ class _Solver:
 
 
 def _rounded(np: Any, grid: NetworkGrid, rows: Any, names: Sequence[str], at: Sequence[int]) -> Any:
-    """Rows to the nearest hundred-thousandth, a half to the even one."""
+    """Rows to the nearest hundred-thousandth, a half away from zero."""
     scaled = rows * _ONE
-    whole = np.rint(scaled)
+    whole = np.copysign(np.floor(np.abs(scaled) + 0.5), scaled)
     beyond = np.flatnonzero(np.abs(whole).max(axis=1, initial=0) > SHIFT_FACTOR.high)
     if len(beyond):
         text = f"{names[beyond[0]]}: a factor beyond -1 to 1, of a negative reactance; choose another slack"

@@ -8,7 +8,7 @@ from concurrent.futures import Executor
 from contextlib import contextmanager
 from dataclasses import replace
 from pathlib import Path
-from typing import Dict, Iterator, Optional, Sequence, Tuple
+from typing import Dict, Iterator, Mapping, Optional, Sequence, Tuple
 
 from .blocks import MEMORY
 from .case import Case, holder_numbers, plain_number
@@ -19,8 +19,10 @@ from .from_csv import load
 from .hours import Progress, Settled, settle_hours
 from .interface import HOLDER
 from .packed import only_hour_name, price_file_names, read_bin, write_bin
+from .reading import Reading
 from .sheet import Sheet, alike
 from .slices import settle_sliced
+from .terms import differ, settle_in_force
 from .to_csv import write_csv
 from .writing import IsAnswer, no_answer, write_file
 
@@ -50,23 +52,33 @@ def _no_folder(path: Path) -> str:
 
 def opened(
     folder: Path,
-    round_prices: bool = False,
+    reading: Reading = Reading(),
     any_size: bool = False,
     prices: bool = True,
+    terms: bool = False,
     memory: int = MEMORY,
     jobs: int = 1,
 ) -> Case:
     """The case of a folder in either form. One that is larger than the library's sizes is a fault, unless any
-    size is asked for; its factors then take at most so much memory, and so many processes share its
-    slices."""
+    size is asked for: its factors then take at most so much memory, and so many processes share its slices.
+    One whose contracts are in force on different days is a fault unless terms are asked for."""
+    case = _opened(folder, reading, any_size, prices, memory)
+    if differ(case) and not terms:
+        one = f"crr in-force {folder} DATE -o OUT writes the case of one"
+        file = "book.csv" if case.is_csv else "names.csv"
+        raise_any([Fault(file, 0, "", f"contracts in force on different days: {one}")])
+    return replace(case, jobs=jobs)
+
+
+def _opened(folder: Path, reading: Reading, any_size: bool, prices: bool, memory: int) -> Case:
     if is_dense(folder):
         if prices or not any_size:
             text = "larger than the library's sizes, and packed without prices: crr test and crr cuts take it"
             raise_any([Fault(str(folder), 0, "", text)])
-        return replace(read_dense(folder), jobs=jobs)
+        return read_dense(folder)
     if not is_csv(folder):
         return read_bin(folder)
-    case = replace(load(folder, any_size, round_prices, prices, memory)[0], jobs=jobs)
+    case, _ = load(folder, any_size, prices=prices, memory=memory, **reading._asdict())
     if case.fits:  # the forms that names.csv asks for may be too narrow: the library refuses them then
         case.grid_file()
         case.book_file()
@@ -74,8 +86,15 @@ def opened(
 
 
 def rounded_words(case: Case) -> str:
-    """How many prices were rounded, behind other words."""
-    return f"; {counted(case.rounded, 'price')} rounded to cents" if case.rounded else ""
+    """How many prices and factors were rounded, behind other words."""
+    prices = f"; {counted(case.rounded, 'price')} rounded to cents" if case.rounded else ""
+    factors = counted(case.rounded_factors, "factor")
+    return prices + (f"; {factors} rounded to five decimals" if case.rounded_factors else "")
+
+
+def rounded_data(case: Case) -> Dict[str, int]:
+    """The same for a script."""
+    return {"rounded_prices": case.rounded, "rounded_factors": case.rounded_factors}
 
 
 def counts(case: Case) -> Dict[str, int]:
@@ -97,7 +116,7 @@ def counts_words(case: Case) -> str:
 def settled(case: Case, jobs: int, progress: Progress) -> Settled:
     """All hours of a case."""
     with workers(jobs) as pool:
-        return _settled(case, pool, progress)
+        return settle_in_force(case, lambda part, told: _settled(part, pool, told), progress)
 
 
 @contextmanager
@@ -132,12 +151,12 @@ def _settled(case: Case, executor: Optional[Executor], progress: Progress) -> Se
     return settle_hours(*files, executor, progress=progress)
 
 
-def write_like(case: Case, out: Path, force: bool) -> None:
-    """Writes a case to a folder as CSV or bin files, whichever it was read from."""
+def write_like(case: Case, out: Path, force: bool, beside: Mapping[str, bytes] = {}) -> None:
+    """Writes a case to a folder as CSV or bin files, whichever it was read from, with others beside them."""
     if case.is_csv:
-        write_csv(case, out, only_hour_name(case), force)
+        write_csv(case, out, only_hour_name(case), force, beside)
     else:
-        write_bin(case, out, force)
+        write_bin(case, out, force, beside=beside)
 
 
 _BIN = ("grid.bin", "book.bin", "prices.bin")

@@ -11,13 +11,13 @@ from pathlib import Path
 from typing import Callable, Dict, List, Mapping, NamedTuple, Tuple, Union, cast
 
 from .case import HOUR_FILE, Case, hour_name
+from .days import is_date
 from .faults import Fault, Faults, raise_any
 from .files import Contract, Grid, read_book, read_book_form, read_grid
-from .from_csv import is_date
 from .hours import PriceFile
 from .inputs import Input, note
 from .interface import MAX_BOOK_BYTES, MAX_GRID_BYTES
-from .names_csv import HEADING, name_rows, names_of, read_names
+from .names_csv import HEADING, name_rows, names_of, read_names, term_rows, terms_of
 from .native import Refused
 from .sheet import alike, unread
 from .to_csv import csv_text
@@ -62,7 +62,7 @@ def bin_files(case: Case) -> Dict[str, bytes]:
     for hour, _ in case.read_hours():
         files[_bin_name(hour, len(case.hours))] = cast(bytes, hour.file)
     names = name_rows(case.names, only_hour_name(case), (case.grid_form, case.book_form))
-    files["names.csv"] = csv_text(HEADING, names).encode()
+    files["names.csv"] = csv_text(HEADING, names + term_rows(case.terms)).encode()
     return files
 
 
@@ -171,9 +171,11 @@ def read_bin(folder: Union[str, Path]) -> Case:
     raise_any(faults)
     grid, book, book_form = _tables(grid_file, book_file)
     names = names_of(tables, grid.nodes, grid.constraints, len(book), faults)
+    terms = terms_of(tables, len(book), faults)
     raise_any(faults)
     limits, factors = cast("array[int]", grid.limits), cast("array[int]", grid.factors)
-    return Case(names, limits, factors, book, hours, grid.form, book_form, inputs, is_csv=False)
+    forms = (grid.form, book_form)
+    return Case(names, limits, factors, book, hours, *forms, inputs, is_csv=False, terms=terms)
 
 
 def _read(path: Path, longest: int, faults: List[Fault], inputs: List[Input]) -> bytes:

@@ -17,7 +17,6 @@ from .command import (
     MEMORY,
     MONTHLY_RENT,
     PASSES,
-    ROUND_PRICES,
     Answer,
     command,
     counted,
@@ -34,6 +33,7 @@ from .large import flows_of
 from .library import library_path
 from .opening import counts_words, opened, settled, write_beside
 from .page import MOST_HOURS, Figures, HourRow, Month, is_page, page
+from .reading import READING, Reading
 from .results import dollars, exact_dollars, holder_sums
 from .settlement import HourTotal
 from .streams import readable
@@ -171,17 +171,17 @@ _TEXT = "one HTML page: verdicts, what the book can cost, loading of constraints
     "report",
     _TEXT,
     FOLDER,
-    ROUND_PRICES,
+    *READING,
     MONTHLY_RENT,
     writes("the HTML file; without it, report.html in the folder"),
     FORCE,
     MEMORY,
 )
 def report(
-    folder: Path, out: Optional[Path], round_prices: bool, process: int, force: bool, memory: int
+    folder: Path, out: Optional[Path], reading: Reading, process: int, force: bool, memory: int
 ) -> Answer:
     """Writes the page, over one of before; a book that fails is what it tells and no fault of it."""
-    case = opened(folder, round_prices, any_size=True, memory=memory)
+    case = opened(folder, reading, any_size=True, memory=memory)
     target = out or folder / "report.html"
     hours = _read_hours(case)
     taken = replace(case, hours=[file for file, _ in hours]) if case.fits else case

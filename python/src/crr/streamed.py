@@ -37,9 +37,11 @@ class StreamedSheet(Sheet):
         first: bool = False,
         name: str = "",
         inputs: Inputs = None,
+        may: Sequence[str] = (),
     ) -> None:
         self.name, self.faults = name or str(path), faults
-        self.heading, self.at = [], {}
+        self.heading, self.at, self.also = [], {}, {}
+        self.rounded = 0
         self._doubtful, self._inputs = False, inputs
         self._held: Deque[str] = deque(maxlen=_HELD_LINES)
         try:
@@ -55,7 +57,7 @@ class StreamedSheet(Sheet):
             return
         self._delimiter = delimiter_of(heading.decode("utf-8-sig", "surrogateescape"))
         self._reader = csv.reader(self._lines(), delimiter=self._delimiter, strict=True)
-        self._read_heading(need, first)
+        self._read_heading(need, first, may)
 
     def _lines(self) -> Iterator[str]:
         digest, size = hashlib.sha256(), 0

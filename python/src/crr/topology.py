@@ -93,13 +93,13 @@ class Topology:
     def _words(self, apart: Sequence[int]) -> str:
         names = ", ".join(self.nodes[node] for node in apart[:_NAMED])
         more = f" and {len(apart) - _NAMED:,} more" if len(apart) > _NAMED else ""
-        return f"bus{'' if len(apart) == 1 else 'es'} {names}{more}"
+        return f"{len(apart):,} bus{'' if len(apart) == 1 else 'es'} ({names}{more})"
 
     def _check_islands(self) -> None:
         apart = self._apart(set())
         if apart:
             row = next(row for row, (start, _) in enumerate(self.ends) if start in set(apart))
-            text = f"an island: no branches connect {self._words(apart)} with {self.slack}, the slack"
+            text = f"an island: nothing connects {self._words(apart)} with {self.slack}, the slack"
             self._problem(row, "FROM_BUS", text)
 
     def _find_splits(self) -> None:
@@ -109,7 +109,7 @@ class Topology:
                 apart = self._apart(set(out))
                 if apart:
                     advice = "leave it out (--skip-splits)"
-                    self.splits[number] = f"its outage splits {self._words(apart)} off the network: {advice}"
+                    self.splits[number] = f"its outage splits off {self._words(apart)}: {advice}"
 
     def _bridges(self) -> Set[int]:
         """The branches each of which alone holds the network together: those by which a search in depth
