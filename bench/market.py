@@ -8,9 +8,9 @@ Usage: market.py beside [NODES CONSTRAINTS CONTRACTS]        the test, beside nu
        market.py make FOLDER [NODES CONSTRAINTS CONTRACTS]   the case's CSV files
        market.py time FOLDER                                 the commands on them
 
-Contracts are of whole hundreds of MW, so that every flow is a whole number of thousandths of a MW, and each
-limit is the on-peak flow itself (10 MW where that is negative): on-peak and monthly, the book stands at its
-limits and passes; one thousandth of a MW more fails. CRR_SEED draws another case.
+Contracts are of 100 MW, so that every flow is a whole number of thousandths of a MW, and each limit is the
+on-peak flow itself (10 MW where that is negative): on-peak and monthly, the book stands at its limits and
+passes; one thousandth of a MW more fails. CRR_SEED draws another case.
 """
 
 import os
@@ -32,13 +32,13 @@ from crr.sliced_test import test_sliced  # noqa: E402
 
 SEED = int(os.environ.get("CRR_SEED", "1"))
 MARKET = (10_000, 5_000, 100_000)  # nodes, constraints, contracts
-ON, MONTHLY, HUBS = 1, 2, 200
+ON, MONTHLY, HUBS = 1, 2, 1000
 ENVIRONMENT = {**os.environ, "PYTHONPATH": str(ROOT / "python" / "src")}
 
 
 def draw(nodes, constraints, contracts):
     """Factors, two in five of them 0, and a book: one in ten an option, six in ten on-peak, seven sinks in
-    ten one of 200 hubs."""
+    ten one of 1,000 hubs."""
     rng = np.random.default_rng(SEED)
     factors = np.rint(np.clip(rng.normal(0, 0.15, (nodes, constraints)), -1, 1) * 1e5).astype(np.int32)
     factors[rng.random((nodes, constraints), dtype=np.float32) < 0.4] = 0
@@ -49,7 +49,7 @@ def draw(nodes, constraints, contracts):
     anywhere = rng.integers(0, nodes, contracts)
     sink = np.where(rng.random(contracts) < 0.7, rng.choice(hubs, contracts), anywhere)
     sink = np.where(sink == source, (sink + 1) % nodes, sink)
-    quantity = 100_000 * rng.integers(1, 11, contracts)
+    quantity = np.full(contracts, 100_000)
     return factors, (kind, period, source, sink, quantity)
 
 

@@ -33,7 +33,7 @@ class Line(NamedTuple):
     reactance: Fraction
 
 
-def _eliminated(lines: Sequence[Line], nodes: int, slack: int) -> Elimination:
+def eliminated_network(lines: Sequence[Line], nodes: int, slack: int) -> Elimination:
     """The susceptances of the network without its slack, ready to be solved for angles."""
     rows: List[Dict[int, Fraction]] = [{} for _ in range(nodes)]
     for line in lines:
@@ -45,7 +45,7 @@ def _eliminated(lines: Sequence[Line], nodes: int, slack: int) -> Elimination:
     return Elimination({node: row for node, row in enumerate(rows) if node != slack})
 
 
-def _row(line: Line, eliminated: Elimination, nodes: int, slack: int) -> List[Fraction]:
+def line_factors(line: Line, eliminated: Elimination, nodes: int, slack: int) -> List[Fraction]:
     """A line's factors: since the matrix is symmetric, the angles for a MW from its start to its end."""
     ends = {node: Fraction(sign) for node, sign in ((line.start, 1), (line.end, -1)) if node != slack}
     angles = eliminated.solve(ends if line.start != line.end else {})
@@ -58,8 +58,8 @@ def ptdf(lines: Sequence[Line], nodes: int, slack: int = 0) -> List[List[Fractio
     for number, line in enumerate(lines):
         if not line.reactance:
             raise ValueError(f"line {number} from node {line.start} to node {line.end} has a reactance of 0")
-    eliminated = _eliminated(lines, nodes, slack)
-    return [_row(line, eliminated, nodes, slack) for line in lines]
+    eliminated = eliminated_network(lines, nodes, slack)
+    return [line_factors(line, eliminated, nodes, slack) for line in lines]
 
 
 def factor(value: Number) -> int:
@@ -185,30 +185,29 @@ def grid_of(
     floating point; `exact` asks for one of them, else the network's size decides. A contingency that splits
     the network is a problem, or left out with `skip_splits`. With `least_shift` a line stands after a
     contingency only where it takes at least this share of some outage's flow."""
-    topology = Topology(branches, contingencies, slack)
-    problems = [Problem(*problem) for problem in topology.problems]
-    left_out = [number for number in topology.splits if skip_splits]
-    if not skip_splits:
-        problems += [
-            Problem("contingencies", number, "CONTINGENCY_ID", text)
-            for number, text in topology.splits.items()
-        ]
-    if problems:
-        raise Unsolved(problems)
+    topology = _checked(Topology(branches, contingencies, slack), skip_splits)
     monitored = [number for number, branch in enumerate(branches) if branch.limit is not None]
     if exact is None:
         size = len(topology.nodes) * len(monitored) * (1 + len(contingencies))
         exact = len(topology.nodes) <= EXACT_NODES and size <= EXACT_FACTORS
     grid = NetworkGrid(topology.nodes, topology.slack, exact)
-    grid.left_out = [contingencies[number].name for number in left_out]
-    outages = [
-        (contingency.name, topology.outages[number])
-        for number, contingency in enumerate(contingencies)
-        if number not in topology.splits
-    ]
+    grid.left_out = [contingencies[number].name for number in topology.splits]
+    named = zip((contingency.name for contingency in contingencies), topology.outages)
+    outages = [outage for number, outage in enumerate(named) if number not in topology.splits]
     if exact:
         from .network_exact import fill
     else:
         from .network_floats import fill
     fill(grid, branches, topology, monitored, outages, least_shift)
     return grid
+
+
+def _checked(topology: Topology, skip_splits: bool) -> Topology:
+    """Raises a network's problems, contingencies that split it among them unless they are left out."""
+    problems = [Problem(*problem) for problem in topology.problems]
+    if not skip_splits:
+        column = "CONTINGENCY_ID"
+        problems += [Problem("contingencies", row, column, text) for row, text in topology.splits.items()]
+    if problems:
+        raise Unsolved(problems)
+    return topology

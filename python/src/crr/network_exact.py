@@ -9,7 +9,7 @@ from typing import TYPE_CHECKING, Dict, List, Sequence, Tuple
 from .decimals import nearest
 from .elimination import Elimination
 from .interface import SHIFT_FACTOR
-from .network import Branch, Line, NetworkGrid, Problem, Unsolved, _eliminated, _row
+from .network import Branch, Line, NetworkGrid, Problem, Unsolved, eliminated_network, line_factors
 
 if TYPE_CHECKING:
     from .topology import Topology
@@ -70,12 +70,12 @@ def fill(
     nodes, slack = len(topology.nodes), topology.numbers[topology.slack]
     lines = [Line(*ends, Fraction(branch.reactance)) for ends, branch in zip(topology.ends, branches)]
     try:
-        eliminated: Elimination = _eliminated(lines, nodes, slack)
+        eliminated: Elimination = eliminated_network(lines, nodes, slack)
     except ValueError:
         text = "negative reactances leave a network that has no solution"
         raise Unsolved([Problem("branches", 0, "REACTANCE", text)]) from None
     needed = sorted({*monitored, *(number for _, out in outages for number in out)})
-    rows = {number: _row(lines[number], eliminated, nodes, slack) for number in needed}
+    rows = {number: line_factors(lines[number], eliminated, nodes, slack) for number in needed}
     for number in monitored:
         branch = branches[number]
         grid.add(branch.name, "", branch.limit or 0, _rounded(grid, number, branch.name, rows[number]))

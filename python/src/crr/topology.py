@@ -28,7 +28,8 @@ class Topology:
         self.nodes = list(self.numbers)
         self._check_branches(branches)
         self.slack = self._slack(slack)
-        self.outages = [self._outage(branches, number, out) for number, out in enumerate(contingencies)]
+        places = {branch.name: place for place, branch in enumerate(branches)}
+        self.outages = [self._outage(places, number, out) for number, out in enumerate(contingencies)]
         self.splits: Dict[int, str] = {}
         if not self.problems:
             self._check_islands()
@@ -59,14 +60,12 @@ class Topology:
     def _problem(self, row: int, column: str, text: str) -> None:
         self.problems.append(("branches", row, column, text))
 
-    def _outage(self, branches: Sequence[Branch], row: int, out: Contingency) -> List[int]:
+    def _outage(self, places: Dict[str, int], row: int, out: Contingency) -> List[int]:
         """The numbers of a contingency's branches."""
-        if not hasattr(self, "_places"):
-            self._places = {branch.name: place for place, branch in enumerate(branches)}
         for name in out.branches:
-            if name not in self._places:
+            if name not in places:
                 self.problems.append(("contingencies", row, "BRANCH_ID", f"no branch {name!r}"))
-        return sorted({self._places[name] for name in out.branches if name in self._places})
+        return sorted({places[name] for name in out.branches if name in places})
 
     def _parts(self, without: Set[int]) -> List[int]:
         """The part that each bus is in: the lowest of its buses."""
