@@ -158,7 +158,8 @@ module _ (g : Grid) (b : Block) (limits : List ℕ) (own : (j : ℕ) → j < b .
 
 -- what was answered, by either
 pub judged-said : (g : Grid) (b : Block) (limits : List ℕ) → ((j : ℕ) → j < b .size → limit limits j ≡ limit (g .limits) (b .number j))
-    → (process : ℕ) (cs : List Contract) (flows : List ℤ) (count : ℕ) → Totals (g .factors) b cs flows count → judgeChecked (judgeCall (b .size) process limits flows count) ≡ Passed
+    → (process : ℕ) (cs : List Contract) (flows : List ℤ) (count : ℕ) → Totals (g .factors) b cs flows count
+    → judgeChecked (judgeCall (b .size) process limits flows count) ≡ Passed
     → (j : Judged (judgeCall (b .size) process limits flows count)) → BlockSaid g (processOf process) cs b (IsPass j) (IsFail j)
 judged-said g b limits own process cs flows count totals passed (Judged.by-entry answer judges) =
     let by = processOf process in

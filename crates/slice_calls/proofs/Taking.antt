@@ -77,7 +77,7 @@ module _ (whole : Factors) (b : Block) (ok : BlockInRange whole b) where
         le-ltb (maxFlow * count) (natAbs (getD flows j (pos 0)))
         (rw (t .totals .flows-are j l, t .totals .count-is) (totalFlow-sized whole in-range (t .contracts) (b .number j) (t .contracts-in-range) (ok .inside j l)))))
 
-    judged : (process : ℕ) (limits : List ℕ) → BlockLimits b limits → process ≤ 2 → judgeChecked (judgeCall (b .size) process limits flows count) ≡ Passed
+    pub judged : (process : ℕ) (limits : List ℕ) → BlockLimits b limits → process ≤ 2 → judgeChecked (judgeCall (b .size) process limits flows count) ≡ Passed
     unfolding judgeChecks
     judged process limits own h =
         first-passes _ _ (le-ltb maxConstraints (b .size) (ok .few))
@@ -140,7 +140,7 @@ held-pass n (d ∷ ds) h = (
   held-pass n ds (h .1),
 )
 
-period-shorter : (t : Period) (xs : List Contract) → length (ofPeriod t xs) ≤ length xs
+pub period-shorter : (t : Period) (xs : List Contract) → length (ofPeriod t xs) ≤ length xs
 unfolding ofPeriod
 period-shorter t [] = omega arith
 period-shorter t (x ∷ xs) = by (samePeriod (x .period) t) (period-shorter t xs)
@@ -176,7 +176,7 @@ module _ (whole : Factors) (b : Block) (form : Form) (nodes : List ℕ) (ds : Li
       let all = take-all (n * b .size) table (omega (arith, cells-long whole b ok nodes (own .nodes-of-whole))) in
       ap (λ (cells : List ℤ). record { nodes = n; constraints = b .size; cells = cells }) all
 
-  stands : (cs : List Contract) → Pairwise (Renumbered nodes) cs ds → AllStandFor whole b (sliceFactors whole b nodes) cs (bookIn file)
+  pub stands : (cs : List Contract) → Pairwise (Renumbered nodes) cs ds → AllStandFor whole b (sliceFactors whole b nodes) cs (bookIn file)
   stands cs r = subst₂ (λ (f : Factors) (l : List Contract). AllStandFor whole b f cs l) (sym factors-are) (sym (made .contracts)) (all-stand whole b nodes cs ds r)
 
   module _ (period : ℕ) (h : period ≤ 1) where
@@ -201,7 +201,7 @@ module _ (whole : Factors) (b : Block) (form : Form) (nodes : List ℕ) (ds : Li
       unfolding testChecks
       test-passes = append-passes (gridTableChecks n (b .size) 0 period limits table) (bookChecks n file) tables-pass ∙ made .accepted
 
-      taken : TotalsInRange whole b flows count → count + length ds ≤ maxSummed → addFlowsChecked q ≡ Passed
+      pub taken : TotalsInRange whole b flows count → count + length ds ≤ maxSummed → addFlowsChecked q ≡ Passed
       unfolding addFlowsChecks
       taken t few =
           let flows-pass : findFlowsChecked (q .asked) ≡ Passed = sym (all-fits (q .asked) (testChecked (testAs 0 (q .asked))) refl test-passes (t .flows-long)) in

@@ -1,4 +1,5 @@
--- Slices whose figures are in range are taken: the calls for a slice and for a block's totals, and what they ask. Beyond the papers. Statements only.
+-- Slices whose figures are in range are taken: the calls for a slice and for a block's totals, what they ask, and a whole test by them. Beyond the papers.
+-- Statements only.
 use mathlib.Core.Path.{_≡_}
 use mathlib.Core.List.{List}
 use Prim.Native.Nat.{ℕ, _+_, _^_, _≤_, _<_}
@@ -8,8 +9,8 @@ use Rattle.lists.specs.Lists.{Each}
 use Rattle.lists.specs.Lent.{Lent, before}
 use Rattle.tariff.specs.declared.contracts.Contract.{Contract}
 use Rattle.tariff.specs.declared.refusals.Checked.the-variants.{Passed}
-use Rattle.tariff.specs.Units.{Factors, factorsOf, factor, limit, price, maxNodes, maxConstraints, maxContracts, maxFactor, maxLimit, maxPrice, maxHolder}
-use Rattle.tariff.specs.Contracts.{InRange}
+use Rattle.tariff.specs.Units.{Factors, factorsOf, factor, Grid, limit, price, maxNodes, maxConstraints, maxContracts, maxFactor, maxLimit, maxPrice, maxHolder}
+use Rattle.tariff.specs.Contracts.{periodOf, InRange}
 use Rattle.layouts.specs.declared.forms.Form.{Form}
 use Rattle.layouts.specs.Forms.{endWidth}
 use Rattle.layouts.specs.BookFile.{bookFile, bookIn}
@@ -21,6 +22,7 @@ use Rattle.hour_rules.specs.SettleHour.{HourCall, hourCall, settleChecked}
 use Rattle.slice_rules.specs.Slices.{Block, Pairwise, AllStandFor}
 use Rattle.slice_rules.specs.Cutting.{renumbered, Renumbered}
 use Rattle.slice_rules.specs.Totals.{Totals}
+use Rattle.slice_calls.specs.Calls.{TestedInSlices}
 
 -- a block of at most 64 of a grid's constraints, factors in range; and limits, or prices, in range for it
 pub record BlockInRange (whole : Factors) (b : Block) : Type 0 where
@@ -93,3 +95,16 @@ pub record SlicesAreTaken : Type 0 where
       (cents : Lent (List ℤ)) (sets : Lent (List ℕ)) → BlockInRange whole b → BlockPrices b prices → SliceInRange whole form nodes ds → period ≤ 1
       → length ds ≤ length (before cents) → length ds ≤ length (before sets)
       → settleChecked (hourSliceCall whole b period prices form nodes ds) cents sets ≡ Passed
+
+-- a grid of any number of nodes and constraints and a book of at most 20,000,000 contracts, all figures in range
+pub record TestInRange (g : Grid) (process period : ℕ) (book : List Contract) : Type 0 where
+  pub factors-sized : (n k : ℕ) → n < g .factors .nodes → k < g .factors .constraints → natAbs (factor (g .factors) n k) ≤ maxFactor
+  pub limits-sized : (k : ℕ) → k < g .factors .constraints → limit (g .limits) k ≤ maxLimit
+  pub process-number : process ≤ 2
+  pub period-number : period ≤ 1
+  pub contracts-held : Each (Held (g .factors .nodes)) book
+  pub contracts-few : length book ≤ maxSummed
+
+-- every such test can be made by calls, none of which is refused
+abbrev pub CanBeTested : Type 0
+CanBeTested = (g : Grid) (process period : ℕ) (book : List Contract) → TestInRange g process period book → TestedInSlices g process (periodOf period) book

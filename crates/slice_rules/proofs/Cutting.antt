@@ -185,6 +185,14 @@ by-64 k =
           };
     }
 
+pub by-64-few : (k i : ℕ) → by-64 k .block i .size ≤ maxConstraints
+unfolding by-64
+by-64-few k i = min-le-left maxConstraints (k - maxConstraints * i)
+
+pub by-64-inside : (k i j : ℕ) → j < by-64 k .block i .size → by-64 k .block i .number j < k
+unfolding by-64
+by-64-inside k i j h = omega (arith, min-le-right 64 (k - 64 * i))
+
 module _ (g : Grid) (book : List Contract) where
   abbrev k : ℕ
   k = g .factors .constraints
