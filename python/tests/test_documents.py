@@ -63,6 +63,7 @@ class Documents(Walked):
             "copy": {"book.csv"},
             "derated": {"book.csv", "constraints.csv"},
             "lses": set(),
+            "network": {"branches.csv"},
             "overbooked": {"book.csv"},
             "terms": {"book.csv"},
         }

@@ -52,10 +52,17 @@ class Figures(unittest.TestCase):
 
     def verdicts(self, grid, book, period, limits, expected, counted):
         self.assertEqual(crr.find_flows(grid, book, period), (expected, counted))
+        totals = array("q", bytes(8 * len(limits)))
+        self.assertEqual(crr.add_flows(grid, book, period, totals), (counted, counted))
+        self.assertEqual(list(totals), expected)
+        twice = totals[:]
+        self.assertEqual(crr.add_flows(grid, book, period, twice, counted), (2 * counted, counted))
+        self.assertEqual(list(twice), [2 * flow for flow in expected])
         for process in range(3):
             released = [limit * crr.released_percent(process) * 1000 for limit in limits]
             over = tuple(k for k, flow in enumerate(expected) if flow > released[k])
             verdict = crr.test_book(grid, book, process, period)
+            self.assertEqual(crr.judge_flows(grid, process, totals, counted), verdict)
             self.assertEqual((verdict.passed, verdict.overloaded, verdict.count), (not over, over, len(over)))
             self.assertEqual(
                 (verdict.named, verdict.excess),

@@ -64,7 +64,7 @@ class Header(unittest.TestCase):
             plain = re.sub(r"\([^()]*\)", "", words)
             listed = re.search(r"Refusals(?:, in this order)?: (.*?)\.(?: |$)", plain)
             self.assertIsNotNone(listed, name)
-            for number, called in re.findall(r"(?<![\w,])(\d+)(?: ([A-Z_]+))?", listed.group(1)):
+            for number, called in re.findall(r"(?<![\w,])(\d+)(?!,?\d)(?: ([A-Z_]+))?", listed.group(1)):
                 self.assertEqual(called, names[number], f"{name}: {number}")
 
     def test_units(self):

@@ -247,7 +247,8 @@ class Slices(FolderTest):
         copies = 100
         rows = [line.replace(",", f"/{copy},", 1) for copy in range(copies) for line in lines[1:]]
         (self.folder / "case" / "book.csv").write_text("\n".join([lines[0], *rows]) + "\n")
-        self.assertIn("more than 1000 contracts (refusal 10)", command("check", self.folder / "case")[2])
+        said = command("check", self.folder / "case")[2]
+        self.assertIn("more than 1000 contracts; crr test, cuts, settle, report and pack take more ", said)
         status, out, err = command("settle", self.folder / "case")
         total = "48 hours: sum 1103422.00, exact total 1103422.2077087500\n"
         self.assertEqual((status, err), (0, f"{IEEE14_HOURS}{total}"))

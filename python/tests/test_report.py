@@ -193,7 +193,7 @@ class Page(FolderTest):
         """Files that change while the page is made, names.csv among them: hashes are of the bytes read."""
         command("pack", IEEE14, "-o", self.folder / "bin")
         command("unpack", self.folder / "bin", "-o", self.folder / "csv")
-        flows_of = crr.report.find_flows
+        flows_of = crr.report.flows_of
         for form in ("csv", "bin"):
             files = contents(self.folder / form)
 
@@ -202,7 +202,7 @@ class Page(FolderTest):
                     (self.folder / form / name).write_bytes(b"something else")
                 return flows_of(*arguments)
 
-            with mock.patch("crr.report.find_flows", changed):
+            with mock.patch("crr.report.flows_of", changed):
                 text = self.page(self.folder / form)
             if form == "bin":
                 files["prices"] = b"".join(

@@ -91,7 +91,7 @@ class Linear(Case):
         )
         start = time.process_time()
         self.assertIn(
-            "constraints.csv:66:CONSTRAINT_ID: more than 64 constraints (refusal 3)",
+            "constraints.csv:66:CONSTRAINT_ID: more than 64 constraints; crr test, cuts, ",
             self.said("check", self.case),
         )
         self.assertLess(time.process_time() - start, 5)

@@ -154,8 +154,8 @@ class Spared(FolderTest):
             return {name for argument in one.arguments for name in argument.names}
 
         writing = {name for name, one in COMMANDS.items() if "-o" in names(one)}
-        expected = "pack unpack settle exposure report remap in-force market holder canonical hub-add tiers "
-        expected += "migrate"
+        expected = "pack unpack settle exposure report grid remap in-force market holder canonical hub-add"
+        expected += " tiers migrate"
         self.assertEqual(writing, set(expected.split()))
         self.assertEqual({name for name, one in COMMANDS.items() if "--force" in names(one)}, writing)
 

@@ -12,7 +12,18 @@ from typing import TYPE_CHECKING, List
 
 from .dates import hour_period, month_hours, month_later, weekday
 from .exposure import ExactCents, Exposure, Shortfall, find_exposure, find_shortfall
-from .feasibility import Cut, Flows, Verdict, find_cuts, find_flows, released_percent, test_book
+from .feasibility import (
+    Added,
+    Cut,
+    Flows,
+    Verdict,
+    add_flows,
+    find_cuts,
+    find_flows,
+    judge_flows,
+    released_percent,
+    test_book,
+)
 from .files import (
     Contract,
     Grid,
@@ -72,6 +83,7 @@ __all__ = [
     "PERIODS",
     "PROCESSES",
     "TIER_LT",
+    "Added",
     "Contract",
     "Cut",
     "ExactCents",
@@ -95,6 +107,7 @@ __all__ = [
     "Verdict",
     "__version__",
     "add_award",
+    "add_flows",
     "add_hub_contract",
     "find_cuts",
     "find_exposure",
@@ -104,6 +117,7 @@ __all__ = [
     "find_shortfall",
     "from_csv",
     "hour_period",
+    "judge_flows",
     "mark_tier",
     "migrate_load",
     "month_hours",

@@ -5,7 +5,7 @@ from __future__ import annotations
 from pathlib import Path
 from typing import Dict, List, NamedTuple, Optional, Tuple, Type
 
-from .case import Term, holder_numbers
+from .case import TAKE_MORE, Term, holder_numbers
 from .days import ORDERS, is_date, no_day, plain_day
 from .faults import Fault
 from .files import Contract
@@ -124,11 +124,12 @@ def read_book(
     sheet = Sheet(path, BOOK, faults, name=path.name, inputs=inputs, may=TERM)
     awards = read_awards(sheet, nodes, "factors.csv", dates=dates)
     if len(awards) > MAX_CONTRACTS and not any_size:
-        sheet.fault(awards[MAX_CONTRACTS].line, "CRR_ID", f"more than {MAX_CONTRACTS} contracts", 10)
+        text = f"more than {MAX_CONTRACTS} contracts{TAKE_MORE}"
+        sheet.fault(awards[MAX_CONTRACTS].line, "CRR_ID", text, 10)
     numbers = holder_numbers([award.owner for award in awards], known)
     too_many = next((award.line for award in awards if numbers[award.owner] > HOLDER.high), None)
     if too_many is not None and not any_size:
-        sheet.fault(too_many, "OWNER", f"more than {HOLDER.high + 1} owners", 18)
+        sheet.fault(too_many, "OWNER", f"more than {HOLDER.high + 1} owners{TAKE_MORE}", 18)
     book = [award.contract._replace(holder=numbers[award.owner]) for award in awards]
     holders = {number: name for name, number in numbers.items() if name != str(number)}
     terms = [award.term for award in awards]

@@ -6,8 +6,9 @@ import re
 from array import array
 from dataclasses import dataclass, field, replace
 from pathlib import Path
-from typing import Dict, List, NamedTuple, Optional, Sequence, Tuple, Union
+from typing import Dict, Iterable, List, NamedTuple, Optional, Sequence, Tuple, Union
 
+from .blocks import Blocks
 from .faults import Fault, raise_any
 from .files import (
     Contract,
@@ -88,6 +89,9 @@ class Case:
     rounded: int = field(default=0, compare=False)  # how many prices were, when they were read
     rounded_factors: int = field(default=0, compare=False)  # likewise
     terms: List[Term] = field(default_factory=list)  # of each contract; none where all are always in force
+    jobs: int = field(default=1, compare=False)  # processes that the slices of a large case are shared among
+    blocks: Optional[Blocks] = field(default=None, compare=False)  # of a large grid, in place of its factors
+    flows: Dict[int, List[int]] = field(default_factory=dict, compare=False)  # of a large case, tested
 
     @property
     def grid(self) -> Grid:
@@ -101,7 +105,14 @@ class Case:
         names = self.names
         tables = len(names.nodes) <= MAX_NODES and len(names.constraints) <= MAX_CONSTRAINTS
         book = len(self.book) <= MAX_CONTRACTS and all(row.holder <= HOLDER.high for row in self.book)
-        return tables and book
+        return tables and book and self.blocks is None
+
+    def columns(self, constraints: Iterable[int]) -> Dict[int, "array[int]"]:
+        """The factors of all nodes on some constraints, by number."""
+        if self.blocks is not None:
+            return self.blocks.columns(constraints)
+        count = len(self.names.constraints)
+        return {k: self.factors[k::count] for k in constraints}
 
     @property
     def times(self) -> List[Time]:
@@ -196,6 +207,8 @@ def check_lengths(case: Case) -> None:
             raise ValueError(f"case: {count:,} {what}, and names for {expected:,}")
 
 
+# Behind a fault of a size, for commands that take no other.
+TAKE_MORE = "; crr test, cuts, settle, report and pack take more"
 FORMS = ("narrow", "wide")  # by number
 NARROW_ENDS = 256  # node numbers that a narrow book has room for
 

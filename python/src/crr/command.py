@@ -106,6 +106,23 @@ JOBS = argument(
 )
 
 
+def _megabytes(text: str) -> int:
+    """So many MB, as bytes."""
+    if not (text.isascii() and text.isdigit() and len(text) < 8):
+        raise argparse.ArgumentTypeError(f"{text!r} is no number of MB")
+    return int(text) * 10**6
+
+
+MEMORY = argument(
+    "--memory",
+    type=_megabytes,
+    default="1000",
+    metavar="MB",
+    help="of a grid beyond the library's sizes, hold at most so many MB of factors, and the others in a "
+    "temporary file; without it, 1000",
+)
+
+
 def writes(text: str, required: bool = False) -> Argument:
     """Where the command writes."""
     return argument("-o", "--out", type=a_path, metavar="OUT", required=required, help=text)

@@ -19,6 +19,7 @@ from .command import (
     FOLDERS,
     FORCE,
     JOBS,
+    MEMORY,
     PASSES,
     RENT_PROCESS,
     Answer,
@@ -29,12 +30,14 @@ from .command import (
 )
 from .costs import hour_costs
 from .decimals import decimal
+from .dense import write_dense
 from .exposures import exposure_figures, exposures, worst_words
 from .faults import Fault, raise_any
-from .feasibility import Cut, Verdict, excesses, find_cuts, find_flows, released_percent, test_book, worst
+from .feasibility import Cut, Verdict, excesses, find_cuts, released_percent, test_book, worst
 from .folders import as_counted, as_judged, each
 from .from_csv import load
 from .interface import FLOW_PLACES, QUANTITY
+from .large import flows_of, judged, large_cuts, large_words
 from .notes import notes
 from .opening import (
     check_periods,
@@ -96,20 +99,37 @@ _BESIDE = "a folder; without it, the same folder"
     *READING,
     writes(_BESIDE),
     FORCE,
+    MEMORY,
 )
-def pack(folder: Path, out: Optional[Path], reading: Reading, force: bool) -> Answer:
+def pack(folder: Path, out: Optional[Path], reading: Reading, force: bool, memory: int) -> Answer:
     """CSV files to bin files, read back and compared. Beside the CSV files, where no other folder is named,
     they replace those of before."""
     target = out or folder
     if not is_csv(folder):
         text = "packed already: grid.bin, and no CSV files; crr unpack makes CSV files of it"
         raise_any([Fault(str(folder), 0, "", text)])
-    case, _ = load(folder, **reading._asdict())
-    written = write_packed(case, target, force or target.resolve() == folder.resolve())
+    case, _ = load(folder, True, memory=memory, **reading._asdict())
+    force = force or target.resolve() == folder.resolve()
+    if not case.fits:
+        return _packed_large(case, target, force)
+    written = write_packed(case, target, force)
     hours = f"{counted(len(case.hours), 'hour')} of prices"
     text = f"grid.bin, book.bin, names.csv and {hours} written and read back{rounded_words(case)}"
     data: Dict[str, object] = {"out": str(target), "written": written, **rounded_data(case)}
     return Answer(PASSES, f"{target}: {text}\n", data)
+
+
+def _packed_large(case: Case, target: Path, force: bool) -> Answer:
+    """A case that the library does not take whole, in a form of its own; prices are left out, and terms are a
+    fault."""
+    if case.terms:
+        text = "first or last days are not packed at this size: crr in-force writes the case of a day"
+        raise_any([Fault("book.csv", 0, "", text)])
+    written = write_dense(case, target, force)
+    text = f"larger than the library's sizes: {', '.join(written)} written and read back, for crr test"
+    left = f"; {counted(len(case.hours), 'hour')} of prices not packed: crr settle takes the CSV files"
+    data: Dict[str, object] = {"out": str(target), "written": written, "rounded_prices": 0}
+    return Answer(PASSES, f"{target}: {text}{left if case.hours else ''}\n", data)
 
 
 @command("unpack", "bin files to CSV files", FOLDER, writes(_BESIDE), FORCE)
@@ -134,6 +154,8 @@ def verdicts(
     case: Case, periods: Sequence[int] = tuple(Period), processes: Sequence[int] = tuple(Process)
 ) -> Dict[Line, Verdict]:
     """The test's answers by period and process."""
+    if not case.fits:
+        return judged(case, periods, processes)
     grid, book = case.grid, case.book_file()
     lines = [(period, process) for period in periods for process in processes]
     return {(period, process): test_book(grid, book, process, period) for period, process in lines}
@@ -141,8 +163,8 @@ def verdicts(
 
 def _verdict_rows(case: Case, answers: Dict[Line, Verdict]) -> List[Tuple[object, ...]]:
     """A row for each period and process, as VERDICTS heads them; the constraints as a list."""
-    grid, book, names = case.grid, case.book_file(), case.names.constraints
-    flows = {period: find_flows(grid, book, period).flows for period, _ in answers}
+    names = case.names.constraints
+    flows = {period: flows_of(case, period) for period, _ in answers}
     rows: List[Tuple[object, ...]] = []
     for (period, process), verdict in answers.items():
         line = line_names((period, process))
@@ -162,7 +184,15 @@ AT_WORST = ("EXPOSURE_LEAST", "EXPOSURE_MOST")  # beside the verdicts, for scrip
 
 
 @command(
-    "test", "the simultaneous feasibility test", FOLDERS, ANY_PERIODS, ANY_PROCESSES, ON, *READING_BOOK, JOBS
+    "test",
+    "the simultaneous feasibility test",
+    FOLDERS,
+    ANY_PERIODS,
+    ANY_PROCESSES,
+    ON,
+    *READING_BOOK,
+    JOBS,
+    MEMORY,
 )
 def test(
     folders: List[Path],
@@ -171,16 +201,29 @@ def test(
     on: Optional[str],
     reading: Reading,
     jobs: int,
+    memory: int,
 ) -> Answer:
     """The simultaneous feasibility test; status 1 where the book fails in one of the periods and processes
     asked for."""
     judge = partial(_test, periods=periods, processes=processes)
-    return each(partial(_by_span, on=on, judge=judge, reading=reading), folders, jobs, as_judged)
+    taken = _taken(reading, memory, jobs, folders)
+    return each(partial(_by_span, taken, on=on, judge=judge), folders, jobs, as_judged)
 
 
-def _by_span(folder: Path, on: Optional[str], judge: Callable[[Case], Answer], reading: Reading) -> Answer:
+Taken = Callable[[Path], Case]
+
+
+def _taken(reading: Reading, memory: int, jobs: int, folders: Sequence[Path]) -> Taken:
+    """How a folder is opened to be tested, at any size. Processes share folders or, of one folder, slices."""
+    shared = jobs if len(folders) == 1 else 1
+    return partial(
+        opened, reading=reading, any_size=True, prices=False, terms=True, memory=memory, jobs=shared
+    )
+
+
+def _by_span(taken: Taken, folder: Path, on: Optional[str], judge: Callable[[Case], Answer]) -> Answer:
     """The verdicts on a folder's contracts in force."""
-    return by_span(opened(folder, reading, prices=False, terms=True), on, judge, "verdicts")
+    return by_span(taken(folder), on, judge, "verdicts")
 
 
 def _test(case: Case, periods: Sequence[int], processes: Sequence[int]) -> Answer:
@@ -188,12 +231,13 @@ def _test(case: Case, periods: Sequence[int], processes: Sequence[int]) -> Answe
     rows = _verdict_rows(case, answers)
     status = PASSES if all(verdict.passed for verdict in answers.values()) else FAILS
     text = csv_text(VERDICTS, ((*row[:-1], "; ".join(cast(List[str], row[-1]))) for row in rows))
-    found = exposures(case, answers)
+    found = exposures(case, answers) if case.fits else {}
+    at_worst = [exposure_figures(found[line]) if line in found else ("", "") for line in answers]
     data = [
-        dict(verdict, **objects(AT_WORST, [exposure_figures(exposure)])[0])
-        for verdict, exposure in zip(objects(VERDICTS, rows), found.values())
+        dict(verdict, **cost) for verdict, cost in zip(objects(VERDICTS, rows), objects(AT_WORST, at_worst))
     ]
-    return Answer(status, text, {"passed": status == PASSES, "verdicts": data}, worst_words(found))
+    note = worst_words(found) + large_words(case, status == PASSES)
+    return Answer(status, text, {"passed": status == PASSES, "verdicts": data}, note)
 
 
 CUTS = ("CRR_ID", "OWNER", "MW", "CUT_MW", "LEFT_MW")
@@ -203,12 +247,13 @@ CutRow = Tuple[str, str, str, str, str]
 def cut_rows(case: Case, answers: Dict[Line, Verdict]) -> Dict[Line, List[CutRow]]:
     """For each period and process in which the book fails, the contracts each of which clears it by a cut of
     its own, the smallest cut first."""
-    grid, book = case.grid, case.book_file()
-    failing = [line for line, verdict in answers.items() if not verdict.passed]
-    return {
-        (period, process): [_cut_row(case, cut) for cut in find_cuts(grid, book, process, period)]
-        for period, process in failing
-    }
+    failing = {line: verdict for line, verdict in answers.items() if not verdict.passed}
+    if not case.fits:
+        listed = {line: large_cuts(case, line, verdict) for line, verdict in failing.items()}
+    else:
+        grid, book = case.grid, case.book_file()
+        listed = {(period, process): find_cuts(grid, book, process, period) for period, process in failing}
+    return {line: [_cut_row(case, cut) for cut in cuts] for line, cuts in listed.items()}
 
 
 def _cut_row(case: Case, cut: Cut) -> CutRow:
@@ -227,6 +272,7 @@ def _cut_row(case: Case, cut: Cut) -> CutRow:
     ON,
     *READING_BOOK,
     JOBS,
+    MEMORY,
 )
 def cuts(
     folders: List[Path],
@@ -235,11 +281,12 @@ def cuts(
     on: Optional[str],
     reading: Reading,
     jobs: int,
+    memory: int,
 ) -> Answer:
     """What clears a failing book; the status is the test's, since an empty list alone does not tell whether
     the book passes."""
     judge = partial(_cuts, periods=periods, processes=processes)
-    return each(partial(_by_span, on=on, judge=judge, reading=reading), folders, jobs)
+    return each(partial(_by_span, _taken(reading, memory, jobs, folders), on=on, judge=judge), folders, jobs)
 
 
 def _cuts(case: Case, periods: Sequence[int], processes: Sequence[int]) -> Answer:
@@ -283,6 +330,7 @@ def _cuts_words(names: Names, answers: Dict[Line, Verdict], listed: Dict[Line, L
     writes("a folder for the result files"),
     FORCE,
     JOBS,
+    MEMORY,
 )
 def settle(
     folder: Path,
@@ -291,10 +339,12 @@ def settle(
     reading: Reading,
     process: Optional[int],
     force: bool,
+    memory: int,
 ) -> Answer:
     """Settles every hour; with `out` writes hours.csv, holders.csv and contracts.csv there, over those of
     before. With a process, each hour's rent and shortfall too, and months.csv."""
-    case = opened(folder, reading, any_size=True, terms=True)
+    memory = 0 if jobs > 1 else memory  # processes read the factors from a file, each what it needs
+    case = opened(folder, reading, any_size=True, terms=True, memory=memory)
     if process is not None:  # hours are read once: what is settled is what the rent is of
         case = replace(case, hours=case.priced_hours())
     result = settled(case, jobs, Bar("settle"))

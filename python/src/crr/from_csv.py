@@ -15,12 +15,14 @@ from __future__ import annotations
 import re
 from array import array
 from pathlib import Path
-from typing import Dict, List, Optional, Set, Tuple, Union
+from typing import Dict, List, Optional, Sequence, Set, Tuple, Union
 
+from .blocks import MEMORY, Blocks
 from .book_csv import read_book, word_in
-from .case import FORMS, Case, Names, PricedHour, book_form, grid_form
+from .case import FORMS, TAKE_MORE, Case, Names, PricedHour, book_form, grid_form
 from .clock import contradiction, last_missing, no_such_hour, period_of
 from .days import ORDERS, is_date, no_day, plain_day, plain_hour
+from .decimals import whole
 from .faults import Fault, raise_any
 from .files import Contract
 from .inputs import Input
@@ -28,6 +30,7 @@ from .interface import FIRST_YEAR, LAST_YEAR, LIMIT, MAX_CONSTRAINTS, MAX_NODES,
 from .names_csv import read_names
 from .reading import Reading
 from .sheet import Sheet, is_there
+from .streamed import StreamedSheet, is_large
 from .words import TIMES_OF_USE, Period
 
 _HOUR = re.compile(r"0?[1-9]|1[0-9]|2[0-5]")  # hour ending; the day whose clock is set back has 25
@@ -42,8 +45,8 @@ _WAYS = "correct it, leave the column out, or --time-of-use as-given"
 class Loaded:
     """A folder while it is read: the tables so far and every fault found."""
 
-    def __init__(self, folder: Path, any_size: bool, reading: Reading) -> None:
-        self.folder, self.any_size, self.reading = folder, any_size, reading
+    def __init__(self, folder: Path, any_size: bool, reading: Reading, memory: int) -> None:
+        self.folder, self.any_size, self.reading, self.memory = folder, any_size, reading, memory
         self.faults: List[Fault] = []
         self.inputs: List[Input] = []
         self.rounded = self.rounded_factors = 0
@@ -52,13 +55,14 @@ class Loaded:
         self.nodes: Dict[str, int] = {}
         self.limits = array("Q")
         self.factors = array("q")
+        self.blocks: Optional[Blocks] = None  # of a large factors.csv
 
     def count(
         self, sheet: Sheet, line: int, column: str, count: int, most: int, what: str, refusal: int
     ) -> None:
         """A fault at the first row beyond the library's size."""
         if not self.any_size and count == most + 1:
-            sheet.fault(line, column, f"more than {most} {what}", refusal)
+            sheet.fault(line, column, f"more than {most} {what}{TAKE_MORE}", refusal)
 
 
 def load(
@@ -69,17 +73,18 @@ def load(
     round_factors: bool = False,
     dates: str = ORDERS[0],
     as_given: bool = False,
+    memory: int = MEMORY,
 ) -> Tuple[Case, int]:
     """The case of a folder, and how many of its prices were rounded. Raises `Faults`.
 
-    With `any_size` counts above the library's are taken, for settling by slices. With `round_prices` a price
-    of more than two decimals is rounded to the nearest cent, a half away from zero; it is a fault otherwise.
-    `round_factors` does so with factors of more than five. `dates` is the order of a date's parts, "mdy" or
-    "dmy" where they are not YYYY-MM-DD. Without `prices` prices.csv is not looked at. With `as_given` a
-    TIME_OF_USE of prices.csv is taken as it stands; it is a fault otherwise where the on-peak rule says the
-    other one."""
+    With `any_size` counts above the library's are taken, for slices; a large factors.csv is then streamed,
+    and at most so many bytes of `memory` hold its factors. With `round_prices` a price of more than two
+    decimals is rounded to the nearest cent, a half away from zero; it is a fault otherwise. `round_factors`
+    does so with factors of more than five. `dates` is the order of a date's parts, "mdy" or "dmy" where they
+    are not YYYY-MM-DD. Without `prices` prices.csv is not looked at. With `as_given` a TIME_OF_USE of
+    prices.csv is taken as it stands; it is a fault otherwise where the on-peak rule says the other one."""
     reading = Reading(round_prices, round_factors, dates, as_given)
-    case = _read(Loaded(Path(folder), any_size, reading), prices)
+    case = _read(Loaded(Path(folder), any_size, reading, memory), prices)
     return case, case.rounded
 
 
@@ -107,6 +112,7 @@ def _read(loaded: Loaded, prices: bool) -> Case:
         rounded=loaded.rounded,
         rounded_factors=loaded.rounded_factors,
         terms=terms,
+        blocks=loaded.blocks,
     )
 
 
@@ -157,24 +163,50 @@ def _factor_columns(loaded: Loaded, sheet: Sheet) -> List[int]:
     return [places[name] for name in loaded.constraints if name in places]
 
 
+class _Figures(Dict[str, int]):
+    """Factors by their texts: of millions of fields few are different. What is none is a ValueError."""
+
+    def __missing__(self, text: str) -> int:
+        number = whole(text, SHIFT_FACTOR.places)
+        if not SHIFT_FACTOR.low <= number <= SHIFT_FACTOR.high:
+            raise ValueError(text)
+        if len(self) < 10**6:
+            self[text] = number
+        return number
+
+
+def _factor_row(
+    sheet: Sheet, line: int, fields: List[str], columns: Sequence[int], figures: _Figures, rounded: bool
+) -> List[int]:
+    """A node's factors in the order of constraints. A fault is noted for each that is none."""
+    try:
+        return [figures[fields[at]] for at in columns]
+    except ValueError:
+        return [sheet.figure(line, at, fields[at], SHIFT_FACTOR, rounded) for at in columns]
+
+
 def _read_factors(loaded: Loaded) -> None:
-    sheet = Sheet(
-        loaded.folder / "factors.csv",
-        ("NODE_ID",),
-        loaded.faults,
-        first=True,
-        name="factors.csv",
-        inputs=loaded.inputs,
+    path = loaded.folder / "factors.csv"
+    large = loaded.any_size and is_large(path)
+    sheet = (StreamedSheet if large else Sheet)(
+        path, ("NODE_ID",), loaded.faults, first=True, name="factors.csv", inputs=loaded.inputs
     )
     if not sheet.at:
         return
     columns = _factor_columns(loaded, sheet) if loaded.constraints_read else []
-    line = 1
+    if large and len(columns) == len(loaded.limits):
+        loaded.blocks = Blocks(loaded.limits, loaded.memory)
+    line, figures = 1, _Figures()
     for line, fields in sheet.rows():
         if sheet.new_name(line, "NODE_ID", fields[0], loaded.nodes):
-            unit, rounded = SHIFT_FACTOR, loaded.reading.round_factors
-            loaded.factors.extend([sheet.figure(line, at, fields[at], unit, rounded) for at in columns])
+            row = _factor_row(sheet, line, fields, columns, figures, loaded.reading.round_factors)
+            if loaded.blocks is None:
+                loaded.factors.extend(row)
+            elif not loaded.faults:
+                loaded.blocks.add(row)
             loaded.count(sheet, line, "NODE_ID", len(loaded.nodes), MAX_NODES, "nodes", 2)
+    if loaded.blocks is not None and not loaded.faults:
+        loaded.blocks.close()
     loaded.rounded_factors = sheet.rounded
     if not loaded.nodes:
         sheet.fault(line, "NODE_ID", "no node", 2)

@@ -6,12 +6,15 @@ import os
 import signal
 from concurrent.futures import Executor
 from contextlib import contextmanager
+from dataclasses import replace
 from pathlib import Path
 from typing import Dict, Iterable, Iterator, List, Mapping, Optional, Sequence, Tuple, Union
 
+from .blocks import MEMORY
 from .case import Case, PricedHour, holder_numbers, hour_name, plain_number, short_name
 from .clock import contradiction
 from .command import counted
+from .dense import is_dense, read_dense
 from .faults import Fault, raise_any
 from .from_csv import load
 from .hours import PriceFile, Progress, Settled, settle_hours
@@ -54,22 +57,30 @@ def opened(
     any_size: bool = False,
     prices: bool = True,
     terms: bool = False,
+    memory: int = MEMORY,
+    jobs: int = 1,
 ) -> Case:
     """The case of a folder in either form. One that is larger than the library's sizes is a fault, unless any
-    size is asked for; one whose contracts are in force on different days, unless terms are; a period of
+    size is asked for: its factors then take at most so much memory, and so many processes share its slices.
+    One whose contracts are in force on different days is a fault unless terms are asked for; a period of
     prices.csv that the on-peak rule contradicts, unless it is taken as given."""
-    case = _opened(folder, reading, any_size, prices)
+    case = _opened(folder, reading, any_size, prices, memory)
     if differ(case) and not terms:
         one = f"crr in-force {folder} DATE -o OUT writes the case of one"
         file = "book.csv" if case.is_csv else "names.csv"
         raise_any([Fault(file, 0, "", f"contracts in force on different days: {one}")])
-    return case
+    return replace(case, jobs=jobs)
 
 
-def _opened(folder: Path, reading: Reading, any_size: bool, prices: bool) -> Case:
+def _opened(folder: Path, reading: Reading, any_size: bool, prices: bool, memory: int) -> Case:
+    if is_dense(folder):
+        if prices or not any_size:
+            text = "larger than the library's sizes, and packed without prices: crr test and crr cuts take it"
+            raise_any([Fault(str(folder), 0, "", text)])
+        return read_dense(folder)
     if not is_csv(folder):
         return read_bin(folder)
-    case, _ = load(folder, any_size, prices=prices, **reading._asdict())
+    case, _ = load(folder, any_size, prices=prices, memory=memory, **reading._asdict())
     if case.fits:  # the forms that names.csv asks for may be too narrow: the library refuses them then
         case.grid_file()
         case.book_file()

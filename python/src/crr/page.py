@@ -123,6 +123,8 @@ def _verdict_card(figures: Figures, period: int, process: int) -> str:
 
 def _at_worst(figures: Figures, at: Line) -> str:
     """What a failing book costs at worst."""
+    if at not in figures.exposures:
+        return "What an hour pays at worst is told for grids of the library's sizes alone"
     return f"At worst an hour pays {cost_words(figures.exposures[at])} more than its congestion rent"
 
 

@@ -49,6 +49,13 @@ ALIASES: Dict[str, Tuple[str, ...]] = {
     "NEW_LSE": ("NEW",),
     "LSE": ("LSE_ID", "LSE_NAME"),
     "LOAD_MW": ("MW", "LOAD", "CURRENT_LOAD", "CURRENT_LOAD_MW"),
+    "BRANCH_ID": ("BRANCH", "LINE_ID", "LINE"),
+    "FROM_BUS": ("FROM", "F_BUS", "FBUS", "BUS0"),
+    "TO_BUS": ("TO", "T_BUS", "TBUS", "BUS1"),
+    "REACTANCE": ("X", "BR_X", "X_PU"),
+    "TAP_RATIO": ("TAP", "RATIO"),
+    "EMERGENCY_MW": ("EMERGENCY_LIMIT_MW", "EMERGENCY_RATING_MW"),
+    "CONTINGENCY_ID": ("CONTINGENCY", "OUTAGE", "OUTAGE_ID"),
     "OPERATION": ("OP",),
     "TIER": (),
     "TABLE": (),
@@ -95,7 +102,7 @@ class Sheet:
         self.also: Dict[str, int] = {}  # columns that may be missing
         self.rounded = 0  # how many figures were
         self._text, self._doubtful = self._decoded(path, need, inputs)
-        self._delimiter = _delimiter(self._text)
+        self._delimiter = delimiter_of(self._text)
         self._reader = csv.reader(_lines(self._text), delimiter=self._delimiter, strict=True)
         self._starts: List[int] = []  # of lines, found when a fault needs them
         if self._text:
@@ -232,7 +239,11 @@ class Sheet:
         not closed or not followed by a separator."""
         if not self._starts:
             self._starts = [0, *accumulate(map(len, _lines(self._text)))]
-        text, at, column = self._text, self._starts[line - 1], 0
+        return self.column(self._broken_in(self._text, self._starts[line - 1]))
+
+    def _broken_in(self, text: str, at: int) -> int:
+        """The place of that column, for lines that begin at a place of a text."""
+        column = 0
         while at < len(text) and text[at] not in "\r\n":
             start = at
             if text[at] == '"':
@@ -245,7 +256,7 @@ class Sheet:
                 break
             if text[at : at + 1] == self._delimiter:
                 at, column = at + 1, column + 1
-        return self.column(column)
+        return column
 
 
 def _reason(error: csv.Error) -> str:
@@ -302,7 +313,8 @@ def _lines(text: str) -> io.StringIO:
     return io.StringIO(text, newline="")
 
 
-def _delimiter(text: str) -> str:
+def delimiter_of(text: str) -> str:
+    """What separates the fields of a heading."""
     heading = text.split("\n", 1)[0]
     return max(",;\t", key=heading.count)
 
