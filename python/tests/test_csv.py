@@ -149,11 +149,11 @@ class Habits(FolderTest):
         self.assertEqual(load(self.folder)[0].book, self.book)
 
     def test_separators_within_names(self):
-        """A heading with more semicolons than commas is one of commas, where its columns are found by them."""
+        """A heading of commas may have more semicolons: its columns are found by commas."""
         shutil.copytree(IEEE14, self.folder / "case")
         for name in ("constraints.csv", "factors.csv", "prices.csv"):
             path = self.folder / "case" / name
-            path.write_text(path.read_text().replace("7-9", "7;;9;;;;;;;;;;;;;;;;;;;;;;;;;;;;;;;;;;;;;;;;;;;;"))
+            path.write_text(path.read_text().replace("7-9", "7" + 50 * ";" + "9"))
         self.assertEqual(command("check", self.folder / "case")[0], 0)
 
     def test_other_columns_and_order(self):
