@@ -1,5 +1,5 @@
-"""Properties of the CSV layer over drawn cases (hypothesis): a case comes back from its files, in whatever dress;
-a damaged file gives a fault with a place, or a case that is well-formed. CRR_SEED draws others."""
+"""Properties of the CSV layer over drawn cases (hypothesis): a case comes back from its files, in whatever
+dress; a damaged file gives a fault with a place, or a case that is well-formed. CRR_SEED draws others."""
 
 import csv
 import io
@@ -25,8 +25,8 @@ except ImportError:
 
 
 def bounded(examples):
-    """So many examples, the same in every run of a seed. What fails is told as it was drawn: making it smaller
-    takes minutes (Phase.shrink)."""
+    """So many examples, the same in every run of a seed. What fails is told as it was drawn: making it
+    smaller takes minutes (Phase.shrink)."""
     return settings(
         max_examples=examples,
         deadline=None,
@@ -38,7 +38,8 @@ def bounded(examples):
 
 # What can be a name: printable, and without blanks around it. Separators and quotes among it.
 LETTERS = draw.one_of(
-    draw.sampled_from("ab, ;\"'-/\\7"), draw.characters(blacklist_categories=("Cc", "Cf", "Cs", "Co", "Cn", "Z"))
+    draw.sampled_from("ab, ;\"'-/\\7"),
+    draw.characters(blacklist_categories=("Cc", "Cf", "Cs", "Co", "Cn", "Z")),
 )
 NAME = draw.text(LETTERS, min_size=1, max_size=6).filter(
     lambda name: name == name.strip() and name.isprintable() and name != ""
@@ -190,8 +191,9 @@ def damaged(drawing, data):
     for _ in range(drawing(draw.integers(1, 2))):
         start = drawing(draw.integers(0, len(data)))
         end = min(len(data), start + drawing(draw.integers(0, 12)))
-        common = draw.sampled_from([b"", b'"', b",", b"\n", b"\r", b";", b"-", b"\0", b"\xff", b"1e5", b"\xef\xbb\xbf"])
-        instead = drawing(draw.one_of(common, draw.binary(max_size=3), draw.just(2 * data[start:end])))
+        common = [b"", b'"', b",", b"\n", b"\r", b";", b"-", b"\0", b"\xff", b"1e5", b"\xef\xbb\xbf"]
+        others = (draw.binary(max_size=3), draw.just(2 * data[start:end]))
+        instead = drawing(draw.one_of(draw.sampled_from(common), *others))
         data = data[:start] + instead + data[end:]
     return data
 

@@ -33,13 +33,14 @@ def half_away(number: Fraction) -> int:
 def units_of(value: Any, places: int) -> Optional[int]:
     """A figure in units of 10^-places, or none where it is no multiple of the unit. A float is one where it
     is the float of that decimal: 0.6 is six tenths."""
+    units: int = 10**places  # in one
     if isinstance(value, numbers.Integral):
-        return int(value) * 10**places
+        return int(value) * units
     if isinstance(value, (Decimal, Fraction)):
-        exact = Fraction(value) * 10**places
+        exact = Fraction(value) * units
         return exact.numerator if exact.denominator == 1 else None
-    nearest = half_away(Fraction(float(value)) * 10**places)
-    return nearest if nearest / 10**places == float(value) else None
+    nearest = half_away(Fraction(float(value)) * units)
+    return nearest if nearest / units == float(value) else None
 
 
 def _line_count(text: str) -> int:
