@@ -175,8 +175,8 @@ class Spared(FolderTest):
             return {name for argument in one.arguments for name in argument.names}
 
         writing = {name for name, one in COMMANDS.items() if "-o" in names(one)}
-        expected = "pack unpack settle exposure report remap market holder canonical hub-add tiers migrate"
-        self.assertEqual(writing, set(expected.split()))
+        expected = "pack unpack settle exposure report grid remap market holder canonical hub-add"
+        self.assertEqual(writing, {*expected.split(), "tiers", "migrate"})
         self.assertEqual({name for name, one in COMMANDS.items() if "--force" in names(one)}, writing)
 
     def test_remap_onto_itself(self):

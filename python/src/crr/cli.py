@@ -18,6 +18,7 @@ from . import (
     commands,
     copies,
     exposures,
+    grid_command,
     help_commands,
     hubs,
     migrate,
@@ -36,6 +37,7 @@ from .writing import is_output
 _ORDER = (
     commands,
     exposures,
+    grid_command,
     report,
     book_commands,
     copies,

@@ -47,6 +47,13 @@ ALIASES: Dict[str, Tuple[str, ...]] = {
     "NEW_LSE": ("NEW",),
     "LSE": ("LSE_ID", "LSE_NAME"),
     "LOAD_MW": ("MW", "LOAD", "CURRENT_LOAD", "CURRENT_LOAD_MW"),
+    "BRANCH_ID": ("BRANCH", "LINE_ID", "LINE"),
+    "FROM_BUS": ("FROM", "F_BUS", "FBUS", "BUS0"),
+    "TO_BUS": ("TO", "T_BUS", "TBUS", "BUS1"),
+    "REACTANCE": ("X", "BR_X", "X_PU"),
+    "TAP_RATIO": ("TAP", "RATIO"),
+    "EMERGENCY_MW": ("EMERGENCY_LIMIT_MW", "EMERGENCY_RATING_MW"),
+    "CONTINGENCY_ID": ("CONTINGENCY", "OUTAGE", "OUTAGE_ID"),
     "OPERATION": ("OP",),
     "TIER": (),
     "TABLE": (),
@@ -133,6 +140,16 @@ class Sheet:
                 headings = ", ".join(h for h, name in zip(self.heading, names) if name == column)
                 self._note(1, column, f"more than one column has this meaning: {headings}")
             else:
+                self.at[column] = names.index(column)
+
+    def optional(self, need: Sequence[str], *columns: str) -> None:
+        """Finds columns that may be missing, beside those that are needed; `at` has those that are there."""
+        names = [column_name(heading, (*need, *columns)) for heading in self.heading]
+        for column in columns:
+            if names.count(column) > 1:
+                headings = ", ".join(h for h, name in zip(self.heading, names) if name == column)
+                self._note(1, column, f"more than one column has this meaning: {headings}")
+            elif column in names:
                 self.at[column] = names.index(column)
 
     def rows(self) -> Iterator[Row]:
