@@ -46,6 +46,10 @@ class Documents(FolderTest):
     def test_tiers(self):
         self.walk((ROOT / "docs" / "TIERS.md").read_text(), 10)
 
+    def test_networks(self):
+        os.symlink(ROOT / "tests", self.folder / "tests")
+        self.walk((ROOT / "docs" / "NETWORKS.md").read_text(), 1)
+
     def test_readme(self):
         text = (ROOT / "README.md").read_text()
         files = re.findall(r"`(\w+\.csv)`[^\n]*\n\n```csv\n(.*?)```", text, re.S)
