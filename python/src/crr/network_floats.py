@@ -25,7 +25,7 @@ def _packages() -> Tuple[Any, Any, Any]:
     found = [installed(name) for name in ("numpy", "scipy.sparse", "scipy.sparse.linalg")]
     if None in found:
         sizes = f"above {EXACT_NODES} buses or {EXACT_FACTORS:,} factors"
-        text = f"{sizes} numpy and scipy are needed, which this Python lacks; install them, or ask for --exact"
+        text = f"{sizes} numpy and scipy are needed, which this Python lacks; install them, or --exact"
         raise Faults([Fault("", 0, "", text)])
     return found[0], found[1], found[2]
 
