@@ -177,7 +177,8 @@
 extern "C" {
 #endif
 
-/* The number of this interface. */
+/* The version of the project that this header is of, and the number of this interface. */
+#define CRR_VERSION "0.1.0"
 #define CRR_INTERFACE 2
 
 /* Stack that is enough: for crr_write_report, crr_write_statement, crr_find_shortfall and

@@ -187,6 +187,8 @@ class Interrupted(FolderTest):
             "help": "",
             "completion": "bash",
             "man": "",
+            "grid": "branches -o out",
+            "from-matpower": "case.m -o out",
         }
         self.assertGreaterEqual(len(COMMANDS), 18)
         for name, one in COMMANDS.items():

@@ -150,6 +150,14 @@ class Habits(FolderTest):
         (self.folder / "book.csv").write_bytes(b"\xef\xbb\xbf" + text.encode())
         self.assertEqual(load(self.folder)[0].book, self.book)
 
+    def test_separators_within_names(self):
+        """A heading of commas may have more semicolons: its columns are found by commas."""
+        shutil.copytree(IEEE14, self.folder / "case")
+        for name in ("constraints.csv", "factors.csv", "prices.csv"):
+            path = self.folder / "case" / name
+            path.write_text(path.read_text().replace("7-9", "7" + 50 * ";" + "9"))
+        self.assertEqual(command("check", self.folder / "case")[0], 0)
+
     def test_other_columns_and_order(self):
         rows = [line.split(",") for line in (self.folder / "book.csv").read_text().splitlines()]
         lines = [",".join(['"a, b"', *reversed(row)]) for row in rows] + ["", ",,,,,,,"]

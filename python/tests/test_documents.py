@@ -73,6 +73,10 @@ class Documents(Walked):
                 if base.exists():
                     self.assertEqual(path.read_bytes() != base.read_bytes(), path.name in files, path)
 
+    def test_networks(self):
+        os.symlink(ROOT / "tests", self.folder / "tests")
+        self.walk((ROOT / "docs" / "NETWORKS.md").read_text(), 1)
+
     def test_readme(self):
         text = (ROOT / "README.md").read_text()
         files = re.findall(r"`(\w+\.csv)`[^\n]*\n\n```csv\n(.*?)```", text, re.S)

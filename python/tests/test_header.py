@@ -35,6 +35,11 @@ class Header(unittest.TestCase):
         }
         self.assertEqual(defined, sizes)
 
+    def test_version(self):
+        version = re.search(r'#define CRR_VERSION "(.*)"', HEADER)[1]
+        cargo = (ROOT / "rust" / "crr" / "Cargo.toml").read_text()
+        self.assertEqual((version, re.search(r'^version = "(.*)"', cargo, re.M)[1]), (crr.__version__,) * 2)
+
     def test_meanings(self):
         meanings = {
             int(number): meaning

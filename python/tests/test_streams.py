@@ -62,7 +62,7 @@ class Streams(FolderTest):
         ):
             self.assertEqual(self.run_crr(">&- 2>&-", *arguments), (2, b"", b""))
 
-    @unittest.skipUnless(FULL, "no /dev/full")
+    @unittest.skipUnless(FULL, "this machine has no /dev/full")
     def test_full(self):
         said = b"crr: the output can't be written: No space left on device\n"
         for arguments in (

@@ -2,8 +2,8 @@
 
 Every function of include/crr.h has one of its name here, without `crr_`; figures are whole numbers in that
 header's units. Input that is turned down raises `Refused`. CSV files are read and written by `crr.from_csv`
-and `crr.to_csv`, bin files by `crr.packed`, grids made of lines by `crr.network`; many hours are settled by
-`settle_hours`.
+and `crr.to_csv`, DataFrames by `crr.frames`, bin files by `crr.packed`, grids made of lines by `crr.network`;
+many hours are settled by `settle_hours`.
 """
 
 from importlib import import_module
@@ -53,13 +53,14 @@ from .views import Held, read_holder_view, write_holder_view, write_market_view
 from .words import PERIODS, PROCESSES, Kind, Period, Process
 
 if TYPE_CHECKING:
-    from . import from_csv, network, packed, terms, to_csv
+    from . import frames, from_csv, network, packed, terms, to_csv
 
 OBLIGATION, OPTION = Kind.OBLIGATION, Kind.OPTION
 OFF_PEAK, ON_PEAK = Period.OFF_PEAK, Period.ON_PEAK
 ANNUAL, TIER_LT, MONTHLY = Process.ANNUAL, Process.TIER_LT, Process.MONTHLY
 
-_MODULES = ("from_csv", "network", "packed", "terms", "to_csv")  # imported when they are first asked for
+# imported when they are first asked for
+_MODULES = ("frames", "from_csv", "network", "packed", "terms", "to_csv")
 
 
 def __getattr__(name: str) -> ModuleType:
@@ -115,6 +116,7 @@ __all__ = [
     "find_hub_mcc",
     "find_mcc",
     "find_shortfall",
+    "frames",
     "from_csv",
     "hour_period",
     "judge_flows",

@@ -20,7 +20,7 @@ from .sheet import Sheet
 BRANCHES = ("FROM_BUS", "TO_BUS", "REACTANCE")
 CONTINGENCIES = ("CONTINGENCY_ID", "BRANCH_ID")
 _BESIDE = ("BRANCH_ID", "TAP_RATIO", "LIMIT_MW", "EMERGENCY_MW")
-_NUMBER = re.compile(r"[+-]?(?:[0-9]{1,30}(?:\.[0-9]{0,30})?|\.[0-9]{1,30})(?:[eE][+-]?[0-9]{1,2})?")
+NUMBER = re.compile(r"[+-]?(?:[0-9]{1,30}(?:\.[0-9]{0,30})?|\.[0-9]{1,30})(?:[eE][+-]?[0-9]{1,2})?")
 
 
 class Network(NamedTuple):
@@ -36,7 +36,7 @@ def _number(sheet: Sheet, line: int, column: str, row: List[str], missing: str =
     """An exact number; one that is none is a fault, and gives 1."""
     text = row[sheet.at[column]] if column in sheet.at else missing
     text = text or missing
-    if _NUMBER.fullmatch(text):
+    if NUMBER.fullmatch(text):
         return Fraction(text)
     sheet.fault(line, column, f"{brief(text)!r} is not a number" if text else "empty")
     return Fraction(1)
@@ -50,9 +50,13 @@ def _limit(sheet: Sheet, line: int, column: str, row: List[str]) -> Optional[int
 
 def _name(row: Sequence[str], sheet: Sheet, ends: Tuple[str, str], count: Dict[Tuple[str, str], int]) -> str:
     """A branch's name: its own, or its ends' with a number from the second of parallel ones on."""
+    name = parallel_name(ends, count)
+    return row[sheet.at["BRANCH_ID"]] if "BRANCH_ID" in sheet.at else name
+
+
+def parallel_name(ends: Tuple[str, str], count: Dict[Tuple[str, str], int]) -> str:
+    """A branch's ends, with a number from the second of parallel ones on."""
     count[ends] = count.get(ends, 0) + 1
-    if "BRANCH_ID" in sheet.at:
-        return row[sheet.at["BRANCH_ID"]]
     return "-".join(ends) + (f" {count[ends]}" if count[ends] > 1 else "")
 
 

@@ -102,7 +102,7 @@ class Sheet:
         self.also: Dict[str, int] = {}  # columns that may be missing
         self.rounded = 0  # how many figures were
         self._text, self._doubtful = self._decoded(path, need, inputs)
-        self._delimiter = delimiter_of(self._text)
+        self._delimiter = delimiter_of(self._text, need)
         self._reader = csv.reader(_lines(self._text), delimiter=self._delimiter, strict=True)
         self._starts: List[int] = []  # of lines, found when a fault needs them
         if self._text:
@@ -313,10 +313,17 @@ def _lines(text: str) -> io.StringIO:
     return io.StringIO(text, newline="")
 
 
-def delimiter_of(text: str) -> str:
-    """What separates the fields of a heading."""
+def delimiter_of(text: str, need: Sequence[str]) -> str:
+    """What separates the heading's fields: that by which most of the columns are found that are needed, since
+    names have separators too; of equal ones the most frequent."""
     heading = text.split("\n", 1)[0]
-    return max(",;\t", key=heading.count)
+
+    def likelihood(delimiter: str) -> Tuple[int, int]:
+        fields = heading.replace('"', "").split(delimiter)
+        names = [column_name(field.strip(" \r"), need) for field in fields]
+        return sum(column in names for column in need), heading.count(delimiter)
+
+    return max(",;\t", key=likelihood)
 
 
 def _behind_field(text: str, at: int, delimiter: str) -> int:

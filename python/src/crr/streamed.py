@@ -55,7 +55,7 @@ class StreamedSheet(Sheet):
             text = "UTF-16, as some spreadsheets save it; save as CSV UTF-8"
             self.faults.append(Fault(self.name, 1, need[0], text))
             return
-        self._delimiter = delimiter_of(heading.decode("utf-8-sig", "surrogateescape"))
+        self._delimiter = delimiter_of(heading.decode("utf-8-sig", "surrogateescape"), need)
         self._reader = csv.reader(self._lines(), delimiter=self._delimiter, strict=True)
         self._read_heading(need, first, may)
 
