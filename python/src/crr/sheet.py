@@ -96,7 +96,7 @@ class Sheet:
         self.heading: List[str] = []
         self.at: Dict[str, int] = {}
         self._text, self._doubtful = self._decoded(path, need, inputs)
-        self._delimiter = _delimiter(self._text, need)
+        self._delimiter = delimiter_of(self._text, need)
         self._reader = csv.reader(_lines(self._text), delimiter=self._delimiter, strict=True)
         self._starts: List[int] = []  # of lines, found when a fault needs them
         if self._text:
@@ -308,7 +308,7 @@ def _lines(text: str) -> io.StringIO:
     return io.StringIO(text, newline="")
 
 
-def _delimiter(text: str, need: Sequence[str]) -> str:
+def delimiter_of(text: str, need: Sequence[str]) -> str:
     """What separates the heading's fields: that by which most of the columns are found that are needed, since
     names have separators too; of equal ones the most frequent."""
     heading = text.split("\n", 1)[0]
