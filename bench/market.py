@@ -191,17 +191,22 @@ def shared(case):
     from concurrent.futures import ProcessPoolExecutor
 
     alone = told("test_sliced, one process, two periods, three processes", lambda: test_sliced(case))
-    with ProcessPoolExecutor(2) as pool:
-        assert told("test_sliced, two processes", lambda: test_sliced(case, executor=pool)) == alone
+
+    def by_pool():
+        with ProcessPoolExecutor(2) as pool:
+            return test_sliced(case, executor=pool)
+
+    def by_dask():
+        with Client(n_workers=2, threads_per_worker=1, dashboard_address=None) as client:
+            return test_sliced(case, executor=client.get_executor(), parts=8)
+
+    assert told("test_sliced, two processes, started and ended", by_pool) == alone
     try:
         from distributed import Client
     except ImportError:
         print("dask's distributed is not installed")
         return alone
-    with Client(n_workers=2, threads_per_worker=1, dashboard_address=None) as client:
-        engine = client.get_executor()
-        by_dask = told("test_sliced, two dask workers", lambda: test_sliced(case, executor=engine, parts=8))
-        assert by_dask == alone
+    assert told("test_sliced, two dask workers, started and ended", by_dask) == alone
     return alone
 
 

@@ -27,7 +27,7 @@ class BookSlice(NamedTuple):
     """Nodes by their numbers in the whole grid, and a book of contracts between them, numbered by their
     place here."""
 
-    nodes: List[int]
+    nodes: "array[int]"
     book: bytes
 
 
@@ -51,7 +51,7 @@ class Tested(NamedTuple):
 def book_slices(book: Sequence[Contract], period: int) -> List[BookSlice]:
     """A period's contracts in slices."""
     of_period = [contract for contract in book if contract.period == period]
-    return [BookSlice(piece.nodes, piece.book) for piece in cut(of_period)]
+    return [BookSlice(array("Q", piece.nodes), piece.book) for piece in cut(of_period)]
 
 
 def judge_block(block: Block, slices: Dict[int, List[BookSlice]], processes: Sequence[int]) -> BlockAnswer:

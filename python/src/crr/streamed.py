@@ -14,7 +14,7 @@ from .faults import Fault
 from .inputs import Input, Inputs
 from .sheet import Row, Sheet, delimiter_of, unread
 
-STREAM_BYTES = 1 << 26  # a larger file is streamed
+STREAM_BYTES = 16 * 10**6  # a larger file is streamed
 _HELD_LINES = 64  # behind the line that is read, for a fault's column
 
 
