@@ -17,6 +17,7 @@ export const constants: {
   readonly MAX_NARROW_NODES: 200;
   readonly MAX_CONSTRAINTS: 64;
   readonly MAX_CONTRACTS: 1000;
+  readonly MAX_SUMMED: 20000000;
   readonly MAX_COORDINATORS: 256;
   readonly MAX_HUB_NODES: 32;
   readonly MAX_LSES: 16;
@@ -203,6 +204,21 @@ export interface Library {
   }): {
     flows: BigInt64Array; counted: number;
   };
+  /** Adds the flow on each constraint of the contracts of one period, of a book's file, to running
+   * totals: a step of a test of any size. */
+  add_flows(given: {
+    nodes: Whole; constraints: Whole; period: Whole; limits: Naturals; factors: Integers; book: Bytes;
+    flows: BigInt64Array; count: Whole;
+  }): {
+    count: number; counted: number;
+  };
+  /** Judges the running totals of a block of constraints, as the test judges: the last step of a test of
+   * any size, for each block. */
+  judge_flows(given: {
+    constraints: Whole; process: Whole; limits: Naturals; flows: Integers; summed: Whole;
+  }): {
+    set: bigint; count: number; lowest: number; excess: bigint;
+  };
   /** Finds, for a book that fails the test, every contract of the period tested whose quantity, lowered
    * alone, makes the book pass in the process, with the smallest cut that does. */
   find_cuts(given: {
@@ -319,6 +335,13 @@ export interface Library {
     year: Whole; month: Whole;
   }): {
     hours: bigint;
+  };
+  /** Gives the period of an hour of a date, by the rule of crr_month_hours: on-peak are the hours ending
+   * 7 to 22 of the days that it counts. */
+  hour_period(given: {
+    year: Whole; month: Whole; day: Whole; hour_ending: Whole;
+  }): {
+    period: bigint;
   };
   /** Gives the weekday of a date. */
   weekday(given: {

@@ -61,7 +61,10 @@ function cells(value, parameter, name) {
 // What is handed over for a parameter: a number, cells, how many cells are to be made, or a figure's one.
 function taken(entry, parameter, given) {
   const name = `${parameter.name} of ${entry}`;
-  if (parameter.form === "figure") return { parameter, length: 1, size: 8 };
+  if (parameter.form === "figure") {
+    const first = parameter.carried ? whole(given[parameter.name], parameter.type, name) : undefined;
+    return { parameter, first, length: 1, size: 8 };
+  }
   const value = given[parameter.name];
   if (parameter.form === "number") return { parameter, number: whole(value, parameter.type, name) };
   const size = ARRAYS[parameter.type].BYTES_PER_ELEMENT;
@@ -121,7 +124,8 @@ function results(memory, words) {
 function call(exports, entry, given) {
   const words = functions[entry].map((parameter) => taken(entry, parameter, given));
   const memory = place(exports, words);
-  for (const { held, place, length, parameter } of words) {
+  for (const { held, first, place, length, parameter } of words) {
+    if (first !== undefined) new BigUint64Array(memory, place, 1)[0] = first;
     if (held) new ARRAYS[parameter.type](memory, place, length).set(held);
   }
   const answer = exports[`crr_${entry}`](...words.flatMap(passed));

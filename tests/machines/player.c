@@ -129,7 +129,7 @@ static int play(void) {
         }
         lent[count] = taken(*form, strcmp(answer, "0") == 0);
         words[passed++].p = lent[count].memory + MARGIN;
-        if (*form != 'f') words[passed++].n = lent[count].length;
+        if (*form != 'f' && *form != 'c') words[passed++].n = lent[count].length;
     }
     for (; *form == 'x'; form = word()) {
         size_t which = (size_t)number(word()), at = (size_t)number(word());

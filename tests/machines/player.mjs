@@ -108,7 +108,7 @@ function byExports(exports, call, opposite, slots) {
   around.forEach((one, i) => one && view(i).set(one.cells));
   const words = call.parameters.flatMap(({ form, number }, i) => {
     if (form === "n") return [number];
-    return form === "f" ? [around[i].start] : [around[i].start, BigInt(around[i].length)];
+    return form === "f" || form === "c" ? [around[i].start] : [around[i].start, BigInt(around[i].length)];
   });
   const answer = Number(exports[`crr_${call.name}`](...words));
   return answer === call.answer && around.every((one, i) => !one || same(view(i), one.expected));
@@ -134,14 +134,16 @@ function byModule(crr, call, made, slots) {
   const given = {};
   call.parameters.forEach(({ form, number }, i) => {
     if (form === "n") given[declared[i].name] = number;
+    else if (form === "c") [given[declared[i].name]] = held[i].cells;
     else if (form !== "f" && !left(i)) given[declared[i].name] = held[i].cells;
   });
   const { answer, out } = answered(crr, call, given);
   const wrote = (i) => call.written.find(({ which }) => which === i)?.cells ?? new Uint8Array(0);
   return answer === call.answer && call.parameters.every(({ form }, i) => {
     const now = out[declared[i].name];
-    if (form === "n" || (form === "f" && answer !== 0)) return true;
-    if (form === "f") return BigInt(now) === held[i].expected[0];
+    const isFigure = form === "f" || form === "c";
+    if (form === "n" || (isFigure && answer !== 0)) return true;
+    if (isFigure) return BigInt(now) === held[i].expected[0];
     return left(i) ? same(now, wrote(i)) : same(held[i].cells, held[i].expected);
   });
 }

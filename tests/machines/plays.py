@@ -10,6 +10,7 @@ A call, its parameters in the header's order, what is written, and the end of th
     w TYPE LENGTH              one that the player fills
     s TYPE LENGTH SLOT new|old a running test's, which the player keeps from call to call, new: filled afresh
     f TYPE                     a figure
+    c TYPE 1 NUMBER            one that the call reads, too, and that holds this number
     x PARAMETER AT LENGTH CELLS   cells of a parameter, from 0, that the call writes
     go
 
@@ -38,9 +39,9 @@ def parameter_line(name, parameter, given, slots):
     code = parameter.code
     if parameter.form == "number":
         return f"n {given.pop(parameter.name)}"
-    if parameter.form == "figure":
-        return f"f {code}"
     text = given.pop(parameter.name, None)
+    if parameter.form == "figure":
+        return f"f {code}" if text is None else f"c {code} {told(cells(text))}"
     if text is None:
         slot = (slots["name"], parameter.name)
         old = slot in slots["held"] and name != "open_running"
