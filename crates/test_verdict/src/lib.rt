@@ -71,15 +71,8 @@ pub fn check_test(
 ) -> Checked
     ensures { λ r. ⌜ r ≡ testChecked (testCall nodes constraints process period (before limits) (before factors) (before book)) ⌝ }
 {
-    let in_tables = grid_tables::check_grid_tables(
-        nodes,
-        constraints,
-        process,
-        period,
-        limits,
-        factors,
-    );
-    if let Checked::Refused(refusal) = in_tables {
+    let grid = grid_tables::check_grid_tables(nodes, constraints, process, period, limits, factors);
+    if let Checked::Refused(refusal) = grid {
         return Checked::Refused(refusal);
     }
     book_checks::check_book(nodes, book)
