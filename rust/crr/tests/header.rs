@@ -78,7 +78,8 @@ fn in_header() -> Declarations {
 }
 
 fn in_binding() -> Declarations {
-    let files = ["lent", "lent/exposure", "lent/hubs", "lent/migration", "lent/running", "lent/totals"].map(|file| format!("src/{file}.rs"));
+    let files =
+        ["lent", "lent/exposure", "lent/hubs", "lent/migration", "lent/running", "lent/totals"].map(|file| format!("src/{file}.rs"));
     let code = files.map(|file| text(&file)).join(" ").split_whitespace().collect::<Vec<_>>().join(" ");
     let functions = code.split("pub fn crr_").skip(1).filter_map(|rest| rest.split_once(") -> u64;")?.0.split_once('('));
     let parameter = |words: &str| words.split_once(": ").map(|(name, of)| (name.to_string(), of.to_string()));
