@@ -7,11 +7,13 @@ mod exposure;
 mod hubs;
 mod migration;
 mod running;
+mod totals;
 
 pub use exposure::{find_exposure, find_shortfall};
 pub use hubs::{add_hub_contract, find_hub_mcc};
 pub use migration::{migrate_load, net_transfers, Migration};
 pub use running::{add_award, mark_tier, open_running, return_to_tier, Opening, State};
+pub use totals::{add_flows, judge_flows};
 
 mod c {
     extern "C" {

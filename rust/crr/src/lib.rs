@@ -32,6 +32,7 @@ mod running;
 pub mod sizes;
 mod terms;
 mod texts;
+mod totals;
 
 pub use books::{
     count_contracts, find_cuts, find_flows, remap_book, test_book, write_canonical_book, write_holder_view, write_market_view, Book, Cut,
@@ -48,3 +49,4 @@ pub use refused::Refused;
 pub use running::Running;
 pub use terms::{released_percent, Contract, Form, Kind, Period, Process, Tier};
 pub use texts::{write_report, write_statement};
+pub use totals::{add_flows, judge_flows, Totals};

@@ -40,6 +40,14 @@ guarded! {
     STACK: fn find_flows(
         nodes: usize, constraints: usize, period: u64, limits: &[u64], factors: &[i64], book: &[u8], flows: &mut [i64], counted: &mut usize
     );
+    STACK: fn add_flows(
+        nodes: usize, constraints: usize, period: u64, limits: &[u64], factors: &[i64], book: &[u8],
+        flows: &mut [i64], count: &mut usize, counted: &mut usize
+    );
+    STACK: fn judge_flows(
+        constraints: usize, process: u64, limits: &[u64], flows: &[i64], summed: usize,
+        set: &mut u64, count: &mut usize, lowest: &mut usize, excess: &mut i64
+    );
     STACK: fn find_cuts(
         nodes: usize, constraints: usize, process: u64, period: u64, limits: &[u64], factors: &[i64], book: &[u8],
         numbers: &mut [u64], cuts: &mut [u64], listed: &mut usize

@@ -1,8 +1,9 @@
 //! Compares each public entry of the proved library with a second implementation of the scope document and the change requests: every answer and every
 //! lent cell.
 //!
-//! `differential [SEED [ENTRY ROUND]]`: another seed than the usual one; one round of one entry, to see a failure again. `differential vectors`: the
-//! conformance vectors alone. `differential short`: fewer calls, for a second build of the library; that each refusal is drawn is not asked for.
+//! `differential [SEED [ENTRY [ROUND]]]`: another seed than the usual one; the rounds of one entry; one of them, to see a failure again.
+//! `differential vectors`: the conformance vectors alone. `differential short`: fewer calls, for a second build of the library; that each refusal is
+//! drawn is not asked for.
 
 mod draw;
 mod guarded;
@@ -17,7 +18,7 @@ mod vectors;
 use draw::{Draw, EXTREMES};
 use rounds::{
     calendar, canonical, cuts, demand, exposure, forms, headers, hub_book, hub_mcc, hubs, migration, priced, refusals, reordering, running,
-    shares, shortfall, text, view_pairs, views,
+    shares, shortfall, text, totals, view_pairs, views,
 };
 use std::env;
 use std::process::ExitCode;
@@ -42,7 +43,7 @@ const fn plain(name: &'static str, refusals: &'static [u64], cases: &'static [&'
 }
 
 /// Each entry, with the refusals that the papers list for it, each to be drawn and no other, and the cases that the change requests name.
-const ENTRIES: [Entry; 39] = [
+const ENTRIES: [Entry; 42] = [
     plain("read_grid", &[1, 2, 3, 4, 5, 6, 7, 8, 9], &[&forms::GRIDS_READ], rounds::grid::read),
     Entry { rounds: headers::FIRST_BYTES, ..plain("grid_headers", &[1, 2, 3, 4, 5, 6, 7, 8, 9], &[], headers::grid) },
     plain("write_grid", &[2, 3, 6, 7, 9], &[&forms::GRIDS_WRITTEN], rounds::grid::write),
@@ -61,6 +62,10 @@ const ENTRIES: [Entry; 39] = [
     plain("write_prices", &[3, 9, 15, 17], &[], rounds::prices::write),
     plain("test_book", &[1, 2, 3, 4, 5, 6, 7, 9, 10, 11, 13, 16, 17], &[&forms::BOOKS], rounds::test::round),
     plain("find_flows", &[1, 2, 3, 4, 5, 6, 7, 9, 10, 11, 13, 17], &[&forms::BOOKS], rounds::flows::round),
+    // beyond the papers: a test of any size, its steps and a whole of them
+    plain("add_flows", &[1, 2, 3, 4, 5, 6, 7, 9, 10, 11, 13, 17], &[&totals::ADDED, &forms::BOOKS], totals::add),
+    plain("judge_flows", &[3, 6, 9, 10, 16], &[&totals::JUDGED], totals::judge),
+    Entry { rounds: totals::slices::FIRST_ROUNDS, ..plain("sliced_test", &[], &[&totals::slices::CASES], totals::slices::round) },
     Entry {
         rounds: cuts::FIRST_ROUNDS,
         ..plain("find_cuts", &[1, 2, 3, 4, 5, 6, 7, 9, 10, 11, 13, 16, 17], &[&cuts::CASES, &forms::BOOKS], cuts::round)
@@ -169,10 +174,15 @@ fn all(seed: u64) -> ExitCode {
     }
 }
 
-fn one(seed: u64, name: &str, number: u64) -> ExitCode {
+/// The rounds of one entry, or one of them.
+fn one(seed: u64, name: &str, number: Option<u64>) -> ExitCode {
     let Some(entry) = ENTRIES.iter().find(|entry| entry.name == name) else {
         eprintln!("differential: no entry {name}");
         return ExitCode::from(2);
+    };
+    let Some(number) = number else {
+        let tally = run(entry, seed);
+        return ExitCode::from(u8::from(report(entry, &tally) || tally.failed > 0));
     };
     let mut tally = Tally::default();
     (entry.round)(&mut Round::new(entry.name, seed, number, &mut tally));
@@ -192,9 +202,10 @@ fn main() -> ExitCode {
     }
     match words.len() {
         0 | 1 => all(number(0, SEED)),
-        3 => one(number(0, SEED), &words[1], number(2, 0)),
+        2 => one(number(0, SEED), &words[1], None),
+        3 => one(number(0, SEED), &words[1], Some(number(2, 0))),
         _ => {
-            eprintln!("usage: differential [SEED [ENTRY ROUND] | vectors | short]");
+            eprintln!("usage: differential [SEED [ENTRY [ROUND]] | vectors | short]");
             ExitCode::from(2)
         }
     }
