@@ -176,7 +176,7 @@ class Command(FolderTest):
         shared = command("test", self.where, "-j", "2")
         self.assertEqual(shared, held)
         with self.streamed():
-            for memory, where in (("1000", "0 MB in memory"), ("0", "0 MB in memory, 0 MB in a file")):
+            for memory, where in (("1000", "0 MB in memory"), ("0", "0 MB in a temporary file")):
                 status, out, err = command("test", self.where, "--memory", memory)
                 self.assertEqual((status, out), held[:2])
                 self.assertIn(f"; factors: {where}; ", err)

@@ -38,9 +38,9 @@ def large_words(case: Case, passed: bool) -> str:
         return ""
     blocks = counted(-(-len(case.names.constraints) // MAX_CONSTRAINTS), "block")
     said = f"tested by slices: {blocks} of at most {MAX_CONSTRAINTS} constraints"
-    if case.blocks is not None:
-        said += f"; factors: {_megabytes(case.blocks.held)} in memory"
-        said += f", {_megabytes(case.blocks.spilled)} in a file" if case.blocks.spilled else ""
+    held, spilled = (case.blocks.held, case.blocks.spilled) if case.blocks is not None else (0, 0)
+    said += f"; factors: {_megabytes(held)} in memory" if held else ""
+    said += f"; factors: {_megabytes(spilled)} in a temporary file" if spilled else ""
     at_worst = f"; what an hour costs at worst is told up to {MAX_CONSTRAINTS} constraints"
     return f"{said}{'' if passed else at_worst}\n"
 
