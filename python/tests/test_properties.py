@@ -12,6 +12,7 @@ from pathlib import Path
 
 from support import SEED
 from crr.case import Case, Names, PricedHour, plain_number
+from crr.clock import hours_in
 from crr.faults import Faults
 from crr.files import Contract
 from crr.from_csv import load
@@ -53,14 +54,9 @@ def names(low, high):
 @draw.composite
 def hours(drawing, constraints):
     prices = draw.lists(draw.integers(0, 500_000), min_size=constraints, max_size=constraints)
-    times = draw.one_of(
-        draw.just([("", 0)]),
-        draw.lists(
-            draw.tuples(draw.dates(date(1900, 1, 1), date(2999, 12, 31)).map(str), draw.integers(1, 25)),
-            max_size=3,
-            unique=True,
-        ).map(sorted),
-    )
+    days = draw.dates(date(1900, 1, 1), date(2999, 12, 31)).map(str)
+    time = days.flatmap(lambda day: draw.tuples(draw.just(day), draw.integers(1, hours_in(day))))
+    times = draw.one_of(draw.just([("", 0)]), draw.lists(time, max_size=3, unique=True).map(sorted))
     return [
         PricedHour(day, hour, drawing(draw.integers(0, 1)), array("Q", drawing(prices)))
         for day, hour in drawing(times)
@@ -126,7 +122,7 @@ class Properties(unittest.TestCase):
         return folder
 
     def loaded(self, files):
-        return load(self.written(files))[0]
+        return load(self.written(files), as_given=True)[0]
 
     @seed(SEED)
     @bounded(60)
@@ -135,7 +131,7 @@ class Properties(unittest.TestCase):
         """Written, read, packed and unpacked: the same case, and from there the same files."""
         folder = self.folder()
         write_csv(case, folder / "csv")
-        read = load(folder / "csv")[0]
+        read = load(folder / "csv", as_given=True)[0]
         self.assertEqual(read, case)
         write_packed(read, folder / "bin")
         back = unpacked(folder / "bin")

@@ -90,8 +90,9 @@ class Linear(Case):
             ",".join(["NODE_ID", *reversed(names)]) + "\nBus 1" + ",0" * len(names) + "\n"
         )
         start = time.process_time()
+        takes = "crr test, cuts, settle, report and pack take more"
         self.assertIn(
-            "constraints.csv:66:CONSTRAINT_ID: more than 64 constraints; crr test, cuts, ",
+            f"constraints.csv:66:CONSTRAINT_ID: more than 64 constraints; {takes} (refusal 3)",
             self.said("check", self.case),
         )
         self.assertLess(time.process_time() - start, 5)
