@@ -126,18 +126,18 @@ static void *costs(void *nothing) {
 
 /* The test's flows added up in two steps, and judged. */
 static void *totals(void *nothing) {
-    size_t count = 0, counted = 7, many = 7, lowest = 7;
+    size_t count = 0, counted = 7, overloaded = 7, lowest = 7;
     uint64_t set = 7;
     int64_t excess = 7, sums[] = {0, 0, 7};
 
     expect("crr_add_flows", crr_add_flows(3, 2, CRR_ON_PEAK, tight, 2, factors, 6, book_file, book_len, sums, 3, &count, &counted) == CRR_OK && count == 3 && counted == 3);
-    expect("crr_judge_flows", crr_judge_flows(2, CRR_ANNUAL, tight, 2, sums, 3, count, &set, &many, &lowest, &excess) == CRR_OK
-                                  && set == 1 && many == 1 && lowest == 0 && excess == 245005000);
+    expect("crr_judge_flows", crr_judge_flows(2, CRR_ANNUAL, tight, 2, sums, 3, count, &set, &overloaded, &lowest, &excess) == CRR_OK
+                                  && set == 1 && overloaded == 1 && lowest == 0 && excess == 245005000);
     expect("crr_add_flows, again", crr_add_flows(3, 2, CRR_ON_PEAK, tight, 2, factors, 6, book_file, book_len, sums, 3, &count, &counted) == CRR_OK
                                        && count == 6 && counted == 3 && sums[2] == 7);
-    expect("crr_judge_flows, of both", crr_judge_flows(2, CRR_MONTHLY, case_limits, 2, sums, 2, count, &set, &many, &lowest, &excess) == CRR_OK && set == 0 && many == 0
+    expect("crr_judge_flows, of both", crr_judge_flows(2, CRR_MONTHLY, case_limits, 2, sums, 2, count, &set, &overloaded, &lowest, &excess) == CRR_OK && set == 0 && overloaded == 0
                                            && lowest == 0 && excess == 0);
-    expect("crr_judge_flows, no totals", crr_judge_flows(2, CRR_MONTHLY, case_limits, 2, sums, 2, 0, &set, &many, &lowest, &excess) == CRR_CONTRACT_COUNT && set == 0);
+    expect("crr_judge_flows, no totals", crr_judge_flows(2, CRR_MONTHLY, case_limits, 2, sums, 2, 0, &set, &overloaded, &lowest, &excess) == CRR_CONTRACT_COUNT && set == 0);
     count = CRR_MAX_SUMMED;
     expect("crr_add_flows, too many", crr_add_flows(3, 2, CRR_ON_PEAK, tight, 2, factors, 6, book_file, book_len, sums, 3, &count, &counted) == CRR_CONTRACT_COUNT
                                           && count == CRR_MAX_SUMMED && counted == 3);
