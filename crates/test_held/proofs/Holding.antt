@@ -28,8 +28,8 @@ beyond-high (suc m) (negsuc n) e = sym (le-ltb (suc m) (suc n) (omega (arith, lt
 
 -- ---- cells copied into an array
 
-pub copied-turn : (cells flows : List ℤ) (k : ℕ) (v : ℤ) → k < length cells → ((j : ℕ) → j < k → getD cells j (pos 0) ≡ getD flows j (pos 0)) → v ≡ getD flows k (pos 0)
-    → (j : ℕ) → j < k + 1 → getD (set cells k v) j (pos 0) ≡ getD flows j (pos 0)
+pub copied-turn : (cells flows : List ℤ) (k : ℕ) (v : ℤ) → k < length cells → ((j : ℕ) → j < k → getD cells j (pos 0) ≡ getD flows j (pos 0))
+    → v ≡ getD flows k (pos 0) → (j : ℕ) → j < k + 1 → getD (set cells k v) j (pos 0) ≡ getD flows j (pos 0)
 copied-turn cells flows k v l done e j h = ⊎-elim here there (eq-or-lt-of-le h)
   where
     there : suc j < k + 1 → getD (set cells k v) j (pos 0) ≡ getD flows j (pos 0)

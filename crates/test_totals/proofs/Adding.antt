@@ -70,7 +70,9 @@ module _ (q : AddFlowsCall) where
     addable totals =
         let a = q .asked in
         let t = ok .as-tested .tables in
-        let small = carried-judgeable (a .nodes) (a .constraints) (a .limits) (a .factors) (periodOf (a .period)) (a .book) (t .good-limits) (t .good-factors) (ok .as-tested .book) carried h in
+        let small
+        = carried-judgeable (a .nodes) (a .constraints) (a .limits) (a .factors) (periodOf (a .period)) (a .book) (t .good-limits) (t .good-factors)
+        (ok .as-tested .book) carried h in
         record {
           few = t .good-factors .few;
           long = ok .room-enough;
@@ -90,7 +92,8 @@ module _ (q : AddFlowsCall) where
       exit-is : exit ≡ overwrite (flowsSummed q) (q .asked .place)
       exit-is = stored ∙ ap (λ (cells : List ℤ). overwrite cells (q .asked .place)) sums-are
 
-      pub flows-are-added : (counted count : ℕ) → counted ≡ carried .count → count ≡ q .count + counted → addFlowsChecked q ≡ Passed → AddsFlows q (is.Found counted) exit count
+      pub flows-are-added : (counted count : ℕ) → counted ≡ carried .count → count ≡ q .count + counted → addFlowsChecked q ≡ Passed
+          → AddsFlows q (is.Found counted) exit count
       flows-are-added counted count e f passed =
           let n : counted ≡ length (countedContracts (q .asked)) = e ∙ h .count-is in
           let m : count ≡ summed q = f ∙ ap (λ (x : ℕ). q .count + x) n in

@@ -70,8 +70,8 @@ module _ (q : JudgeCall) where
         figures = answer-refused (Refused r) (judgeChecked q) (sym e) r refl _;
       }
 
-  pub judged : judgeChecked q ≡ Passed → (held : Flows) → SameFlows (q .constraints) (q .flows) held → (process : Process) → process ≡ processOf (q .process) → (answer : TestAnswer)
-      → testOutcome answer ≡ given (judgedValues (q .limits) process (held .flows) (q .constraints)) → JudgesFlows q answer
+  pub judged : judgeChecked q ≡ Passed → (held : Flows) → SameFlows (q .constraints) (q .flows) held → (process : Process) → process ≡ processOf (q .process)
+      → (answer : TestAnswer) → testOutcome answer ≡ given (judgedValues (q .limits) process (held .flows) (q .constraints)) → JudgesFlows q answer
   judged passed held same process is-process answer found =
       let by = processOf (q .process) in
       let right : testOutcome answer ≡ given (judgedValues (q .limits) by (q .flows) (q .constraints))

@@ -13,7 +13,9 @@ use Rattle.c_totals.proofs.crr_add_flows.Tie as tie
 abbrev call : tie.Start → AddFlowsCall
 call c =
     record {
-      asked = flowsCall (c .args .nodes) (c .args .constraints) (c .args .period) (c .args .limits .now) (c .args .factors .now) (c .args .book .now) (c .args .flows .now);
+      asked =
+          flowsCall (c .args .nodes) (c .args .constraints) (c .args .period) (c .args .limits .now) (c .args .factors .now) (c .args .book .now)
+          (c .args .flows .now);
       count = c .args .count .now;
     }
 

@@ -27,4 +27,5 @@ returns-2 c =
     rw (e, cast-back M (most-fits s)) (beyond-high M (s .args .flow) (rw (e, cast-minus-is M (most-fits s)) at (c .if1 .left)))
 
 pub flow-beyond-spec : {M : Type 1} → statement M
-flow-beyond-spec = tie.close (tie.spec (λ c. search needs) (λ c. search needs) (λ c. cast-minus-fits (200000000000 * c .args .count) (most-fits c)) returns returns-2)
+flow-beyond-spec =
+    tie.close (tie.spec (λ c. search needs) (λ c. search needs) (λ c. cast-minus-fits (200000000000 * c .args .count) (most-fits c)) returns returns-2)

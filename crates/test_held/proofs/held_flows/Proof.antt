@@ -29,7 +29,8 @@ loop-again c =
     let back = toZ-ofZ w64 (getD (s .args .flows .now) (l .k) (pos 0)) (record { sfits = c .before .same-flow-arg .given }) in (
       omega arith,
       length-set (l .cells) (l .k) _ ∙ l .inv .1,
-      copied-turn (l .cells) (s .args .flows .now) (l .k) _ (omega (arith, l .inv .1, s .pre .0)) (l .inv .2) (ap (λ (z : ℤ). toZ w64 (ofZ w64 z)) (c .same-flow .ensures ∙ back) ∙ back),
+      copied-turn (l .cells) (s .args .flows .now) (l .k) _ (omega (arith, l .inv .1, s .pre .0)) (l .inv .2)
+          (ap (λ (z : ℤ). toZ w64 (ofZ w64 z)) (c .same-flow .ensures ∙ back) ∙ back),
     )
 
 returns : tie.Need-returns Inv-loop μ-loop
@@ -41,4 +42,5 @@ pub held-flows-spec : {M : Type 1} → statement M
 held-flows-spec =
     tie.close (tie.spec
     Inv-loop μ-loop loop-holds (λ c. omega (arith, c .before .before .pre .0)) (λ c. omega (arith, c .before .before .pre .1)) (λ c κs. search needs)
-    (λ c. omega (arith, c .before .before .before .before .pre .0)) (λ c. omega (arith, c .before .before .before .before .pre .0)) (λ c. omega arith) (λ c. omega arith) loop-again returns)
+    (λ c. omega (arith, c .before .before .before .before .pre .0)) (λ c. omega (arith, c .before .before .before .before .pre .0)) (λ c. omega arith)
+    (λ c. omega arith) loop-again returns)

@@ -30,7 +30,8 @@ inside c = omega (arith, c .before .before .before .pre .long, c .before .loop .
 
 -- and has its old flow still
 small : (c : tie.In-loop Inv-loop μ-loop)
-    → natAbs (getD (c .before .loop .out) (c .before .loop .k) (pos 0)) + natAbs (getD (c .before .before .before .args .carried .flows) (c .before .loop .k) (pos 0)) < 2 ^ 63
+    → natAbs (getD (c .before .loop .out) (c .before .loop .k) (pos 0))
+    + natAbs (getD (c .before .before .before .args .carried .flows) (c .before .loop .k) (pos 0)) < 2 ^ 63
 small c =
     let s = c .before .before .before in
     let l = c .before .loop in
@@ -39,7 +40,8 @@ small c =
 plus-requires : tie.Need-plus-requires Inv-loop μ-loop
 plus-requires c κs =
     let e = c .before .before in
-    both-kept (getD (e .before .loop .out) (e .before .loop .k) (pos 0)) (getD (e .before .before .before .args .carried .flows) (e .before .loop .k) (pos 0)) (small e)
+    both-kept (getD (e .before .loop .out) (e .before .loop .k) (pos 0))
+    (getD (e .before .before .before .args .carried .flows) (e .before .loop .k) (pos 0)) (small e)
 
 loop-again : tie.Need-loop-again Inv-loop μ-loop
 loop-again c =
@@ -63,10 +65,12 @@ returns c =
     let s = c .before .before .before in
     let l = c .before .loop in
     let f : ℕ → ℤ = λ j. getD (s .args .out .now) j (pos 0) +ℤ getD (s .args .carried .flows) j (pos 0) in
-    fill-front (listTo (s .args .constraints) f) (l .out) (s .args .out .now) (l .k) (l .inv .2) (l .inv .3) (rw (length-listTo (s .args .constraints) f) (omega arith))
+    fill-front (listTo (s .args .constraints) f) (l .out) (s .args .out .now) (l .k) (l .inv .2) (l .inv .3)
+    (rw (length-listTo (s .args .constraints) f) (omega arith))
 
 pub add-cells-spec : {M : Type 1} → statement M
 add-cells-spec =
     tie.close (tie.spec
     Inv-loop μ-loop (λ c. search needs) (λ c. omega (arith, near c)) inside (λ c. omega (arith, near (c .before))) (λ c. near (c .before)) plus-requires
-    (λ c. omega (arith, near (c .before .before .before .before))) (λ c. inside (c .before .before .before .before)) (λ c. search needs) (λ c. search needs) loop-again (λ c. search needs) returns)
+    (λ c. omega (arith, near (c .before .before .before .before))) (λ c. inside (c .before .before .before .before)) (λ c. search needs) (λ c. search needs)
+    loop-again (λ c. search needs) returns)

@@ -21,7 +21,9 @@ use Rattle.test_totals.proofs.add_flows.Tie as tie
 abbrev call : tie.Start → AddFlowsCall
 call c =
     record {
-      asked = flowsCall (c .args .nodes) (c .args .constraints) (c .args .period) (c .args .limits .now) (c .args .factors .now) (c .args .book .now) (c .args .flows .now);
+      asked =
+          flowsCall (c .args .nodes) (c .args .constraints) (c .args .period) (c .args .limits .now) (c .args .factors .now) (c .args .book .now)
+          (c .args .flows .now);
       count = c .args .count .now;
     }
 
@@ -87,10 +89,12 @@ returns-4 c =
     let q = callOf e in
     let f = e .before .before .check-flows in
     let all : q .count + length (countedContracts (q .asked)) ≤ maxSummed = omega (arith, carried k .count-is, l .if2 .left, few k) in
-    flows-are-added q (ok e) (k .carry .result) (carried k) _ (a .add-cells .ensures) _ _ refl refl (all-pass q (f .result) (f .ensures) (e .enum-told .given .1) (totals k) all)
+    flows-are-added q (ok e) (k .carry .result) (carried k) _ (a .add-cells .ensures) _ _ refl refl
+    (all-pass q (f .result) (f .ensures) (e .enum-told .given .1) (totals k) all)
 
 pub add-flows-spec : {M : Type 1} → statement M
 add-flows-spec =
     tie.close (tie.spec
-    (λ c κs. search needs) (λ c. search needs) (λ c. search needs) returns (λ c. search needs) no-totals-requires (λ c. search needs) returns-2 (λ c κs. search needs) carry-requires
+    (λ c κs. search needs) (λ c. search needs) (λ c. search needs) returns (λ c. search needs) no-totals-requires (λ c. search needs) returns-2
+    (λ c κs. search needs) carry-requires
     (λ c. omega (arith, few c)) (λ c. search needs) returns-3 add-cells-requires (λ c. search needs) (λ c. search needs) returns-4)

@@ -18,7 +18,8 @@ returns-2 c = sym (first-passes _ _ (le-ltb _ _ (c .before .if1 .left)) ∙ firs
 returns-3 : tie.Need-returns-3
 unfolding judgeChecks
 returns-3 c =
-    sym (first-passes _ _ (le-ltb _ _ (c .before .before .if1 .left)) ∙ first-passes _ _ (le-ltb _ _ (c .before .if2 .left)) ∙ first-refuses _ _ (lt-ltb _ _ (c .if3 .taken)))
+    sym (first-passes _ _ (le-ltb _ _ (c .before .before .if1 .left)) ∙ first-passes _ _ (le-ltb _ _ (c .before .if2 .left))
+    ∙ first-refuses _ _ (lt-ltb _ _ (c .if3 .taken)))
 
 returns-4 : tie.Need-returns-4
 unfolding judgeChecks

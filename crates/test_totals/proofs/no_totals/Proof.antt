@@ -31,7 +31,8 @@ same c =
     let k = c .before .before .before .loop .k in
     c .flow-beyond .ensures
     ∙ ap (beyond (a .count))
-    (toZ-ofZ w64 (getD (a .flows .now) k (pos 0)) (record { sfits = c .before .flow-beyond-arg .given }) ∙ sym (getD-take (a .constraints) (a .flows .now) k (pos 0) (omega arith)))
+    (toZ-ofZ w64 (getD (a .flows .now) k (pos 0)) (record { sfits = c .before .flow-beyond-arg .given })
+    ∙ sym (getD-take (a .constraints) (a .flows .now) k (pos 0) (omega arith)))
 
 returns : tie.Need-returns Inv-loop μ-loop
 returns c = let a = c .before .args in too-many (a .constraints) (a .count) (a .flows .now) (omega arith)
@@ -47,7 +48,8 @@ returns-2 c =
     let s = c .before .before .before .before .before .before in
     let a = s .args in
     let l = c .before .before .before .before .loop in
-    flow-found (a .constraints) (a .count) (a .flows .now) (l .inv .1) (l .k) (cell-in (a .flows .now) (a .constraints) (l .k) (s .pre) (omega arith)) (sym (same (c .before)) ∙ c .if2 .taken)
+    flow-found (a .constraints) (a .count) (a .flows .now) (l .inv .1) (l .k) (cell-in (a .flows .now) (a .constraints) (l .k) (s .pre) (omega arith))
+    (sym (same (c .before)) ∙ c .if2 .taken)
 
 loop-again : tie.Need-loop-again Inv-loop μ-loop
 loop-again c =
@@ -56,7 +58,8 @@ loop-again c =
     let l = c .before .before .before .before .loop in (
       omega arith,
       l .inv .1,
-      anyOf-good (beyond (a .count)) (take (a .constraints) (a .flows .now)) (l .k) (pos 0) (cell-in (a .flows .now) (a .constraints) (l .k) (s .pre) (omega arith)) (l .inv .2)
+      anyOf-good (beyond (a .count)) (take (a .constraints) (a .flows .now)) (l .k) (pos 0)
+          (cell-in (a .flows .now) (a .constraints) (l .k) (s .pre) (omega arith)) (l .inv .2)
           (sym (same (c .before)) ∙ c .if2 .left),
     )
 
@@ -66,9 +69,11 @@ returns-3 c =
     let a = s .args in
     let l = c .before .loop in
     none-found (a .constraints) (a .count) (a .flows .now) (l .inv .1)
-    (sym (anyOf-end (beyond (a .count)) (take (a .constraints) (a .flows .now)) (l .k) (omega (arith, length-take-le (a .constraints) (a .flows .now) (s .pre))) (l .inv .2)))
+    (sym (anyOf-end (beyond (a .count)) (take (a .constraints) (a .flows .now)) (l .k)
+    (omega (arith, length-take-le (a .constraints) (a .flows .now) (s .pre))) (l .inv .2)))
 
 pub no-totals-spec : {M : Type 1} → statement M
 no-totals-spec =
     tie.close (tie.spec
-    Inv-loop μ-loop returns loop-holds (λ c. search needs) (λ c. search needs) flow-beyond-requires returns-2 (λ c. search needs) (λ c. search needs) loop-again returns-3)
+    Inv-loop μ-loop returns loop-holds (λ c. search needs) (λ c. search needs) flow-beyond-requires returns-2
+    (λ c. search needs) (λ c. search needs) loop-again returns-3)
