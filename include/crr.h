@@ -612,9 +612,9 @@ uint64_t crr_find_flows(size_t nodes, size_t constraints, uint64_t period,
  * 9 SHORT_TABLE (limits, factors), 6 LIMIT_RANGE, 7 FACTOR_RANGE, then the book's
  * own: 1 SHORT_FILE, 10 CONTRACT_COUNT, 4 SPARE_BITS, 5 FILE_LENGTH, and contract by
  * contract 11 NODE_NUMBER, 13 QUANTITY_RANGE; 9 SHORT_TABLE if flows has fewer cells
- * than there are constraints; last 10 CONTRACT_COUNT (*count above CRR_MAX_SUMMED, or
- * would become so; or a flow that exceeds 200,000,000,000 * *count in size, which no
- * total of so many contracts does).
+ * than there are constraints; last 10 CONTRACT_COUNT (*count is above CRR_MAX_SUMMED
+ * or would become so, or a flow exceeds 200,000,000,000 * *count in size, which no total
+ * of so many contracts does).
  */
 uint64_t crr_add_flows(size_t nodes, size_t constraints, uint64_t period,
                        const uint64_t *limits, size_t limits_len,
