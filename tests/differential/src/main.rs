@@ -181,7 +181,7 @@ fn one(seed: u64, name: &str, number: Option<u64>) -> ExitCode {
         return ExitCode::from(2);
     };
     let Some(number) = number else {
-        let tally = run(entry, seed);
+        let tally = run(entry, seed, CALLS);
         return ExitCode::from(u8::from(report(entry, &tally) || tally.failed > 0));
     };
     let mut tally = Tally::default();
