@@ -3,7 +3,8 @@
  * hour by hour.
  *
  * The library is libcrr.a, and libcrr.so for programs that load it when they run
- * (`./library` builds both), for 64-bit machines: x86-64 Linux. It allocates
+ * (`./library` builds both), for 64-bit machines: x86-64 and aarch64 Linux. crr.dll
+ * is that for Windows, and crr.wasm, through js/, that for JavaScript. It allocates
  * nothing, keeps no state and does no input or output, so any number of threads may
  * call it at once. There is no floating point in it.
  * crr_write_report, crr_write_statement, crr_find_shortfall and crr_find_exposure hold
@@ -41,6 +42,8 @@
  *   tier           1, 2, 3, or 4 for LT: the name of a mark, and no process
  *   date           year 2010 to 2037, month 1 to 12, day from 1 to the month's last
  *   weekday        1 Monday to 7 Sunday
+ *   hour ending    1 to 24; 25 for the hour that comes twice where the clock is set
+ *                  back
  *
  * Nodes, constraints, contracts and coordinators are numbered from 0: nodes up to
  * 3,999. Load-serving entities (LSEs) are numbered from 1, each being the holder of
@@ -153,7 +156,8 @@
  *     bytes. A figure's pointer is never null.
  *   - The length cells from the pointer on are one object's, readable, and
  *     writable where the parameter is not const. What is lent to be written need
- *     not be set before the call: any bytes there will do.
+ *     not be set before the call: any bytes there will do. The state of a running test
+ *     and the totals of crr_add_flows are read and written.
  *   - What is passed to be written, buffer or figure, overlaps nothing else that
  *     is passed in the same call. Buffers that are only read may overlap.
  *   - No other thread writes what is passed, or reads what is passed to be
@@ -173,7 +177,8 @@
 extern "C" {
 #endif
 
-/* The number of this interface. */
+/* The version of the project that this header is of, and the number of this interface. */
+#define CRR_VERSION "0.1.0"
 #define CRR_INTERFACE 2
 
 /* Stack that is enough: for crr_write_report, crr_write_statement, crr_find_shortfall and
@@ -186,6 +191,7 @@ extern "C" {
 #define CRR_MAX_NARROW_NODES 200 /* of a grid's file in the narrow form */
 #define CRR_MAX_CONSTRAINTS 64
 #define CRR_MAX_CONTRACTS 1000
+#define CRR_MAX_SUMMED 20000000 /* contracts whose flows are added up */
 #define CRR_MAX_COORDINATORS 256
 #define CRR_MAX_HUB_NODES 32
 #define CRR_MAX_LSES 16
@@ -583,6 +589,66 @@ uint64_t crr_find_flows(size_t nodes, size_t constraints, uint64_t period,
                         const uint8_t *book, size_t book_len,
                         int64_t *flows, size_t flows_len,
                         size_t *counted);
+
+/*
+ * Adds the flow on each constraint of the contracts of one period, of a book's file, to
+ * running totals: a step of a test of any size.
+ *
+ * A grid and a book beyond the sizes above are tested block by block: a block is any
+ * 64 of the constraints or fewer, and each constraint is in one. A block's totals
+ * begin as flows of 0 and a *count of 0. Then the whole book's contracts are added in
+ * any order, at most 1,000 at a call, as a small book on a small grid: limits are the
+ * block's, nodes are numbered as the caller likes, and each has the factors on the
+ * block's constraints of the node that it stands for. When all are added
+ * crr_judge_flows judges the block.
+ *
+ * On success adds to the first cells of flows, one for each constraint, what
+ * crr_find_flows would write there, and to *count how many contracts the period has,
+ * which it writes to *counted. flows and *count are read, too: they are what the call
+ * before left, or 0. Document 01 knows the sizes of one call alone: this function goes
+ * beyond it.
+ *
+ * Refusals, in this order: 2 NODE_COUNT, 3 CONSTRAINT_COUNT, 17 PERIOD_OR_KIND,
+ * 9 SHORT_TABLE (limits, factors), 6 LIMIT_RANGE, 7 FACTOR_RANGE, then the book's
+ * own: 1 SHORT_FILE, 10 CONTRACT_COUNT, 4 SPARE_BITS, 5 FILE_LENGTH, and contract by
+ * contract 11 NODE_NUMBER, 13 QUANTITY_RANGE; 9 SHORT_TABLE if flows has fewer cells
+ * than there are constraints; last 10 CONTRACT_COUNT (*count is above CRR_MAX_SUMMED
+ * or would become so, or a flow exceeds 200,000,000,000 * *count in size, which no total
+ * of so many contracts does).
+ */
+uint64_t crr_add_flows(size_t nodes, size_t constraints, uint64_t period,
+                       const uint64_t *limits, size_t limits_len,
+                       const int64_t *factors, size_t factors_len,
+                       const uint8_t *book, size_t book_len,
+                       int64_t *flows, size_t flows_len,
+                       size_t *count, size_t *counted);
+
+/*
+ * Judges the running totals of a block of constraints, as the test judges: the last
+ * step of a test of any size, for each block.
+ *
+ * flows has the totals that crr_add_flows left, and summed is its *count: how many
+ * contracts they are of.
+ *
+ * On success writes to *set, *count, *lowest and *excess what crr_test_book writes, 0
+ * to all four on pass. Constraints are numbered as they stand in the block.
+ *
+ * Where crr_add_flows added every contract of the period once for each block, *set is 0
+ * for all blocks exactly when no list of shadow prices on the whole grid makes the net
+ * payment of these contracts exceed the congestion rent. Where it is not, prices of 1
+ * cent at the block's constraint *lowest and 0 elsewhere do, by *excess in 10^-8 cents
+ * for an hour. This function goes beyond document 01, as crr_add_flows does.
+ *
+ * Refusals, in this order: 3 CONSTRAINT_COUNT, 16 PROCESS_NUMBER, 9 SHORT_TABLE
+ * (limits, flows), 6 LIMIT_RANGE, 10 CONTRACT_COUNT (summed above CRR_MAX_SUMMED, or a
+ * flow that exceeds 200,000,000,000 * summed in size).
+ */
+uint64_t crr_judge_flows(size_t constraints, uint64_t process,
+                         const uint64_t *limits, size_t limits_len,
+                         const int64_t *flows, size_t flows_len,
+                         size_t summed,
+                         uint64_t *set, size_t *count, size_t *lowest,
+                         int64_t *excess);
 
 /*
  * Finds, for a book that fails the test, every contract of the period tested whose
@@ -1007,6 +1073,21 @@ uint64_t crr_write_statement(const uint8_t *grid_file, size_t grid_file_len,
  * Refusals: 19 NO_SUCH_DATE (a year not 2010 to 2037, a month not 1 to 12).
  */
 uint64_t crr_month_hours(uint64_t year, uint64_t month, uint64_t *hours);
+
+/*
+ * Gives the period of an hour of a date, by the rule of crr_month_hours: on-peak are
+ * the hours ending 7 to 22 of the days that it counts. Hours ending are 1 to 24; 25 is
+ * the hour that comes twice on the day whose clock is set back, and is off-peak. Of
+ * the hours ending 1 to 24 of a month's days as many are on-peak as crr_month_hours
+ * gives. This goes beyond the papers, which ask for the months' counts alone.
+ *
+ * On success writes it to *period: 0 off-peak, 1 on-peak.
+ *
+ * Refusals, in this order: 19 NO_SUCH_DATE (the date, as for crr_weekday), 19
+ * NO_SUCH_DATE (an hour ending not 1 to 25).
+ */
+uint64_t crr_hour_period(uint64_t year, uint64_t month, uint64_t day,
+                         uint64_t hour_ending, uint64_t *period);
 
 /*
  * Gives the weekday of a date.

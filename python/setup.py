@@ -1,8 +1,10 @@
 """Puts the shared library into the package, that of dist/ where it is of these sources (crr/library.py).
 
-The wheel is tagged for any Python 3 on x86-64 Linux. Neither a compiler nor the Rattle kit is needed.
+The wheel is tagged for any Python 3 on the machine that CRR_WHEEL names, x86-64-linux, aarch64-linux or
+x86-64-windows, else on this one. Neither a compiler nor the Rattle kit is needed.
 """
 
+import os
 import shutil
 import sys
 from pathlib import Path
@@ -16,19 +18,31 @@ except ImportError:  # setuptools before 70.1
     from wheel.bdist_wheel import bdist_wheel
 
 sys.path.insert(0, str(Path(__file__).resolve().parent / "src"))
-from crr.library import library_path  # noqa: E402
+from crr.library import libraries_to_pack, this_machine  # noqa: E402
+
+# The library asks for memset and memcpy of any version. pip before 20.3 knows the second name alone.
+TAGS = {
+    "x86-64-linux": "manylinux_2_17_x86_64.manylinux2014_x86_64",
+    "aarch64-linux": "manylinux_2_17_aarch64.manylinux2014_aarch64",
+    "x86-64-windows": "win_amd64",
+}
+MACHINE = os.environ.get("CRR_WHEEL") or this_machine()
+if MACHINE not in TAGS:
+    raise SystemExit(f"no library for {MACHINE}: CRR_WHEEL names one of {', '.join(TAGS)}")
 
 
 class Build(build_py):
     def run(self):
         try:
-            library = library_path()
+            libraries = libraries_to_pack(MACHINE)
         except FileNotFoundError as missing:
             raise SystemExit(str(missing))
         package = Path(self.build_lib) / "crr"
         shutil.rmtree(package, ignore_errors=True)  # modules of an earlier build
         super().run()
-        shutil.copyfile(library, package / "libcrr.so")
+        for name, library in libraries.items():
+            (package / name).parent.mkdir(parents=True, exist_ok=True)
+            shutil.copyfile(library, package / name)
 
 
 class Wheel(bdist_wheel):
@@ -37,8 +51,7 @@ class Wheel(bdist_wheel):
         self.root_is_pure = False
 
     def get_tag(self):
-        # The library asks for memset and memcpy of any version. pip before 20.3 knows the second name alone.
-        return "py3", "none", "manylinux_2_17_x86_64.manylinux2014_x86_64"
+        return "py3", "none", TAGS[MACHINE]
 
 
 class Binary(Distribution):

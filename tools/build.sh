@@ -2,6 +2,7 @@
 # Proving and building with the kit: progress crate by crate, provers beside each other, the library
 # linked and dist/ filled. Sourced and called in the repository's folder.
 . tools/sources.sh
+. tools/machines.sh
 
 programs=(feasibility on_peak_hours statement)
 
@@ -75,11 +76,8 @@ tell() { # WHO CRATE..
 
 # ---- the library
 
-kit_tools() {
-    local home=${RATTLE_HOME:-}
-    [ -n "$home" ] || home=$(dirname "$(dirname "$(readlink -f "$(command -v rt)")")")
-    echo "$home/on/$(uname -m)/toolchain/bin"
-}
+kit_home() { echo "${RATTLE_HOME:-$(dirname "$(dirname "$(readlink -f "$(command -v rt)")")")}"; }
+kit_tools() { echo "$(kit_home)/on/$(uname -m)/toolchain/bin"; }
 
 # What an object is made from: the kit, its crate's files, and all that this stands on, as rt noted it.
 object_stamp() { # CRATE
@@ -93,26 +91,29 @@ object_stamp() { # CRATE
     } | sha256sum
 }
 
-# Proves a crate of the library and writes target/staticlib/CRATE.o, unless it stands there already.
-# rt keeps notes in target/log, and two that run at once must not share them: each has its own room.
+# Proves a crate of the library and writes target/staticlib/CRATE.o, and the module that it was made of
+# to target/modules, unless both stand there already. rt keeps notes in target/log, and two that run at
+# once must not share them: each has its own room.
 object() { # CRATE
-    local crate=$1 built=$PWD/target/staticlib room=target/rooms/$1 stamp began=$SECONDS part
+    local crate=$1 built=$PWD/target/staticlib room=$PWD/target/rooms/$1 stamp began=$SECONDS part
+    local module=$PWD/target/modules/$1.bc
     stamp=$(object_stamp "$crate")
-    if [ -f "$built/$crate.o" ] && [ "$(cat "$built/$crate.stamp" 2> /dev/null)" = "$stamp" ]; then
+    if [ -f "$built/$crate.o" ] && [ -f "$module" ] && [ "$(cat "$built/$crate.stamp" 2> /dev/null)" = "$stamp" ]; then
         echo "rt: $crate proved (unchanged since it was last proved)"
         return
     fi
     rm -f "$built/$crate.stamp"
-    mkdir -p "$room/target/log"
+    mkdir -p "$room/target/log" "${module%/*}"
+    keeping_kit "$room/kit" "$module"
     for part in crates crates.txt target/rlib target/stamp target/staticlib; do
         ln -sfn "$PWD/$part" "$room/$part"
     done
-    if (cd "$room" && rt staticlib "$crate") > "$built/$crate.log" 2>&1; then
+    if (cd "$room" && RATTLE_HOME=$room/kit rt staticlib "$crate") > "$built/$crate.log" 2>&1; then
         (cd "$built" && "$(kit_tools)/llvm-ar" x "lib$crate.a" "$crate.o")
         echo "$stamp" > "$built/$crate.stamp"
         echo "rt: $crate proved ($((SECONDS - began)) s)"
     else
-        sed "s|$PWD/$room/||g" "$built/$crate.log"
+        sed "s|$room/||g" "$built/$crate.log"
         echo "rt: $crate NOT PROVED"
         return 1
     fi
@@ -139,16 +140,12 @@ objects() {
 # same bytes from the same sources, whatever the folder, machine or order of crates.txt. New files are
 # moved into place, so that a running program keeps the old one.
 link_library() { # CRATE..
-    local tools built=target/staticlib shared=target/sharedlib members=("${@/#/target/staticlib/}")
-    tools=$(kit_tools)
+    local built=target/staticlib shared=target/sharedlib members=("${@/#/target/staticlib/}")
     mkdir -p "$shared"
-    rm -f "$built/libcrr.a.new" "$shared/MADE-FROM"
-    "$tools/llvm-ar" rcsD "$built/libcrr.a.new" "${members[@]/%/.o}"
+    rm -f "$shared/MADE-FROM"
+    archive "$built/libcrr.a.new" "${members[@]/%/.o}"
     mv "$built/libcrr.a.new" "$built/libcrr.a"
-    echo '{ global: crr_*; local: *; };' > "$shared/exports"
-    # Without --whole-archive nothing of an archive that nobody calls would be linked.
-    "$tools/ld.lld" -shared -s --build-id=none -z relro -z now -z noexecstack -soname libcrr.so.1 \
-        --version-script "$shared/exports" --whole-archive "$built/libcrr.a" -o "$shared/libcrr.so.new"
+    shared_library "$shared/libcrr.so.new" "$built/libcrr.a"
     mv "$shared/libcrr.so.new" "$shared/libcrr.so"
 }
 
@@ -156,11 +153,15 @@ link_library() { # CRATE..
 
 # Fills a folder with what was proved and built.
 fill_dist() { # FOLDER
-    local out=$1 program
+    local out=$1 program name sums
     mkdir -p "$out/$machine"
     install -m 644 target/staticlib/libcrr.a target/sharedlib/libcrr.so "$out/$machine"
     for program in "${programs[@]}"; do
         install -m 755 "target/bin/$program" "$out/$machine"
+    done
+    for name in "${machines[@]}"; do
+        mkdir -p "$out/$name"
+        install -m 644 "target/machines/$name"/* "$out/$name"
     done
     {
         echo "# What dist/ was made from, by ./library --dist: the kit, each crate with what it stands on, each"
@@ -168,7 +169,8 @@ fill_dist() { # FOLDER
         echo "# kit: $(rt version)"
         made_from
     } > "$out/MADE-FROM"
-    (cd "$out" && LC_ALL=C && sha256sum -- MADE-FROM */* > SHA256SUMS)
+    sums=$(cd "$out" && find . -type f ! -name SHA256SUMS -printf '%P\n' | LC_ALL=C sort | xargs sha256sum)
+    echo "$sums" > "$out/SHA256SUMS"
 }
 
 made_from() {

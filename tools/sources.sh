@@ -3,7 +3,25 @@
 # tests/dist/run and called in the repository's folder. Bash and coreutils are enough.
 
 # dist/'s folder for this machine.
-machine=x86-64-linux
+case $HOSTTYPE-$OSTYPE in
+aarch64-linux*) machine=aarch64-linux ;;
+*) machine=x86-64-linux ;;
+esac
+
+# Whether the processor is an x86-64-v3, by what Linux says that it can do.
+processor_is_v3() { # CPUINFO
+    local line flag
+    while IFS= read -r line && [[ $line != flags* ]]; do :; done < <(cat "$1" 2> /dev/null)
+    for flag in cx16 lahf_lm popcnt sse4_1 sse4_2 ssse3 avx avx2 bmi1 bmi2 f16c fma abm movbe xsave; do
+        [[ " $line " == *[[:space:]]"$flag "* ]] || return
+    done
+}
+
+# The best shared library that dist/ has for the processor, by its name there. crr/library.py takes it alike.
+shared_library_name() { # CPUINFO
+    local best=glibc-hwcaps/x86-64-v3/libcrr.so
+    if [ -f "dist/$machine/$best" ] && processor_is_v3 "$1"; then echo "$best"; else echo libcrr.so; fi
+}
 
 # What each crate of crates.txt stands on. Comments, blanks and the order of lines have no effect.
 declare -A stands_on=()
@@ -92,7 +110,7 @@ dist_unlike() { # FILE.. -- CRATE.. FILE..
         shift
     done
     shift
-    [[ $HOSTTYPE-$OSTYPE == x86_64-linux* ]] || { echo "dist/ has nothing for this machine, $HOSTTYPE-$OSTYPE"; return; }
+    [[ $HOSTTYPE-$OSTYPE == @(x86_64|aarch64)-linux* ]] || { echo "dist/ has nothing for this machine, $HOSTTYPE-$OSTYPE"; return; }
     for file in MADE-FROM SHA256SUMS "${files[@]}"; do
         [ -f "dist/$file" ] || { echo "there is no dist/$file"; return; }
     done

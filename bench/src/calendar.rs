@@ -12,8 +12,8 @@ pub const CALLS: usize = 1000;
 
 type Date = (u64, u64, u64);
 
-pub const ENTRIES: [(&str, fn() -> Result<Times, String>); 3] =
-    [("month_hours", month_hours), ("weekday", weekday), ("month_later", month_later)];
+pub const ENTRIES: [(&str, fn() -> Result<Times, String>); 4] =
+    [("month_hours", month_hours), ("hour_period", hour_period), ("weekday", weekday), ("month_later", month_later)];
 
 /// Every date of the years and the numbers beside them, existing and not.
 fn every() -> impl Iterator<Item = Date> {
@@ -43,6 +43,31 @@ fn month_hours() -> Result<Times, String> {
         &mut || {
             for &(year, month, _) in &dates {
                 let _ = black_box(&plain::month_hours(year, month));
+            }
+        },
+    ))
+}
+
+/// Compared at the hours where something changes; timed at an hour of 1 to 24 that the day's number gives.
+fn hour_period() -> Result<Times, String> {
+    for (year, month, day) in every() {
+        for hour in [0, 1, 6, 7, 22, 23, 24, 25, 26] {
+            let mut period = 0;
+            let proved = library::hour_period(year, month, day, hour, &mut period);
+            agree(&if proved == 0 { Ok(period) } else { Err(proved) }, &plain::hour_period(year, month, day, hour))?;
+        }
+    }
+    let (dates, mut period) = (drawn(), 0);
+    Ok(side_by_side(
+        &mut || {
+            for &(year, month, day) in &dates {
+                black_box(library::hour_period(year, month, day, 1 + day % 24, &mut period));
+                black_box(&period);
+            }
+        },
+        &mut || {
+            for &(year, month, day) in &dates {
+                let _ = black_box(&plain::hour_period(year, month, day, 1 + day % 24));
             }
         },
     ))

@@ -5,6 +5,7 @@ use crate::inputs::{Inputs, Size, BOOK_BYTES, GRID_BYTES};
 use crate::library;
 use crate::plain::{self, Form, Header, Order, Overload, Totals, MAX_CONTRACTS, MAX_HUB_NODES};
 use crate::timing::{side_by_side, Times};
+use crate::totals::{add_flows, judge_flows};
 use std::hint::black_box;
 
 /// An entry, and what it does on given inputs.
@@ -13,7 +14,7 @@ pub struct Entry {
     pub run: fn(&Inputs) -> Result<Times, String>,
 }
 
-pub const ENTRIES: [Entry; 21] = [
+pub const ENTRIES: [Entry; 23] = [
     Entry { name: "read_grid", run: read_grid },
     Entry { name: "write_grid", run: write_grid },
     Entry { name: "read_book", run: read_book },
@@ -28,6 +29,8 @@ pub const ENTRIES: [Entry; 21] = [
     Entry { name: "write_prices", run: write_prices },
     Entry { name: "test_book", run: test_book },
     Entry { name: "find_flows", run: find_flows },
+    Entry { name: "add_flows", run: add_flows },
+    Entry { name: "judge_flows", run: judge_flows },
     Entry { name: "find_cuts", run: find_cuts },
     Entry { name: "find_shortfall", run: find_shortfall },
     Entry { name: "find_mcc", run: find_mcc },

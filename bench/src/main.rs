@@ -11,6 +11,7 @@ mod shares;
 #[path = "../../tests/differential/src/splitmix.rs"]
 mod splitmix;
 mod timing;
+mod totals;
 mod views;
 
 // `released_percent`, a choice among three figures, is not timed.
@@ -35,8 +36,19 @@ const BY_CONTRACTS: [&str; 10] = [
     "write_report",
     "write_statement",
 ];
-const BY_CONSTRAINTS: [&str; 9] =
-    ["read_grid", "write_grid", "read_prices", "write_prices", "test_book", "find_mcc", "settle_hour", "write_report", "write_statement"];
+const BY_CONSTRAINTS: [&str; 11] = [
+    "read_grid",
+    "write_grid",
+    "read_prices",
+    "write_prices",
+    "test_book",
+    "add_flows",
+    "judge_flows",
+    "find_mcc",
+    "settle_hour",
+    "write_report",
+    "write_statement",
+];
 const BY_NODES: [&str; 8] =
     ["read_grid", "write_grid", "remap_book", "test_book", "find_mcc", "settle_hour", "write_report", "write_statement"];
 
@@ -44,7 +56,7 @@ const BY_WIDE_NODES: [&str; 8] =
     ["read_grid", "write_grid", "read_book", "write_book", "remap_book", "test_book", "find_mcc", "settle_hour"];
 
 /// The entries that take nodes or their numbers, by the largest inputs that they take in the wide form.
-const WIDE: [(&str, Size); 19] = [
+const WIDE: [(&str, Size); 20] = [
     ("read_grid", WIDEST),
     ("write_grid", WIDEST),
     ("read_book", WIDEST),
@@ -57,6 +69,7 @@ const WIDE: [(&str, Size); 19] = [
     ("add_hub_contract", WIDEST),
     ("test_book", WIDEST),
     ("find_flows", WIDEST),
+    ("add_flows", WIDEST),
     ("find_cuts", WIDEST),
     ("find_shortfall", WIDEST),
     ("find_mcc", WIDEST),
@@ -151,6 +164,7 @@ fn wide() -> Result<(), String> {
     viewed("write_holder_view, 4000 nodes", WIDEST, Form::Wide, views::MATCHING)?;
     migrated("migrate_load, 4000 nodes", migration::WIDEST, Form::Wide)?;
     tried(WIDEST, ", 4000 nodes")?;
+    growth("wide, constraints", &["add_flows"], Form::Wide, &[8, 64].map(|constraints| (constraints, Size { constraints, ..WIDEST })))?;
     growth("wide, nodes", &BY_WIDE_NODES, Form::Wide, &[200, 1000, 4000].map(|nodes| (nodes, Size { nodes, ..WIDEST })))
 }
 

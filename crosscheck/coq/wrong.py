@@ -1,5 +1,6 @@
 #!/usr/bin/env python3
-"""Puts wrong definitions into a copy of Terms.v or Exposure.v, one at a time: a proof or a computed value must then fail.
+"""Puts wrong definitions into a copy of Terms.v, Slices.v or Exposure.v, one at a time: a proof or a computed
+value must then fail.
 
 Prints where each was refused; exit status 1 where one was not, or where its text is no longer in its file.
 """
@@ -11,7 +12,8 @@ import tempfile
 from pathlib import Path
 
 HERE = Path(__file__).resolve().parent
-FILES = ["Terms", "Lemmas", "Demand3", "Exposure", "Checked", "Differential"]
+FILES = ["Terms", "Lemmas", "Demand3", "Slices", "Exposure", "Checked", "Differential"]
+MEANT = ["Terms.v", "Slices.v", "Exposure.v"]
 NEAREST = "Z.sgn a * ((2 * Z.abs a + perCent) / (2 * perCent))"
 FLOW = "Definition flow (f : Factors) (c : Contract) (k : nat) : Z :=\n  "
 WRONG = [
@@ -39,6 +41,10 @@ WRONG = [
     ("excesses below 0 set off", "Z.max 0 (excess g process cs k)", "excess g process cs k"),
     ("prices where nothing is overloaded", "(factors g)) (overloaded g process cs).\nDefinition alone", "(factors g)) (fun _ => true).\nDefinition alone"),
     ("all whatever one alone costs", "then alonePrices else allPrices", "then allPrices else allPrices"),
+    ("a contract of another kind stands for one", "kind_same : kind d = kind c;", "kind_same : kind d = kind d;"),
+    ("a constraint is in no block", "/\\ number (block i) j = k;", "/\\ (number (block i) j <= k)%nat;"),
+    ("a contract is in no slice", "Permutation (flat_map contracts (slices i)) book", "Permutation book book"),
+    ("a price is in no slice", "price prices k = 0%N }", "price prices k = price own k }"),
 ]
 
 
@@ -56,7 +62,7 @@ def main():
         with tempfile.TemporaryDirectory() as folder:
             for name in FILES:
                 shutil.copy(HERE / f"{name}.v", folder)
-            meant = [file for file in (Path(folder) / "Terms.v", Path(folder) / "Exposure.v") if old in file.read_text()]
+            meant = [file for file in (Path(folder) / name for name in MEANT) if old in file.read_text()]
             for file in meant:
                 file.write_text(file.read_text().replace(old, new))
             where = refused(folder) if meant else None

@@ -21,6 +21,11 @@ sys.path[:0] = [str(ROOT / "python" / "src")]
 SEED = int(os.environ.get("CRR_SEED", "1"))
 CASE_L = ROOT / "examples" / "case-l"
 IEEE14 = ROOT / "examples" / "ieee14"
+# What is told of its hours: 31 July and 1 August, a Friday and a Saturday.
+IEEE14_HOURS = (
+    "2026-07: 16 of 416 on-peak and 8 of 328 off-peak hours; not whole\n"
+    "2026-08: 16 of 416 on-peak and 8 of 328 off-peak hours; not whole\n"
+)
 MIGRATION = ROOT / "examples" / "migration"
 ENVIRONMENT = {**os.environ, "PYTHONPATH": str(ROOT / "python" / "src")}
 

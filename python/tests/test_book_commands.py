@@ -36,12 +36,12 @@ class Remap(FolderTest):
     def test_no_other_hours(self):
         command("pack", IEEE14, "-o", self.folder / "bin")
         shutil.copytree(self.folder / "bin", self.folder / "out")
-        (self.folder / "bin" / "prices" / "2026-08-01" / "HE24.bin").unlink()
+        (self.folder / "bin" / "prices" / "2026-08-01" / "HE12.bin").unlink()
         (self.folder / "pairs.csv").write_text(self.PAIRS)
         status, _, err = command(
             "remap", self.folder / "bin", self.folder / "pairs.csv", "-o", self.folder / "out"
         )
-        self.assertEqual((status, err.count("HE24.bin is there and not one of the hours written")), (2, 1))
+        self.assertEqual((status, err.count("HE12.bin is there and not one of the hours written")), (2, 1))
 
     def test_same_ends(self):
         (self.folder / "pairs.csv").write_text("OLD_NODE,NEW_NODE\nBus 1,Bus 4\n")
@@ -64,7 +64,7 @@ class Views(FolderTest):
     def test_market(self):
         out = self.folder / "market.bin"
         said = f"{out}: 16 contracts of 6 holders, all as holder 0; 98 bytes written\n"
-        self.assertEqual(command("market", IEEE14, "-o", out), (0, said, ""))
+        self.assertEqual(command("market", IEEE14, "--file", out), (0, said, ""))
         command("pack", IEEE14, "-o", self.folder / "bin")
         book = crr.read_book(14, (self.folder / "bin" / "book.bin").read_bytes())
         self.assertEqual(
@@ -73,14 +73,58 @@ class Views(FolderTest):
         self.assertGreater(len({contract.holder for contract in book}), 1)
 
     def test_the_market_tests_and_settles_as_all(self):
-        shutil.copytree(CASE_L, self.folder / "public")
-        command("market", CASE_L, "-o", self.folder / "market.bin")
-        shutil.copy(self.folder / "market.bin", self.folder / "public" / "book.bin")
-        self.assertEqual(command("test", self.folder / "public"), command("test", CASE_L))
+        """The case that is published is a whole one, in the form that it had, without a name that is not the
+        market's."""
+        command("pack", IEEE14, "-o", self.folder / "bin")
+        for number, folder in enumerate((IEEE14, self.folder / "bin")):
+            out = self.folder / f"public{number}"
+            said = f"{out}: 16 contracts of 6 holders, all as holder 0; the whole case written\n"
+            self.assertEqual(command("market", folder, "-o", out), (0, said, ""))
+            self.assertEqual(command("test", out), command("test", IEEE14))
+            status, text, err = command("settle", out)
+            self.assertEqual((status, err), (0, command("settle", IEEE14)[2]))
+            self.assertEqual({line.split(",")[0] for line in text.splitlines()[1:]}, {"0"})
+            told = b"".join(contents(out).values())
+            for name in (b"Alder", b"Birch", b"Dogwood", b"CRR-0"):
+                self.assertNotIn(name, told)
+        for name in ("constraints.csv", "factors.csv", "prices.csv"):
+            self.assertEqual(
+                (self.folder / "public0" / name).read_bytes(), (IEEE14 / name).read_bytes()
+            )
         self.assertEqual(
-            command("settle", self.folder / "public"),
-            (0, "OWNER,MONTH,AMOUNT\n0,,8.99\n", command("settle", CASE_L)[2]),
+            contents(self.folder / "public1")["grid.bin"], contents(self.folder / "bin")["grid.bin"]
         )
+
+    def test_contracts_names_where_asked_for(self):
+        out = self.folder / "public"
+        asked = ("market", IEEE14, "-o", out, "--names", "--file", self.folder / "view")
+        self.assertEqual(command(*asked)[0], 0)
+        book = (out / "book.csv").read_text()
+        self.assertTrue(book.splitlines()[1].startswith("CRR-001,0,OBL,"))
+        self.assertNotIn("Alder", book)
+        self.assertEqual(
+            crr.write_market_view(14, crr.from_csv.load(IEEE14)[0].book_file()),
+            (self.folder / "view").read_bytes(),
+        )
+
+    def test_nowhere_to_write(self):
+        status, _, err = command("market", CASE_L)
+        self.assertEqual((status, err.count("where to: -o FOLDER for the whole case, --file FILE")), (2, 1))
+
+    def test_a_holder_settles_its_own(self):
+        command("pack", IEEE14, "-o", self.folder / "bin")
+        lines = command("settle", IEEE14)[1].splitlines()
+        of_all = [line for line in lines if line.startswith("City of Cedar")]
+        for number, folder in enumerate((IEEE14, self.folder / "bin")):
+            out = self.folder / f"cedar{number}"
+            status, table, err = command("holder", folder, "City of Cedar", "-o", out)
+            said = f"City of Cedar: 3 contracts of 16; {out}: the case of these written\n"
+            self.assertEqual((status, err), (0, said))
+            self.assertEqual((out / "view.csv").read_text(), table)
+            self.assertTrue(table.splitlines()[1].startswith("6,CRR-007,City of Cedar,"))
+            self.assertEqual(command("settle", out)[1].splitlines()[1:], of_all)
+            self.assertNotIn(b"Alder", b"".join(contents(out).values()))
+            self.assertEqual(command("check", out)[0], 0)
 
     def test_owners_do_not_matter(self):
         """With other owners the market's file is the same, byte by byte."""
@@ -90,7 +134,7 @@ class Views(FolderTest):
             book.read_text().replace("Alder Power", "1023").replace("Fir Storage", "Birch Energy")
         )
         for name, folder in (("one", IEEE14), ("two", self.folder / "other")):
-            self.assertEqual(command("market", folder, "-o", self.folder / name)[0], 0)
+            self.assertEqual(command("market", folder, "--file", self.folder / name)[0], 0)
         self.assertEqual((self.folder / "one").read_bytes(), (self.folder / "two").read_bytes())
 
     def test_holder(self):
@@ -118,11 +162,11 @@ class Views(FolderTest):
 
     def test_the_view_itself(self):
         out = self.folder / "view.bin"
-        status, _, err = command("holder", CASE_L, 7, "-o", out)
+        status, _, err = command("holder", CASE_L, 7, "--file", out)
         self.assertEqual((status, err), (0, f"7: 2 contracts of 4; {out}: 16 bytes written\n"))
         self.assertEqual(out.read_bytes().hex(" "), "00 00 40 70 00 10 27 10 00 02 40 70 00 20 00 01")
         self.assertEqual(
-            command("holder", CASE_L, 0, "-o", out, "--force")[2],
+            command("holder", CASE_L, 0, "--file", out, "--force")[2],
             f"0: 0 contracts of 4; {out}: 0 bytes written\n",
         )
         self.assertEqual(out.read_bytes(), b"")
@@ -133,12 +177,12 @@ class Views(FolderTest):
         (self.folder / "constraints.csv").write_text("CONSTRAINT_ID,LIMIT_MW\n")
         (self.folder / "factors.csv").write_text("NODE_ID\n" + "".join(f"N{n}\n" for n in range(4000)))
         (self.folder / "book.csv").write_text(heading + rows)
-        status, out, err = command("holder", self.folder, 1, "-o", self.folder / "view.bin")
+        status, out, err = command("holder", self.folder, 1, "--file", self.folder / "view.bin")
         expected = self.HEADING + "0,C1,1,OPT,OFF,N3999,N0,1.500\n2,C3,1,OPT,OFF,N3997,N0,1.500\n"
         self.assertEqual(
             (status, out, err.count("; "), len((self.folder / "view.bin").read_bytes())), (0, expected, 1, 18)
         )
-        self.assertEqual(command("market", self.folder, "-o", self.folder / "market.bin")[0], 0)
+        self.assertEqual(command("market", self.folder, "--file", self.folder / "market.bin")[0], 0)
         self.assertEqual(
             {row.holder for row in crr.read_book(4000, (self.folder / "market.bin").read_bytes())}, {0}
         )
@@ -161,10 +205,10 @@ class Views(FolderTest):
         )
         place = self.folder / "out.bin"
         self.assertEqual(
-            json.loads(command("holder", CASE_L, 9, "-o", place, "--json")[1])["out"], str(place)
+            json.loads(command("holder", CASE_L, 9, "--file", place, "--json")[1])["file"], str(place)
         )
-        answer = json.loads(command("market", CASE_L, "-o", place, "--json", "--force")[1])
-        self.assertEqual(answer, {"out": str(place), "contracts": 4, "bytes": 26})
+        answer = json.loads(command("market", CASE_L, "--file", place, "--json", "--force")[1])
+        self.assertEqual(answer, {"file": str(place), "contracts": 4, "bytes": 26})
 
     def test_both_forms_of_a_folder(self):
         command("pack", IEEE14, "-o", self.folder / "bin")
@@ -185,14 +229,14 @@ class Views(FolderTest):
         before = contents(self.folder / "case")
         for arguments in (("market",), ("holder", 7)):
             place = self.folder / "case" / "book.bin"
-            status, _, err = command(arguments[0], self.folder / "case", *arguments[1:], "-o", place)
+            status, _, err = command(arguments[0], self.folder / "case", *arguments[1:], "--file", place)
             self.assertEqual(
                 (status, err.splitlines()[0]),
                 (2, f"{place}: that is a file of the case itself: choose another"),
             )
         self.assertEqual(contents(self.folder / "case"), before)
         (self.folder / "case" / "book.bin").write_bytes(before["book.bin"] + b"\0")
-        self.assertEqual(command("market", self.folder / "case", "-o", self.folder / "market.bin")[0], 2)
+        self.assertEqual(command("market", self.folder / "case", "--file", self.folder / "market.bin")[0], 2)
         self.assertFalse((self.folder / "market.bin").exists())
 
 

@@ -58,7 +58,7 @@ class BrokenOff(FolderTest):
         self.addCleanup(held.cleanup)
         self.case = Path(held.name)
         command("unpack", CASE_L, "-o", self.case)
-        hours = "2026-01-31,24,OFF,K0,1.00\n2026-02-01,1,OFF,,\n2026-02-01,8,ON,K1,2.50\n"
+        hours = "2026-01-31,24,OFF,K0,1.00\n2026-02-01,1,OFF,,\n2026-02-02,8,ON,K1,2.50\n"
         (self.case / "prices.csv").write_text(
             f"OPR_DT,OPR_HR,TIME_OF_USE,CONSTRAINT_ID,SHADOW_PRICE\n{hours}"
         )
@@ -114,7 +114,7 @@ class BrokenOff(FolderTest):
     def test_single_file(self):
         (self.folder / "market.bin").write_text("mine")
         full = OSError(28, os.strerror(28))
-        for said in self.each(full, 2, "market", CASE_L, "-o", self.folder / "market.bin", "--force"):
+        for said in self.each(full, 2, "market", CASE_L, "--file", self.folder / "market.bin", "--force"):
             why = "No space left on device; nothing was changed"
             self.assertEqual(said, f"crr: {self.folder / 'market.bin'} can't be written: {why}\n")
 
@@ -174,6 +174,8 @@ class Interrupted(FolderTest):
         given = {
             "remap": "case pairs -o out",
             "market": "case -o out",
+            "in-force": "case 2026-07-01 -o out",
+            "explain": "case A",
             "holder": "case 1",
             "same": "case other",
             "hub-mcc": "case hubs",
@@ -185,6 +187,8 @@ class Interrupted(FolderTest):
             "help": "",
             "completion": "bash",
             "man": "",
+            "grid": "branches -o out",
+            "from-matpower": "case.m -o out",
         }
         self.assertGreaterEqual(len(COMMANDS), 18)
         for name, one in COMMANDS.items():

@@ -245,7 +245,7 @@ class FromTheShell(FolderTest):
 
     def test_full_disk(self):
         if not os.path.exists("/dev/full"):
-            self.skipTest("no /dev/full")
+            self.skipTest("this machine has no /dev/full")
         with open("/dev/full", "wb") as full:
             done = subprocess.run([str(CRR), "test", str(CASE_L)], stdout=full, stderr=subprocess.PIPE)
         self.assertEqual(

@@ -23,7 +23,8 @@ class RoundTrips(FolderTest):
     def there_and_back(self, source):
         """bin, CSV, bin, CSV: the same bytes each time."""
         self.assertEqual(command("unpack", source, "-o", self.folder / "csv")[0], 0)
-        self.assertEqual(command("pack", self.folder / "csv", "-o", self.folder / "bin")[0], 0)
+        packing = ("pack", self.folder / "csv", "-o", self.folder / "bin", "--time-of-use", "as-given")
+        self.assertEqual(command(*packing)[0], 0)
         self.assertEqual(command("unpack", self.folder / "bin", "-o", self.folder / "again")[0], 0)
         self.assertEqual(contents(self.folder / "csv"), contents(self.folder / "again"))
         packed = contents(self.folder / "bin")
@@ -96,7 +97,8 @@ class RoundTrips(FolderTest):
         command("unpack", CASE_L, "-o", self.folder / "csv")
         prices = self.folder / "csv" / "prices.csv"
         prices.write_text(prices.read_text().replace("\n,,", "\n2026-11-01,25,"))
-        self.assertEqual(command("pack", self.folder / "csv", "-o", self.folder / "bin")[0], 0)
+        packed = command("pack", self.folder / "csv", "-o", self.folder / "bin", "--time-of-use", "as-given")
+        self.assertEqual(packed[0], 0)
         self.assertIn("hour,0,2026-11-01 HE25\n", (self.folder / "bin" / "names.csv").read_text())
         command("unpack", self.folder / "bin", "-o", self.folder / "again")
         self.assertEqual((self.folder / "again" / "prices.csv").read_text(), prices.read_text())
@@ -148,6 +150,14 @@ class Habits(FolderTest):
         (self.folder / "book.csv").write_bytes(b"\xef\xbb\xbf" + text.encode())
         self.assertEqual(load(self.folder)[0].book, self.book)
 
+    def test_separators_within_names(self):
+        """A heading of commas may have more semicolons: its columns are found by commas."""
+        shutil.copytree(IEEE14, self.folder / "case")
+        for name in ("constraints.csv", "factors.csv", "prices.csv"):
+            path = self.folder / "case" / name
+            path.write_text(path.read_text().replace("7-9", "7" + 50 * ";" + "9"))
+        self.assertEqual(command("check", self.folder / "case")[0], 0)
+
     def test_other_columns_and_order(self):
         rows = [line.split(",") for line in (self.folder / "book.csv").read_text().splitlines()]
         lines = [",".join(['"a, b"', *reversed(row)]) for row in rows] + ["", ",,,,,,,"]
@@ -192,12 +202,12 @@ class Habits(FolderTest):
 
     def test_an_hour_without_congestion(self):
         (self.folder / "prices.csv").write_text(
-            "OPR_DT,OPR_HR,TIME_OF_USE,CONSTRAINT_ID,SHADOW_PRICE\n2026-01-02,3,OFF,,\n2026-01-02,2,ON,K1,1\n"
+            "OPR_DT,OPR_HR,TIME_OF_USE,CONSTRAINT_ID,SHADOW_PRICE\n2026-01-02,8,ON,,\n2026-01-02,2,OFF,K1,1\n"
         )
         hours = load(self.folder)[0].hours
         self.assertEqual(
             [(hour.hour, hour.period, list(hour.prices)) for hour in hours],
-            [(2, 1, [0, 100]), (3, 0, [0, 0])],
+            [(2, 0, [0, 100]), (8, 1, [0, 0])],
         )
 
 

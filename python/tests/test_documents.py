@@ -1,5 +1,5 @@
-"""The documents: every command of the tutorial, its further pages and the README's first section is run, and
-what it prints is compared with the page."""
+"""The documents: every command of the tutorial's chapters and of the README's first section is run, and what
+it prints is compared with the page."""
 
 import os
 import re
@@ -20,7 +20,12 @@ def commands(text):
     return out
 
 
-class Documents(FolderTest):
+CHAPTERS = sorted((ROOT / "docs" / "tutorial").glob("*.md"))
+
+
+class Walked(FolderTest):
+    """A folder in which a page's commands are run."""
+
     def setUp(self):
         super().setUp()
         for name in ("crr", "python"):
@@ -37,14 +42,40 @@ class Documents(FolderTest):
             )
             self.assertEqual(done.stdout.decode(), expected, f"after $ {command}")
 
-    def test_tutorial(self):
-        self.walk((ROOT / "docs" / "TUTORIAL.md").read_text(), 25)
 
-    def test_load_migration(self):
-        self.walk((ROOT / "docs" / "LOAD-MIGRATION.md").read_text(), 8)
+class Documents(Walked):
+    def test_every_chapter_is_listed(self):
+        listed = re.findall(r"\]\(tutorial/([\w-]+\.md)\)", (ROOT / "docs" / "TUTORIAL.md").read_text())
+        self.assertEqual(sorted(listed), sorted(page.name for page in CHAPTERS))
 
-    def test_tiers(self):
-        self.walk((ROOT / "docs" / "TIERS.md").read_text(), 10)
+    def test_chapters_make_nothing_by_hand(self):
+        """What they are on stands in examples/: nobody has to copy, cut or edit files to follow them."""
+        for page in CHAPTERS:
+            for command, _ in commands(page.read_text()):
+                words = set(re.findall(r"[\w.-]+", command))
+                self.assertFalse(words & {"sed", "awk", "mkdir", "cp", "grep", "printf"}, command)
+
+    def test_examples_differ_where_they_say(self):
+        """Cases made from the IEEE 14-bus one have its files but those that they change."""
+        changed = {
+            "broken": {"book.csv"},
+            "cleared": {"book.csv"},
+            "copy": {"book.csv"},
+            "derated": {"book.csv", "constraints.csv"},
+            "lses": set(),
+            "network": {"branches.csv"},
+            "overbooked": {"book.csv"},
+            "terms": {"book.csv"},
+        }
+        for name, files in changed.items():
+            for path in sorted((ROOT / "examples" / name).glob("*.csv")):
+                base = ROOT / "examples" / "ieee14" / path.name
+                if base.exists():
+                    self.assertEqual(path.read_bytes() != base.read_bytes(), path.name in files, path)
+
+    def test_networks(self):
+        os.symlink(ROOT / "tests", self.folder / "tests")
+        self.walk((ROOT / "docs" / "NETWORKS.md").read_text(), 1)
 
     def test_readme(self):
         text = (ROOT / "README.md").read_text()
@@ -69,6 +100,18 @@ class Documents(FolderTest):
             for target in re.findall(inline, text) + re.findall(named, text, re.M):
                 if "://" not in target:
                     self.assertTrue((page.parent / target).exists(), f"{page}: {target}")
+
+
+class Chapters(Walked):
+    """Each chapter of the tutorial is walked by a test of its own."""
+
+
+def _walks(page):
+    return lambda self: self.walk(page.read_text(), 3)
+
+
+for _page in CHAPTERS:
+    setattr(Chapters, f"test_{_page.stem.replace('-', '_')}", _walks(_page))
 
 
 if __name__ == "__main__":

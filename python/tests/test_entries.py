@@ -242,10 +242,43 @@ class Refusals(unittest.TestCase):
             self.refused(6, entry, crr.Grid(2, 1, [100_000_001], grid.factors), empty, *arguments)
             self.refused(7, entry, crr.Grid(2, 1, grid.limits, [100_001, 0]), empty, *arguments)
             self.refused(4, entry, grid, b"\0\1", *arguments)
+        self.running_totals(grid, empty)
         self.refused(9, crr.find_mcc, grid, [])
         self.refused(15, crr.find_mcc, grid, [500_001])
         self.refused(17, crr.settle_hour, grid, empty, 2, [1])
         self.refused(15, crr.settle_hour, grid, empty, 1, [500_001])
+
+    def running_totals(self, grid, empty):
+        """add_flows refuses what find_flows does, too few cells, and totals that are none; judge_flows these
+        too. Nothing is changed then."""
+        totals = array("q", [200_000_000_000])
+
+        def added(*given):
+            before = totals[:]
+            try:
+                return crr.add_flows(*given)
+            finally:
+                self.assertEqual(totals, before)
+
+        self.refused(2, added, crr.Grid(0, 1, grid.limits, []), empty, 1, totals, 1)
+        self.refused(3, added, crr.Grid(1, 65, [0] * 65, [0] * 65), empty, 1, totals, 1)
+        self.refused(17, added, grid, empty, 2, totals, 1)
+        self.refused(9, added, crr.Grid(2, 1, [], grid.factors), empty, 1, totals, 1)
+        self.refused(6, added, crr.Grid(2, 1, [100_000_001], grid.factors), empty, 1, totals, 1)
+        self.refused(7, added, crr.Grid(2, 1, grid.limits, [100_001, 0]), empty, 1, totals, 1)
+        self.refused(4, added, grid, b"\0\1", 1, totals, 1)
+        self.refused(9, crr.add_flows, grid, empty, 1, array("q"), 1)
+        for cells, summed in ((totals[0], 0), (-totals[0], 0), (totals[0] + 1, 1), (0, 20_000_001)):
+            self.refused(10, crr.add_flows, grid, empty, 1, array("q", [cells]), summed)
+            self.refused(10, crr.judge_flows, grid, 2, [cells], summed)
+        full = crr.write_book(2, [(0, 1, 7, 0, 1, 10)])
+        self.refused(10, crr.add_flows, grid, full, 1, array("q", [0]), 20_000_000)
+        self.assertEqual(added(grid, empty, 1, totals, 20_000_000), (20_000_000, 0))
+        self.refused(3, crr.judge_flows, crr.Grid(1, 65, [0] * 65, []), 2, totals, 1)
+        self.refused(16, crr.judge_flows, grid, 3, totals, 1)
+        self.refused(9, crr.judge_flows, grid, 2, [], 1)
+        self.refused(9, crr.judge_flows, crr.Grid(2, 1, [], []), 2, totals, 1)
+        self.refused(6, crr.judge_flows, crr.Grid(2, 1, [100_000_001], []), 2, totals, 1)
 
     def test_places_for_cuts(self):
         """The function in Python lends places for all contracts: 9 for the rows is asked of the entry
@@ -268,11 +301,15 @@ class Refusals(unittest.TestCase):
         for year, month in ((2009, 12), (2038, 1), (2024, 0), (2024, 13), (2**64 - 1, 1)):
             self.refused(19, crr.month_hours, year, month)
             self.refused(19, crr.weekday, year, month, 1)
+            self.refused(19, crr.hour_period, year, month, 1, 8)
             self.refused(19, crr.month_later, year, month, 1)
         for month, day in ((2, 30), (4, 31), (4, 0), (1, 32), (1, 2**64 - 1)):
             self.refused(19, crr.weekday, 2024, month, day)
             self.refused(19, crr.month_later, 2024, month, day)
+            self.refused(19, crr.hour_period, 2024, month, day, 8)
         self.refused(19, crr.month_later, 2037, 12, 1)  # reached
+        for hour in (0, 26, 2**32 + 8, 2**64 - 1):
+            self.refused(19, crr.hour_period, 2024, 1, 2, hour)
         with self.assertRaises(OverflowError):
             crr.month_hours(-1, 1)
 

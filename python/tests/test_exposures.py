@@ -8,7 +8,7 @@ import shutil
 import unittest
 from fractions import Fraction
 
-from support import CASE_L, IEEE14, FolderTest, command, contents, everything
+from support import CASE_L, IEEE14, IEEE14_HOURS, FolderTest, command, contents, everything
 import crr
 from crr.costs import hour_costs
 from crr.from_csv import load
@@ -191,6 +191,7 @@ class RentAndShortfall(FolderTest):
         self.assertEqual(
             err.splitlines(),
             [
+                *IEEE14_HOURS.splitlines(),
                 "48 hours: sum 11034.22, exact total 11034.2220770875",
                 "2026-07 Tier LT: rent 11624.9100000000, shortfall -4268.2127249750",
                 "2026-08 Tier LT: rent 5811.3000000000, shortfall -2133.7751979375",
@@ -267,7 +268,8 @@ class RentAndShortfall(FolderTest):
         )
 
 
-ORDINARY = ["by_holder", "by_hour", "exact_total", "hours", "rounded_prices", "sum"]
+ORDINARY = ["by_holder", "by_hour", "coverage", "exact_total", "hours"]
+ORDINARY += ["rounded_factors", "rounded_prices", "sum"]
 
 if __name__ == "__main__":
     unittest.main()

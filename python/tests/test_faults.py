@@ -121,7 +121,10 @@ DAMAGED = [
         "prices.csv",
         "2026-07-31,1,OFF",
         "31.07.2026,1,OFF",
-        "prices.csv:2:OPR_DT: '31.07.2026' is not a day, YYYY-MM-DD",
+        (
+            "prices.csv:2:OPR_DT: '31.07.2026' is not a day, YYYY-MM-DD; "
+            "--dates mdy or --dates dmy tells which part is the month"
+        ),
     ),
     (
         "prices.csv",
@@ -145,7 +148,8 @@ DAMAGED = [
         "prices.csv",
         "15,ON,5-6",
         "15,OFF,5-6",
-        "prices.csv:17:TIME_OF_USE: OFF, and the other one in an earlier row of this hour",
+        "prices.csv:17:TIME_OF_USE: OFF, and 2026-07-31 HE15 is on-peak; correct it, leave the column out, "
+        "or --time-of-use as-given",
     ),
     ("prices.csv", "15,ON,5-6", "15,ON,2-4", "prices.csv:17:CONSTRAINT_ID: 2-4 occurs twice in this hour"),
 ]
@@ -219,9 +223,9 @@ class Damaged(FolderTest):
         folder = self.folder / "large"
         shutil.copytree(IEEE14, folder)
         (folder / "book.csv").write_text(f"{heading}\n{rows}")
-        self.assertIn(
-            "book.csv:1002:CRR_ID: more than 1000 contracts (refusal 10)\n", command("check", folder)[2]
-        )
+        more = "; crr test, cuts, settle, report and pack take more"
+        said = command("check", folder)[2]
+        self.assertIn(f"book.csv:1002:CRR_ID: more than 1000 contracts{more} (refusal 10)\n", said)
         owners = "".join(f"{i},name {i},OBL,ON,Bus 1,Bus 2,1\n" for i in range(1000))
         (folder / "book.csv").write_text(f"{heading}\n{owners}")
         self.assertEqual(command("check", folder)[0], 0)
@@ -235,8 +239,8 @@ class Damaged(FolderTest):
             + "".join(f"N{n}" + ",0" * 65 + "\n" for n in range(4001))
         )
         said = command("check", folder)[2]
-        self.assertIn("constraints.csv:66:CONSTRAINT_ID: more than 64 constraints (refusal 3)\n", said)
-        self.assertIn("factors.csv:4002:NODE_ID: more than 4000 nodes (refusal 2)\n", said)
+        self.assertIn(f"constraints.csv:66:CONSTRAINT_ID: more than 64 constraints{more} (refusal 3)\n", said)
+        self.assertIn(f"factors.csv:4002:NODE_ID: more than 4000 nodes{more} (refusal 2)\n", said)
         (folder / "factors.csv").write_text("NODE_ID" + "".join(f",K{k}" for k in range(65)) + "\n")
         self.assertIn("factors.csv:1:NODE_ID: no node (refusal 2)\n", command("check", folder)[2])
 
@@ -279,7 +283,8 @@ class Damaged(FolderTest):
         for row, message in (
             (
                 "nodes,0,x",
-                "names.csv:2:TABLE: 'nodes' is none of node, constraint, contract, holder, hour, form",
+                "names.csv:2:TABLE: 'nodes' is none of "
+                "node, constraint, contract, holder, start, end, hour, form",
             ),
             ("node,-1,x", "names.csv:2:NUMBER: '-1' is not a number from 0 on"),
             ("holder,1024,x", "names.csv:2:NUMBER: holder 1024 is above 1023 (refusal 18)"),

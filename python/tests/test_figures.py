@@ -52,10 +52,17 @@ class Figures(unittest.TestCase):
 
     def verdicts(self, grid, book, period, limits, expected, counted):
         self.assertEqual(crr.find_flows(grid, book, period), (expected, counted))
+        totals = array("q", bytes(8 * len(limits)))
+        self.assertEqual(crr.add_flows(grid, book, period, totals), (counted, counted))
+        self.assertEqual(list(totals), expected)
+        twice = totals[:]
+        self.assertEqual(crr.add_flows(grid, book, period, twice, counted), (2 * counted, counted))
+        self.assertEqual(list(twice), [2 * flow for flow in expected])
         for process in range(3):
             released = [limit * crr.released_percent(process) * 1000 for limit in limits]
             over = tuple(k for k, flow in enumerate(expected) if flow > released[k])
             verdict = crr.test_book(grid, book, process, period)
+            self.assertEqual(crr.judge_flows(grid, process, totals, counted), verdict)
             self.assertEqual((verdict.passed, verdict.overloaded, verdict.count), (not over, over, len(over)))
             self.assertEqual(
                 (verdict.named, verdict.excess),
@@ -177,6 +184,8 @@ class Figures(unittest.TestCase):
             with self.assertRaises(crr.Refused) as caught:
                 crr.read_holder_view(2, data)
             self.assertEqual(caught.exception.number, number)
+        with self.assertRaisesRegex(ValueError, "row 1 of the view has the number 03e8, of no contract"):
+            crr.read_holder_view(2, one + b"\x03\xe8" + one[2:])
 
     def test_mcc(self):
         grid = crr.read_grid((CASE_L / "grid.bin").read_bytes())
@@ -204,7 +213,10 @@ class Figures(unittest.TestCase):
         for day in days:
             self.assertEqual(crr.weekday(day.year, day.month, day.day), day.isoweekday())
             month = (day.year, day.month)
-            hours[month] = hours.get(month, 0) + (16 if day.isoweekday() < 7 and day not in off else 0)
+            on_peak = day.isoweekday() < 7 and day not in off
+            hours[month] = hours.get(month, 0) + 16 * on_peak
+            periods = [crr.hour_period(*month, day.day, hour) for hour in (1, 6, 7, 22, 23, 24, 25)]
+            self.assertEqual(periods, [0, 0, on_peak, on_peak, 0, 0, 0], day)
             if month < (2037, 12):
                 year, number = (day.year, day.month + 1) if day.month < 12 else (day.year + 1, 1)
                 self.assertEqual(

@@ -35,6 +35,11 @@ class Header(unittest.TestCase):
         }
         self.assertEqual(defined, sizes)
 
+    def test_version(self):
+        version = re.search(r'#define CRR_VERSION "(.*)"', HEADER)[1]
+        cargo = (ROOT / "rust" / "crr" / "Cargo.toml").read_text()
+        self.assertEqual((version, re.search(r'^version = "(.*)"', cargo, re.M)[1]), (crr.__version__,) * 2)
+
     def test_meanings(self):
         meanings = {
             int(number): meaning
@@ -64,7 +69,7 @@ class Header(unittest.TestCase):
             plain = re.sub(r"\([^()]*\)", "", words)
             listed = re.search(r"Refusals(?:, in this order)?: (.*?)\.(?: |$)", plain)
             self.assertIsNotNone(listed, name)
-            for number, called in re.findall(r"(?<![\w,])(\d+)(?: ([A-Z_]+))?", listed.group(1)):
+            for number, called in re.findall(r"(?<![\w,])(\d+)(?!,?\d)(?: ([A-Z_]+))?", listed.group(1)):
                 self.assertEqual(called, names[number], f"{name}: {number}")
 
     def test_units(self):

@@ -8,7 +8,17 @@ from array import array
 from concurrent.futures import ProcessPoolExecutor, ThreadPoolExecutor
 from fractions import Fraction
 
-from support import IEEE14, FolderTest, amounts, command, draw_book, draw_grid, draw_prices, half_away
+from support import (
+    IEEE14,
+    IEEE14_HOURS,
+    FolderTest,
+    amounts,
+    command,
+    draw_book,
+    draw_grid,
+    draw_prices,
+    half_away,
+)
 import crr
 from crr.case import Case, Names, PricedHour
 from crr.files import Contract
@@ -121,7 +131,7 @@ class Results(FolderTest):
         self.assertEqual(
             sum(Fraction(row["EXACT_TOTAL"]) for row in self.table("hours.csv")), Fraction("11034.2220770875")
         )
-        self.assertEqual(err, "48 hours: sum 11034.22, exact total 11034.2220770875\n")
+        self.assertEqual(err, f"{IEEE14_HOURS}48 hours: sum 11034.22, exact total 11034.2220770875\n")
         self.assertEqual({row["MONTH"] for row in self.table("holders.csv")}, {"2026-07", "2026-08"})
         self.assertEqual(len(self.table("hours.csv")), 48)
 
@@ -165,7 +175,7 @@ class Results(FolderTest):
         (self.folder / "case" / "prices.csv").unlink()
         self.assertEqual(
             command("settle", self.folder / "case"),
-            (0, "OWNER,MONTH,AMOUNT\n", "0 hours: sum 0.00, exact total 0.0000000000\n"),
+            (0, "OWNER,MONTH,AMOUNT,INCOMPLETE\n", "0 hours: sum 0.00, exact total 0.0000000000\n"),
         )
 
 
@@ -237,10 +247,12 @@ class Slices(FolderTest):
         copies = 100
         rows = [line.replace(",", f"/{copy},", 1) for copy in range(copies) for line in lines[1:]]
         (self.folder / "case" / "book.csv").write_text("\n".join([lines[0], *rows]) + "\n")
-        self.assertIn("more than 1000 contracts (refusal 10)", command("check", self.folder / "case")[2])
+        said = command("check", self.folder / "case")[2]
+        self.assertIn("more than 1000 contracts; crr test, cuts, settle, report and pack take more ", said)
         status, out, err = command("settle", self.folder / "case")
-        self.assertEqual((status, err), (0, "48 hours: sum 1103422.00, exact total 1103422.2077087500\n"))
-        self.assertIn("Fir Storage,2026-07,-78931.00\n", out)
+        total = "48 hours: sum 1103422.00, exact total 1103422.2077087500\n"
+        self.assertEqual((status, err), (0, f"{IEEE14_HOURS}{total}"))
+        self.assertIn("Fir Storage,2026-07,-78931.00,24 of 744 hours\n", out)
         self.assertEqual(command("settle", self.folder / "case", "-j", "2"), (status, out, err))
 
 

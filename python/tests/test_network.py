@@ -62,7 +62,7 @@ class Matrix(FolderTest):
             ptdf([Line(0, 1, Fraction(1)), Line(2, 3, Fraction(1))], 4)
 
     def test_rounding(self):
-        self.assertEqual([factor(Fraction(n, 200_000)) for n in (1, 3, -1, -3)], [0, 2, 0, -2])
+        self.assertEqual([factor(Fraction(n, 200_000)) for n in (1, 3, -1, -3)], [1, 2, -1, -2])
         self.assertEqual([factor(value) for value in (0.25, 1, -1.0)], [25_000, 100_000, -100_000])
         with self.assertRaises(ValueError):
             factor(1.00001)

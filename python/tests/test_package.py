@@ -14,7 +14,7 @@ import zipfile
 from hashlib import sha256
 
 from support import IEEE14, ROOT, FolderTest, command
-from crr.library import library_path
+from crr.library import LIBRARIES, library_name, library_path
 import crr
 
 PACKING = ("pip", "setuptools", "wheel", "venv")
@@ -49,20 +49,23 @@ class Wheel(FolderTest):
         for name in ("crates", "include", "dist", "target"):
             os.symlink(ROOT / name, self.folder / "clone" / name)
 
-    def pip(self, *arguments):
-        environment = {"PATH": "", "CRR_LIBRARY": os.environ.get("CRR_LIBRARY", "")}
+    def pip(self, *arguments, machine=""):
+        library = os.environ.get("CRR_LIBRARY", "")
+        environment = {"PATH": "", "CRR_LIBRARY": library, "CRR_WHEEL": machine}
         return run(self.python, "-m", "pip", *arguments, env=environment, cwd=self.folder / "clone")
 
-    def make_wheel(self):
+    def make_wheel(self, machine=""):
         options = ("--no-index", "--no-build-isolation", "--no-deps", "-w", self.folder)
-        return self.pip("wheel", *options, "./python")
+        return self.pip("wheel", *options, "./python", machine=machine)
 
     def test_it_runs_with_nothing_else(self):
         built = self.make_wheel()
         self.assertEqual(built.returncode, 0, built.stdout.decode())
         wheel = next(self.folder.glob("crr-*-py3-none-manylinux_2_17_x86_64.manylinux2014_x86_64.whl"))
+        from_dist = not os.environ.get("CRR_LIBRARY") and library_path().parts[-2] != "sharedlib"
+        name = library_name() if from_dist else "libcrr.so"
         with zipfile.ZipFile(wheel) as packed:
-            self.assertEqual(packed.read("crr/libcrr.so"), library_path().read_bytes())
+            self.assertEqual(packed.read(f"crr/{name}"), library_path().read_bytes())
         run(self.python, "-m", "venv", "--without-pip", self.folder / "venv", check=True)
         place = self.folder / "venv" / "bin"
         installed = self.pip("--python", place / "python", "install", "--no-index", wheel)
@@ -73,7 +76,28 @@ class Wheel(FolderTest):
         self.assertEqual((verdicts.returncode, verdicts.stdout.decode()), (status, out + err))
         lines = run(place / "crr", "--version", **alone).stdout.decode().splitlines()
         self.assertEqual((lines[0], lines[2]), (f"crr {crr.__version__}", "from    the installed package"))
-        self.assertEqual(lines[1], f"library {next(place.parent.rglob('libcrr.so')).resolve()}")
+        package = next(place.parent.rglob("crr/native.py")).parent.resolve()
+        self.assertEqual(lines[1], f"library {package / name}")
+
+    def test_other_machines(self):
+        """Their wheels carry the libraries of dist/, each file where crr/library.py looks for it."""
+        if library_path().parts[-2] == "sharedlib":
+            self.skipTest("dist/ is of other sources")
+        tags = {"aarch64-linux": "manylinux_2_17_aarch64.manylinux2014_aarch64"}
+        tags["x86-64-windows"] = "win_amd64"
+        for machine, tag in tags.items():
+            built = self.make_wheel(machine)
+            self.assertEqual(built.returncode, 0, built.stdout.decode())
+            wheel = next(self.folder.glob(f"crr-*-py3-none-{tag}.whl"))
+            with zipfile.ZipFile(wheel) as packed:
+                names = [name[len("crr/") :] for name in packed.namelist() if name.endswith((".so", ".dll"))]
+                self.assertEqual(names, LIBRARIES[machine])
+                for name in names:
+                    shipped = ROOT / "dist" / machine / name
+                    self.assertEqual(packed.read(f"crr/{name}"), shipped.read_bytes())
+        unknown = self.make_wheel("pdp11-unix")
+        self.assertNotEqual(unknown.returncode, 0)
+        self.assertIn("no library for pdp11-unix", unknown.stdout.decode())
 
     def test_a_library_of_other_sources_is_not_packed(self):
         if os.environ.get("CRR_LIBRARY"):

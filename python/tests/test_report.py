@@ -193,7 +193,7 @@ class Page(FolderTest):
         """Files that change while the page is made, names.csv among them: hashes are of the bytes read."""
         command("pack", IEEE14, "-o", self.folder / "bin")
         command("unpack", self.folder / "bin", "-o", self.folder / "csv")
-        flows_of = crr.report.find_flows
+        flows_of = crr.report.flows_of
         for form in ("csv", "bin"):
             files = contents(self.folder / form)
 
@@ -202,7 +202,7 @@ class Page(FolderTest):
                     (self.folder / form / name).write_bytes(b"something else")
                 return flows_of(*arguments)
 
-            with mock.patch("crr.report.find_flows", changed):
+            with mock.patch("crr.report.flows_of", changed):
                 text = self.page(self.folder / form)
             if form == "bin":
                 files["prices"] = b"".join(
@@ -262,7 +262,7 @@ class Page(FolderTest):
         text = self.page(self.folder / "case")
         rows = [line.split(",") for line in command("settle", self.folder / "case")[1].splitlines()[1:]]
         sums = {}
-        for owner, _, amount in rows:
+        for owner, _, amount, _ in rows:
             sums[owner] = sums.get(owner, 0) + Decimal(amount)
         small = sorted(sums, key=lambda owner: abs(sums[owner]))[: len(sums) - 25]
         together = money(str(sum(sums[owner] for owner in small)))
@@ -297,7 +297,10 @@ class Page(FolderTest):
             "all": Decimal("11034.2220770875"),
         }
         for (percent, text), month in product(pages.items(), rents):
-            row = re.search(rf"<th scope=row>{month}</th>(.*?)</tr>", text)[1]
+            part = "<br><span class=faint>not whole</span>"
+            row = re.search(rf"<th scope=row>{month}{part}</th>(.*?)</tr>", text)[1]
+            hours = ("32 of 832", "16 of 656") if month == "all" else ("16 of 416", "8 of 328")
+            self.says(row, *(f">{count}<" for count in hours))
             rent = rents[month] * percent / 100
             self.says(
                 row,

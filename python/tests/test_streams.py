@@ -8,7 +8,7 @@ import subprocess
 import sys
 import unittest
 
-from support import CASE_L, IEEE14, ROOT, FolderTest, command
+from support import CASE_L, IEEE14, IEEE14_HOURS, ROOT, FolderTest, command
 
 FULL = os.path.exists("/dev/full")
 RUN = [sys.executable, "-c", "import sys; from crr.cli import main; sys.exit(main())"]
@@ -62,7 +62,7 @@ class Streams(FolderTest):
         ):
             self.assertEqual(self.run_crr(">&- 2>&-", *arguments), (2, b"", b""))
 
-    @unittest.skipUnless(FULL, "no /dev/full")
+    @unittest.skipUnless(FULL, "this machine has no /dev/full")
     def test_full(self):
         said = b"crr: the output can't be written: No space left on device\n"
         for arguments in (
@@ -95,7 +95,7 @@ class Streams(FolderTest):
         folder = os.path.join(os.fsencode(self.folder), b"caf\xe9")
         shutil.copytree(IEEE14, os.fsdecode(folder))
         counts = "14 nodes, 40 constraints, 16 contracts, 6 holders, 48 hours"
-        said = f"{self.folder}/caf\\xe9: {counts}; CSV files without a fault\n"
+        said = f"{self.folder}/caf\\xe9: {counts}; CSV files without a fault\n{IEEE14_HOURS}"
         for encoding in ("utf-8", "ascii"):
             self.assertEqual(
                 self.run_crr("", "check", folder, PYTHONIOENCODING=encoding), (0, said.encode(), b"")
@@ -118,7 +118,7 @@ class Json(FolderTest):
         hour = json.loads(command("settle", CASE_L, "--json")[1])["by_hour"][0]
         self.assertEqual((hour["opr_dt"], hour["opr_hr"], hour["sum"]), (None, None, "8.99"))
         holder = json.loads(command("settle", CASE_L, "--json")[1])["by_holder"][0]
-        self.assertEqual(holder, {"owner": "7", "month": None, "amount": "8.99"})
+        self.assertEqual(holder, {"owner": "7", "month": None, "amount": "8.99", "incomplete": None})
         answer = json.loads(command("tiers", IEEE14, "--period", "on", "--process", "monthly", "--json")[1])
         self.assertEqual(
             (

@@ -8,7 +8,7 @@ import subprocess
 import time
 import unittest
 
-from support import CASE_L, IEEE14, ROOT, FolderTest, command, contents
+from support import CASE_L, IEEE14, IEEE14_HOURS, ROOT, FolderTest, command, contents
 from crr.faults import Fault, Faults, listed
 
 BOOK = "CRR_ID,OWNER,HEDGE_TYPE,TIME_OF_USE,SOURCE,SINK,MW\n"
@@ -90,8 +90,9 @@ class Linear(Case):
             ",".join(["NODE_ID", *reversed(names)]) + "\nBus 1" + ",0" * len(names) + "\n"
         )
         start = time.process_time()
+        takes = "crr test, cuts, settle, report and pack take more"
         self.assertIn(
-            "constraints.csv:66:CONSTRAINT_ID: more than 64 constraints (refusal 3)",
+            f"constraints.csv:66:CONSTRAINT_ID: more than 64 constraints; {takes} (refusal 3)",
             self.said("check", self.case),
         )
         self.assertLess(time.process_time() - start, 5)
@@ -295,7 +296,7 @@ class Beside(Case):
 
     def test_older_packed_files(self):
         command("pack", self.case)
-        self.assertEqual(command("check", self.case)[1].count("\n"), 1)
+        self.assertEqual(command("check", self.case)[1].splitlines()[1:], IEEE14_HOURS.splitlines())
         for name, packed in (
             ("book.csv", "book.bin"),
             ("factors.csv", "grid.bin"),
@@ -305,7 +306,7 @@ class Beside(Case):
             before = os.stat(self.case / name).st_mtime
             os.utime(self.case / name, (later, later))
             self.assertEqual(
-                command("check", self.case)[1].splitlines()[1:],
+                command("check", self.case)[1].splitlines()[3:],
                 [f"{packed}: older than {name}; crr pack renews it"],
             )
             os.utime(self.case / name, (before, before))
@@ -313,7 +314,7 @@ class Beside(Case):
     def test_files_that_were_not_read(self):
         (self.case / "Prices.CSV").write_text("")
         self.assertEqual(
-            command("check", self.case)[1].splitlines()[1:], ["Prices.CSV: prices.csv was read, not this one"]
+            command("check", self.case)[1].splitlines()[3:], ["Prices.CSV: prices.csv was read, not this one"]
         )
 
 

@@ -114,11 +114,13 @@ class Lent:
 def beforehand(entry: str, parameter: Parameter, given: Dict[str, str], state: State, salt: int) -> List[int]:
     """What a buffer or a figure holds before the call."""
     name, code = parameter.name, parameter.code
-    if parameter.form == "figure":
-        return filled(code, 1, salt)
+    figure = parameter.form == "figure"
     if name in given:
         text = given.pop(name)
-        return filled(code, int(text), salt) if parameter.writable and text.isdigit() else cells(text)
+        length_alone = parameter.writable and text.isdigit() and not figure
+        return filled(code, int(text), salt) if length_alone else cells(text)
+    if figure:
+        return filled(code, 1, salt)
     if name in state and entry != "open_running":
         return state[name]
     return filled(code, STATE[name], salt)

@@ -6,6 +6,7 @@ import shutil
 import stat
 import threading
 import unittest
+from contextlib import contextmanager
 
 from support import CASE_L, IEEE14, MIGRATION, FolderTest, command, contents, everything, started
 import crr.cli  # which knows all commands
@@ -43,7 +44,7 @@ class Targets(FolderTest):
         got = []
         reader = threading.Thread(target=lambda: got.append((self.place / "pipe").read_bytes()), daemon=True)
         reader.start()
-        self.assertEqual(command("market", CASE_L, "-o", self.place / "pipe")[0], 0)
+        self.assertEqual(command("market", CASE_L, "--file", self.place / "pipe")[0], 0)
         reader.join(10)
         self.assertEqual([len(data) for data in got], [26])
         self.assertEqual(everything(self.place), {"pipe": stat.S_IFIFO})
@@ -55,7 +56,7 @@ class Targets(FolderTest):
             with open(self.place / "device", "wb"):
                 return self.place / "device"
         except OSError as error:
-            self.skipTest(f"no device can be made here: {error.strerror}")
+            self.skipTest(f"this machine lets no device be made: {error.strerror}")
 
     def test_null(self):
         device = self.device(3)
@@ -64,30 +65,30 @@ class Targets(FolderTest):
 
     def test_full(self):
         device = self.device(7)
-        status, _, err = command("market", CASE_L, "-o", device)
+        status, _, err = command("market", CASE_L, "--file", device)
         said = f"crr: {device} can't be written: No space left on device; it may have taken a part\n"
         self.assertEqual((status, err), (2, said))
         self.assertEqual(everything(self.place), {"device": stat.S_IFCHR})
 
     def test_standard_output(self):
         """By whatever name: the bytes alone, whether it is a pipe, a file, or a file that is written on."""
-        command("market", CASE_L, "-o", self.folder / "market.bin")
+        command("market", CASE_L, "--file", self.folder / "market.bin")
         view = (self.folder / "market.bin").read_bytes()
         (self.place / "stdout").symlink_to(
             "/proc/self/fd/1"
         )  # as /dev/stdout is, which must not be the one that is replaced
-        done = started("market", CASE_L, "-o", self.place / "stdout")
+        done = started("market", CASE_L, "--file", self.place / "stdout")
         out, err = done.communicate()
         self.assertEqual((done.returncode, out, err.count(b"26 bytes written\n")), (0, view, 1))
         self.assertEqual(os.readlink(self.place / "stdout"), "/proc/self/fd/1")
-        done = started("market", CASE_L, "-o", self.place / "stdout", "--json")
+        done = started("market", CASE_L, "--file", self.place / "stdout", "--json")
         out, err = done.communicate()
         self.assertEqual((done.returncode, out, json.loads(err)["bytes"]), (0, view, 26))
         for mode, before in (("wb", b""), ("ab", b"before")):
             with open(self.place / "file", mode) as file:
                 file.write(before)
                 file.flush()
-                done = started("market", CASE_L, "-o", self.place / "file", stdout=file)
+                done = started("market", CASE_L, "--file", self.place / "file", stdout=file)
                 self.assertEqual((done.wait(), done.communicate()[1].count(b"26 bytes")), (0, 1))
             self.assertEqual(
                 (self.place / "file").read_bytes(), before + view if mode == "wb" else view + before + view
@@ -131,12 +132,32 @@ class Targets(FolderTest):
         self.assertEqual(len(contents(self.folder / "other")), 5)
 
     def test_no_rights(self):
-        if os.geteuid() == 0:
-            self.skipTest("run as root, to whom everything is allowed")
+        case = self.folder / "case"
+        shutil.copytree(CASE_L, case)
+        asked = ("market", case, "--file", self.place / "view.bin", "--force")
+        self.assertEqual(command(*asked)[0], 0)  # all that is imported is, before rights are given away
         (self.place / "view.bin").write_bytes(b"mine")
         os.chmod(self.place / "view.bin", 0o444)
-        status, _, err = command("market", CASE_L, "-o", self.place / "view.bin", "--force")
+        with self.as_anyone():
+            status, _, err = command(*asked)
         self.assertEqual((status, "Permission denied; nothing was changed" in err), (2, True))
+        self.assertEqual((self.place / "view.bin").read_bytes(), b"mine")
+
+    @contextmanager
+    def as_anyone(self):
+        """Root, to whom everything is allowed, goes on as a user who owns nothing."""
+        if os.geteuid() != 0:
+            yield
+            return
+        os.chmod(self.folder, 0o755)
+        try:
+            os.seteuid(65534)
+        except OSError as error:
+            self.skipTest(f"this machine lets root be nobody else: {error.strerror}")
+        try:
+            yield
+        finally:
+            os.seteuid(0)
 
 
 class Spared(FolderTest):
@@ -154,8 +175,8 @@ class Spared(FolderTest):
             return {name for argument in one.arguments for name in argument.names}
 
         writing = {name for name, one in COMMANDS.items() if "-o" in names(one)}
-        expected = "pack unpack settle exposure report remap market holder canonical hub-add tiers migrate"
-        self.assertEqual(writing, set(expected.split()))
+        expected = "pack unpack settle exposure report grid remap in-force market holder canonical hub-add"
+        self.assertEqual(writing, {*expected.split(), "from-matpower", "tiers", "migrate"})
         self.assertEqual({name for name, one in COMMANDS.items() if "--force" in names(one)}, writing)
 
     def test_remap_onto_itself(self):
@@ -205,10 +226,10 @@ class Spared(FolderTest):
         self.assertEqual(command("settle", IEEE14, "-o", self.folder)[0], 0)
 
     def test_views(self):
-        for arguments in (("market",), ("holder", 7), ("canonical",)):
+        for arguments in (("market", "--file"), ("holder", 7, "--file"), ("canonical", "-o")):
             place = self.folder / arguments[0]
             place.write_text("mine")
-            self.refused(arguments[0], CASE_L, *arguments[1:], "-o", place)
+            self.refused(arguments[0], CASE_L, *arguments[1:], place)
 
     def test_inputs(self):
         """A file of the case is never written over, forced or not, by whatever name."""
@@ -221,9 +242,14 @@ class Spared(FolderTest):
         before = everything(self.folder)
         for case, names in places.items():
             for name in names:
-                for arguments in (("report",), ("canonical",), ("market",), ("report", "--force")):
+                for asked, out in (
+                    (("report",), "-o"),
+                    (("canonical",), "-o"),
+                    (("market",), "--file"),
+                    (("report", "--force"), "-o"),
+                ):
                     place = self.folder / case / name
-                    status, _, err = command(*arguments, self.folder / case, "-o", place)
+                    status, _, err = command(*asked, self.folder / case, out, place)
                     said = f"{place}: that is a file of the case itself: choose another"
                     self.assertEqual(
                         (status, err.splitlines()[0], everything(self.folder)), (2, said, before)

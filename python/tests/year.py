@@ -15,9 +15,12 @@ from pathlib import Path
 from support import SEED, command, draw_book, draw_grid, draw_prices
 import crr
 from crr.case import Case, Names, PricedHour
+from crr.clock import hours_in
 from crr.files import Contract
 from crr.packed import read_packed
 from crr.slices import cut, settle_sliced
+
+AS_GIVEN = ("--time-of-use", "as-given")  # periods are drawn
 
 
 def make(folder):
@@ -27,10 +30,10 @@ def make(folder):
     (folder / "grid.bin").write_bytes(draw_grid(rng, 200, 64)[0])
     (folder / "book.bin").write_bytes(draw_book(rng, 200, 1000)[0])
     for n in range(365):
-        day = folder / "prices" / (date(2026, 1, 1) + timedelta(days=n)).isoformat()
-        day.mkdir()
-        for hour in range(1, 25):
-            (day / f"HE{hour:02}.bin").write_bytes(draw_prices(rng, 64)[0])
+        day = (date(2026, 1, 1) + timedelta(days=n)).isoformat()
+        (folder / "prices" / day).mkdir()
+        for hour in range(1, hours_in(day) + 1):
+            (folder / "prices" / day / f"HE{hour:02}.bin").write_bytes(draw_prices(rng, 64)[0])
 
 
 def timed(what, function, rounds=5):
@@ -91,11 +94,12 @@ def main(folder):
     if not (folder / "csv").exists():
         timed("crr unpack", lambda: command("unpack", folder, "-o", folder / "csv"), 1)
     rows = sum(1 for _ in open(folder / "csv" / "prices.csv")) - 1
-    timed(f"crr check on CSV files with {rows:,} rows of prices", lambda: command("check", folder / "csv"), 2)
-    timed("crr settle on these CSV files", lambda: command("settle", folder / "csv"), 2)
+    on_csv = (folder / "csv", *AS_GIVEN)
+    timed(f"crr check on CSV files with {rows:,} rows of prices", lambda: command("check", *on_csv), 2)
+    timed("crr settle on these CSV files", lambda: command("settle", *on_csv), 2)
     timed(
         "crr pack on these CSV files, read back and compared",
-        lambda: command("pack", folder / "csv", "-o", folder / "bin"),
+        lambda: command("pack", *on_csv, "-o", folder / "bin"),
         1,
     )
 

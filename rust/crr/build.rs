@@ -7,9 +7,13 @@ fn main() {
     println!("cargo:rerun-if-env-changed=CRR_LIB_DIR");
     let here = env::var("CARGO_MANIFEST_DIR").expect("cargo names the folder");
     let clone = Path::new(&here).join("../..");
+    let shipped = match env::var("CARGO_CFG_TARGET_ARCH").as_deref() {
+        Ok("aarch64") => "dist/aarch64-linux",
+        _ => "dist/x86-64-linux",
+    };
     let folders = match env::var_os("CRR_LIB_DIR") {
         Some(asked) => vec![PathBuf::from(asked)],
-        None => vec![clone.join("dist/x86-64-linux"), clone.join("target/staticlib")],
+        None => vec![clone.join(shipped), clone.join("target/staticlib")],
     };
     let Some(folder) = folders.iter().find(|folder| folder.join("libcrr.a").is_file()) else {
         let places: Vec<String> = folders.iter().map(|folder| folder.display().to_string()).collect();

@@ -12,7 +12,7 @@ import sys
 from pathlib import Path
 
 ROOT = Path(__file__).resolve().parents[2]
-SOURCES = (".rt", ".antt", ".py", ".rs", ".h", ".c", ".hpp", ".v", ".edit", ".txt", ".toml", ".sh")
+SOURCES = (".rt", ".antt", ".py", ".rs", ".h", ".c", ".hpp", ".v", ".edit", ".txt", ".toml", ".sh", ".mjs")
 PATH = re.compile(r"[\w.*-]+(/[\w.*-]+)+/?|[\w-]+\.(?:antt|rt|py|rs|c|h|md|csv|bin|edit|so|a|v|txt|html)")
 NAME = re.compile(r"[A-Za-z][\w]*(?:[-_][\w]+)+|[a-z]+[A-Z]\w*|[A-Z][a-z]+[A-Z]\w*")
 PLACEHOLDER = re.compile(r"\b(?:NN|CRATE|LABEL|NAME|YYYY|DIR|FOLDER|OUT)\b|\bX_|HEhh|\bmine\b")

@@ -77,10 +77,18 @@ beneath n = n
 pub told-of : ℕ → ℕ
 told-of n = n
 
+pub passed-on : ℕ → ℕ
+passed-on n = n
+
 pub on-top : ℕ → ℕ
 on-top n = beneath n
 """,
-    "crates/own/proofs/Theorems.antt": "pub stated : ℕ\nstated = 0\n",
+    "crates/own/proofs/Theorems.antt": """
+pub use Rattle.own.proofs.Laws.{passed-on}
+
+pub stated : ℕ
+stated = 0
+""",
 }
 
 

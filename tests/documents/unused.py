@@ -157,6 +157,15 @@ def is_told(named: Named, entries: Set[Tuple[str, str]]) -> bool:
             or re.match(r"\w+/proofs/Theorem\w*\.antt", named.file) is not None)
 
 
+def passed_on(root: Path) -> Iterator[Named]:
+    """The theorems that a file of theorems passes on from where they are proved."""
+    for path in (root / "crates").glob("*/proofs/Theorem*.antt"):
+        for line in re.findall(r"^pub (use .*)$", path.read_text(encoding="utf-8"), flags=re.MULTILINE):
+            for crate, kind, module, names, _ in IMPORT.findall(line):
+                for name in names.split(","):
+                    yield Named(f"{crate}/{kind}/{module.replace('.', '/')}.antt", name.strip())
+
+
 def used(root: Path, table: Table, scopes: Dict[str, Scope]) -> Set[Named]:
     """What is told, and all that the text of something used names."""
     below, entries = crates_named(root)
@@ -171,6 +180,7 @@ def used(root: Path, table: Table, scopes: Dict[str, Scope]) -> Set[Named]:
     pages = "\n".join((root / page).read_text(encoding="utf-8") for page in TELLING)
     told = {word for span in re.findall(r"`([^`\n]+)`", pages) for word in TOKEN.findall(span)}
     left = [named for named in table if named.name in told or is_told(named, entries)]
+    left.extend(passed_on(root))
     found: Set[Named] = set()
     while left:
         named = left.pop()

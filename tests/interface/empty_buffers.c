@@ -74,6 +74,9 @@ static void figures(void) {
     expect("the test",
            crr_test_book(1, 0, CRR_MONTHLY, CRR_ON_PEAK, NULL, 0, NULL, 0, book_file, 2, &set, &count, &lowest, &excess) == CRR_OK && set == 0);
     expect("the flows", crr_find_flows(1, 0, CRR_ON_PEAK, NULL, 0, NULL, 0, book_file, 2, NULL, 0, &counted) == CRR_OK && counted == 0);
+    count = 0;
+    expect("the totals", crr_add_flows(1, 0, CRR_ON_PEAK, NULL, 0, NULL, 0, book_file, 2, NULL, 0, &count, &counted) == CRR_OK && count == 0 && counted == 0);
+    expect("the block", crr_judge_flows(0, CRR_MONTHLY, NULL, 0, NULL, 0, 0, &set, &count, &lowest, &excess) == CRR_OK && set == 0);
     expect("the cuts",
            crr_find_cuts(1, 0, CRR_MONTHLY, CRR_ON_PEAK, NULL, 0, NULL, 0, book_file, 2, NULL, 0, NULL, 0, &listed) == CRR_OK && listed == 0);
     expect("the shortfall",

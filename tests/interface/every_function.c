@@ -124,10 +124,30 @@ static void *costs(void *nothing) {
     return nothing;
 }
 
+/* The test's flows added up in two steps, and judged. */
+static void *totals(void *nothing) {
+    size_t count = 0, counted = 7, overloaded = 7, lowest = 7;
+    uint64_t set = 7;
+    int64_t excess = 7, sums[] = {0, 0, 7};
+
+    expect("crr_add_flows", crr_add_flows(3, 2, CRR_ON_PEAK, tight, 2, factors, 6, book_file, book_len, sums, 3, &count, &counted) == CRR_OK && count == 3 && counted == 3);
+    expect("crr_judge_flows", crr_judge_flows(2, CRR_ANNUAL, tight, 2, sums, 3, count, &set, &overloaded, &lowest, &excess) == CRR_OK
+                                  && set == 1 && overloaded == 1 && lowest == 0 && excess == 245005000);
+    expect("crr_add_flows, again", crr_add_flows(3, 2, CRR_ON_PEAK, tight, 2, factors, 6, book_file, book_len, sums, 3, &count, &counted) == CRR_OK
+                                       && count == 6 && counted == 3 && sums[2] == 7);
+    expect("crr_judge_flows, of both", crr_judge_flows(2, CRR_MONTHLY, case_limits, 2, sums, 2, count, &set, &overloaded, &lowest, &excess) == CRR_OK && set == 0 && overloaded == 0
+                                           && lowest == 0 && excess == 0);
+    expect("crr_judge_flows, no totals", crr_judge_flows(2, CRR_MONTHLY, case_limits, 2, sums, 2, 0, &set, &overloaded, &lowest, &excess) == CRR_CONTRACT_COUNT && set == 0);
+    count = CRR_MAX_SUMMED;
+    expect("crr_add_flows, too many", crr_add_flows(3, 2, CRR_ON_PEAK, tight, 2, factors, 6, book_file, book_len, sums, 3, &count, &counted) == CRR_CONTRACT_COUNT
+                                          && count == CRR_MAX_SUMMED && counted == 3);
+    return nothing;
+}
+
 /* Every other function. */
 static void *others(void *nothing) {
     size_t nodes = 0, constraints = 0, contracts = 0, bytes = 0, count = 7, lowest = 7, counted = 7, listed = 7;
-    uint64_t form = 7, period = 7, set = 7, percent = 7, parts = 0, hours = 7, weekday = 0, year = 7, month = 7, day = 7, remainder = 7;
+    uint64_t form = 7, period = 7, set = 7, percent = 7, parts = 0, hours = 7, peak = 7, weekday = 0, year = 7, month = 7, day = 7, remainder = 7;
     int64_t excess = 7, sum = 0, whole = 0, quotient = 7;
 
     expect("crr_read_grid", crr_read_grid(grid_file, grid_len, limits, CRR_MAX_CONSTRAINTS, factors, CRR_MAX_NODES * CRR_MAX_CONSTRAINTS, &nodes, &constraints, &form) == CRR_OK
@@ -287,6 +307,11 @@ static void *others(void *nothing) {
     expect("crr_month_hours", crr_month_hours(2024, 1, &hours) == CRR_OK && hours == 416);
     expect("crr_month_hours, month 13", crr_month_hours(2024, 13, &hours) == CRR_NO_SUCH_DATE && hours == 416);
     expect("crr_month_hours, before the first year", crr_month_hours(CRR_FIRST_YEAR - 1, 12, &hours) == CRR_NO_SUCH_DATE && hours == 416);
+    expect("crr_hour_period", crr_hour_period(2024, 7, 5, 22, &peak) == CRR_OK && peak == CRR_ON_PEAK);
+    expect("crr_hour_period, a holiday", crr_hour_period(2024, 7, 4, 22, &peak) == CRR_OK && peak == CRR_OFF_PEAK);
+    peak = 7;
+    expect("crr_hour_period, hour ending 26", crr_hour_period(2024, 7, 5, 26, &peak) == CRR_NO_SUCH_DATE && peak == 7);
+    expect("crr_hour_period, no such day", crr_hour_period(2024, 6, 31, 22, &peak) == CRR_NO_SUCH_DATE && peak == 7);
     expect("crr_weekday", crr_weekday(2024, 2, 29, &weekday) == CRR_OK && weekday == 4);
     expect("crr_weekday, no such day", crr_weekday(2023, 2, 29, &weekday) == CRR_NO_SUCH_DATE && weekday == 4);
     expect("crr_month_later", crr_month_later(2024, 1, 31, &year, &month, &day) == CRR_OK && year == 2024 && month == 2 && day == 29);
@@ -322,6 +347,7 @@ int main(void) {
     on_thread(others, CRR_STACK_BYTES);
     on_thread(texts, CRR_TEXT_STACK_BYTES);
     on_thread(costs, CRR_TEXT_STACK_BYTES);
+    on_thread(totals, CRR_STACK_BYTES);
     printf("interface: %d passed, %d failed\n", passed, failed);
     return failed != 0;
 }

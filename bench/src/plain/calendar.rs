@@ -82,6 +82,13 @@ fn existing(year: u64, month: u64, day: u64) -> Result<(Month, u32), Refusal> {
 }
 
 #[inline(never)]
+pub fn hour_period(year: u64, month: u64, day: u64, hour_ending: u64) -> Result<u64, Refusal> {
+    let (month, day) = existing(year, month, day)?;
+    demand(hour_ending.wrapping_sub(1) < 25, NO_SUCH_DATE)?;
+    Ok(((7..=22).contains(&hour_ending) && month.weekday(day) != 6 && day != month.holiday()).into())
+}
+
+#[inline(never)]
 pub fn weekday(year: u64, month: u64, day: u64) -> Result<u64, Refusal> {
     let (month, day) = existing(year, month, day)?;
     Ok(u64::from(month.weekday(day)) + 1)

@@ -15,10 +15,11 @@ mod settlement;
 mod shares;
 mod test;
 mod text;
+mod totals;
 mod views;
 
 pub use book::{read_book, remap_book, write_book};
-pub use calendar::{month_hours, month_later, weekday};
+pub use calendar::{hour_period, month_hours, month_later, weekday};
 pub use canonical::write_canonical_book;
 pub use cuts::find_cuts;
 pub use exposure::{find_exposure, find_shortfall, ExactCents};
@@ -31,6 +32,7 @@ pub use settlement::{find_mcc, settle_hour, Totals};
 pub use shares::share_balance;
 pub use test::{find_flows, test_book, Overload};
 pub use text::{write_report, write_statement};
+pub use totals::{add_flows, judge_flows};
 pub use views::{write_holder_view, write_market_view};
 
 /// A refusal's number ("When input is turned down").

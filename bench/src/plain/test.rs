@@ -40,7 +40,7 @@ fn carry_contracts<const BYTES: usize>(period: u64, factors: &[i64], book: &[u8]
 }
 
 /// Adds the flows of one period's contracts to the cells of the constraints; tables and book have been checked.
-fn carry_into(flows: &mut [i64], period: u64, factors: &[i64], form: Form, book: &[u8]) -> usize {
+pub fn carry_into(flows: &mut [i64], period: u64, factors: &[i64], form: Form, book: &[u8]) -> usize {
     match form {
         Form::Narrow => carry_contracts::<NARROW>(period, factors, book, flows),
         Form::Wide => carry_contracts::<WIDE>(period, factors, book, flows),
@@ -59,7 +59,7 @@ pub fn released(process: u64, limit: u64) -> i64 {
 }
 
 /// The test's figures, all 0 where no flow exceeds its released limit.
-pub fn verdict(process: u64, limits: &[u64], flows: &Flows) -> Overload {
+pub fn verdict(process: u64, limits: &[u64], flows: &[i64]) -> Overload {
     let mut set = 0u64;
     for (k, (&limit, &flow)) in limits.iter().zip(flows).enumerate() {
         set |= u64::from(flow > released(process, limit)) << k;

@@ -21,7 +21,7 @@ use cut_rules::KEY_BASE;
 use tariff::Contract;
 use tariff::MAX_CONSTRAINTS;
 use tariff::Period;
-use tariff::Process;
+use test_excesses::Terms;
 
 // The key of a contract that is of the period and has a cut, behind the first `count` keys. Gives how many there are then.
 fn add_key(
@@ -97,21 +97,24 @@ fn collect_keys(
 
 // The keys of the least cuts, in order, into the first cells of `keys`. Gives how many there are.
 pub fn row_keys(
-    nodes: usize,
-    constraints: usize,
-    process: Process,
-    period: Period,
+    terms: Terms,
     limits: &[u64],
     factors: &[i64],
     book: &[u8],
     keys: &mut [u64],
 ) -> usize
-    requires { ⌜ GoodCells maxLimit constraints (now limits) × GoodFactors nodes constraints (now factors) × (first (bookChecks nodes (now book)) ≡ Passed) ⌝ }
+    requires { ⌜ GoodCells maxLimit (terms .constraints) (now limits) × GoodFactors (terms .nodes) (terms .constraints) (now factors)
+        × (first (bookChecks (terms .nodes) (now book)) ≡ Passed) ⌝ }
     requires { ⌜ length (now keys) ≡ maxContracts ⌝ }
     ensures { λ r. ⌜ (r ≤ maxContracts) × (length (after keys) ≡ maxContracts) ⌝ }
     ensures { λ r. ⌜ take r (after keys)
-        ≡ map rowKey (leastCuts (gridOf nodes constraints (before limits) (before factors)) process period (bookIn (before book))) ⌝ }
+        ≡ map rowKey (leastCuts (gridOf (terms .nodes) (terms .constraints) (before limits) (before factors)) (terms .process) (terms .period)
+        (bookIn (before book))) ⌝ }
 {
+    let nodes = terms.nodes;
+    let constraints = terms.constraints;
+    let process = terms.process;
+    let period = terms.period;
     let carried = test_flows::carry(nodes, constraints, factors, period, book);
     if test_verdict::overload_set(constraints, process, limits, carried) == 0 {
         return 0;

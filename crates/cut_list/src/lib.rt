@@ -10,9 +10,9 @@ use cut_rules::CutsAnswer;
 use cut_rules::KEY_BASE;
 use tariff::Checked;
 use tariff::MAX_CONTRACTS;
-use tariff::Period;
-use tariff::Process;
 use tariff::Refusal;
+use test_excesses::Terms;
+use test_verdict::check_test;
 
 // Takes the first `count` keys apart: the contracts' numbers, and their cuts.
 fn store_rows(keys: &[u64], count: usize, numbers: &mut [u64], cuts: &mut [u64])
@@ -58,28 +58,12 @@ pub fn find_cuts(
 ) -> CutsAnswer
     ensures { λ r. ⌜ FindsCuts (testCall nodes constraints process period (before limits) (before factors) (before book)) numbers cuts r ⌝ }
 {
-    let checked = test_verdict::check_test(
-        nodes,
-        constraints,
-        process,
-        period,
-        limits,
-        factors,
-        book,
-    );
+    let checked = check_test(nodes, constraints, process, period, limits, factors, book);
     if let Checked::Refused(refusal) = checked {
         return CutsAnswer::Refused(refusal);
     }
     let mut keys = [0u64; MAX_CONTRACTS];
-    let listed = cut_keys::row_keys(
-        nodes,
-        constraints,
-        Process::from_number(process),
-        Period::from_number(period),
-        limits,
-        factors,
-        book,
-        &mut keys,
-    );
+    let terms = Terms::from_numbers(nodes, constraints, process, period);
+    let listed = cut_keys::row_keys(terms, limits, factors, book, &mut keys);
     list_rows(&keys, listed, numbers, cuts)
 }

@@ -51,7 +51,7 @@ fn is_holiday(year: u64, month: u64, day: u64) -> bool
     false
 }
 
-fn on_peak_day(year: u64, month: u64, day: u64) -> bool
+pub fn on_peak_day(year: u64, month: u64, day: u64) -> bool
     requires { ⌜ (1 ≤ year) × (year ≤ lastYear) × (month ≤ 12) × (1 ≤ day) × (day ≤ 31) ⌝ }
     ensures { λ r. ⌜ r ≡ onPeakByDays year month day ⌝ }
 {

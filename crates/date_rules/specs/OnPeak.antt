@@ -49,8 +49,14 @@ unfoldable pub onPeakDay : ℕ → ℕ → ℕ → Bool
 onPeakDay y m d = not (eqb (weekdayOf y m d) 7) && not (observed y m d)
 
 -- "hours ending 7 to 22"
+abbrev pub firstHour : ℕ
+firstHour = 7
+
+abbrev pub lastHour : ℕ
+lastHour = 22
+
 abbrev pub hoursADay : ℕ
-hoursADay = 22 - 7 + 1
+hoursADay = lastHour - firstHour + 1
 
 -- a month's on-peak hours
 unfoldable pub onPeakHours : ℕ → ℕ → ℕ

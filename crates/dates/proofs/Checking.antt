@@ -34,12 +34,14 @@ module _ (date : Date) (b : Bool) (found : b ≡ there date) where
     pub reached-refused : not e ≡ true → Refused NoSuchDate ≡ monthLaterChecked date
     unfolding monthLaterChecks
     reached-refused k =
-        sym (first-passes (noSuchDate date) (noSuchDate (monthLater date) ∷ []) (sym (ap not found) ∙ h) ∙ first-refuses (noSuchDate (monthLater date)) [] (sym (ap not reached) ∙ k))
+        sym (first-passes (noSuchDate date) (noSuchDate (monthLater date) ∷ []) (sym (ap not found) ∙ h) ∙ first-refuses (noSuchDate (monthLater date)) []
+        (sym (ap not reached) ∙ k))
 
     pub reached-passed : not e ≡ false → Passed ≡ monthLaterChecked date
     unfolding monthLaterChecks
     reached-passed k =
-        sym (first-passes (noSuchDate date) (noSuchDate (monthLater date) ∷ []) (sym (ap not found) ∙ h) ∙ last-passes (noSuchDate (monthLater date)) (sym (ap not reached) ∙ k))
+        sym (first-passes (noSuchDate date) (noSuchDate (monthLater date) ∷ []) (sym (ap not found) ∙ h) ∙ last-passes (noSuchDate (monthLater date))
+        (sym (ap not reached) ∙ k))
 
 -- the day reached, where `last` is the month's last
 pub day-reached : (date : Date) (n last : ℕ) → last ≡ monthDays (laterYear date) (laterMonth date) → n ≡ cutTo last (date .day) → n ≡ laterDay date

@@ -113,7 +113,7 @@ fn cut_to(last: u64, day: u64) -> u64
 }
 
 impl Date {
-    fn exists(self) -> bool
+    pub fn exists(self) -> bool
         ensures { λ r. ⌜ r ≡ dateExists (self .year) (self .month) (self .day) ⌝ }
     {
         if !month_exists(self.year, self.month) {

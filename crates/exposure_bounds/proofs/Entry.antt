@@ -3,7 +3,7 @@ use mathlib.Core.Path.{_≡_, refl, sym, ap, ap₂, _∙_, subst}
 use mathlib.Core.List.{List, [], _∷_}
 use Prim.Native.Nat.{ℕ, _*_, _≤_, _<_}
 use native.Mathlib.Omega.{arith}
-use borrow.Author.Tests.{lt-ltb, le-ltb, ltb-false}
+use borrow.Author.Tests.{lt-ltb, le-ltb}
 use lib.ListN.{length, getD, take}
 use lib.Seq.{getD-take}
 use lib.IntN.{ℤ, pos, _-ℤ_}
@@ -25,7 +25,7 @@ use Rattle.tariff.specs.Refusals.{Check, first, given, cellsAfter}
 use Rattle.tariff.specs.Checks.{shortTable}
 use Rattle.tariff.specs.Feasibility.{released, excess}
 use Rattle.tariff.proofs.Answers.{answer-refused, cells-refused, answer-passed, cells-passed}
-use Rattle.tariff.proofs.Checks.{append-refuses, append-passes, passed-append, passed-cons, first-refuses, last-passes}
+use Rattle.tariff.proofs.Checks.{append-refuses, append-passes, first-refuses, last-passes}
 use Rattle.layouts.specs.BookFile.{bookIn, contractCountIn, contractAt}
 use Rattle.grid_tables.specs.Inner.{GoodFactors, GoodCells}
 use Rattle.book_rules.specs.BookChecks.{bookChecks}
@@ -35,7 +35,6 @@ use Rattle.test_rules.specs.TestBook.{TestCall, testChecks, testChecked, tested
 use Rattle.test_rules.specs.Carried.{Carries}
 use Rattle.test_rules.proofs.Flowing.{count-most, flow-most}
 use Rattle.test_rules.proofs.Judging.{released-small}
-use Rattle.test_rules.proofs.Checking.{Tested, tested}
 use Rattle.exposure_rules.specs.Theorems.{Exposes}
 use Rattle.exposure_rules.proofs.Theorems.{exposes, exposure-list}
 use Rattle.exposure_figures.proofs.Figures.{figures}
@@ -101,17 +100,6 @@ module _ (q : TestCall) (place : List ℕ) where
 
     pub all-fits : x ≡ Passed → q .constraints ≤ length place → Passed ≡ exposureChecked q place
     all-fits told h = sym (then-room told ∙ last-passes _ (le-ltb (length place) (q .constraints) h))
-
-  -- what holds where none refuses
-  pub record Ready : Type 0 where
-    pub as-tested : Tested q
-    pub room-enough : q .constraints ≤ length place
-
-  pub ready : exposureChecked q place ≡ Passed → Ready
-  unfolding exposureChecks
-  ready e =
-      let both = passed-append (testChecks q) room e in
-      record { as-tested = tested q (both .0); room-enough = ltb-false (length place) (q .constraints) (passed-cons _ _ (both .1) .0) }
 
 -- ---- the promise
 

@@ -1,6 +1,6 @@
 // What a failing book can cost: the worst shortfall, with prices that reach it; between two figures where more than ten constraints are overloaded.
 ghost use mathlib.Core.Path.{_≡_};
-ghost use Prim.Native.Nat.{_^_, _≤_};
+ghost use Prim.Native.Nat.{_≤_};
 ghost use lib.ListN.{length};
 ghost use Rattle.lists.specs.Sets.{countOf};
 ghost use Rattle.lists.specs.Lent.{before, after};
@@ -13,16 +13,15 @@ ghost use Rattle.grid_tables.specs.Inner.{GoodCells, GoodFactors};
 ghost use Rattle.book_rules.specs.BookChecks.{bookChecks};
 ghost use Rattle.test_rules.specs.TestBook.{testCall};
 ghost use Rattle.exposure_rules.specs.Exposure.{fewOverloads};
-ghost use Rattle.exposure_prices.specs.Inner.{Excesses, aboveIn};
-ghost use Rattle.exposure_bounds.specs.FindExposure.{exposureChecked, FindsExposure};
-ghost use Rattle.exposure_bounds.specs.Inner.{AreExcesses, BestSet, WorstPrices, BetterPrices, Exposed};
+ghost use Rattle.exposure_prices.specs.Inner.{Excesses, aboveIn, Listed};
+ghost use Rattle.exposure_bounds.specs.FindExposure.{FindsExposure};
+ghost use Rattle.exposure_bounds.specs.Inner.{AreExcesses, WorstPrices, BetterPrices, Exposed};
 use exposure_figures::Exact;
-use exposure_prices::Best;
 use tariff::Checked;
 use tariff::MAX_CONSTRAINTS;
-use tariff::Period;
-use tariff::Process;
 use tariff::Refusal;
+use test_excesses::Terms;
+use test_verdict::check_test;
 
 // Of how many overloaded constraints every set is tried.
 const FEW_OVERLOADS: usize = 10;
@@ -47,108 +46,57 @@ pub struct Exposure {
     pub most: Exact,
 }
 
-// The set that costs the most, of all sets of so many overloaded constraints: the empty one costs nothing.
-fn best_set(
-    nodes: usize,
-    constraints: usize,
-    process: Process,
-    period: Period,
-    limits: &[u64],
-    factors: &[i64],
-    book: &[u8],
-    excesses: &[i64],
-    count: usize,
-) -> Best
-    requires { ⌜ Excesses constraints (now excesses) × GoodCells maxLimit constraints (now limits) × GoodFactors nodes constraints (now factors) ⌝ }
-    requires { ⌜ (first (bookChecks nodes (now book)) ≡ Passed) × (count ≤ fewOverloads) × (count ≡ countOf constraints (aboveIn (now excesses))) ⌝ }
-    requires { ⌜ AreExcesses (gridOf nodes constraints (now limits) (now factors)) process (ofPeriod period (bookIn (now book))) (now excesses) ⌝ }
-    ensures { λ r. ⌜ BestSet (gridOf nodes constraints (before limits) (before factors)) process (ofPeriod period (bookIn (before book))) (2 ^ count) r ⌝ }
-{
-    let mut over = [0usize; MAX_CONSTRAINTS];
-    exposure_prices::fill_over(constraints, excesses, &mut over);
-    let mut costs = [0i64; MOST_SETS];
-    exposure_sets::set_costs(
-        nodes,
-        constraints,
-        process,
-        period,
-        limits,
-        factors,
-        book,
-        &over,
-        count,
-        &mut costs,
-    );
-    exposure_prices::best_of(exposure_sets::set_count(count), &costs)
-}
-
-// The prices of the set that costs the most, where few constraints are overloaded, and what they cost.
+// The prices of the set that costs the most, of all sets of the few constraints that are overloaded, and what they cost: the empty set costs nothing.
 fn worst_prices(
-    nodes: usize,
-    constraints: usize,
-    process: Process,
-    period: Period,
+    terms: Terms,
     limits: &[u64],
     factors: &[i64],
     book: &[u8],
     excesses: &[i64],
+    over: &[usize],
     count: usize,
     prices: &mut [u64],
 ) -> Exact
-    requires { ⌜ Excesses constraints (now excesses) × GoodCells maxLimit constraints (now limits) × GoodFactors nodes constraints (now factors) ⌝ }
-    requires { ⌜ (first (bookChecks nodes (now book)) ≡ Passed) × (constraints ≤ length (now prices)) ⌝ }
-    requires { ⌜ (count ≤ fewOverloads) × (count ≡ countOf constraints (aboveIn (now excesses))) ⌝ }
-    requires { ⌜ AreExcesses (gridOf nodes constraints (now limits) (now factors)) process (ofPeriod period (bookIn (now book))) (now excesses) ⌝ }
-    ensures { λ r. ⌜ WorstPrices (gridOf nodes constraints (before limits) (before factors)) process (ofPeriod period (bookIn (before book)))
-        (before prices) (after prices) r ⌝ }
+    requires { ⌜ Excesses (terms .constraints) (now excesses) × GoodCells maxLimit (terms .constraints) (now limits)
+        × GoodFactors (terms .nodes) (terms .constraints) (now factors) ⌝ }
+    requires { ⌜ (first (bookChecks (terms .nodes) (now book)) ≡ Passed) × (terms .constraints ≤ length (now prices)) ⌝ }
+    requires { ⌜ (count ≤ fewOverloads) × (count ≡ countOf (terms .constraints) (aboveIn (now excesses))) ⌝ }
+    requires { ⌜ Listed (terms .constraints) (aboveIn (now excesses)) (now over) × (length (now over) ≡ 64) ⌝ }
+    requires { ⌜ AreExcesses (gridOf (terms .nodes) (terms .constraints) (now limits) (now factors)) (terms .process)
+        (ofPeriod (terms .period) (bookIn (now book))) (now excesses) ⌝ }
+    ensures { λ r. ⌜ WorstPrices (gridOf (terms .nodes) (terms .constraints) (before limits) (before factors)) (terms .process)
+        (ofPeriod (terms .period) (bookIn (before book))) (before prices) (after prices) r ⌝ }
 {
-    let best = best_set(
-        nodes,
-        constraints,
-        process,
-        period,
-        limits,
-        factors,
-        book,
-        excesses,
-        count,
-    );
+    let mut costs = [0i64; MOST_SETS];
+    exposure_sets::set_costs(terms, limits, factors, book, over, count, &mut costs);
+    let best = exposure_prices::best_of(exposure_sets::set_count(count), &costs);
     let set = best.set;
-    exposure_prices::fill_set(constraints, excesses, set, prices);
+    exposure_prices::fill_set(terms.constraints, excesses, set, prices);
     best.cost
 }
 
 // The prices that cost more, of the two lists, and what they cost.
 fn better_prices(
-    nodes: usize,
-    constraints: usize,
-    process: Process,
-    period: Period,
+    terms: Terms,
     limits: &[u64],
     factors: &[i64],
     book: &[u8],
     excesses: &[i64],
     prices: &mut [u64],
 ) -> Exact
-    requires { ⌜ Excesses constraints (now excesses) × GoodCells maxLimit constraints (now limits) × GoodFactors nodes constraints (now factors) ⌝ }
-    requires { ⌜ (first (bookChecks nodes (now book)) ≡ Passed) × (constraints ≤ length (now prices)) ⌝ }
-    requires { ⌜ AreExcesses (gridOf nodes constraints (now limits) (now factors)) process (ofPeriod period (bookIn (now book))) (now excesses) ⌝ }
-    ensures { λ r. ⌜ BetterPrices (gridOf nodes constraints (before limits) (before factors)) process (ofPeriod period (bookIn (before book)))
-        (before prices) (after prices) r ⌝ }
+    requires { ⌜ Excesses (terms .constraints) (now excesses) × GoodCells maxLimit (terms .constraints) (now limits)
+        × GoodFactors (terms .nodes) (terms .constraints) (now factors) ⌝ }
+    requires { ⌜ (first (bookChecks (terms .nodes) (now book)) ≡ Passed) × (terms .constraints ≤ length (now prices)) ⌝ }
+    requires { ⌜ AreExcesses (gridOf (terms .nodes) (terms .constraints) (now limits) (now factors)) (terms .process)
+        (ofPeriod (terms .period) (bookIn (now book))) (now excesses) ⌝ }
+    ensures { λ r. ⌜ BetterPrices (gridOf (terms .nodes) (terms .constraints) (before limits) (before factors)) (terms .process)
+        (ofPeriod (terms .period) (bookIn (before book))) (before prices) (after prices) r ⌝ }
 {
+    let constraints = terms.constraints;
     let largest = exposure_prices::largest_cell(constraints, excesses);
     let alone = exposure_prices::alone_shortfall(constraints, excesses, largest);
     exposure_prices::fill_prices(constraints, excesses, 0, constraints, prices);
-    let found = exposure_shortfall::shortfall_at(
-        nodes,
-        constraints,
-        process,
-        period,
-        limits,
-        factors,
-        prices,
-        book,
-    );
+    let found = exposure_shortfall::shortfall_at(terms, limits, factors, prices, book);
     let all = found.shortfall;
     if all.below(alone) {
         exposure_prices::fill_prices(constraints, excesses, largest, largest + 1, prices);
@@ -159,34 +107,34 @@ fn better_prices(
 
 // The least and the most that a book can cost, with the prices of the least, where no check refuses.
 fn expose(
-    nodes: usize,
-    constraints: usize,
-    process: Process,
-    period: Period,
+    terms: Terms,
     limits: &[u64],
     factors: &[i64],
     book: &[u8],
     prices: &mut [u64],
 ) -> Exposure
-    requires { ⌜ GoodCells maxLimit constraints (now limits) × GoodFactors nodes constraints (now factors) ⌝ }
-    requires { ⌜ (first (bookChecks nodes (now book)) ≡ Passed) × (constraints ≤ length (now prices)) ⌝ }
-    ensures { λ r. ⌜ Exposed (gridOf nodes constraints (before limits) (before factors)) process (ofPeriod period (bookIn (before book)))
-        (before prices) (after prices) r ⌝ }
+    requires { ⌜ GoodCells maxLimit (terms .constraints) (now limits) × GoodFactors (terms .nodes) (terms .constraints) (now factors) ⌝ }
+    requires { ⌜ (first (bookChecks (terms .nodes) (now book)) ≡ Passed) × (terms .constraints ≤ length (now prices)) ⌝ }
+    ensures { λ r. ⌜ Exposed (gridOf (terms .nodes) (terms .constraints) (before limits) (before factors)) (terms .process)
+        (ofPeriod (terms .period) (bookIn (before book))) (before prices) (after prices) r ⌝ }
 {
+    let nodes = terms.nodes;
+    let constraints = terms.constraints;
+    let process = terms.process;
+    let period = terms.period;
     let carried = test_flows::carry(nodes, constraints, factors, period, book);
     let mut excesses = [0i64; MAX_CONSTRAINTS];
     test_excesses::fill_excess(constraints, process, limits, carried, &mut excesses);
-    let count = exposure_prices::over_count(constraints, &excesses);
+    let mut over = [0usize; MAX_CONSTRAINTS];
+    let count = exposure_prices::fill_over(constraints, &excesses, &mut over);
     if count <= FEW_OVERLOADS {
         let worst = worst_prices(
-            nodes,
-            constraints,
-            process,
-            period,
+            terms,
             limits,
             factors,
             book,
             &excesses,
+            &over,
             count,
             prices,
         );
@@ -196,49 +144,8 @@ fn expose(
         };
     }
     let most = exposure_prices::at_highest(exposure_prices::total_above(constraints, &excesses));
-    let least = better_prices(
-        nodes,
-        constraints,
-        process,
-        period,
-        limits,
-        factors,
-        book,
-        &excesses,
-        prices,
-    );
+    let least = better_prices(terms, limits, factors, book, &excesses, prices);
     Exposure { least, most }
-}
-
-// The checks of finding the exposure: the test's, then 9 for the prices.
-fn check_exposure(
-    nodes: usize,
-    constraints: usize,
-    process: u64,
-    period: u64,
-    limits: &[u64],
-    factors: &[i64],
-    book: &[u8],
-    prices: &[u64],
-) -> Checked
-    ensures { λ r. ⌜ r ≡ exposureChecked (testCall nodes constraints process period (before limits) (before factors) (before book)) (before prices) ⌝ }
-{
-    let tested = test_verdict::check_test(
-        nodes,
-        constraints,
-        process,
-        period,
-        limits,
-        factors,
-        book,
-    );
-    if let Checked::Refused(refusal) = tested {
-        return Checked::Refused(refusal);
-    }
-    if prices.len() < constraints {
-        return Checked::Refused(Refusal::ShortTable);
-    }
-    Checked::Passed
 }
 
 // Finds what a book can cost: the least and the most, between which its worst shortfall is, and prices that cost the least, one for each constraint.
@@ -254,29 +161,15 @@ pub fn find_exposure(
 ) -> ExposureAnswer
     ensures { λ r. ⌜ FindsExposure (testCall nodes constraints process period (before limits) (before factors) (before book)) prices r ⌝ }
 {
-    let checked = check_exposure(
-        nodes,
-        constraints,
-        process,
-        period,
-        limits,
-        factors,
-        book,
-        prices,
-    );
+    let checked = check_test(nodes, constraints, process, period, limits, factors, book);
     if let Checked::Refused(refusal) = checked {
         return ExposureAnswer::Refused(refusal);
     }
-    let exposure = expose(
-        nodes,
-        constraints,
-        Process::from_number(process),
-        Period::from_number(period),
-        limits,
-        factors,
-        book,
-        prices,
-    );
+    if prices.len() < constraints {
+        return ExposureAnswer::Refused(Refusal::ShortTable);
+    }
+    let terms = Terms::from_numbers(nodes, constraints, process, period);
+    let exposure = expose(terms, limits, factors, book, prices);
     ExposureAnswer::Found {
         least_whole: exposure.least.whole,
         least_parts: exposure.least.parts,

@@ -132,32 +132,6 @@ pub fn alone_shortfall(constraints: usize, excesses: &[i64], largest: usize) -> 
     at_highest(0)
 }
 
-// How many constraints are overloaded, with this one more.
-fn count_more(excess: i64, count: usize) -> usize
-    requires { ⌜ (natAbs excess ≤ maxExcess) × (count < 64) ⌝ }
-    ensures { λ r. ⌜ r ≡ count + cond (ltZ (pos 0) excess) 1 0 ⌝ }
-{
-    if 0 < excess {
-        return count + 1;
-    }
-    count
-}
-
-// How many constraints are overloaded.
-pub fn over_count(constraints: usize, excesses: &[i64]) -> usize
-    requires { ⌜ Excesses constraints (now excesses) ⌝ }
-    ensures { λ r. ⌜ r ≡ countOf constraints (aboveIn (before excesses)) ⌝ }
-{
-    let mut count = 0;
-    let mut k = 0;
-    while k < constraints {
-        let excess = excesses[k];
-        count = count_more(excess, count);
-        k += 1;
-    }
-    count
-}
-
 // The highest price on an overloaded constraint whose bit is the lowest of what is left of a set's number, and 0 on another.
 fn set_price(excess: i64, left: u64) -> u64
     requires { ⌜ natAbs excess ≤ maxExcess ⌝ }
@@ -209,10 +183,11 @@ fn note_over(excess: i64, k: usize, count: usize, over: &mut [usize]) -> usize
     count
 }
 
-// The overloaded constraints, into the first cells of `over`.
-pub fn fill_over(constraints: usize, excesses: &[i64], over: &mut [usize])
+// The overloaded constraints, into the first cells of `over`. Gives how many there are.
+pub fn fill_over(constraints: usize, excesses: &[i64], over: &mut [usize]) -> usize
     requires { ⌜ Excesses constraints (now excesses) × (length (now over) ≡ 64) ⌝ }
-    ensures { λ r. ⌜ Listed constraints (aboveIn (before excesses)) (after over) × (length (after over) ≡ 64) ⌝ }
+    ensures { λ r. ⌜ (r ≡ countOf constraints (aboveIn (before excesses))) × Listed constraints (aboveIn (before excesses)) (after over)
+        × (length (after over) ≡ 64) ⌝ }
 {
     let mut count = 0;
     let mut k = 0;
@@ -221,6 +196,7 @@ pub fn fill_over(constraints: usize, excesses: &[i64], over: &mut [usize])
         count = note_over(excess, k, count, over);
         k += 1;
     }
+    count
 }
 
 // A cost at one cent, at the highest price, where it is above 0.

@@ -72,7 +72,7 @@ sum-high x m t h =
     rw (add-one t, top-one m t h)
     (ap (λ (z : ℤ). z +ℤ x t) (sumTo-cong t (λ s l. ap (λ (b : Bool). cond b (x s) (pos 0)) (same-bits m s t l))))
 
-pub sums-start : (x : ℕ → ℤ) (cells : List ℤ) → cellIn cells 0 ≡ pos 0 → Sums 0 x cells
+sums-start : (x : ℕ → ℤ) (cells : List ℤ) → cellIn cells 0 ≡ pos 0 → Sums 0 x cells
 unfolding bitSum sumTo
 sums-start x cells e = record { each = λ m h. at m (omega arith); sized = λ m h. small m (omega arith) }
   where
@@ -82,13 +82,13 @@ sums-start x cells e = record { each = λ m h. at m (omega arith); sized = λ m 
     small : (m : ℕ) → m ≡ 0 → natAbs (cellIn cells m) ≤ maxReleased * 0
     small m q = rw (at m q) (omega arith)
 
-pub pow-on : (t n : ℕ) → n ≡ 2 ^ t → n + n ≡ 2 ^ (t + 1)
+pow-on : (t n : ℕ) → n ≡ 2 ^ t → n + n ≡ 2 ^ (t + 1)
 pow-on t n e = ap (λ (x : ℕ). x + x) e ∙ twice (2 ^ t) ∙ sym (pow-add 2 t 1)
   where
     twice : (x : ℕ) → x + x ≡ x * 2
     twice x = omega arith
 
-pub sums-grow : (t : ℕ) (x : ℕ → ℤ) (n : ℕ) (y : ℤ) (old new : List ℤ) → n ≡ 2 ^ t → y ≡ x t → natAbs y ≤ maxReleased → Sums t x old → Grown n y old new
+sums-grow : (t : ℕ) (x : ℕ → ℤ) (n : ℕ) (y : ℤ) (old new : List ℤ) → n ≡ 2 ^ t → y ≡ x t → natAbs y ≤ maxReleased → Sums t x old → Grown n y old new
     → Sums (t + 1) x new
 sums-grow t x n y old new e ey small s g =
     record {
@@ -134,13 +134,38 @@ kept-sum x y v h e =
     let f : v ≡ x +ℤ y = e ∙ ap (λ (z : ℤ). z +ℤ y) (back x (omega arith)) in
     back v (rw f (omega (arith, natAbs-add x y))) ∙ f
 
--- ---- before a place more
-
-pub pow-small : (t n count : ℕ) → n ≡ 2 ^ t → t < count → count ≤ 10 → n ≤ 512
-pow-small t n count e h few = rw e (pow-mono {i = t} {j = 9} (omega arith))
+-- ---- a loop over the places: the sums of n sets, those of the first t places, of count
 
 pub sums-small : (t n : ℕ) (x : ℕ → ℤ) (cells : List ℤ) → n ≡ 2 ^ t → t ≤ 10 → Sums t x cells → SmallCells maxSum n cells
 sums-small t n x cells e few s m h = omega (arith, s .sized m (rw e at h))
+
+pub record Summed (count : ℕ) (x : ℕ → ℤ) (cells : List ℤ) (n t : ℕ) : Type 0 where
+  pub upto : t ≤ count
+  pub sets : n ≡ 2 ^ t
+  pub length-is : length cells ≡ 1024
+  pub sums : Sums t x cells
+
+pub summed-start : (count : ℕ) (x : ℕ → ℤ) (cells : List ℤ) → length cells ≡ 1024 → cellIn cells 0 ≡ pos 0 → Summed count x cells 1 0
+summed-start count x cells long e = record { upto = omega arith; sets = refl; length-is = long; sums = sums-start x cells e }
+
+module _ (count : ℕ) (x : ℕ → ℤ) (cells : List ℤ) (n t : ℕ) (s : Summed count x cells n t) (more : t < count) (few : count ≤ 10) where
+  pub half : n ≤ 512
+  half = rw (s .sets) (pow-mono {i = t} {j = 9} (omega arith))
+
+  pub room-to-grow : (y : ℤ) → natAbs y ≤ maxReleased → (n + n ≤ length cells) × (n ≤ 512) × (natAbs y ≤ maxReleased) × SmallCells maxSum n cells
+  room-to-grow y small = (omega (arith, half, s .length-is), half, small, sums-small t n x cells (s .sets) (omega arith) (s .sums))
+
+  pub summed-next : (y : ℤ) (new : List ℤ) → y ≡ x t → natAbs y ≤ maxReleased → Grown n y cells new → Summed count x new (n + n) (t + 1)
+  summed-next y new e small g =
+      record {
+        upto = omega arith;
+        sets = pow-on t n (s .sets);
+        length-is = g .length-kept ∙ s .length-is;
+        sums = sums-grow t x n y cells new (s .sets) e small (s .sums) g;
+      }
+
+pub summed-end : (count : ℕ) (x : ℕ → ℤ) (cells : List ℤ) (n t : ℕ) → Summed count x cells n t → count ≤ t → Sums count x cells × (length cells ≡ 1024)
+summed-end count x cells n t s h = let all : t ≡ count = omega (arith, s .upto) in (rw all at (s .sums), s .length-is)
 
 -- ---- what is added
 

@@ -13,13 +13,14 @@ ghost use Rattle.layouts.specs.BookFile.{bookIn};
 ghost use Rattle.grid_tables.specs.Inner.{GoodCells, GoodFactors};
 ghost use Rattle.book_rules.specs.BookChecks.{bookChecks};
 ghost use Rattle.test_rules.specs.Inner.{Ends};
-ghost use Rattle.exposure_sets.specs.Inner.{cellIn, Chosen, maxSum, SmallCells, Grown, Sums, Added, AddedAll, rawIn, dueIn, paidIn, ownIn, bookOwn, UnitCosts};
+ghost use Rattle.exposure_sets.specs.Inner.{cellIn, Chosen, maxSum, SmallCells, Grown, Sums, Added, AddedAll, rawIn, dueIn, ownIn, bookOwn, UnitCosts};
 use tariff::Amount;
 use tariff::Contract;
 use tariff::Flow;
 use tariff::Kind;
 use tariff::Period;
 use tariff::Process;
+use test_excesses::Terms;
 
 // How many sets ten constraints have.
 const MOST_SETS: usize = 1024;
@@ -113,28 +114,8 @@ fn add_counted(kind: Kind, n: usize, sums: &[i64], costs: &mut [i64])
     }
 }
 
-// What a contract pays at one cent on each set, added to the set's cost. `sums` is a place for what it pays.
+// What a contract of the period pays at one cent on each set, added to the set's cost. `sums` is a place for what it pays.
 fn add_contract(
-    constraints: usize,
-    factors: &[i64],
-    over: &[usize],
-    count: usize,
-    n: usize,
-    c: Contract,
-    sums: &mut [i64],
-    costs: &mut [i64],
-)
-    requires { ⌜ Ends constraints (now factors) c × Chosen constraints count (now over) × (n ≡ 2 ^ count) ⌝ }
-    requires { ⌜ (length (now sums) ≡ 1024) × (length (now costs) ≡ 1024) × SmallCells (2 ^ 61) n (now costs) ⌝ }
-    ensures { λ r. ⌜ Added n (paidIn constraints (before factors) (before over) count c) (before costs) (after costs) × (length (after sums) ≡ 1024) ⌝ }
-{
-    contract_sums(constraints, factors, over, count, c, sums);
-    let kind = c.kind;
-    add_counted(kind, n, sums, costs);
-}
-
-// The same where the contract is of the period.
-fn add_own(
     constraints: usize,
     period: Period,
     factors: &[i64],
@@ -151,7 +132,9 @@ fn add_own(
 {
     let own = c.period;
     if own.same(period) {
-        add_contract(constraints, factors, over, count, n, c, sums, costs);
+        contract_sums(constraints, factors, over, count, c, sums);
+        let kind = c.kind;
+        add_counted(kind, n, sums, costs);
         return;
     }
 }
@@ -179,17 +162,14 @@ fn add_book(
     let mut i = 0;
     while i < contracts {
         let c = book_bits::contract_at(book, form, i);
-        add_own(constraints, period, factors, over, count, n, c, sums, costs);
+        add_contract(constraints, period, factors, over, count, n, c, sums, costs);
         i += 1;
     }
 }
 
 // What one cent costs on every set of the listed constraints, in 10^-8 cents, into the first cells of `costs`, which are 0.
 pub fn set_costs(
-    nodes: usize,
-    constraints: usize,
-    process: Process,
-    period: Period,
+    terms: Terms,
     limits: &[u64],
     factors: &[i64],
     book: &[u8],
@@ -197,11 +177,16 @@ pub fn set_costs(
     count: usize,
     costs: &mut [i64],
 )
-    requires { ⌜ GoodCells maxLimit constraints (now limits) × GoodFactors nodes constraints (now factors) × (first (bookChecks nodes (now book)) ≡ Passed) ⌝ }
-    requires { ⌜ Chosen constraints count (now over) × (length (now costs) ≡ 1024) × ((m : ℕ) → m < 1024 → cellIn (now costs) m ≡ pos 0) ⌝ }
-    ensures { λ r. ⌜ UnitCosts (gridOf nodes constraints (before limits) (before factors)) process (ofPeriod period (bookIn (before book)))
-        (before over) count (after costs) ⌝ }
+    requires { ⌜ GoodCells maxLimit (terms .constraints) (now limits) × GoodFactors (terms .nodes) (terms .constraints) (now factors)
+        × (first (bookChecks (terms .nodes) (now book)) ≡ Passed) ⌝ }
+    requires { ⌜ Chosen (terms .constraints) count (now over) × (length (now costs) ≡ 1024) × ((m : ℕ) → m < 1024 → cellIn (now costs) m ≡ pos 0) ⌝ }
+    ensures { λ r. ⌜ UnitCosts (gridOf (terms .nodes) (terms .constraints) (before limits) (before factors)) (terms .process)
+        (ofPeriod (terms .period) (bookIn (before book))) (before over) count (after costs) ⌝ }
 {
+    let nodes = terms.nodes;
+    let constraints = terms.constraints;
+    let process = terms.process;
+    let period = terms.period;
     let n = set_count(count);
     let mut sums = [0i64; MOST_SETS];
     rent_sums(constraints, process, limits, over, count, &mut sums);

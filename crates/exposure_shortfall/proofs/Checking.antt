@@ -1,8 +1,8 @@
 -- The checks of finding the shortfall: in parts, against the test's, and what holds where none refuses.
 use mathlib.Core.Path.{_≡_, refl, sym, _∙_}
 use mathlib.Core.Bool.{false}
-use mathlib.Core.List.{List, [], _∷_, _++_}
-use Prim.Native.Nat.{ℕ, _*_, _≤_}
+use mathlib.Core.List.{List, [], _∷_}
+use Prim.Native.Nat.{ℕ, _≤_}
 use borrow.Author.Tests.{ltb-false, le-ltb}
 use lib.ListN.{length, take}
 use Rattle.lists.specs.Lists.{Each, anyOf}
@@ -11,7 +11,7 @@ use Rattle.tariff.specs.declared.refusals.Checked.{Checked}
 use Rattle.tariff.specs.declared.refusals.Checked.the-variants.{Passed, Refused}
 use Rattle.tariff.specs.Units.{maxPrice}
 use Rattle.tariff.specs.Refusals.{Check, first}
-use Rattle.tariff.specs.Checks.{nodeCount, constraintCount, processNumber, periodNumber, shortTable, limitRange, factorRange, priceRange, priceBad}
+use Rattle.tariff.specs.Checks.{nodeCount, constraintCount, processNumber, periodNumber, priceBad}
 use Rattle.tariff.proofs.Checks.{first-passes, append-refuses, append-passes}
 use Rattle.grid_tables.specs.TableChecks.{gridTableChecks}
 use Rattle.grid_tables.specs.Inner.{GoodCells}
@@ -21,6 +21,7 @@ use Rattle.book_rules.specs.BookChecks.{bookChecks}
 use Rattle.test_rules.specs.TestBook.{TestCall, testChecks, testChecked}
 use Rattle.test_rules.proofs.Checking.{Tested, tested}
 use Rattle.exposure_shortfall.specs.FindShortfall.{shortfallChecks, shortfallChecked}
+use Rattle.exposure_shortfall.specs.Inner.{tableChecks}
 
 -- no condition holds: none refuses
 all-pass : (cs : List Check) → Each (λ (c : Check). c .fails ≡ false) cs → first cs ≡ Passed
@@ -28,30 +29,30 @@ unfolding first
 all-pass [] h = refl
 all-pass (c ∷ cs) h = first-passes c cs (h .0) ∙ all-pass cs (h .1)
 
+-- the counts and numbers pass
+pub record Counted (n k process period : ℕ) : Type 0 where
+  pub two : nodeCount n .fails ≡ false
+  pub three : constraintCount k .fails ≡ false
+  pub sixteen : processNumber process .fails ≡ false
+  pub seventeen : periodNumber period .fails ≡ false
+
+pub then-cells : (n k process period : ℕ) → Counted n k process period → (rest : List Check)
+    → first (nodeCount n ∷ constraintCount k ∷ processNumber process ∷ periodNumber period ∷ rest) ≡ first rest
+then-cells n k process period c rest = first-passes _ _ (c .two) ∙ first-passes _ _ (c .three) ∙ first-passes _ _ (c .sixteen) ∙ first-passes _ _ (c .seventeen)
+
 module _ (q : TestCall) (prices : List ℕ) where
-  abbrev pub cellChecks : List Check
-  cellChecks =
-      shortTable (length (q .limits)) (q .constraints)
-      ∷ shortTable (length (q .factors)) (q .nodes * q .constraints)
-      ∷ shortTable (length prices) (q .constraints)
-      ∷ limitRange (take (q .constraints) (q .limits))
-      ∷ factorRange (take (q .nodes * q .constraints) (q .factors))
-      ∷ priceRange (take (q .constraints) prices)
-      ∷ []
+  abbrev tables : List Check
+  tables = tableChecks (q .nodes) (q .constraints) (q .process) (q .period) (q .limits) (q .factors) prices
 
-  -- where the counts and numbers pass, and x is what the cells' checks found
-  module _ (two : nodeCount (q .nodes) .fails ≡ false) (three : constraintCount (q .constraints) .fails ≡ false)
-      (sixteen : processNumber (q .process) .fails ≡ false)
-      (seventeen : periodNumber (q .period) .fails ≡ false) (x : Checked) (found : x ≡ first cellChecks) where
-    then-cells : shortfallChecked q prices ≡ first (cellChecks ++ bookChecks (q .nodes) (q .book))
+  -- x is what the tables' checks found
+  module _ (x : Checked) (found : x ≡ first tables) where
+    pub tables-refuse : (r : Refusal) → x ≡ Refused r → Refused r ≡ shortfallChecked q prices
     unfolding shortfallChecks
-    then-cells = first-passes _ _ two ∙ first-passes _ _ three ∙ first-passes _ _ sixteen ∙ first-passes _ _ seventeen
-
-    pub cells-refuse : (r : Refusal) → x ≡ Refused r → Refused r ≡ shortfallChecked q prices
-    cells-refuse r told = sym (then-cells ∙ append-refuses cellChecks (bookChecks (q .nodes) (q .book)) r (sym found ∙ told))
+    tables-refuse r told = sym (append-refuses tables (bookChecks (q .nodes) (q .book)) r (sym found ∙ told))
 
     pub then-book : x ≡ Passed → first (bookChecks (q .nodes) (q .book)) ≡ shortfallChecked q prices
-    then-book told = sym (then-cells ∙ append-passes cellChecks (bookChecks (q .nodes) (q .book)) (sym found ∙ told))
+    unfolding shortfallChecks
+    then-book told = sym (append-passes tables (bookChecks (q .nodes) (q .book)) (sym found ∙ told))
 
   -- what holds where none refuses
   pub record Asked : Type 0 where

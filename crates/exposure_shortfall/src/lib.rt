@@ -1,29 +1,26 @@
 // What a book costs at a price list: net payment, rent and shortfall (document 01, "Terms of the third demand").
 ghost use mathlib.Core.Path.{_≡_};
-ghost use mathlib.Core.List.{[], _∷_};
-ghost use Prim.Native.Nat.{_*_, _≤_};
-ghost use lib.ListN.{length, take};
+ghost use Prim.Native.Nat.{_≤_};
+ghost use lib.ListN.{take};
 ghost use Rattle.lists.specs.Lent.{before};
 ghost use Rattle.tariff.specs.declared.refusals.Checked.the-variants.{Passed};
 ghost use Rattle.tariff.specs.Units.{gridOf, maxConstraints, maxLimit, maxNodes};
 ghost use Rattle.tariff.specs.Contracts.{ofPeriod};
 ghost use Rattle.tariff.specs.Refusals.{first};
-ghost use Rattle.tariff.specs.Checks.{shortTable, limitRange, factorRange, priceRange};
 ghost use Rattle.layouts.specs.BookFile.{bookIn};
 ghost use Rattle.grid_tables.specs.Inner.{GoodCells, Hour};
 ghost use Rattle.book_rules.specs.BookChecks.{bookChecks};
 ghost use Rattle.test_rules.specs.TestBook.{testCall};
-ghost use Rattle.exposure_shortfall.specs.FindShortfall.{shortfallChecked, FindsShortfall};
-ghost use Rattle.exposure_shortfall.specs.Inner.{Costs};
+ghost use Rattle.exposure_shortfall.specs.FindShortfall.{FindsShortfall};
+ghost use Rattle.exposure_shortfall.specs.Inner.{cellChecks, tableChecks, Costs};
 use exposure_figures::Exact;
 use tariff::Checked;
 use tariff::MAX_CONSTRAINTS;
 use tariff::MAX_CONTRACTS;
 use tariff::MAX_LIMIT;
 use tariff::MAX_PRICE;
-use tariff::Period;
-use tariff::Process;
 use tariff::Refusal;
+use test_excesses::Terms;
 
 // What finding the shortfall gives: net payment, rent and shortfall, each as whole cents rounded down and parts.
 pub enum ShortfallAnswer {
@@ -47,20 +44,21 @@ pub struct Shortfall {
 
 // What a book costs at a price list, where no check refuses: its exact total is what settling the hour gives.
 pub fn shortfall_at(
-    nodes: usize,
-    constraints: usize,
-    process: Process,
-    period: Period,
+    terms: Terms,
     limits: &[u64],
     factors: &[i64],
     prices: &[u64],
     book: &[u8],
 ) -> Shortfall
-    requires { ⌜ GoodCells maxLimit constraints (now limits) × Hour nodes constraints (now factors) (now prices) ⌝ }
-    requires { ⌜ first (bookChecks nodes (now book)) ≡ Passed ⌝ }
-    ensures { λ r. ⌜ Costs (gridOf nodes constraints (before limits) (before factors)) process (ofPeriod period (bookIn (before book)))
-        (take constraints (before prices)) r ⌝ }
+    requires { ⌜ GoodCells maxLimit (terms .constraints) (now limits) × Hour (terms .nodes) (terms .constraints) (now factors) (now prices) ⌝ }
+    requires { ⌜ first (bookChecks (terms .nodes) (now book)) ≡ Passed ⌝ }
+    ensures { λ r. ⌜ Costs (gridOf (terms .nodes) (terms .constraints) (before limits) (before factors)) (terms .process)
+        (ofPeriod (terms .period) (bookIn (before book))) (take (terms .constraints) (before prices)) r ⌝ }
 {
+    let nodes = terms.nodes;
+    let constraints = terms.constraints;
+    let process = terms.process;
+    let period = terms.period;
     let mut cents = [0i64; MAX_CONTRACTS];
     let mut priced = [0u64; MAX_CONTRACTS];
     let totals = hour_contracts::settle(
@@ -95,10 +93,7 @@ fn check_cells(
     prices: &[u64],
 ) -> Checked
     requires { ⌜ (nodes ≤ maxNodes) × (constraints ≤ maxConstraints) ⌝ }
-    ensures { λ r. ⌜ r ≡ first (
-        shortTable (length (before limits)) constraints ∷ shortTable (length (before factors)) (nodes * constraints)
-        ∷ shortTable (length (before prices)) constraints ∷ limitRange (take constraints (before limits))
-        ∷ factorRange (take (nodes * constraints) (before factors)) ∷ priceRange (take constraints (before prices)) ∷ []) ⌝ }
+    ensures { λ r. ⌜ r ≡ first (cellChecks nodes constraints (before limits) (before factors) (before prices)) ⌝ }
 {
     let cells = nodes * constraints;
     if limits.len() < constraints {
@@ -122,8 +117,8 @@ fn check_cells(
     Checked::Passed
 }
 
-// The checks of finding the shortfall: 2, 3, 16, 17, those of the cells, the book's own.
-fn check_shortfall(
+// The checks of the tables: 2, 3, 16, 17, those of the cells.
+fn check_tables(
     nodes: usize,
     constraints: usize,
     process: u64,
@@ -131,9 +126,8 @@ fn check_shortfall(
     limits: &[u64],
     factors: &[i64],
     prices: &[u64],
-    book: &[u8],
 ) -> Checked
-    ensures { λ r. ⌜ r ≡ shortfallChecked (testCall nodes constraints process period (before limits) (before factors) (before book)) (before prices) ⌝ }
+    ensures { λ r. ⌜ r ≡ first (tableChecks nodes constraints process period (before limits) (before factors) (before prices)) ⌝ }
 {
     if tariff::nodes_bad(nodes) {
         return Checked::Refused(Refusal::NodeCount);
@@ -147,11 +141,7 @@ fn check_shortfall(
     if 1 < period {
         return Checked::Refused(Refusal::PeriodOrKind);
     }
-    let cells = check_cells(nodes, constraints, limits, factors, prices);
-    if let Checked::Refused(refusal) = cells {
-        return Checked::Refused(refusal);
-    }
-    book_checks::check_book(nodes, book)
+    check_cells(nodes, constraints, limits, factors, prices)
 }
 
 // Finds what a book costs at a price list: net payment, rent and shortfall.
@@ -167,29 +157,16 @@ pub fn find_shortfall(
 ) -> ShortfallAnswer
     ensures { λ r. ⌜ FindsShortfall (testCall nodes constraints process period (before limits) (before factors) (before book)) (before prices) r ⌝ }
 {
-    let checked = check_shortfall(
-        nodes,
-        constraints,
-        process,
-        period,
-        limits,
-        factors,
-        prices,
-        book,
-    );
-    if let Checked::Refused(refusal) = checked {
+    let tables = check_tables(nodes, constraints, process, period, limits, factors, prices);
+    if let Checked::Refused(refusal) = tables {
         return ShortfallAnswer::Refused(refusal);
     }
-    let found = shortfall_at(
-        nodes,
-        constraints,
-        Process::from_number(process),
-        Period::from_number(period),
-        limits,
-        factors,
-        prices,
-        book,
-    );
+    let own = book_checks::check_book(nodes, book);
+    if let Checked::Refused(refusal) = own {
+        return ShortfallAnswer::Refused(refusal);
+    }
+    let terms = Terms::from_numbers(nodes, constraints, process, period);
+    let found = shortfall_at(terms, limits, factors, prices, book);
     ShortfallAnswer::Found {
         payment_whole: found.payment.whole,
         payment_parts: found.payment.parts,

@@ -4,7 +4,7 @@ use mathlib.Core.Bool.{false}
 use mathlib.Core.List.{List, [], _∷_, _++_, append-assoc}
 use Prim.Native.Nat.{ℕ, _+_, _≤_, _<_}
 use native.Mathlib.Omega.{arith}
-use borrow.Author.Tests.{lt-ltb, le-ltb, ltb-false, leb-false, lt-leb}
+use borrow.Author.Tests.{le-ltb, ltb-false, leb-false, lt-leb}
 use lib.Dec.{leb, ltb, eqb}
 use lib.ListN.{length, length-append}
 use Rattle.lists.specs.Lists.{anyOf, Each, listTo}
@@ -12,12 +12,11 @@ use Rattle.lists.proofs.Lists.{length-listTo, getD-listTo, each-append, each-li
 use Rattle.lists.proofs.Search.{neither}
 use Rattle.tariff.specs.declared.contracts.Contract.{Contract}
 use Rattle.tariff.specs.declared.refusals.Refusal.{Refusal}
-use Rattle.tariff.specs.declared.refusals.Refusal.the-variants.{ContractCount, ShortTable}
 use Rattle.tariff.specs.declared.refusals.Checked.the-variants.{Passed, Refused}
 use Rattle.tariff.specs.Refusals.{Check, first}
-use Rattle.tariff.specs.Checks.{nodeNumber, contractCount, quantityRange, shortTable}
+use Rattle.tariff.specs.Checks.{nodeNumber, quantityRange}
 use Rattle.tariff.specs.Units.{maxNodes, maxContracts, maxHolder, maxQuantity, maxHubNodes}
-use Rattle.tariff.proofs.Checks.{first-passes, first-refuses, last-passes, append-refuses, append-passes, passed-cons, passed-append, nodes-few-of}
+use Rattle.tariff.proofs.Checks.{first-passes, last-passes, append-refuses, append-passes, passed-cons, passed-append, nodes-few-of}
 use Rattle.layouts.specs.declared.forms.Form.{Form}
 use Rattle.layouts.specs.Forms.{endWidth}
 use Rattle.layouts.specs.BookFile.{bookBytes, contractCountIn, bookFormIn, contractAt, bookIn}
@@ -30,6 +29,7 @@ use Rattle.book_rules.proofs.Bytes.{book-bytes}
 use Rattle.book_rules.proofs.Making.{Made, book-made, in-range-fits}
 use Rattle.hub_rules.specs.Hubs.{hubShape, hubTwice, hubContract}
 use Rattle.hub_rules.specs.Inner.{IsHub, listedShare, listedContracts}
+use Rattle.book_growth.specs.Inner.{growthChecks}
 use Rattle.hub_rules.proofs.Places.{not-same, hub-more}
 use Rattle.hub_rules.proofs.Sharing.{is-hub}
 use Rattle.hub_rules.proofs.Rows.{rows-every, rows-stop}
@@ -76,7 +76,7 @@ given-is q e =
 module _ (q : HubCall) where
   -- the last two checks
   abbrev growth : List Check
-  growth = contractCount (countGrown q) ∷ shortTable (length (q .place)) (bookBytes (bookFormIn (q .book)) (countGrown q)) ∷ []
+  growth = growthChecks (bookFormIn (q .book)) (countGrown q) (length (q .place))
 
   all-checks : hubContractChecks q ≡ givenOf q ++ growth
   unfolding hubContractChecks givenChecks termChecks
@@ -93,18 +93,8 @@ module _ (q : HubCall) where
       (parts .0, ltb-false maxContracts (countGrown q) (passed-cons _ _ (parts .1) .0))
 
   module _ (given : first (givenOf q) ≡ Passed) where
-    growth-next : hubContractChecked q ≡ first growth
+    pub growth-next : hubContractChecked q ≡ first growth
     growth-next = ap first all-checks ∙ append-passes (givenOf q) growth given
-
-    pub too-many : maxContracts < countGrown q → hubContractChecked q ≡ Refused ContractCount
-    too-many h = growth-next ∙ first-refuses _ _ (lt-ltb maxContracts (countGrown q) h)
-
-    module _ (few : countGrown q ≤ maxContracts) where
-      pub no-room : length (q .place) < bookBytes (bookFormIn (q .book)) (countGrown q) → hubContractChecked q ≡ Refused ShortTable
-      no-room h = growth-next ∙ first-passes _ _ (le-ltb maxContracts (countGrown q) few) ∙ first-refuses _ _ (lt-ltb (length (q .place)) _ h)
-
-      pub room : bookBytes (bookFormIn (q .book)) (countGrown q) ≤ length (q .place) → hubContractChecked q ≡ Passed
-      room h = growth-next ∙ first-passes _ _ (le-ltb maxContracts (countGrown q) few) ∙ last-passes _ (le-ltb (length (q .place)) _ h)
 
 module _ (q : HubCall) (g : Given q) where
   abbrev form : Form
@@ -130,10 +120,12 @@ module _ (q : HubCall) (g : Given q) where
   made-below : contractsMade q ≡ listedContracts (q .kind) (q .period) (q .holder) (q .sink) (q .hub-nodes) (q .hub-weights) (q .quantity) (hubEnds q)
   made-below =
       made-is
-      ∙ rows-stop (q .kind) (q .period) (q .holder) (q .sink) (q .hub-nodes) (q .hub-weights) (q .quantity) (hubEnds q) (q .nodes) (ends-fewer form (q .nodes)) (g .hub .low)
+      ∙ rows-stop (q .kind) (q .period) (q .holder) (q .sink) (q .hub-nodes) (q .hub-weights) (q .quantity) (hubEnds q) (q .nodes) (ends-fewer form (q .nodes))
+      (g .hub .low)
 
   -- what holds of the contract of each node with a share holds of all
-  each-made : (P : Contract → Type 0) → ((m : ℕ) → m < hubEnds q → 0 < made m .quantity .0 → made m .quantity .0 ≤ maxQuantity → P (made m)) → Each P (contractsMade q)
+  each-made : (P : Contract → Type 0) → ((m : ℕ) → m < hubEnds q → 0 < made m .quantity .0 → made m .quantity .0 ≤ maxQuantity → P (made m))
+      → Each P (contractsMade q)
   each-made P h =
       rw made-below (rows-every (q .kind) (q .period) (q .holder) (q .sink) (q .hub-nodes) (q .hub-weights) (q .quantity) P (hubEnds q)
       (λ m b p. h m b p (omega (arith, share-most (hubEnds q) (q .hub-nodes) (q .hub-weights) (g .hub) (q .quantity) m b, g .sized))))
@@ -151,7 +143,8 @@ module _ (q : HubCall) (g : Given q) where
           let from : m < q .nodes = omega (arith, ends-fewer form (q .nodes)) in
           let to : q .sink < q .nodes = omega (arith, g .sunk, ends-fewer form (q .nodes)) in
           let ends : nodeNumber (q .nodes) m (q .sink) .fails ≡ false = rw (lt-leb _ _ from, lt-leb _ _ to) in
-          let size : quantityRange (made m .quantity .0) .fails ≡ false = rw (not-same (made m .quantity .0) 0 (λ z. omega arith)) (le-ltb maxQuantity (made m .quantity .0) most) in
+          let size : quantityRange (made m .quantity .0) .fails ≡ false
+          = rw (not-same (made m .quantity .0) 0 (λ z. omega arith)) (le-ltb maxQuantity (made m .quantity .0) most) in
           first-passes _ _ ends ∙ last-passes _ size
 
   count-all : length (bookIn (q .book) ++ contractsMade q) ≡ countGrown q

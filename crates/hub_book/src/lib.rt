@@ -1,17 +1,19 @@
 // A hub contract added to a book (document 02, paper 7): the point-to-point contracts that it becomes join the book's end.
 ghost use mathlib.Core.Path.{_≡_};
-ghost use Prim.Native.Nat.{_≤_, _<_};
+ghost use Prim.Native.Nat.{_<_};
 ghost use lib.ListN.{length};
 ghost use Rattle.lists.specs.Lent.{before, after, overwrite};
+ghost use Rattle.tariff.specs.declared.refusals.Checked.the-variants.{Passed};
 ghost use Rattle.tariff.specs.Refusals.{first};
+ghost use Rattle.layouts.specs.BookFile.{contractCountIn};
 ghost use Rattle.hub_book.specs.AddHubContract.{hubCall, AddsHub};
-ghost use Rattle.hub_book.specs.Inner.{termChecks, givenChecks, rowContract, Whole, HubRoom, grownFront};
+ghost use Rattle.book_growth.specs.Inner.{Whole};
+ghost use Rattle.hub_book.specs.Inner.{termChecks, givenChecks, termsCall, rowContract, HubRoom, grownFront};
 use layouts::Form;
 use layouts::WriteAnswer;
 use tariff::Checked;
 use tariff::Contract;
 use tariff::Kind;
-use tariff::MAX_CONTRACTS;
 use tariff::MAX_HOLDER;
 use tariff::MAX_HUB_NODES;
 use tariff::Period;
@@ -75,18 +77,6 @@ fn check_given(
     hub_checks::check_shape(hub, weights)
 }
 
-// Copies a book's bytes.
-fn copy_book(book: &[u8], file: &mut [u8])
-    requires { ⌜ length (now book) ≤ length (now file) ⌝ }
-    ensures { λ r. ⌜ after file ≡ overwrite (before book) (before file) ⌝ }
-{
-    let mut i = 0;
-    while i < book.len() {
-        file[i] = book[i];
-        i += 1;
-    }
-}
-
 // The contract of row i.
 fn row_at(terms: Terms, sources: &[u64], quantities: &[u64], i: usize) -> Contract
     requires { ⌜ (i < length (now sources)) × (i < length (now quantities)) ⌝ }
@@ -118,17 +108,50 @@ fn write_grown(
     quantities: &[u64],
     file: &mut [u8],
 )
-    requires { ⌜ Whole form count (now book) × HubRoom form count terms made (now sources) (now quantities) (now file) ⌝ }
+    requires { ⌜ Whole form (now book) × (contractCountIn (now book) ≡ count) × HubRoom form count terms made (now sources) (now quantities) (now file) ⌝ }
     ensures { λ r. ⌜ after file ≡ overwrite (grownFront form count terms made (before sources) (before quantities) (before book)) (before file) ⌝ }
 {
-    copy_book(book, file);
-    book_bits::store_header(file, form, count + made);
+    book_growth::keep_contracts(book, form, count + made, file);
     let mut i = 0;
     while i < made {
         let c = row_at(terms, sources, quantities, i);
         book_bits::store_contract(file, form, count + i, c);
         i += 1;
     }
+}
+
+// Adds the contracts made where what does not ask how many they are was found in order: 10 and 9 are left.
+fn add_made(
+    nodes: usize,
+    book: &[u8],
+    terms: Terms,
+    hub: &[u64],
+    weights: &[u64],
+    quantity: u64,
+    file: &mut [u8],
+) -> WriteAnswer
+    requires { ⌜ first (givenChecks nodes (now book) terms (now hub) (now weights) quantity) ≡ Passed ⌝ }
+    ensures { λ r. ⌜ AddsHub (termsCall nodes (before book) terms (before hub) (before weights) quantity (before file)) r (after file) ⌝ }
+{
+    let mut sources = [0u64; MAX_HUB_NODES];
+    let mut quantities = [0u64; MAX_HUB_NODES];
+    let made = hub_shares::hub_rows(
+        nodes,
+        hub,
+        weights,
+        Quantity(quantity),
+        &mut sources,
+        &mut quantities,
+    );
+    let count = book_bits::contract_count(book);
+    let form = book_bits::book_form(book);
+    let grown = count + made;
+    if let Checked::Refused(refusal) = book_growth::check_room(form, grown, file.len()) {
+        return WriteAnswer::Refused(refusal);
+    }
+    let bytes = form.book_bytes(grown);
+    write_grown(book, form, count, terms, made, &sources, &quantities, file);
+    WriteAnswer::Written { bytes }
 }
 
 // Adds the contracts of a hub contract to a book for a grid of `nodes` nodes.
@@ -152,29 +175,8 @@ pub fn add_hub_contract(
         holder,
         sink,
     };
-    let checked = check_given(nodes, book, terms, hub, weights, quantity);
-    if let Checked::Refused(refusal) = checked {
-        return WriteAnswer::Refused(refusal);
+    match check_given(nodes, book, terms, hub, weights, quantity) {
+        Checked::Refused(refusal) => WriteAnswer::Refused(refusal),
+        Checked::Passed => add_made(nodes, book, terms, hub, weights, quantity, file),
     }
-    let mut sources = [0u64; MAX_HUB_NODES];
-    let mut quantities = [0u64; MAX_HUB_NODES];
-    let made = hub_shares::hub_rows(
-        nodes,
-        hub,
-        weights,
-        Quantity(quantity),
-        &mut sources,
-        &mut quantities,
-    );
-    let count = book_bits::contract_count(book);
-    if MAX_CONTRACTS < count + made {
-        return WriteAnswer::Refused(Refusal::ContractCount);
-    }
-    let form = book_bits::book_form(book);
-    let bytes = form.book_bytes(count + made);
-    if file.len() < bytes {
-        return WriteAnswer::Refused(Refusal::ShortTable);
-    }
-    write_grown(book, form, count, terms, made, &sources, &quantities, file);
-    WriteAnswer::Written { bytes }
 }

@@ -1,10 +1,10 @@
 -- The grown book: each contract fits, and passes its own checks where the base contract does.
-use mathlib.Core.Path.{_≡_, refl, sym, ap, _∙_}
+use mathlib.Core.Path.{_≡_, sym, ap, _∙_}
 use mathlib.Core.List.{List, [], _∷_, _++_}
 use Prim.Native.Nat.{ℕ, _+_, _≤_, _<_}
 use native.Mathlib.Nat.{le-trans}
 use native.Mathlib.Omega.{arith}
-use borrow.Author.Tests.{ltb-false, lt-leb, ne-eqb, le-ltb}
+use borrow.Author.Tests.{lt-leb, ne-eqb, le-ltb}
 use lib.ListN.{length, length-append}
 use Rattle.lists.specs.Lent.{overwrite}
 use Rattle.lists.specs.Lists.{Each}
@@ -15,23 +15,24 @@ use Rattle.tariff.specs.declared.units.Transfer.{Transfer}
 use Rattle.tariff.specs.declared.refusals.Checked.the-variants.{Passed}
 use Rattle.tariff.specs.Refusals.{first}
 use Rattle.tariff.specs.Units.{maxEntities, maxContracts, maxQuantity}
-use Rattle.tariff.proofs.Checks.{first-passes, last-passes, passed-cons}
+use Rattle.tariff.proofs.Checks.{first-passes, last-passes}
 use Rattle.layouts.specs.declared.forms.Form.{Form}
 use Rattle.layouts.specs.Forms.{endWidth}
 use Rattle.layouts.specs.BookFile.{bookBytes, bookFile, contractIn}
 use Rattle.layouts.specs.BookTable.{ContractFits}
 use Rattle.layouts.proofs.BookFile.{book-written, contract-in-fits}
 use Rattle.book_rules.specs.BookChecks.{contractChecks}
-use Rattle.book_rules.specs.Inner.{headerBytes}
+use Rattle.book_rules.specs.Inner.{bookFront}
 use Rattle.book_rules.proofs.Accepted.{contract-in-range}
-use Rattle.book_rules.proofs.Making.{front-begins, front-ends}
+use Rattle.book_rules.proofs.Making.{front-ends}
 use Rattle.migration_rules.specs.Contracts.{gained, countered, newBook}
 use Rattle.migration_rules.specs.Inner.{Within}
 use Rattle.migration_rules.proofs.Books.{all-each}
 use Rattle.migration_transfers.specs.Squares.{lostIn}
-use Rattle.migration_pairs.specs.Inner.{MigrationReady, Appended}
+use Rattle.book_growth.specs.Inner.{Appended}
+use Rattle.migration_pairs.specs.Inner.{MigrationReady}
 use Rattle.migration_pairs.proofs.Pairs.{fits-gained, fits-countered}
-use Rattle.migration_book.specs.Inner.{migrationRoomChecks, contractsTo, newTo}
+use Rattle.migration_book.specs.Inner.{contractsTo, newTo}
 
 -- a contract of ends below the node count and of a quantity in range passes its own checks
 passes-of : (n : ℕ) (c : Contract) → c .source < n → c .sink < n → 0 < c .quantity .0 → c .quantity .0 ≤ maxQuantity → first (contractChecks n c) ≡ Passed
@@ -89,16 +90,9 @@ book-fits f book t square loads m ok =
 pub file-size : (f : Form) (cs : List Contract) → length cs ≤ maxContracts → Each (ContractFits (endWidth f)) cs → length (bookFile f cs) ≡ bookBytes f (length cs)
 file-size f cs few fits = book-written f cs (omega arith) fits .size
 
--- a header, the old contracts and the new ones, stored one after the other
-pub grown-written : (f : Form) (m count next : ℕ) (old new : List Contract) (file header middle exit : List ℕ) → length old ≡ count → m ≡ length old + length new
-    → Each (ContractFits (endWidth f)) (old ++ new) → header ≡ overwrite (headerBytes f m) file → Appended f 0 old header middle count → Appended f count new middle exit next
+-- the old contracts kept, and the new ones stored behind them
+pub grown-written : (f : Form) (m count next : ℕ) (old new : List Contract) (file middle exit : List ℕ) → length old ≡ count → m ≡ length old + length new
+    → Each (ContractFits (endWidth f)) (old ++ new) → middle ≡ overwrite (bookFront f m old) file → Appended f count new middle exit next
     → exit ≡ overwrite (bookFile f (old ++ new)) file
-grown-written f m count next old new file header middle exit long all fits h o n =
-    front-ends f m file (old ++ new) exit (length-append old new ∙ sym all) fits (n .front m file old long (o .front m file [] refl (front-begins f m file header h)))
-
--- what 10 and 9 leave
-pub room-parts : (f : Form) (grown bytes : ℕ) → first (migrationRoomChecks f grown bytes) ≡ Passed → (grown ≤ maxContracts) × (bookBytes f grown ≤ bytes)
-room-parts f grown bytes e =
-    let a = passed-cons _ _ e in
-    let b = passed-cons _ _ (a .1) in
-    (ltb-false maxContracts grown (a .0), ltb-false bytes (bookBytes f grown) (b .0))
+grown-written f m count next old new file middle exit long all fits kept n =
+    front-ends f m file (old ++ new) exit (length-append old new ∙ sym all) fits (n .front m file old long kept)

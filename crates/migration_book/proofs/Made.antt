@@ -18,11 +18,12 @@ use Rattle.layouts.proofs.BookFile.{book-read, book-fits}
 use Rattle.book_rules.specs.BookChecks.{contractChecks, ownChecks}
 use Rattle.book_rules.proofs.Accepted.{contracts-pass, own-parts, own-passes, own-accepted}
 use Rattle.book_rules.proofs.Making.{Made, book-made}
+use Rattle.book_growth.proofs.Keeping.{room-parts}
 use Rattle.migration_rules.specs.Transfers.{loss, loadExceeded}
 use Rattle.migration_rules.proofs.Alike.{loads-within}
 use Rattle.migration_book.specs.MigrateLoad.{MigrateLoadCall, rowsGiven, contractsGrown, migrateLoadChecked, bookMigrated}
 use Rattle.migration_book.proofs.Passing.{inputOf, roomOf, split, input-figures, input-own}
-use Rattle.migration_book.proofs.Accepted.{grown-fits, grown-passes, room-parts}
+use Rattle.migration_book.proofs.Accepted.{grown-fits, grown-passes}
 
 module _ (q : MigrateLoadCall) (pass : migrateLoadChecked q ≡ Passed) where
   input-passed : first (inputOf q) ≡ Passed

@@ -19,6 +19,8 @@ use Rattle.tariff.proofs.Checks.{first-passes, first-refuses, append-refuses, a
 use Rattle.layouts.specs.BookFile.{bookFormIn, contractCountIn}
 use Rattle.book_rules.specs.BookChecks.{ownChecks}
 use Rattle.book_rules.proofs.Accepted.{Accepted, own-accepted}
+use Rattle.book_growth.specs.Inner.{growthChecks}
+use Rattle.book_growth.proofs.Keeping.{accepted-whole}
 use Rattle.migration_rules.specs.Transfers.{MigrationRow, loss, lossesTo, load, exceeded, migrationRowChecks, rangeChecks, loadExceeded, loadsExceeded}
 use Rattle.migration_rules.proofs.Nets.{losses-cong}
 use Rattle.tariff.specs.declared.units.Transfer.{Transfer}
@@ -27,7 +29,7 @@ use Rattle.migration_transfers.specs.Inner.{RowsIn}
 use Rattle.migration_transfers.proofs.Squares.{lost-at}
 use Rattle.migration_transfers.proofs.Rows.{rowed}
 use Rattle.migration_book.specs.MigrateLoad.{MigrateLoadCall, rowsGiven, contractsGrown, migrateLoadChecks, migrateLoadChecked}
-use Rattle.migration_book.specs.Inner.{inputChecks, migrationRoomChecks, Readable}
+use Rattle.migration_book.specs.Inner.{inputChecks, Readable}
 
 -- ---- the checks' parts
 
@@ -36,7 +38,7 @@ module _ (q : MigrateLoadCall) where
   inputOf = inputChecks (q .nodes) (q .period) (q .book) (q .lists) (q .loads)
 
   abbrev pub roomOf : List Check
-  roomOf = migrationRoomChecks (bookFormIn (q .book)) (length (contractsGrown q)) (length (q .place))
+  roomOf = growthChecks (bookFormIn (q .book)) (length (contractsGrown q)) (length (q .place))
 
   pub split : migrateLoadChecks q ≡ inputOf ++ loadExceeded (loss (rowsGiven q)) (q .loads) ∷ roomOf
   unfolding migrateLoadChecks inputChecks
@@ -84,7 +86,7 @@ module _ (q : MigrateLoadCall) where
 
 -- a book that is accepted can be read
 pub accepted-readable : (n : ℕ) (book : List ℕ) → Accepted n book → Readable (bookFormIn book) (contractCountIn book) book
-accepted-readable n book a = record { few = a .few; there = omega (arith, a .size); quantities = λ i h. a .each i h .quantity-sized }
+accepted-readable n book a = record { few = a .few; whole = accepted-whole n book a; count-is = refl; there = omega (arith, a .size); quantities = λ i h. a .each i h .quantity-sized }
 
 -- ---- the losses that the square says
 

@@ -1,5 +1,6 @@
 -- What inner functions say: the first checks, a book that can be read, and a book grown by the losses that a square says.
-use mathlib.Core.List.{List, [], _∷_, _++_, flatMap}
+use mathlib.Core.Path.{_≡_}
+use mathlib.Core.List.{List, _∷_, _++_, flatMap}
 use Prim.Native.Nat.{ℕ, _+_, _≤_, _<_}
 use lib.ListN.{length}
 use Rattle.lists.specs.Lists.{listTo}
@@ -7,13 +8,14 @@ use Rattle.tariff.specs.declared.contracts.Contract.{Contract}
 use Rattle.tariff.specs.declared.contracts.Period.{Period}
 use Rattle.tariff.specs.declared.units.Transfer.{Transfer}
 use Rattle.tariff.specs.Refusals.{Check, first}
-use Rattle.tariff.specs.Checks.{periodNumber, contractCount, shortTable}
+use Rattle.tariff.specs.Checks.{periodNumber}
 use Rattle.tariff.specs.Units.{maxContracts, maxQuantity}
 use Rattle.layouts.specs.declared.WriteAnswer.{WriteAnswer}
 use Rattle.layouts.specs.declared.forms.Form.{Form}
-use Rattle.layouts.specs.BookFile.{bookBytes, bookFile, bookFormIn, contractIn}
+use Rattle.layouts.specs.BookFile.{bookBytes, bookFile, contractCountIn, bookFormIn, contractIn}
 use Rattle.layouts.specs.Writing.{Writes}
 use Rattle.book_rules.specs.BookChecks.{ownChecks}
+use Rattle.book_growth.specs.Inner.{growthChecks, Whole}
 use Rattle.migration_rules.specs.Transfers.{RowLists, rangeChecks}
 use Rattle.migration_rules.specs.Contracts.{newFrom, newBook}
 use Rattle.migration_transfers.specs.Squares.{lostIn}
@@ -23,13 +25,11 @@ unfoldable pub inputChecks : ℕ → ℕ → List ℕ → RowLists → List ℕ 
 inputChecks n t book lists loads =
     periodNumber t ∷ ownChecks n book ++ rangeChecks lists loads
 
--- 10, 9
-abbrev pub migrationRoomChecks : Form → ℕ → ℕ → List Check
-migrationRoomChecks f grown bytes = contractCount grown ∷ shortTable bytes (bookBytes f grown) ∷ []
-
--- the first m contracts of a book's bytes can be read, and their quantities are in range
+-- a book of m contracts in its form, whose quantities are in range
 pub record Readable (f : Form) (m : ℕ) (book : List ℕ) : Type 0 where
   pub few : m ≤ maxContracts
+  pub whole : Whole f book
+  pub count-is : contractCountIn book ≡ m
   pub there : bookBytes f m ≤ length book
   pub quantities : (i : ℕ) → i < m → contractIn f book i .quantity .0 ≤ maxQuantity
 
@@ -51,4 +51,4 @@ pub record Roomy (f : Form) (old new : List Contract) (file : List ℕ) : Type 0
 
 -- what is left to promise where 23 passes: by 10 and 9 alone, the book of contracts cs in its form
 abbrev pub Grows : List ℕ → List Contract → List ℕ → WriteAnswer → List ℕ → Type 0
-Grows book cs place answer exit = Writes (first (migrationRoomChecks (bookFormIn book) (length cs) (length place))) (bookFile (bookFormIn book) cs) place answer exit
+Grows book cs place answer exit = Writes (first (growthChecks (bookFormIn book) (length cs) (length place))) (bookFile (bookFormIn book) cs) place answer exit

@@ -1,21 +1,21 @@
 // Migrating load (document 02, paper 5): 001's monthly transfer of contracts from LSEs that lost load to those that gained it.
 ghost use mathlib.Core.Path.{_≡_};
-ghost use Prim.Native.Nat.{_+_, _≤_};
+ghost use Prim.Native.Nat.{_+_};
 ghost use lib.ListN.{length};
 ghost use Rattle.lists.specs.Lent.{before, after, overwrite};
 ghost use Rattle.tariff.specs.Refusals.{first};
-ghost use Rattle.layouts.specs.BookFile.{bookBytes, bookFile, contractCountIn, bookFormIn, bookIn};
+ghost use Rattle.layouts.specs.BookFile.{bookFile, contractCountIn, bookFormIn, bookIn};
 ghost use Rattle.migration_rules.specs.Transfers.{rowLists};
 ghost use Rattle.migration_rules.specs.Contracts.{newBook};
 ghost use Rattle.migration_transfers.specs.Squares.{lostIn};
-ghost use Rattle.migration_pairs.specs.Inner.{MigrationReady, Appended};
+ghost use Rattle.book_growth.specs.Inner.{Appended};
+ghost use Rattle.migration_pairs.specs.Inner.{MigrationReady};
 ghost use Rattle.migration_book.specs.MigrateLoad.{migrateLoadCall, MigratesLoad};
-ghost use Rattle.migration_book.specs.Inner.{inputChecks, migrationRoomChecks, Readable, contractsTo, newTo, grownTo, Roomy, Grows};
+ghost use Rattle.migration_book.specs.Inner.{inputChecks, Readable, contractsTo, newTo, grownTo, Roomy, Grows};
 use layouts::Form;
 use layouts::WriteAnswer;
 use migration_transfers::Square;
 use tariff::Checked;
-use tariff::MAX_CONTRACTS;
 use tariff::Period;
 use tariff::Refusal;
 
@@ -65,32 +65,7 @@ fn grown_count(
     grown
 }
 
-// 10 for a book that grows too long, then 9, with so many bytes of room.
-fn check_room(form: Form, grown: usize, bytes: usize) -> Checked
-    ensures { λ r. ⌜ r ≡ first (migrationRoomChecks form grown bytes) ⌝ }
-{
-    if MAX_CONTRACTS < grown {
-        return Checked::Refused(Refusal::ContractCount);
-    }
-    if bytes < form.book_bytes(grown) {
-        return Checked::Refused(Refusal::ShortTable);
-    }
-    Checked::Passed
-}
-
-// Stores the old contracts, each in its place.
-fn store_old(file: &mut [u8], form: Form, book: &[u8], count: usize)
-    requires { ⌜ Readable form count (now book) × (bookBytes form count ≤ length (now file)) ⌝ }
-    ensures { λ r. ⌜ Appended form 0 (contractsTo form (before book) count) (before file) (after file) count ⌝ }
-{
-    let mut i = 0;
-    while i < count {
-        book_bits::store_contract(file, form, i, book_bits::contract_at(book, form, i));
-        i += 1;
-    }
-}
-
-// Stores the new ones behind them, base contract by base contract.
+// Stores the new contracts behind the old ones, base contract by base contract.
 fn store_grown(
     file: &mut [u8],
     form: Form,
@@ -115,7 +90,7 @@ fn store_grown(
     place
 }
 
-// Writes the grown book: its header, the old contracts, then the new ones.
+// Writes the grown book: the old contracts, then the new ones.
 fn write_grown(
     book: &[u8],
     form: Form,
@@ -131,8 +106,7 @@ fn write_grown(
     requires { ⌜ Roomy form (contractsTo form (now book) count) (newTo form (now book) period square (now loads) count) (now file) ⌝ }
     ensures { λ r. ⌜ after file ≡ overwrite (bookFile form (grownTo form (before book) period square (before loads) count)) (before file) ⌝ }
 {
-    book_bits::store_header(file, form, grown);
-    store_old(file, form, book, count);
+    book_growth::keep_contracts(book, form, grown, file);
     store_grown(file, form, book, count, period, square, loads);
 }
 
@@ -150,7 +124,7 @@ fn migrate_by(
     let form = book_bits::book_form(book);
     let count = book_bits::contract_count(book);
     let grown = grown_count(book, form, count, period, square, loads);
-    match check_room(form, grown, file.len()) {
+    match book_growth::check_room(form, grown, file.len()) {
         Checked::Refused(refusal) => WriteAnswer::Refused(refusal),
         Checked::Passed => {
             write_grown(book, form, count, grown, period, square, loads, file);

@@ -1,32 +1,26 @@
--- Contracts of a base contract: how many, that they fit, and stored one behind the other.
+-- Contracts of a base contract: how many, and that they fit.
 use mathlib.Core.Path.{_≡_, refl, ap, _∙_}
 use mathlib.Core.Bool.{Bool, true, false, cond}
-use mathlib.Core.List.{List, [], _∷_, _++_, append-assoc, append-nil}
+use mathlib.Core.List.{List, [], _∷_, _++_}
 use Prim.Native.Nat.{ℕ, zero, suc, _+_, _-_, _*_, _≤_, _<_}
 use native.Mathlib.Nat.{eq-or-lt-of-le, le-trans}
 use native.Mathlib.Omega.{arith}
 use mathlib.Core.Logic.{⊎-elim}
 use borrow.Author.Tests.{eq-eqb, ne-eqb}
 use lib.Dec.{eqb}
-use lib.ListN.{length, getD, take, drop, length-append}
+use lib.ListN.{length, getD, length-append}
 use lib.IntN.{ℤ}
 use Rattle.tariff.specs.declared.contracts.Contract.{Contract}
 use Rattle.tariff.specs.declared.contracts.Period.{Period}
 use Rattle.tariff.specs.declared.units.Transfer.{Transfer}
 use Rattle.tariff.specs.Units.{maxEntities, maxQuantity}
-use Rattle.layouts.specs.declared.forms.Form.{Form}
-use Rattle.layouts.specs.declared.forms.Form.the-variants.{Narrow, Wide}
-use Rattle.layouts.specs.Forms.{recordBytes}
-use Rattle.layouts.specs.BookFile.{bookBytes}
 use Rattle.layouts.specs.BookTable.{ContractFits}
-use Rattle.book_rules.specs.Inner.{contractBytes}
-use Rattle.book_rules.proofs.Making.{front-more}
 use Rattle.migration_rules.specs.Contracts.{gained, countered, migrates, gainerShare, pairFor, pairsTo, newFrom}
 use Rattle.migration_rules.proofs.Books.{base}
 use Rattle.migration_transfers.specs.Squares.{noTransfer, ofNet, rowLosses, lostIn}
 use Rattle.migration_transfers.proofs.Squares.{row-sized}
 use Rattle.migration_shares.specs.Inner.{NetReady, Held}
-use Rattle.migration_pairs.specs.Inner.{MigrationReady, RowReady, pairOf, Appended}
+use Rattle.migration_pairs.specs.Inner.{MigrationReady, RowReady, pairOf}
 
 -- ---- both contracts fit where the base does
 
@@ -62,7 +56,8 @@ module _ (lost : ℕ → ℕ → ℕ) (loads : List ℕ) (c : Contract) where
   unfolding pairsTo pairFor
   pairs-more j q e = rw e
 
-  pub length-more : (j q : ℕ) → q ≡ gainerShare lost loads c (suc j) → length (pairsTo lost loads c (suc j)) ≡ length (pairsTo lost loads c j) + length (pairOf c (suc j) q)
+  pub length-more : (j q : ℕ) → q ≡ gainerShare lost loads c (suc j) → length (pairsTo lost loads c (suc j)) ≡ length (pairsTo lost loads c j)
+      + length (pairOf c (suc j) q)
   length-more j q e = ap length (pairs-more j q e) ∙ length-append (pairsTo lost loads c j) (pairOf c (suc j) q)
 
   pub pairs-few : (m : ℕ) → length (pairsTo lost loads c m) ≤ 2 * m
@@ -75,38 +70,15 @@ module _ (lost : ℕ → ℕ → ℕ) (loads : List ℕ) (c : Contract) where
   pairs-grow zero zero h = omega arith
   pairs-grow (suc j) zero h = absurd (omega arith)
   pairs-grow j (suc m) h =
-      ⊎-elim (λ e. rw e (omega arith)) (λ l. le-trans (pairs-grow j m (omega arith)) (omega (arith, length-more m (gainerShare lost loads c (suc m)) refl))) (eq-or-lt-of-le h)
+      ⊎-elim (λ e. rw e (omega arith)) (λ l. le-trans (pairs-grow j m (omega arith)) (omega (arith, length-more m (gainerShare lost loads c (suc m)) refl)))
+      (eq-or-lt-of-le h)
 
--- ---- stored
-
-pub none-appended : (f : Form) (at : ℕ) (entry : List ℕ) → Appended f at [] entry entry at
-none-appended f at entry = record { place = omega arith; front = λ m file cs long is. rw append-nil is }
-
-module _ (f : Form) (at : ℕ) (xs : List Contract) (entry middle : List ℕ) (place : ℕ) (before : Appended f at xs entry middle place) where
-  pub more-appended : (ys : List Contract) (exit : List ℕ) (next : ℕ) → Appended f place ys middle exit next → Appended f at (xs ++ ys) entry exit next
-  more-appended ys exit next behind =
-      record {
-        place = omega (arith, before .place, behind .place, length-append xs ys);
-        front = λ m file cs long is.
-            rw (← append-assoc cs xs ys)
-            (behind .front m file (cs ++ xs) (length-append cs xs ∙ omega (arith, before .place)) (before .front m file cs long is));
-      }
-
-pub one-appended : (f : Form) (at : ℕ) (c : Contract) (entry exit : List ℕ) → exit ≡ take (bookBytes f at) entry ++ contractBytes f c ++ drop (bookBytes f at + recordBytes f) entry
-    → Appended f at (c ∷ []) entry exit (at + 1)
-one-appended f at c entry exit stored = record { place = refl; front = λ m file cs long is. front-more f m file cs c at entry exit long is stored }
-
--- a share that is nought, and one that is not
+-- ---- a share that is nought, and one that is not
 pub pair-none : (c : Contract) (j q : ℕ) → q ≡ 0 → pairOf c j q ≡ []
 pair-none c j q e = rw (eq-eqb q 0 e)
 
 pub pair-some : (c : Contract) (j q : ℕ) → (q ≡ 0 → ⊥) → pairOf c j q ≡ gained c j q ∷ countered c q ∷ []
 pair-some c j q h = rw (ne-eqb q 0 h)
-
--- with room for more there is room for fewer
-pub room-fewer : (f : Form) (i m size : ℕ) → i ≤ m → bookBytes f m ≤ size → bookBytes f i ≤ size
-room-fewer Narrow i m size h room = omega arith
-room-fewer Wide i m size h room = omega arith
 
 -- ---- a base contract, or none
 

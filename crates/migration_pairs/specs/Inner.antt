@@ -1,11 +1,9 @@
--- What is asked of a square and loads that 22 and 23 do not turn down, and what storing behind a book's contracts promises.
-use mathlib.Core.Path.{_≡_}
+-- What is asked of a square and loads that 22 and 23 do not turn down, and of the place of new contracts.
 use mathlib.Core.Bool.{cond}
-use mathlib.Core.List.{List, [], _∷_, _++_}
+use mathlib.Core.List.{List, [], _∷_}
 use Prim.Native.Nat.{ℕ, _+_, _≤_, _<_}
 use lib.Dec.{eqb}
 use lib.ListN.{length, getD}
-use Rattle.lists.specs.Lent.{overwrite}
 use Rattle.tariff.specs.declared.contracts.Contract.{Contract}
 use Rattle.tariff.specs.declared.units.Transfer.{Transfer}
 use Rattle.tariff.specs.Units.{maxEntities, maxLoad, maxQuantity, maxContracts}
@@ -13,7 +11,6 @@ use Rattle.layouts.specs.declared.forms.Form.{Form}
 use Rattle.layouts.specs.Forms.{endWidth}
 use Rattle.layouts.specs.BookFile.{bookBytes}
 use Rattle.layouts.specs.BookTable.{ContractFits}
-use Rattle.book_rules.specs.Inner.{bookFront}
 use Rattle.migration_rules.specs.Transfers.{load}
 use Rattle.migration_rules.specs.Contracts.{gained, countered}
 use Rattle.migration_rules.specs.Inner.{Within}
@@ -43,9 +40,3 @@ pub record Basis (f : Form) (new : List Contract) (at : ℕ) (c : Contract) (fil
   pub fits : ContractFits (endWidth f) c
   pub few : at + length new ≤ maxContracts
   pub room : bookBytes f (at + length new) ≤ length file
-
--- new contracts stored from place at on, behind those that stand at a book's front, and the next place
-pub record Appended (f : Form) (at : ℕ) (new : List Contract) (entry exit : List ℕ) (next : ℕ) : Type 0 where
-  pub place : next ≡ at + length new
-  pub front : (m : ℕ) (file : List ℕ) (cs : List Contract) → length cs ≡ at → entry ≡ overwrite (bookFront f m cs) file
-      → exit ≡ overwrite (bookFront f m (cs ++ new)) file

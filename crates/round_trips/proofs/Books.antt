@@ -57,7 +57,11 @@ module _ (n : ℕ) (s entry : List ℕ) (bytes : Bytes s) (m : ℕ) (f : Form) (
   pub book-rewritten : (a : WriteAnswer) (exit : List ℕ) → WritesBook (writeBookCall f n m table place) a exit → IsWritten s place a exit
   book-rewritten a exit w =
       let r = writes-passed _ (bookWritten (writeBookCall f n m table place)) place a exit accepted w in
-      record { length-is = r .length-is ∙ ap (λ (l : List ℕ). Written (length l)) same-file; bytes-are = r .bytes-are ∙ ap (λ (l : List ℕ). overwrite l place) same-file }
+      record {
+        length-is = r .length-is ∙ ap (λ (l : List ℕ). Written (length l)) same-file;
+        bytes-are = r .bytes-are ∙ ap
+            (λ (l : List ℕ). overwrite l place) same-file;
+      }
 
 -- ---- written, then read
 
@@ -74,7 +78,8 @@ module _ (f : Form) (n m : ℕ) (rows place : List ℕ) (size : ℕ) (exit : Lis
 
   count-told : (a : BookAnswer) (x : ℕ) (g : Form) → bookOutcome a ≡ record { number = 0; values = pos x ∷ pos (formNumber g) ∷ [] } → a ≡ Read x g
   count-told (Read y i) x g e =
-      let q : pos y ∷ pos (formNumber i) ∷ [] ≡ pos x ∷ pos (formNumber g) ∷ [] = given-told Passed (pos x ∷ pos (formNumber g) ∷ []) (pos y ∷ pos (formNumber i) ∷ []) e .1 in
+      let q : pos y ∷ pos (formNumber i) ∷ [] ≡ pos x ∷ pos (formNumber g) ∷ [] = given-told Passed (pos x ∷ pos (formNumber g) ∷ [])
+      (pos y ∷ pos (formNumber i) ∷ []) e .1 in
       let contracts : y ≡ x = cc in
       let number : formNumber i ≡ formNumber g = cc in
       ap₂ Read contracts (same-form i g number)

@@ -36,7 +36,8 @@ use Rattle.round_trips.proofs.Books.{book-rewritten, book-reread}
 use Rattle.round_trips.proofs.Prices.{prices-rewritten, prices-reread}
 
 -- whatever the entry answers, the file is written: so for C
-written-for-c : (c : Checked) (file place s : List ℕ) (number : ℕ) (exit : List ℕ) (bytes : Lent ℕ) → WritesForC c file place (before bytes) number exit (after bytes)
+written-for-c : (c : Checked) (file place s : List ℕ) (number : ℕ) (exit : List ℕ) (bytes : Lent ℕ) → WritesForC c file place (before bytes) number exit
+    (after bytes)
     → ((a : WriteAnswer) → Writes c file place a exit → IsWritten s place a exit) → WrittenForC s place number exit bytes
 written-for-c Passed file place s number exit bytes w h =
     let r = h (is.Written (length file)) (record { length-given = refl; bytes-written = w .bytes-written }) in
@@ -105,7 +106,12 @@ module _ (q : ReadGridCall) (number : ℕ) (ls : List ℕ) (fs : List ℤ) (node
         factors-are = g .factors-are;
       }
   grid-for-c (Refused x) e =
-      let g = h (grid.Refused x) (record { values-given = sym (ap (λ (c : Checked). answered c (gridValues q)) e); limits-read = r .limits-read; factors-read = r .factors-read }) in
+      let g = h (grid.Refused x) (record {
+        values-given = sym
+            (ap (λ (c : Checked). answered c (gridValues q)) e);
+        limits-read = r .limits-read;
+        factors-read = r .factors-read;
+      }) in
       let are : grid.Refused x ≡ grid.Read n k (formOf form) = g .counts-are in
       let z : _≡_ {A = ℕ} 0 1 = cc in
       absurd (omega arith)
@@ -114,7 +120,8 @@ module _ (q : ReadBookCall) (number : ℕ) (table : List ℕ) (contracts told : 
     (form m : ℕ) (rows entry : List ℕ) (h : (a : BookAnswer) → ReadsBook q a table → BookIs (formOf form) m rows entry a table) where
   book-for-c : (c : Checked) → readBookChecked q ≡ c → BookForC form m rows entry number table contracts told
   book-for-c Passed e =
-      let b = h (book.Read (contractCountIn (q .file)) (bookFormIn (q .file))) (record { values-given = sym (ap (λ (c : Checked). answered c (bookValues q)) e); contracts-read = r .contracts-read }) in
+      let b = h (book.Read (contractCountIn (q .file)) (bookFormIn (q .file)))
+      (record { values-given = sym (ap (λ (c : Checked). answered c (bookValues q)) e); contracts-read = r .contracts-read }) in
       let are : book.Read (contractCountIn (q .file)) (bookFormIn (q .file)) ≡ book.Read m (formOf form) = b .count-is in
       let as-form : bookFormIn (q .file) ≡ formOf form = cc in
       record {
@@ -133,12 +140,22 @@ module _ (q : ReadPricesCall) (number : ℕ) (table : List ℕ) (period : Lent �
     (h : (a : PriceAnswer) → ReadsPrices q a table → PricesAre t k list entry a table) where
   prices-for-c : (c : Checked) → readPricesChecked q ≡ c → PricesForC t k list entry number table period
   prices-for-c Passed e =
-      let p = h (prices.Read (periodIn (q .file))) (record { period-given = sym (ap (λ (c : Checked). answered c (pos (periodIn (q .file)) ∷ [])) e); prices-read = r .prices-read }) in
+      let p = h (prices.Read (periodIn (q .file)))
+      (record { period-given = sym (ap (λ (c : Checked). answered c (pos (periodIn (q .file)) ∷ [])) e); prices-read = r .prices-read }) in
       let are : prices.Read (periodIn (q .file)) ≡ prices.Read t = p .period-is in
-      record { number-0 = r .refusal-number ∙ ap numberAfter e; period-is = figure-is (readPricesChecked q) e _ _ _ (r .period-given) ∙ cc; prices-are = p .prices-are }
+      record {
+        number-0 = r .refusal-number ∙ ap numberAfter e;
+        period-is = figure-is (readPricesChecked q) e _ _ _ (r .period-given)
+            ∙ cc;
+        prices-are = p .prices-are;
+      }
   prices-for-c (Refused x) e =
       let are : prices.Refused x ≡ prices.Read t
-      = h (prices.Refused x) (record { period-given = sym (ap (λ (c : Checked). answered c (pos (periodIn (q .file)) ∷ [])) e); prices-read = r .prices-read }) .period-is in
+      = h (prices.Refused x) (record {
+        period-given = sym
+            (ap (λ (c : Checked). answered c (pos (periodIn (q .file)) ∷ [])) e);
+        prices-read = r .prices-read;
+      }) .period-is in
       let z : _≡_ {A = ℕ} 0 1 = cc in
       absurd (omega arith)
 
@@ -146,14 +163,16 @@ pub round-trips-for-c : RoundTripsForC
 round-trips-for-c =
     record {
       crr-grid-read-then-written = λ s ls₀ fs₀ bytes ls fs nodes constraints form h place room number exit length-cell w.
-          written-for-c _ _ place s number exit length-cell w (λ a. grid-rewritten s ls₀ fs₀ bytes _ _ _ ls fs (grid-by _ ls fs nodes constraints form h) place room a exit);
+          written-for-c _ _ place s number exit length-cell w
+          (λ a. grid-rewritten s ls₀ fs₀ bytes _ _ _ ls fs (grid-by _ ls fs nodes constraints form h) place room a exit);
       crr-book-read-then-written = λ n s entry bytes table contracts form h place room number exit length-cell w.
           written-for-c _ _ place s number exit length-cell w (λ a. book-rewritten n s entry bytes _ _ table (book-by _ table contracts form h) place room a exit);
       crr-prices-read-then-written = λ k s entry bytes table period h place room number exit length-cell w.
           written-for-c _ _ place s number exit length-cell w (λ a. prices-rewritten k s entry bytes _ table (prices-by _ table period h) place room a exit);
       crr-grid-written-then-read = λ form n k limits factors place exit bytes w ls₀ fs₀ cells places number ls fs nodes constraints told r.
           grid-for-c _ number ls fs nodes constraints told r form n k limits factors ls₀ fs₀
-          (λ a. grid-reread (formOf form) n k limits factors place (after bytes) exit (written-by _ _ place (before bytes) exit (after bytes) w) ls₀ fs₀ cells places a ls fs)
+          (λ a. grid-reread (formOf form) n k limits factors place (after bytes) exit
+          (written-by _ _ place (before bytes) exit (after bytes) w) ls₀ fs₀ cells places a ls fs)
           _ refl;
       crr-book-written-then-read = λ form n m rows place exit bytes w entry room number table contracts told r.
           book-for-c _ number table contracts told r form m rows entry

@@ -37,7 +37,8 @@ same-form f g e = sym (form-of-number f) ∙ ap formOf e ∙ form-of-number g
 
 -- ---- read, then written
 
-module _ (s : List ℕ) (ls₀ : List ℕ) (fs₀ : List ℤ) (bytes : Bytes s) (passed : readGridChecked (readGridCall s ls₀ fs₀) ≡ Passed) (place : List ℕ) (room : length s ≤ length place) where
+module _ (s : List ℕ) (ls₀ : List ℕ) (fs₀ : List ℤ) (bytes : Bytes s) (passed : readGridChecked (readGridCall s ls₀ fs₀) ≡ Passed) (place : List ℕ)
+    (room : length s ≤ length place) where
   abbrev F : Form
   F = gridFormIn s
 
@@ -91,7 +92,11 @@ module _ (s : List ℕ) (ls₀ : List ℕ) (fs₀ : List ℤ) (bytes : Bytes s) 
   pub grid-rewritten : (a : WriteAnswer) (exit : List ℕ) → WritesGrid (writeGridCall f n k ls fs place) a exit → IsWritten s place a exit
   grid-rewritten a exit w =
       let r = writes-passed _ (gridWritten (writeGridCall f n k ls fs place)) place a exit passes w in
-      record { length-is = r .length-is ∙ ap (λ (x : List ℕ). Written (length x)) same-file; bytes-are = r .bytes-are ∙ ap (λ (x : List ℕ). overwrite x place) same-file }
+      record {
+        length-is = r .length-is ∙ ap (λ (x : List ℕ). Written (length x)) same-file;
+        bytes-are = r .bytes-are ∙ ap
+            (λ (x : List ℕ). overwrite x place) same-file;
+      }
 
 -- ---- written, then read
 
@@ -117,7 +122,8 @@ module _ (f : Form) (n k : ℕ) (limits : List ℕ) (factors : List ℤ) (place 
       ap₂ (λ (a b : ℕ). Read a b i) nodes constraints ∙ ap (Read x y) (same-form i g number)
   counts-told (Refused r) x y g e = absurd (never-given r (pos x ∷ pos y ∷ pos (formNumber g) ∷ []) e)
 
-  pub grid-reread : (a : GridAnswer) (ls : List ℕ) (fs : List ℤ) → ReadsGrid (readGridCall (take size exit) ls₀ fs₀) a ls fs → GridIs f n k limits factors ls₀ fs₀ a ls fs
+  pub grid-reread : (a : GridAnswer) (ls : List ℕ) (fs : List ℤ) → ReadsGrid (readGridCall (take size exit) ls₀ fs₀) a ls fs
+      → GridIs f n k limits factors ls₀ fs₀ a ls fs
   grid-reread a ls fs h =
       let form : gridFormIn (take size exit) ≡ f = rw (written .1) (back .form-is) in
       let nodes : nodesIn (take size exit) ≡ n = rw (written .1) (back .nodes) in

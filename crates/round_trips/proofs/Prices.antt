@@ -56,11 +56,16 @@ module _ (k : ℕ) (s entry : List ℕ) (bytes : Bytes s) (t : ℕ) (table : Lis
   pub prices-rewritten : (a : WriteAnswer) (exit : List ℕ) → WritesPrices (writePricesCall t k table place) a exit → IsWritten s place a exit
   prices-rewritten a exit w =
       let r = writes-passed _ (pricesWritten (writePricesCall t k table place)) place a exit accepted w in
-      record { length-is = r .length-is ∙ ap (λ (f : List ℕ). Written (length f)) same-file; bytes-are = r .bytes-are ∙ ap (λ (f : List ℕ). overwrite f place) same-file }
+      record {
+        length-is = r .length-is ∙ ap (λ (f : List ℕ). Written (length f)) same-file;
+        bytes-are = r .bytes-are ∙ ap
+            (λ (f : List ℕ). overwrite f place) same-file;
+      }
 
 -- ---- written, then read
 
-module _ (t k : ℕ) (prices place : List ℕ) (n : ℕ) (exit : List ℕ) (w : WritesPrices (writePricesCall t k prices place) (Written n) exit) (entry : List ℕ) (room : k ≤ length entry) where
+module _ (t k : ℕ) (prices place : List ℕ) (n : ℕ) (exit : List ℕ) (w : WritesPrices (writePricesCall t k prices place) (Written n) exit) (entry : List ℕ)
+    (room : k ≤ length entry) where
   told : (writePricesChecked (writePricesCall t k prices place) ≡ Passed) × (take n exit ≡ pricesWritten (writePricesCall t k prices place))
   told = writes-told _ _ place n exit w
 

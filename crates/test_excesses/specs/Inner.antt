@@ -1,10 +1,15 @@
--- What the function says: the excesses as cells.
+-- What the functions say: the terms of a test by its numbers, the excesses as cells.
 use mathlib.Core.List.{List}
 use Prim.Native.Nat.{ℕ, _*_}
 use lib.ListN.{getD}
 use lib.IntN.{ℤ, pos, _-ℤ_}
 use Rattle.tariff.specs.declared.processes.Process.{Process}
-use Rattle.tariff.specs.Processes.{percent}
+use Rattle.tariff.specs.Processes.{percent, processOf}
+use Rattle.tariff.specs.Contracts.{periodOf}
+use Rattle.test_excesses.specs.declared.Terms.{Terms}
+
+abbrev pub termsOf : ℕ → ℕ → ℕ → ℕ → Terms
+termsOf nodes constraints process period = record { nodes = nodes; constraints = constraints; process = processOf process; period = periodOf period }
 
 abbrev pub cellAt : List ℤ → ℕ → ℤ
 cellAt cells j = getD cells j (pos 0)

@@ -1,14 +1,37 @@
-// The excess at each constraint: what a book's flow there has beyond the released limit.
+// The excess at each constraint: what a book's flow there has beyond the released limit. And the terms of a test, for what is found beside its verdict.
 ghost use mathlib.Core.Path.{_≡_};
 ghost use Prim.Native.Nat.{_≤_};
 ghost use lib.ListN.{length};
 ghost use Rattle.lists.specs.Lists.{listTo};
 ghost use Rattle.lists.specs.Lent.{before, after, overwrite};
 ghost use Rattle.test_rules.specs.Inner.{Judgeable};
-ghost use Rattle.test_excesses.specs.Inner.{excessIn};
+ghost use Rattle.test_excesses.specs.Inner.{excessIn, termsOf};
 use tariff::Flow;
+use tariff::Period;
 use tariff::Process;
 use test_rules::Flows;
+
+// The terms of a test: how many nodes and constraints its tables have, the process and the period.
+pub struct Terms {
+    pub nodes: usize,
+    pub constraints: usize,
+    pub process: Process,
+    pub period: Period,
+}
+
+impl Terms {
+    pub fn from_numbers(nodes: usize, constraints: usize, process: u64, period: u64) -> Terms
+        requires { ⌜ process ≤ 2 ⌝ }
+        ensures { λ r. ⌜ r ≡ termsOf nodes constraints process period ⌝ }
+    {
+        Terms {
+            nodes,
+            constraints,
+            process: Process::from_number(process),
+            period: Period::from_number(period),
+        }
+    }
+}
 
 // The excesses of all constraints, into the first cells of `out`.
 pub fn fill_excess(

@@ -41,7 +41,7 @@ pub fn fill_flows(constraints: usize, carried: Flows, out: &mut [i64])
 }
 
 // The checks of finding the flows, with `cells` cells for them: the test's, then 9.
-fn check_flows(
+pub fn check_flows(
     nodes: usize,
     constraints: usize,
     period: u64,

@@ -1,20 +1,16 @@
 // The simultaneous feasibility test of a book's bytes against grid tables.
 ghost use mathlib.Core.Path.{_≡_};
-ghost use mathlib.Core.List.{List};
 ghost use Prim.Native.Nat.{ℕ, _*_};
 ghost use lib.ListN.{getD};
-ghost use lib.IntN.{ℤ, pos};
+ghost use lib.IntN.{pos};
 ghost use lib.Signed.{ltZ};
 ghost use Rattle.lists.specs.Sets.{setOf};
 ghost use Rattle.lists.specs.Lent.{before};
-ghost use Rattle.tariff.specs.declared.contracts.Contract.{Contract};
-ghost use Rattle.tariff.specs.declared.contracts.Period.{Period};
-ghost use Rattle.tariff.specs.Units.{factorsOf, gridOf};
-ghost use Rattle.tariff.specs.Contracts.{ofPeriod};
 ghost use Rattle.tariff.specs.Processes.{percent};
-ghost use Rattle.test_rules.specs.TestBook.{testCall, testChecked, TestsBook};
-ghost use Rattle.test_rules.specs.Inner.{Judgeable, Judges};
-ghost use Rattle.test_rules.specs.Carried.{Carries};
+ghost use Rattle.tariff.specs.Refusals.{given};
+ghost use Rattle.test_rules.specs.TestBook.{testCall, testChecked, testOutcome, TestsBook};
+ghost use Rattle.test_rules.specs.Inner.{Judgeable};
+ghost use Rattle.test_verdict.specs.Judged.{judgedValues};
 use tariff::Checked;
 use tariff::Flow;
 use tariff::Period;
@@ -43,8 +39,7 @@ pub fn overload_set(constraints: usize, process: Process, limits: &[u64], flows:
 // The answer: pass where the set is empty, else the set, its count of ones, its trailing zeros and the excess there.
 pub fn verdict(constraints: usize, process: Process, limits: &[u64], flows: Flows) -> TestAnswer
     requires { ⌜ Judgeable constraints (now limits) flows ⌝ }
-    ensures { λ r. ⌜ ((n : ℕ) (fs : List ℤ) (t : Period) (cs : List Contract) → Carries (factorsOf n constraints fs) (ofPeriod t cs) flows
-        → Judges (gridOf n constraints (before limits) fs) process (ofPeriod t cs) r) ⌝ }
+    ensures { λ r. ⌜ testOutcome r ≡ given (judgedValues (before limits) process (flows .flows) constraints) ⌝ }
 {
     let set = overload_set(constraints, process, limits, flows);
     if set == 0 {
@@ -76,15 +71,8 @@ pub fn check_test(
 ) -> Checked
     ensures { λ r. ⌜ r ≡ testChecked (testCall nodes constraints process period (before limits) (before factors) (before book)) ⌝ }
 {
-    let in_tables = grid_tables::check_grid_tables(
-        nodes,
-        constraints,
-        process,
-        period,
-        limits,
-        factors,
-    );
-    if let Checked::Refused(refusal) = in_tables {
+    let grid = grid_tables::check_grid_tables(nodes, constraints, process, period, limits, factors);
+    if let Checked::Refused(refusal) = grid {
         return Checked::Refused(refusal);
     }
     book_checks::check_book(nodes, book)

@@ -1,20 +1,19 @@
 // The report's lines: one for each period and process, under the heading.
 ghost use mathlib.Core.List.{_++_};
-ghost use Prim.Native.Nat.{_+_, _≤_};
+ghost use Prim.Native.Nat.{_+_, _^_, _≤_, _<_};
 ghost use lib.ListN.{length};
+ghost use lib.IntN.{natAbs};
 ghost use Rattle.lists.specs.Lent.{before, after};
 ghost use Rattle.text_format.specs.Ascii.{ascii};
 ghost use Rattle.text_format.specs.Inner.{Put};
-ghost use Rattle.tariff.specs.Units.{factorsOf, gridOf};
-ghost use Rattle.tariff.specs.Contracts.{ofPeriod};
+ghost use Rattle.tariff.specs.Units.{gridOf, maxConstraints};
 ghost use Rattle.layouts.specs.BookFile.{bookIn};
-ghost use Rattle.test_rules.specs.Carried.{Carries};
-ghost use Rattle.text_report_rules.specs.Report.{periodWord, processWord, line, periodLines, reportLines};
+ghost use Rattle.text_report_rules.specs.Report.{periodWord, processWord, periodLines, reportLines};
 ghost use Rattle.text_report_rules.specs.WriteReport.{reportRoom};
-ghost use Rattle.text_report_rules.specs.Inner.{Reportable, periodRoom, processRoom, lineRoom, periodLinesRoom};
+ghost use Rattle.text_report_rules.specs.Inner.{Reportable, answerLine, overBy, periodRoom, processRoom, lineRoom, periodLinesRoom};
 use tariff::Period;
 use tariff::Process;
-use test_rules::Flows;
+use test_rules::TestAnswer;
 use text_report_figures::put_figures;
 
 // The period's word and a comma.
@@ -42,26 +41,19 @@ fn put_process(buf: &mut [u8], at: usize, process: Process) -> usize
     }
 }
 
-// The line of one period and process, from the flows of the period's contracts. `factors` and `book` are here for the contract alone.
+// The line of one period and process, from the test's answer.
 fn put_line(
     buf: &mut [u8],
     at: usize,
-    nodes: usize,
     constraints: usize,
-    process: Process,
     period: Period,
-    limits: &[u64],
-    factors: &[i64],
-    book: &[u8],
-    flows: Flows,
+    process: Process,
+    answer: TestAnswer,
 ) -> usize
-    requires { ⌜ at + lineRoom ≤ length (now buf) ⌝ }
-    requires { ⌜ Reportable nodes constraints (now limits) (now factors) (now book) ⌝ }
-    requires { ⌜ Carries (factorsOf nodes constraints (now factors)) (ofPeriod period (bookIn (now book))) flows ⌝ }
-    ensures { λ r. ⌜ Put (before buf) at (line (gridOf nodes constraints (before limits) (before factors)) (bookIn (before book)) period process) (after buf) r ⌝ }
+    requires { ⌜ (constraints ≤ maxConstraints) × (at + lineRoom ≤ length (now buf)) × (natAbs (overBy answer) < 2 ^ 63) ⌝ }
+    ensures { λ r. ⌜ Put (before buf) at (answerLine constraints period process answer) (after buf) r ⌝ }
     ensures { λ r. ⌜ r ≤ at + lineRoom ⌝ }
 {
-    let answer = test_verdict::verdict(constraints, process, limits, flows);
     let first = put_period(buf, at, period);
     let second = put_process(buf, first, process);
     let third = put_figures(buf, second, constraints, answer);
@@ -85,42 +77,12 @@ fn put_period_lines(
     ensures { λ r. ⌜ r ≤ at + periodLinesRoom ⌝ }
 {
     let flows = test_flows::carry(nodes, constraints, factors, period, book);
-    let first = put_line(
-        buf,
-        at,
-        nodes,
-        constraints,
-        Process::Annual,
-        period,
-        limits,
-        factors,
-        book,
-        flows,
-    );
-    let second = put_line(
-        buf,
-        first,
-        nodes,
-        constraints,
-        Process::TierLt,
-        period,
-        limits,
-        factors,
-        book,
-        flows,
-    );
-    put_line(
-        buf,
-        second,
-        nodes,
-        constraints,
-        Process::Monthly,
-        period,
-        limits,
-        factors,
-        book,
-        flows,
-    )
+    let annual = test_verdict::verdict(constraints, Process::Annual, limits, flows);
+    let lt = test_verdict::verdict(constraints, Process::TierLt, limits, flows);
+    let monthly = test_verdict::verdict(constraints, Process::Monthly, limits, flows);
+    let first = put_line(buf, at, constraints, period, Process::Annual, annual);
+    let second = put_line(buf, first, constraints, period, Process::TierLt, lt);
+    put_line(buf, second, constraints, period, Process::Monthly, monthly)
 }
 
 // The heading and the six lines.

@@ -31,7 +31,7 @@ use Rattle.test_rules.specs.declared.TestAnswer.the-variants.{Pass, Fail, Refus
 use Rattle.test_rules.specs.TestBook.{testOutcome, testValues}
 use Rattle.test_rules.specs.Inner.{Judges}
 use Rattle.text_report_rules.specs.Report.{periodWord, processWord, numbersTo, figures, line}
-use Rattle.text_report_rules.specs.Inner.{Reportable, inSet, failed, answerFigures, overBy}
+use Rattle.text_report_rules.specs.Inner.{Reportable, inSet, failed, answerFigures, answerLine, overBy}
 use Rattle.text_report_rules.proofs.Members.{numbers-set}
 
 -- ---- the answer's figures
@@ -99,8 +99,7 @@ module _ (n k : ℕ) (ls : List ℕ) (fs : List ℤ) (book : List ℕ) (process 
       over-small (gridOf n k ls fs) process (ofPeriod period (bookIn book)) (ok .good-factors .in-range) (record { limit-sized = cut-sized maxLimit k ls (ok .good-limits) })
       (w .0) (omega (arith, w .1, length-bookIn book, a .few)) r (h .figures)
 
-  pub line-text : line (gridOf n k ls fs) (bookIn book) period process
-      ≡ periodWord period ++ ascii "," ++ (processWord process ++ ascii ",") ++ answerFigures k r ++ ascii "\n"
+  pub line-text : line (gridOf n k ls fs) (bookIn book) period process ≡ answerLine k period process r
   unfolding line
   line-text i =
       append-assoc (periodWord period ++ ascii ",") (processWord process) (ascii ",") i

@@ -8,6 +8,8 @@ use lib.ListN.{length}
 use lib.IntN.{ℤ, pos}
 use Rattle.text_format.specs.Ascii.{ascii}
 use Rattle.text_format.specs.Decimal.{decimal, decimalZ}
+use Rattle.tariff.specs.declared.contracts.Period.{Period}
+use Rattle.tariff.specs.declared.processes.Process.{Process}
 use Rattle.tariff.specs.declared.refusals.Checked.the-variants.{Passed}
 use Rattle.tariff.specs.Units.{maxConstraints, maxLimit}
 use Rattle.tariff.specs.Refusals.{first}
@@ -15,7 +17,7 @@ use Rattle.grid_tables.specs.Inner.{GoodFactors, GoodCells}
 use Rattle.book_rules.specs.BookChecks.{bookChecks}
 use Rattle.test_rules.specs.declared.TestAnswer.{TestAnswer}
 use Rattle.test_rules.specs.declared.TestAnswer.the-variants.{Pass, Fail, Refused}
-use Rattle.text_report_rules.specs.Report.{numbersTo}
+use Rattle.text_report_rules.specs.Report.{periodWord, processWord, numbersTo}
 
 -- tables and a book that the test accepts in every process and period
 pub record Reportable (n k : ℕ) (limits : List ℕ) (factors : List ℤ) (book : List ℕ) : Type 0 where
@@ -40,6 +42,11 @@ abbrev pub answerFigures : ℕ → TestAnswer → List ℕ
 answerFigures constraints Pass = ascii "pass,0,,,"
 answerFigures constraints (Fail set count lowest over) = failed constraints set count lowest (over .0)
 answerFigures constraints (Refused r) = []
+
+-- its line
+abbrev pub answerLine : ℕ → Period → Process → TestAnswer → List ℕ
+answerLine constraints period process answer =
+    periodWord period ++ ascii "," ++ (processWord process ++ ascii ",") ++ answerFigures constraints answer ++ ascii "\n"
 
 abbrev pub overBy : TestAnswer → ℤ
 overBy Pass = pos 0

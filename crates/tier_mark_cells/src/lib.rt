@@ -8,6 +8,9 @@ ghost use Rattle.tier_rules.specs.Cells.{stateNumbers, copied, markedNumbers, d
 ghost use Rattle.tier_mark_rules.specs.Inner.{Apart};
 use tier_rules::BLOCK;
 
+// The numbers of a mark. Tier i's: at MARK * i - 1 whether it is set, behind it the awards held at it, then those counted.
+pub const MARK: usize = 3;
+
 // Copies the 64 flows from one place to another that does not overlap it.
 pub fn copy_block(flows: &mut [i64], from: usize, to: usize)
     requires { ⌜ Apart from to (now flows) ⌝ }
@@ -27,9 +30,9 @@ pub fn mark_numbers(numbers: &mut [u64], i: usize)
 {
     let held = numbers[0];
     let counted = numbers[1];
-    numbers[3 * i - 1] = 1;
-    numbers[3 * i] = held;
-    numbers[3 * i + 1] = counted;
+    numbers[MARK * i - 1] = 1;
+    numbers[MARK * i] = held;
+    numbers[MARK * i + 1] = counted;
 }
 
 // Unsets a tier's mark where more awards were held at it.
@@ -37,8 +40,8 @@ fn drop_mark(numbers: &mut [u64], most: u64, j: usize)
     requires { ⌜ (1 ≤ j) × (j ≤ maxTier) × (stateNumbers ≤ length (now numbers)) ⌝ }
     ensures { λ r. ⌜ after numbers ≡ dropMark most j (before numbers) ⌝ }
 {
-    if most < numbers[3 * j] {
-        numbers[3 * j - 1] = 0;
+    if most < numbers[MARK * j] {
+        numbers[MARK * j - 1] = 0;
     }
 }
 
@@ -58,8 +61,8 @@ pub fn return_numbers(numbers: &mut [u64], i: usize)
     requires { ⌜ (1 ≤ i) × (i ≤ maxTier) × (stateNumbers ≤ length (now numbers)) ⌝ }
     ensures { λ r. ⌜ after numbers ≡ returnedNumbers i (before numbers) ⌝ }
 {
-    let held = numbers[3 * i];
-    let counted = numbers[3 * i + 1];
+    let held = numbers[MARK * i];
+    let counted = numbers[MARK * i + 1];
     drop_marks(numbers, held);
     numbers[0] = held;
     numbers[1] = counted;

@@ -1,6 +1,6 @@
 -- Laws of marks: what the checks find, a mark dropped or left, and a block copied cell by cell.
 use mathlib.Core.Path.{_≡_, refl, sym, ap, _∙_, subst₂}
-use mathlib.Core.Logic.{_⊎_, ⊎-elim}
+use mathlib.Core.Logic.{_⊎_, inl, inr, ⊎-elim}
 use mathlib.Core.Bool.{Bool, false}
 use mathlib.Core.List.{List, [], _∷_, _++_}
 use mathlib.Core.Option.{Option·getD}
@@ -23,13 +23,14 @@ use Rattle.tariff.proofs.Checks.{first-append, passed-cons, passed-append}
 use Rattle.tier_rules.specs.Checks.{maxTier, markChecks, returnChecks, unsetMark, isUnset}
 use Rattle.tier_rules.specs.Runs.{returnedTo}
 use Rattle.tier_rules.specs.declared.RunningAnswer.{RunningAnswer}
-use Rattle.tier_rules.specs.Cells.{stateNumbers, stateFlows, flagCell, heldCell, stateCells, runningOutcome}
+use Rattle.tier_rules.specs.declared.RunningAnswer.the-variants as is
+use Rattle.tier_rules.specs.Cells.{stateNumbers, stateFlows, flagCell, heldCell, markBlock, stateCells, runningOutcome}
 use Rattle.tier_rules.specs.Cells.{dropMark, markedNumbers, markedFlows, returnedNumbers, returnedFlows, HoldsTiers}
 use Rattle.tier_rules.specs.Tiers.{Tiers, marked}
 use Rattle.tier_rules.proofs.Cells.{behind}
 use Rattle.tier_rules.proofs.States.{marked-reached, returned-reached}
 use Rattle.tier_rules.proofs.Holding.{marked-holds, returned-holds}
-use Rattle.tier_rules.proofs.Going.{goes-on, a-tier as tier-of, flag-told, set-mark, last-same}
+use Rattle.tier_rules.proofs.Going.{goes-on, a-tier as tier-of, flag-told, set-mark, last-same, both-kept, both-made}
 use Rattle.tier_mark_rules.specs.MarkTier.{MarkTierCall, markTierCall, markTierChecks, markTierChecked, numbersMarked, flowsMarked, MarkGoesOn, MarksTier}
 use Rattle.tier_mark_rules.specs.ReturnToTier.{ReturnToTierCall, returnListed, returnToTierChecked, returnToTierChecks, numbersReturned, flowsReturned, ReturnGoesOn, ReturnsToTier}
 use Rattle.tier_mark_rules.specs.Inner.{Apart}
@@ -143,6 +144,14 @@ at-tier q e =
       last-tier = t .1;
     }
 
+-- the flows held and those of a tier's mark do not overlap
+pub mark-apart : (i : ℕ) (numbers : List ℕ) (flows : List ℤ) → AtTier i numbers flows → Apart 0 (markBlock i) flows × Apart (markBlock i) 0 flows
+mark-apart i numbers flows o =
+    let held : 0 + maxConstraints ≤ length flows = omega (arith, o .flows-long) in
+    let marked : markBlock i + maxConstraints ≤ length flows = omega (arith, o .last-tier, o .flows-long) in
+    let past : 0 + maxConstraints ≤ markBlock i = omega (arith, o .some-tier) in
+    (record { source-in = held; target-in = marked; apart = inl past }, record { source-in = marked; target-in = held; apart = inr past })
+
 -- of returning: so the first checks pass too, and the mark is set
 pub return-parts : (q : ReturnToTierCall) (unset : Bool) → first (returnListed q unset) ≡ Passed
     → (markTierChecked (markTierCall (q .tier) (q .numbers) (q .flows)) ≡ Passed) × (unset ≡ false)
@@ -150,6 +159,10 @@ unfolding returnListed markTierChecks returnChecks markChecks
 return-parts q unset e =
     let p = passed-append (markTierChecks (markTierCall (q .tier) (q .numbers) (q .flows))) (unsetMark unset ∷ []) e in
     (p .0, passed-cons _ _ (p .1) .0)
+
+-- and so what holds of marking
+pub at-return : (q : ReturnToTierCall) → returnToTierChecked q ≡ Passed → AtTier (q .tier) (q .numbers) (q .flows)
+at-return q e = at-tier q (return-parts q (eqb (getD (q .numbers) (flagCell (q .tier)) 0) 0) e .0)
 
 -- ---- the promises on running tests
 
@@ -161,7 +174,7 @@ mark-goes-on q g process t awards =
     let k = at-tier q e in
     (marked-reached g process t s r (q .tier), marked-holds g t s awards (q .numbers) (q .flows) h (k .numbers-long) (k .flows-long) (q .tier) (k .some-tier) (k .last-tier)))
 
-pub marks-tier : (q : MarkTierCall) (answer : RunningAnswer) (numbers : List ℕ) (flows : List ℤ) → runningOutcome answer ≡ answered (markTierChecked q) []
+marks-tier : (q : MarkTierCall) (answer : RunningAnswer) (numbers : List ℕ) (flows : List ℤ) → runningOutcome answer ≡ answered (markTierChecked q) []
     → numbers ≡ numbersMarked q → flows ≡ flowsMarked q → MarksTier q answer numbers flows
 marks-tier q answer numbers flows a n f =
     record { answer-given = a; numbers-marked = n; flows-marked = f; running = subst₂ (λ (x : List ℕ) (y : List ℤ). MarkGoesOn q x y) (sym n) (sym f) (mark-goes-on q) }
@@ -187,7 +200,24 @@ return-goes-on q g process t awards =
       returned-holds g t s awards (q .numbers) (q .flows) h (k .numbers-long) (k .flows-long) process r (q .tier) (k .some-tier) (k .last-tier) m (set-mark (s .mark (q .tier)) (p .1)),
     ))
 
-pub returns-to-tier : (q : ReturnToTierCall) (answer : RunningAnswer) (numbers : List ℕ) (flows : List ℤ) → runningOutcome answer ≡ answered (returnToTierChecked q) []
+returns-to-tier : (q : ReturnToTierCall) (answer : RunningAnswer) (numbers : List ℕ) (flows : List ℤ) → runningOutcome answer ≡ answered (returnToTierChecked q) []
     → numbers ≡ numbersReturned q → flows ≡ flowsReturned q → ReturnsToTier q answer numbers flows
 returns-to-tier q answer numbers flows a n f =
     record { answer-given = a; numbers-returned = n; flows-returned = f; running = subst₂ (λ (x : List ℕ) (y : List ℤ). ReturnGoesOn q x y) (sym n) (sym f) (return-goes-on q) }
+
+-- ---- the promises, where x is what the checks found: one refuses, or both buffers were changed
+
+module _ (q : MarkTierCall) (x : Checked) where
+  pub marks-kept : x ≡ markTierChecked q → (r : Refusal) → x ≡ Refused r → MarksTier q (is.Refused r) (q .numbers) (q .flows)
+  marks-kept = both-kept (markTierChecked q) (markedNumbers (q .tier) (q .numbers)) (q .numbers) (markedFlows (q .tier) (q .flows)) (q .flows) (MarksTier q) (marks-tier q) x
+
+  pub marks-made : x ≡ markTierChecked q → x ≡ Passed → (numbers : List ℕ) (flows : List ℤ) → numbers ≡ markedNumbers (q .tier) (q .numbers)
+      → flows ≡ markedFlows (q .tier) (q .flows) → MarksTier q is.Held numbers flows
+  marks-made = both-made (markTierChecked q) (markedNumbers (q .tier) (q .numbers)) (q .numbers) (markedFlows (q .tier) (q .flows)) (q .flows) (MarksTier q) (marks-tier q) x
+
+  pub return-kept : x ≡ returnToTierChecked q → (r : Refusal) → x ≡ Refused r → ReturnsToTier q (is.Refused r) (q .numbers) (q .flows)
+  return-kept = both-kept (returnToTierChecked q) (returnedNumbers (q .tier) (q .numbers)) (q .numbers) (returnedFlows (q .tier) (q .flows)) (q .flows) (ReturnsToTier q) (returns-to-tier q) x
+
+  pub return-made : x ≡ returnToTierChecked q → x ≡ Passed → (numbers : List ℕ) (flows : List ℤ) → numbers ≡ returnedNumbers (q .tier) (q .numbers)
+      → flows ≡ returnedFlows (q .tier) (q .flows) → ReturnsToTier q is.Held numbers flows
+  return-made = both-made (returnToTierChecked q) (returnedNumbers (q .tier) (q .numbers)) (q .numbers) (returnedFlows (q .tier) (q .flows)) (q .flows) (ReturnsToTier q) (returns-to-tier q) x

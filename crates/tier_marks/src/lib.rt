@@ -5,6 +5,7 @@ ghost use Rattle.tier_mark_rules.specs.MarkTier.{markTierCall, markTierChecked,
 ghost use Rattle.tier_mark_rules.specs.ReturnToTier.{returnToTierCall, returnToTierChecked, ReturnsToTier};
 use tariff::Checked;
 use tariff::Refusal;
+use tier_mark_cells::MARK;
 use tier_rules::BLOCK;
 use tier_rules::FLOWS;
 use tier_rules::MAX_TIER;
@@ -52,7 +53,7 @@ fn check_return(tier: u64, numbers: &[u64], flows: &[i64]) -> Checked
     if let Checked::Refused(refusal) = check_tier(tier, numbers, flows) {
         return Checked::Refused(refusal);
     }
-    if numbers[3 * (tier as usize) - 1] == 0 {
+    if numbers[MARK * (tier as usize) - 1] == 0 {
         return Checked::Refused(Refusal::TierMark);
     }
     Checked::Passed

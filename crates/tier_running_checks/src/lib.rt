@@ -11,10 +11,14 @@ ghost use Rattle.tier_running_rules.specs.Inner.{countsBad, stateShort, shortIf
 use layouts::CONTRACT_CELLS;
 use tariff::Checked;
 use tariff::MAX_CONSTRAINTS;
+use tariff::MAX_CONTRACTS;
 use tariff::Refusal;
 use tier_rules::AWARDS_CELLS;
 use tier_rules::FLOWS;
 use tier_rules::NUMBERS;
+
+// As many awards as a book has contracts.
+const MAX_AWARDS: u64 = MAX_CONTRACTS as u64;
 
 // 2, 3, 16 or 17.
 fn counts_bad(nodes: usize, constraints: usize, process: u64, period: u64) -> bool
@@ -79,7 +83,7 @@ pub fn check_award(
     if let Checked::Refused(refusal) = checked {
         return Checked::Refused(refusal);
     }
-    if 1000 <= numbers[0] {
+    if MAX_AWARDS <= numbers[0] {
         return Checked::Refused(Refusal::ContractCount);
     }
     book_rows::check_row(nodes, award, 0)

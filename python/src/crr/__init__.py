@@ -2,17 +2,28 @@
 
 Every function of include/crr.h has one of its name here, without `crr_`; figures are whole numbers in that
 header's units. Input that is turned down raises `Refused`. CSV files are read and written by `crr.from_csv`
-and `crr.to_csv`, bin files by `crr.packed`, grids made of lines by `crr.network`; many hours are settled by
-`settle_hours`.
+and `crr.to_csv`, DataFrames by `crr.frames`, bin files by `crr.packed`, grids made of lines by `crr.network`;
+many hours are settled by `settle_hours`.
 """
 
 from importlib import import_module
 from types import ModuleType
 from typing import TYPE_CHECKING, List
 
-from .dates import month_hours, month_later, weekday
+from .dates import hour_period, month_hours, month_later, weekday
 from .exposure import ExactCents, Exposure, Shortfall, find_exposure, find_shortfall
-from .feasibility import Cut, Flows, Verdict, find_cuts, find_flows, released_percent, test_book
+from .feasibility import (
+    Added,
+    Cut,
+    Flows,
+    Verdict,
+    add_flows,
+    find_cuts,
+    find_flows,
+    judge_flows,
+    released_percent,
+    test_book,
+)
 from .files import (
     Contract,
     Grid,
@@ -42,13 +53,14 @@ from .views import Held, read_holder_view, write_holder_view, write_market_view
 from .words import PERIODS, PROCESSES, Kind, Period, Process
 
 if TYPE_CHECKING:
-    from . import from_csv, network, packed, to_csv
+    from . import frames, from_csv, network, packed, terms, to_csv
 
 OBLIGATION, OPTION = Kind.OBLIGATION, Kind.OPTION
 OFF_PEAK, ON_PEAK = Period.OFF_PEAK, Period.ON_PEAK
 ANNUAL, TIER_LT, MONTHLY = Process.ANNUAL, Process.TIER_LT, Process.MONTHLY
 
-_MODULES = ("from_csv", "network", "packed", "to_csv")  # imported when they are first asked for
+# imported when they are first asked for
+_MODULES = ("frames", "from_csv", "network", "packed", "terms", "to_csv")
 
 
 def __getattr__(name: str) -> ModuleType:
@@ -72,6 +84,7 @@ __all__ = [
     "PERIODS",
     "PROCESSES",
     "TIER_LT",
+    "Added",
     "Contract",
     "Cut",
     "ExactCents",
@@ -95,6 +108,7 @@ __all__ = [
     "Verdict",
     "__version__",
     "add_award",
+    "add_flows",
     "add_hub_contract",
     "find_cuts",
     "find_exposure",
@@ -102,7 +116,10 @@ __all__ = [
     "find_hub_mcc",
     "find_mcc",
     "find_shortfall",
+    "frames",
     "from_csv",
+    "hour_period",
+    "judge_flows",
     "mark_tier",
     "migrate_load",
     "month_hours",
@@ -124,6 +141,7 @@ __all__ = [
     "settle_hour",
     "settle_hours",
     "share_balance",
+    "terms",
     "test_book",
     "to_csv",
     "weekday",

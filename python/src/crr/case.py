@@ -6,8 +6,9 @@ import re
 from array import array
 from dataclasses import dataclass, field, replace
 from pathlib import Path
-from typing import Dict, List, NamedTuple, Optional, Sequence, Tuple, Union
+from typing import Dict, Iterable, List, NamedTuple, Optional, Sequence, Tuple, Union
 
+from .blocks import Blocks
 from .faults import Fault, raise_any
 from .files import (
     Contract,
@@ -39,6 +40,24 @@ class PricedHour(NamedTuple):
     prices: "array[int]"
 
 
+class Term(NamedTuple):
+    """The first and the last day on which a contract is in force, YYYY-MM-DD; empty where it is open."""
+
+    start: str = ""
+    end: str = ""
+
+    def covers(self, day: str) -> bool:
+        """Whether the contract is in force on a day."""
+        return self.start <= day and (not self.end or day <= self.end)
+
+    @property
+    def words(self) -> str:
+        """2026-07-01 to 2026-07-31, or as far as it has ends."""
+        if self.start and self.end:
+            return f"{self.start} to {self.end}"
+        return f"from {self.start}" if self.start else f"to {self.end}" if self.end else "always"
+
+
 @dataclass
 class Names:
     """Names by number, all different in each list. A holder that is not named is called by its number."""
@@ -68,6 +87,11 @@ class Case:
     inputs: List[Input] = field(default_factory=list, compare=False)  # that were read, price files apart
     is_csv: bool = field(default=True, compare=False)  # what it was read from: CSV files, or bin files
     rounded: int = field(default=0, compare=False)  # how many prices were, when they were read
+    rounded_factors: int = field(default=0, compare=False)  # likewise
+    terms: List[Term] = field(default_factory=list)  # of each contract; none where all are always in force
+    jobs: int = field(default=1, compare=False)  # processes that the slices of a large case are shared among
+    blocks: Optional[Blocks] = field(default=None, compare=False)  # of a large grid, in place of its factors
+    flows: Dict[int, List[int]] = field(default_factory=dict, compare=False)  # of a large case, tested
 
     @property
     def grid(self) -> Grid:
@@ -81,7 +105,14 @@ class Case:
         names = self.names
         tables = len(names.nodes) <= MAX_NODES and len(names.constraints) <= MAX_CONSTRAINTS
         book = len(self.book) <= MAX_CONTRACTS and all(row.holder <= HOLDER.high for row in self.book)
-        return tables and book
+        return tables and book and self.blocks is None
+
+    def columns(self, constraints: Iterable[int]) -> Dict[int, "array[int]"]:
+        """The factors of all nodes on some constraints, by number."""
+        if self.blocks is not None:
+            return self.blocks.columns(constraints)
+        count = len(self.names.constraints)
+        return {k: self.factors[k::count] for k in constraints}
 
     @property
     def times(self) -> List[Time]:
@@ -114,9 +145,9 @@ class Case:
                 prices = read_prices(len(self.names.constraints), data)
                 hours.append((hour._replace(file=data), PricedHour(hour.day, hour.hour, *prices)))
             except Refused as refused:
-                faults.append(Fault(_short(name), 0, "", refused.meaning, refused.number))
+                faults.append(Fault(short_name(name), 0, "", refused.meaning, refused.number))
             except OSError as error:
-                faults.append(Fault(_short(name), 0, "", unread(Path(name), error)))
+                faults.append(Fault(short_name(name), 0, "", unread(Path(name), error)))
         raise_any(faults)
         return hours
 
@@ -126,10 +157,19 @@ class Case:
         return known if len(known) == len(self.hours) else [hour for _, hour in self.read_hours()]
 
     def with_book(self, file: bytes, names: Names) -> Case:
-        """The same case with the book of a file, and names for it."""
+        """The same case with the book of a file, and names for it. Contracts that it has more are in force as
+        its first is."""
         nodes = len(names.nodes)
         book, form = read_book(nodes, file), read_book_form(nodes, file)
-        return replace(self, names=names, book=book, book_form=form)
+        terms = (self.terms + self.terms[:1] * (len(book) - len(self.terms)))[: len(book)]
+        return replace(self, names=names, book=book, book_form=form, terms=terms)
+
+    def cut(self, contracts: Sequence[int]) -> Case:
+        """The same case with these contracts of its book alone, by number."""
+        book = [self.book[number] for number in contracts]
+        names = replace(self.names, contracts=[self.names.contracts[number] for number in contracts])
+        terms = [self.terms[number] for number in contracts] if self.terms else []
+        return replace(self, names=names, book=book, terms=terms if any(map(any, terms)) else [])
 
 
 def _price_file(hour: PricedHour) -> PriceFile:
@@ -141,7 +181,7 @@ def hour_name(day: str, hour: int) -> str:
     return f"{day} HE{hour:02}"
 
 
-def _short(path: str) -> str:
+def short_name(path: str) -> str:
     """prices.bin, or prices/2026-07-01/HE08.bin."""
     parts = Path(path).parts
     return "/".join(parts[-3:]) if HOUR_FILE.fullmatch(parts[-1]) else parts[-1]
@@ -157,6 +197,8 @@ def check_lengths(case: Case) -> None:
         ("factors", len(case.factors), constraints * len(names.nodes)),
         ("contracts", len(case.book), len(names.contracts)),
     ]
+    if case.terms:
+        lengths.append(("terms", len(case.terms), len(case.book)))
     for hour in case.hours:
         if isinstance(hour, PricedHour) and len(hour.prices) != constraints:
             lengths.append((f"prices of {hour_name(hour.day, hour.hour)}", len(hour.prices), constraints))
@@ -165,6 +207,8 @@ def check_lengths(case: Case) -> None:
             raise ValueError(f"case: {count:,} {what}, and names for {expected:,}")
 
 
+# Behind a fault of a size, for commands that take no other.
+TAKE_MORE = "; crr test, cuts, settle, report and pack take more"
 FORMS = ("narrow", "wide")  # by number
 NARROW_ENDS = 256  # node numbers that a narrow book has room for
 

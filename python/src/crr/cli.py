@@ -1,8 +1,8 @@
 """The command `crr`.
 
-Exit status: 0; 1 where `crr test`, `crr cuts` or `crr exposure` finds that the book fails, `crr same` that
-two books differ, or `crr tiers` that an operation is refused; 2 where the input has faults, or something
-can't be read or written; 130 where it is interrupted (Ctrl-C).
+Exit status: 0; 1 where `crr test`, `crr cuts`, `crr flows` or `crr exposure` finds that the book fails, `crr
+same` that two books differ, or `crr tiers` that an operation is refused; 2 where the input has faults, or
+something can't be read or written; 130 where it is interrupted (Ctrl-C).
 """
 
 from __future__ import annotations
@@ -17,17 +17,22 @@ from . import (
     book_commands,
     commands,
     copies,
+    explain,
     exposures,
+    grid_command,
     help_commands,
+    hour_commands,
     hubs,
+    loading,
     migrate,
     plain_commands,
     report,
     tiers,
 )
-from .command import COMMANDS, FAULTY, INTERRUPTED, PASSES, Answer, Command, Shown
-from .faults import Fault, Faults
+from .command import COMMANDS, FAULTY, INTERRUPTED, PASSES, Answer, Command, Shown, counted
+from .faults import Fault, Faults, faults_of
 from .native import Refused
+from .reading import gathered
 from .streams import write_to
 from .version import Version
 from .writing import is_output
@@ -35,8 +40,12 @@ from .writing import is_output
 # Help lists the commands module by module.
 _ORDER = (
     commands,
+    loading,
     exposures,
+    hour_commands,
+    explain,
     report,
+    grid_command,
     book_commands,
     copies,
     hubs,
@@ -46,6 +55,8 @@ _ORDER = (
     help_commands,
 )
 _MODULES = [module.__name__ for module in _ORDER]
+
+_WRITTEN = ("out", "file")  # arguments that say where to write
 
 # Commands that had another name: it still works, and no help lists it.
 _FORMER = {"settled": "canonical"}
@@ -83,8 +94,8 @@ def parser() -> argparse.ArgumentParser:
         prog="crr", description="Congestion revenue rights: feasibility test and hourly settlement."
     )
     parser.epilog = (
-        "Exit status: 0; 1 the book fails (crr test, crr cuts, crr exposure), two books differ (crr same), "
-        "or an operation is refused (crr tiers); "
+        "Exit status: 0; 1 the book fails (crr test, crr cuts, crr flows, crr exposure), two books differ "
+        "(crr same), or an operation is refused (crr tiers); "
         "2 the input has faults, or something can't be read or written; 130 interrupted."
     )
     parser.add_argument(
@@ -110,41 +121,32 @@ def parser() -> argparse.ArgumentParser:
     return parser
 
 
-def _fault_object(fault: Fault) -> Dict[str, object]:
-    """A fault for a script: null where it has no file, line, column or refusal."""
-    return {name: value or None for name, value in fault._asdict().items()}
-
-
 def _places(options: argparse.Namespace, faults: Sequence[Fault]) -> str:
     """Where faults are, behind their number: files that were given beside the folder, or the folder."""
-    if "folder" not in options:
+    folder = options.folders[0] if "folders" in options else getattr(options, "folder", None)
+    if folder is None:
         return ""
     paths = {name: str(value) for name, value in vars(options).items() if isinstance(value, Path)}
-    given = [path for name, path in paths.items() if name not in ("folder", "out")]
-    places = dict.fromkeys(fault.file if fault.file in given else paths["folder"] for fault in faults)
+    given = [path for name, path in paths.items() if name not in ("folder", *_WRITTEN)]
+    places = dict.fromkeys(fault.file if fault.file in given else str(folder) for fault in faults)
     return f" in {' and '.join(places)}"
 
 
 def _faulty(options: argparse.Namespace, problem: Exception) -> Answer:
     """The answer where something is wrong, all of it."""
+    faults = faults_of(problem)
+    words = f"crr: {faults[0]}\n"
     if isinstance(problem, Faults):
-        count, where = len(problem.faults), _places(options, problem.faults)
-        text = f"{problem}\ncrr: {count:,} fault{'' if count == 1 else 's'}{where}; nothing was written\n"
-        return Answer(FAULTY, text, {"faults": list(map(_fault_object, problem.faults))})
-    if isinstance(problem, Refused):
-        fault = Fault(problem.file, 0, "", problem.meaning, problem.number)
-    elif isinstance(problem, OSError) and problem.strerror and problem.filename is not None:
-        fault = Fault(str(problem.filename), 0, "", problem.strerror)
-    else:
-        fault = Fault("", 0, "", str(problem))
-    return Answer(FAULTY, f"crr: {fault}\n", {"faults": [_fault_object(fault)]})
+        where = _places(options, faults)
+        words = f"{problem}\ncrr: {counted(len(faults), 'fault')}{where}; nothing was written\n"
+    return Answer(FAULTY, "", {"faults": [fault.object for fault in faults]}, words)
 
 
 def _answer(options: argparse.Namespace) -> Answer:
     """What the command that was asked for answers; its function has the arguments' names."""
     given = {name: value for name, value in vars(options).items() if name not in ("command", "json")}
     try:
-        return COMMANDS[options.command].function(**given)
+        return COMMANDS[options.command].function(**gathered(given))
     except (Faults, Refused, OSError) as problem:
         return _faulty(options, problem)
 
@@ -174,15 +176,15 @@ def _run(given: List[str]) -> int:
     try:
         options = parser().parse_args(_by_present_names(given))
         as_json, answer = options.json, _answer(options)
-        aside = is_output(getattr(options, "out", None))  # which has bytes of another kind
+        aside = any(is_output(getattr(options, name, None)) for name in _WRITTEN)  # bytes of another kind
     except Shown as shown:
         answer = Answer(PASSES, str(shown), shown.data)
     except Usage as usage:
-        faults = [_fault_object(Fault("", 0, "", usage.text))]
-        answer = Answer(FAULTY, f"{usage.usage}{usage.text}\n", {"faults": faults, "usage": usage.usage})
+        data: Dict[str, object] = {"faults": [Fault("", 0, "", usage.text).object], "usage": usage.usage}
+        answer = Answer(FAULTY, "", data, f"{usage.usage}{usage.text}\n")
     text = json.dumps(answer.data, indent=1) + "\n" if as_json else answer.text
-    stream = sys.stderr if aside or (answer.status == FAULTY and not as_json) else sys.stdout
-    unwritten = write_to(stream, text)
+    stream = sys.stderr if aside else sys.stdout
+    unwritten = write_to(stream, text) if text else ""
     if unwritten and stream is not sys.stderr:
         write_to(sys.stderr, f"crr: the output can't be written: {unwritten}\n")
     unwritten = unwritten or write_to(sys.stderr, "" if as_json else answer.note)

@@ -81,9 +81,45 @@ def a_path(text: str) -> Path:
     return Path(text)
 
 
+def _jobs(text: str) -> int:
+    """How many processes: at least one."""
+    if not (text.isascii() and text.isdigit() and len(text) < 5 and int(text)):
+        raise argparse.ArgumentTypeError(f"{text!r} is no number of processes, from 1 to 9999")
+    return int(text)
+
+
 FOLDER = argument("folder", type=a_path, metavar="FOLDER", help="a folder of CSV files, or of bin files")
-ROUND_PRICES = argument(
-    "--round-prices", action="store_true", help="round prices of more than two decimals to the nearest cent"
+FOLDERS = argument(
+    "folders",
+    nargs="+",
+    type=a_path,
+    metavar="FOLDER",
+    help="a folder of CSV files, or of bin files; several give one table, the folder first",
+)
+JOBS = argument(
+    "-j",
+    "--jobs",
+    type=_jobs,
+    default=1,
+    metavar="N",
+    help="how many processes, 1 to 9999; without it, 1",
+)
+
+
+def _megabytes(text: str) -> int:
+    """So many MB, as bytes."""
+    if not (text.isascii() and text.isdigit() and len(text) < 8):
+        raise argparse.ArgumentTypeError(f"{text!r} is no number of MB")
+    return int(text) * 10**6
+
+
+MEMORY = argument(
+    "--memory",
+    type=_megabytes,
+    default="1000",
+    metavar="MB",
+    help="of a grid beyond the library's sizes, hold at most so many MB of factors, and the others in a "
+    "temporary file; without it, 1000",
 )
 
 

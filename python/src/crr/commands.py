@@ -2,25 +2,27 @@
 
 from __future__ import annotations
 
-import argparse
 import os
 from dataclasses import replace
+from functools import partial
 from pathlib import Path
-from typing import Dict, List, Mapping, Optional, Sequence, Tuple, cast
+from typing import Callable, Dict, List, Mapping, Optional, Sequence, Tuple, cast
 
 from .bar import Bar
 from .case import Case, Names
+from .clock import COVERAGE, coverage, coverage_rows, coverage_words
 from .command import (
     ANY_PERIODS,
     ANY_PROCESSES,
     FAILS,
     FOLDER,
+    FOLDERS,
     FORCE,
+    JOBS,
+    MEMORY,
     PASSES,
     RENT_PROCESS,
-    ROUND_PRICES,
     Answer,
-    argument,
     command,
     counted,
     objects,
@@ -28,14 +30,28 @@ from .command import (
 )
 from .costs import hour_costs
 from .decimals import decimal
+from .dense import write_dense
 from .exposures import exposure_figures, exposures, worst_words
 from .faults import Fault, raise_any
-from .feasibility import Cut, Verdict, excesses, find_cuts, find_flows, released_percent, test_book, worst
+from .feasibility import Cut, Verdict, excesses, find_cuts, released_percent, test_book, worst
+from .folders import as_counted, as_judged, each
 from .from_csv import load
 from .interface import FLOW_PLACES, QUANTITY
+from .large import flows_of, judged, large_cuts, large_words
 from .notes import notes
-from .opening import counts, counts_words, is_csv, opened, rounded_words, settled
+from .opening import (
+    check_periods,
+    counts,
+    counts_words,
+    is_csv,
+    judged_hours,
+    opened,
+    rounded_data,
+    rounded_words,
+    settled,
+)
 from .packed import only_hour_name, read_bin, write_packed
+from .reading import READING, READING_BOOK, Reading
 from .results import (
     HOLDERS,
     MONTHS_FILE,
@@ -43,28 +59,34 @@ from .results import (
     costs_words,
     dollars,
     exact_dollars,
-    holder_months,
+    holder_rows,
     hour_heading,
     hour_rows,
     is_result,
     result_files,
+    settled_months,
 )
+from .terms import ON, by_span, idle_words
 from .to_csv import csv_text, write_csv
 from .words import Line, Period, Process, line_names, line_words
 from .writing import write_files
 
 
-@command("check", "read everything and list every fault", FOLDER, ROUND_PRICES)
-def check(folder: Path, round_prices: bool) -> Answer:
+@command("check", "read everything and list every fault", FOLDERS, *READING, JOBS)
+def check(folders: List[Path], reading: Reading, jobs: int) -> Answer:
     """Reads everything; every fault is raised."""
-    case = opened(folder, round_prices)
-    case.priced_hours()  # price files too
+    return each(partial(_check, reading=reading), folders, jobs, as_counted)
+
+
+def _check(folder: Path, reading: Reading) -> Answer:
+    case = opened(folder, reading, terms=True)
+    periods = [hour.period for hour in judged_hours(case, reading)]  # price files too
     form = "CSV" if case.is_csv else "bin"
     text = f"{folder}: {counts_words(case)}; {form} files without a fault{rounded_words(case)}\n"
-    beside = notes(folder, case.is_csv)
+    beside, months = notes(folder, case.is_csv), coverage(case.times, periods)
     data: Dict[str, object] = {"folder": str(folder), "form": form, **counts(case)}
-    data.update(rounded_prices=case.rounded, notes=beside)
-    return Answer(PASSES, text + "".join(f"{note}\n" for note in beside), data)
+    data.update(coverage=objects(COVERAGE, coverage_rows(months)), **rounded_data(case), notes=beside)
+    return Answer(PASSES, text + coverage_words(months) + "".join(f"{note}\n" for note in beside), data)
 
 
 _BESIDE = "a folder; without it, the same folder"
@@ -74,23 +96,40 @@ _BESIDE = "a folder; without it, the same folder"
     "pack",
     "CSV files to grid.bin, book.bin, names.csv and price files",
     FOLDER,
-    ROUND_PRICES,
+    *READING,
     writes(_BESIDE),
     FORCE,
+    MEMORY,
 )
-def pack(folder: Path, out: Optional[Path], round_prices: bool, force: bool) -> Answer:
+def pack(folder: Path, out: Optional[Path], reading: Reading, force: bool, memory: int) -> Answer:
     """CSV files to bin files, read back and compared. Beside the CSV files, where no other folder is named,
     they replace those of before."""
     target = out or folder
     if not is_csv(folder):
         text = "packed already: grid.bin, and no CSV files; crr unpack makes CSV files of it"
         raise_any([Fault(str(folder), 0, "", text)])
-    case, rounded = load(folder, round_prices=round_prices)
-    written = write_packed(case, target, force or target.resolve() == folder.resolve())
+    case, _ = load(folder, True, memory=memory, **reading._asdict())
+    force = force or target.resolve() == folder.resolve()
+    if not case.fits:
+        return _packed_large(case, target, force)
+    written = write_packed(case, target, force)
     hours = f"{counted(len(case.hours), 'hour')} of prices"
     text = f"grid.bin, book.bin, names.csv and {hours} written and read back{rounded_words(case)}"
-    data: Dict[str, object] = {"out": str(target), "written": written, "rounded_prices": rounded}
+    data: Dict[str, object] = {"out": str(target), "written": written, **rounded_data(case)}
     return Answer(PASSES, f"{target}: {text}\n", data)
+
+
+def _packed_large(case: Case, target: Path, force: bool) -> Answer:
+    """A case that the library does not take whole, in a form of its own; prices are left out, and terms are a
+    fault."""
+    if case.terms:
+        text = "first or last days are not packed at this size: crr in-force writes the case of a day"
+        raise_any([Fault("book.csv", 0, "", text)])
+    written = write_dense(case, target, force)
+    text = f"larger than the library's sizes: {', '.join(written)} written and read back, for crr test"
+    left = f"; {counted(len(case.hours), 'hour')} of prices not packed: crr settle takes the CSV files"
+    data: Dict[str, object] = {"out": str(target), "written": written, "rounded_prices": 0}
+    return Answer(PASSES, f"{target}: {text}{left if case.hours else ''}\n", data)
 
 
 @command("unpack", "bin files to CSV files", FOLDER, writes(_BESIDE), FORCE)
@@ -115,6 +154,8 @@ def verdicts(
     case: Case, periods: Sequence[int] = tuple(Period), processes: Sequence[int] = tuple(Process)
 ) -> Dict[Line, Verdict]:
     """The test's answers by period and process."""
+    if not case.fits:
+        return judged(case, periods, processes)
     grid, book = case.grid, case.book_file()
     lines = [(period, process) for period in periods for process in processes]
     return {(period, process): test_book(grid, book, process, period) for period, process in lines}
@@ -122,8 +163,8 @@ def verdicts(
 
 def _verdict_rows(case: Case, answers: Dict[Line, Verdict]) -> List[Tuple[object, ...]]:
     """A row for each period and process, as VERDICTS heads them; the constraints as a list."""
-    grid, book, names = case.grid, case.book_file(), case.names.constraints
-    flows = {period: find_flows(grid, book, period).flows for period, _ in answers}
+    names = case.names.constraints
+    flows = {period: flows_of(case, period) for period, _ in answers}
     rows: List[Tuple[object, ...]] = []
     for (period, process), verdict in answers.items():
         line = line_names((period, process))
@@ -142,21 +183,61 @@ def _verdict_rows(case: Case, answers: Dict[Line, Verdict]) -> List[Tuple[object
 AT_WORST = ("EXPOSURE_LEAST", "EXPOSURE_MOST")  # beside the verdicts, for scripts
 
 
-@command("test", "the simultaneous feasibility test", FOLDER, ANY_PERIODS, ANY_PROCESSES)
-def test(folder: Path, periods: Sequence[int], processes: Sequence[int]) -> Answer:
+@command(
+    "test",
+    "the simultaneous feasibility test",
+    FOLDERS,
+    ANY_PERIODS,
+    ANY_PROCESSES,
+    ON,
+    *READING_BOOK,
+    JOBS,
+    MEMORY,
+)
+def test(
+    folders: List[Path],
+    periods: Sequence[int],
+    processes: Sequence[int],
+    on: Optional[str],
+    reading: Reading,
+    jobs: int,
+    memory: int,
+) -> Answer:
     """The simultaneous feasibility test; status 1 where the book fails in one of the periods and processes
     asked for."""
-    case = opened(folder, prices=False)
+    judge = partial(_test, periods=periods, processes=processes)
+    taken = _taken(reading, memory, jobs, folders)
+    return each(partial(_by_span, taken, on=on, judge=judge), folders, jobs, as_judged)
+
+
+Taken = Callable[[Path], Case]
+
+
+def _taken(reading: Reading, memory: int, jobs: int, folders: Sequence[Path]) -> Taken:
+    """How a folder is opened to be tested, at any size. Processes share folders or, of one folder, slices."""
+    shared = jobs if len(folders) == 1 else 1
+    return partial(
+        opened, reading=reading, any_size=True, prices=False, terms=True, memory=memory, jobs=shared
+    )
+
+
+def _by_span(taken: Taken, folder: Path, on: Optional[str], judge: Callable[[Case], Answer]) -> Answer:
+    """The verdicts on a folder's contracts in force."""
+    return by_span(taken(folder), on, judge, "verdicts")
+
+
+def _test(case: Case, periods: Sequence[int], processes: Sequence[int]) -> Answer:
     answers = verdicts(case, periods, processes)
     rows = _verdict_rows(case, answers)
     status = PASSES if all(verdict.passed for verdict in answers.values()) else FAILS
     text = csv_text(VERDICTS, ((*row[:-1], "; ".join(cast(List[str], row[-1]))) for row in rows))
-    found = exposures(case, answers)
+    found = exposures(case, answers) if case.fits else {}
+    at_worst = [exposure_figures(found[line]) if line in found else ("", "") for line in answers]
     data = [
-        dict(verdict, **objects(AT_WORST, [exposure_figures(exposure)])[0])
-        for verdict, exposure in zip(objects(VERDICTS, rows), found.values())
+        dict(verdict, **cost) for verdict, cost in zip(objects(VERDICTS, rows), objects(AT_WORST, at_worst))
     ]
-    return Answer(status, text, {"passed": status == PASSES, "verdicts": data}, worst_words(found))
+    note = worst_words(found) + large_words(case, status == PASSES)
+    return Answer(status, text, {"passed": status == PASSES, "verdicts": data}, note)
 
 
 CUTS = ("CRR_ID", "OWNER", "MW", "CUT_MW", "LEFT_MW")
@@ -166,12 +247,13 @@ CutRow = Tuple[str, str, str, str, str]
 def cut_rows(case: Case, answers: Dict[Line, Verdict]) -> Dict[Line, List[CutRow]]:
     """For each period and process in which the book fails, the contracts each of which clears it by a cut of
     its own, the smallest cut first."""
-    grid, book = case.grid, case.book_file()
-    failing = [line for line, verdict in answers.items() if not verdict.passed]
-    return {
-        (period, process): [_cut_row(case, cut) for cut in find_cuts(grid, book, process, period)]
-        for period, process in failing
-    }
+    failing = {line: verdict for line, verdict in answers.items() if not verdict.passed}
+    if not case.fits:
+        listed = {line: large_cuts(case, line, verdict) for line, verdict in failing.items()}
+    else:
+        grid, book = case.grid, case.book_file()
+        listed = {(period, process): find_cuts(grid, book, process, period) for period, process in failing}
+    return {line: [_cut_row(case, cut) for cut in cuts] for line, cuts in listed.items()}
 
 
 def _cut_row(case: Case, cut: Cut) -> CutRow:
@@ -184,14 +266,30 @@ def _cut_row(case: Case, cut: Cut) -> CutRow:
 @command(
     "cuts",
     "what clears a failing book: each contract whose quantity, lowered alone, lets it pass, and by how much",
-    FOLDER,
+    FOLDERS,
     ANY_PERIODS,
     ANY_PROCESSES,
+    ON,
+    *READING_BOOK,
+    JOBS,
+    MEMORY,
 )
-def cuts(folder: Path, periods: Sequence[int], processes: Sequence[int]) -> Answer:
+def cuts(
+    folders: List[Path],
+    periods: Sequence[int],
+    processes: Sequence[int],
+    on: Optional[str],
+    reading: Reading,
+    jobs: int,
+    memory: int,
+) -> Answer:
     """What clears a failing book; the status is the test's, since an empty list alone does not tell whether
     the book passes."""
-    case = opened(folder, prices=False)
+    judge = partial(_cuts, periods=periods, processes=processes)
+    return each(partial(_by_span, _taken(reading, memory, jobs, folders), on=on, judge=judge), folders, jobs)
+
+
+def _cuts(case: Case, periods: Sequence[int], processes: Sequence[int]) -> Answer:
     answers = verdicts(case, periods, processes)
     listed = cut_rows(case, answers)
     status = FAILS if listed else PASSES
@@ -223,62 +321,55 @@ def _cuts_words(names: Names, answers: Dict[Line, Verdict], listed: Dict[Line, L
     return "".join(said) + (f"{passing}: the book passes\n" if passing else "")
 
 
-def _jobs(text: str) -> int:
-    """How many processes: at least one."""
-    if not (text.isascii() and text.isdigit() and len(text) < 5 and int(text)):
-        raise argparse.ArgumentTypeError(f"{text!r} is no number of processes, from 1 to 9999")
-    return int(text)
-
-
 @command(
     "settle",
     "settle every hour: holder by month, hour by hour, contract by contract",
     FOLDER,
-    ROUND_PRICES,
+    *READING,
     RENT_PROCESS,
     writes("a folder for the result files"),
     FORCE,
-    argument(
-        "-j",
-        "--jobs",
-        type=_jobs,
-        default=1,
-        metavar="N",
-        help="how many processes, 1 to 9999; without it, 1",
-    ),
+    JOBS,
+    MEMORY,
 )
 def settle(
     folder: Path,
     out: Optional[Path],
     jobs: int,
-    round_prices: bool,
+    reading: Reading,
     process: Optional[int],
     force: bool,
+    memory: int,
 ) -> Answer:
     """Settles every hour; with `out` writes hours.csv, holders.csv and contracts.csv there, over those of
     before. With a process, each hour's rent and shortfall too, and months.csv."""
-    case = opened(folder, round_prices, any_size=True)
+    memory = 0 if jobs > 1 else memory  # processes read the factors from a file, each what it needs
+    case = opened(folder, reading, any_size=True, terms=True, memory=memory)
     if process is not None:  # hours are read once: what is settled is what the rent is of
         case = replace(case, hours=case.priced_hours())
     result = settled(case, jobs, Bar("settle"))
+    if not reading.as_given:
+        check_periods(case, [hour.period for hour in result.hours])
     costs = None if process is None else hour_costs(case, result.hours, process)
     text = _written(out, result_files(result, case.names, case.book, case.times, costs), force) if out else ""
-    sums = holder_months(result, case.book)
-    rows = [(case.names.holder(holder), month, dollars(cents)) for (holder, month), cents in sums.items()]
+    rows = holder_rows(result, case.names, case.book, case.times)
+    months = settled_months(result, case.times)
     total, exact = dollars(result.sum), exact_dollars(result.exact)
     hours = counted(len(result.hours), "hour")
-    note = f"{hours}: sum {total}, exact total {exact}{rounded_words(case)}\n"
+    note = f"{coverage_words(months)}{hours}: sum {total}, exact total {exact}"
+    note += f"{rounded_words(case)}{idle_words(case)}\n"
     data: Dict[str, object] = {
         "hours": len(result.hours),
         "sum": total,
         "exact_total": exact,
         "by_holder": objects(HOLDERS, rows),
         "by_hour": objects(hour_heading(costs), hour_rows(result, case.times, costs)),
-        "rounded_prices": case.rounded,
+        "coverage": objects(COVERAGE, coverage_rows(months)),
+        **rounded_data(case),
     }
     if costs:
         note += costs_words(costs, case.times)
-        data.update(cost_data(costs, case.times))
+        data.update(cost_data(costs, case.times, months))
     return Answer(PASSES, text or csv_text(HOLDERS, rows), data, note)
 
 

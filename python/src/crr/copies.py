@@ -10,13 +10,14 @@ import hashlib
 from pathlib import Path
 from typing import Dict, List, NamedTuple, Optional, Sequence, Tuple
 
-from .case import Case
+from .case import Case, Term
 from .command import FAILS, FOLDER, FORCE, PASSES, Answer, a_path, argument, command, counted, objects, writes
 from .decimals import decimal
 from .faults import Fault, Faults, raise_any
 from .files import Contract, read_book, write_book, write_canonical_book
 from .interface import HOLDER, QUANTITY, WIDE
 from .opening import opened, write_beside
+from .reading import READING_BOOK, Reading
 from .to_csv import csv_text
 from .words import HEDGE_TYPES, TIMES_OF_USE
 
@@ -52,12 +53,13 @@ class Numbers(NamedTuple):
     "the canonical form of a book: sorted, equal contracts added together; "
     "one for all copies with rows shuffled or split",
     FOLDER,
+    *READING_BOOK,
     writes("a file for the canonical book, as the library reads it"),
     FORCE,
 )
-def canonical(folder: Path, out: Optional[Path], force: bool) -> Answer:
+def canonical(folder: Path, reading: Reading, out: Optional[Path], force: bool) -> Answer:
     """The canonical form of a folder's book as a table; with `out` as the library's file."""
-    case = opened(folder, prices=False)
+    case = opened(folder, reading, prices=False)
     names, nodes = case.names, len(case.names.nodes)
     form = write_canonical_book(nodes, case.book_file())
     book = read_book(nodes, form)
@@ -73,9 +75,14 @@ def canonical(folder: Path, out: Optional[Path], force: bool) -> Answer:
 
 
 def _named(case: Case) -> List[Tuple[str, str, str]]:
-    """Holder, source and sink of each contract by name."""
-    names = case.names
-    return [(names.holder(row.holder), names.nodes[row.source], names.nodes[row.sink]) for row in case.book]
+    """Holder, source and sink of each contract by name. A holder's contracts of another term count as those
+    of another holder, who is called by the term too."""
+    names, terms = case.names, case.terms or [Term()] * len(case.book)
+    owners = [
+        names.holder(row.holder) + (f" {term.words}" if any(term) else "")
+        for row, term in zip(case.book, terms)
+    ]
+    return [(owner, names.nodes[row.source], names.nodes[row.sink]) for owner, row in zip(owners, case.book)]
 
 
 def _common(cases: Sequence[Case]) -> Numbers:
@@ -126,20 +133,15 @@ def _differences(books: Sequence[List[Contract]], numbers: Numbers) -> List[Tupl
     ]
 
 
-def _placed(fault: Fault, folder: Path) -> Fault:
-    """A fault named with its folder."""
-    return fault if fault.file == str(folder) else fault._replace(file=str(folder / fault.file))
-
-
-def _both(folders: Sequence[Path]) -> List[Case]:
+def _both(folders: Sequence[Path], reading: Reading) -> List[Case]:
     """The cases of two folders; the faults of either are named with their folder."""
     cases: List[Case] = []
     faults: List[Fault] = []
     for folder in folders:
         try:
-            cases.append(opened(folder, prices=False))
+            cases.append(opened(folder, reading, prices=False, terms=True))
         except Faults as problem:
-            faults += [_placed(fault, folder) for fault in problem.faults]
+            faults += [fault.within(folder) for fault in problem.faults]
     raise_any(faults)
     return cases
 
@@ -149,10 +151,11 @@ def _both(folders: Sequence[Path]) -> List[Case]:
     "whether two folders have the same book, rows shuffled or split or not, and the totals that differ",
     argument("first", type=a_path, metavar="FOLDER", help=FOLDER.settings["help"]),
     argument("second", type=a_path, metavar="FOLDER", help="another such folder"),
+    *READING_BOOK,
 )
-def same(first: Path, second: Path) -> Answer:
+def same(first: Path, second: Path, reading: Reading) -> Answer:
     """Whether two folders have the same book; status 1 where they have not, with every total that differs."""
-    cases = _both((first, second))
+    cases = _both((first, second), reading)
     numbers = _common(cases)
     books = [_renumbered(case, numbers) for case in cases]
     equal = _equal(books, numbers)

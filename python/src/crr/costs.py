@@ -12,6 +12,7 @@ from .exposure import ExactCents, Shortfall, find_shortfall
 from .files import Grid, write_book
 from .interface import PART_PLACES
 from .settlement import HourTotal
+from .terms import in_order, parts
 
 
 class Costs(NamedTuple):
@@ -49,7 +50,12 @@ class Costs(NamedTuple):
 
 
 def hour_costs(case: Case, totals: Sequence[HourTotal], process: int) -> Costs:
-    """What each hour of a case costs in a process; the totals are those that it was settled to."""
+    """What each hour of a case costs in a process, over the contracts in force on its day; the totals are
+    those that it was settled to."""
+    if case.terms:
+        of_parts = parts(case)
+        each = [hour_costs(part.case, [totals[at] for at in part.hours], process) for part in of_parts]
+        return Costs(process, in_order(of_parts, [costs.hours for costs in each]))
     hours = case.priced_hours()
     if not case.fits:
         return Costs(process, [_sliced(case, process, *hour) for hour in zip(hours, totals)])

@@ -1,5 +1,5 @@
-"""The calendar of on-peak hours: the hours of a month, the weekday of a date, the date one month later. Years
-2010 to 2037."""
+"""The calendar of on-peak hours: the hours of a month, the period of an hour, the weekday of a date, the date
+one month later. Years 2010 to 2037."""
 
 from __future__ import annotations
 
@@ -10,8 +10,10 @@ from math import gcd
 
 from .interface import FIRST_YEAR, LAST_YEAR
 from .native import Entry
+from .words import Period
 
 _month_hours = Entry("crr_month_hours")
+_hour_period = Entry("crr_hour_period")
 _weekday = Entry("crr_weekday")
 _month_later = Entry("crr_month_later")
 
@@ -21,6 +23,14 @@ def month_hours(year: int, month: int) -> int:
     hours = c_uint64()
     _month_hours(year, month, hours)
     return hours.value
+
+
+def hour_period(year: int, month: int, day: int, hour_ending: int) -> Period:
+    """The period of an hour, by the on-peak rule. Hours ending are 1 to 24, and 25 for the hour that comes
+    twice on the day whose clock is set back."""
+    period = c_uint64()
+    _hour_period(year, month, day, hour_ending, period)
+    return Period(period.value)
 
 
 @lru_cache(maxsize=None)

@@ -42,6 +42,12 @@ def _why_not(text: str, places: int) -> str:
     return f"{brief(text)!r} is not a decimal number"
 
 
+def nearest(over: int, under: int) -> int:
+    """A quotient to the nearest whole number, a half away from zero, as everything here is rounded."""
+    size = (2 * abs(over) + under) // (2 * under)
+    return -size if over < 0 else size
+
+
 @lru_cache(maxsize=65536)
 def decimal(number: int, places: int) -> str:
     """12500 with 3 places is '12.500'."""

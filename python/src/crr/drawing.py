@@ -7,7 +7,7 @@ from __future__ import annotations
 
 from html import escape
 
-from .decimals import decimal
+from .decimals import decimal, nearest
 from .interface import FLOW_PLACES, LIMIT
 
 _LIMIT_IN_FLOWS = 10 ** (FLOW_PLACES - LIMIT.places)
@@ -32,15 +32,9 @@ def exact_money(amount: str) -> str:
     return f"{size}.{parts.rstrip('0').ljust(2, '0')}"
 
 
-def _nearest(over: int, under: int) -> int:
-    """A quotient to the nearest whole number, a half away from zero."""
-    size = (2 * abs(over) + under) // (2 * under)
-    return -size if over < 0 else size
-
-
 def megawatts(flow: int) -> str:
     """A flow in MW to three decimals, a half away from zero."""
-    return grouped(decimal(_nearest(flow, 10 ** (FLOW_PLACES - 3)), 3))
+    return grouped(decimal(nearest(flow, 10 ** (FLOW_PLACES - 3)), 3))
 
 
 def exact_megawatts(flow: int) -> str:
@@ -55,7 +49,7 @@ def limit_words(limit: int) -> str:
 
 def share(flow: int, limit: int) -> str:
     """A flow as a share of a limit, in percent to one decimal, a half away from zero; never -0.0."""
-    return f"{grouped(decimal(_nearest(1000 * flow, limit * _LIMIT_IN_FLOWS), 1))}%"
+    return f"{grouped(decimal(nearest(1000 * flow, limit * _LIMIT_IN_FLOWS), 1))}%"
 
 
 def row(name: str, picture: str, figure: str, *more: str) -> str:

@@ -51,11 +51,21 @@ class Exposure(NamedTuple):
 def find_shortfall(grid: Grid, book: Bytes, process: int, period: int, prices: Cells) -> Shortfall:
     """Net payment, rent and shortfall of an hour at these prices. Above 0 at no list where the book passes
     the test."""
-    figures = [(c_int64(), c_uint64()) for _ in Shortfall._fields]
-    lent = [cell for figure in figures for cell in figure]
+    payment, rent, shortfall = [(c_int64(), c_uint64()) for _ in Shortfall._fields]
     _find_shortfall(
-        grid.nodes, grid.constraints, process, period, grid.limits, grid.factors, prices, book, *lent
+        grid.nodes,
+        grid.constraints,
+        process,
+        period,
+        grid.limits,
+        grid.factors,
+        prices,
+        book,
+        *payment,
+        *rent,
+        *shortfall,
     )
+    figures = (payment, rent, shortfall)
     return Shortfall(*(ExactCents(whole.value, parts.value) for whole, parts in figures))
 
 

@@ -27,6 +27,7 @@ from .faults import Fault, raise_any
 from .interface import SHADOW_PRICE
 from .opening import opened
 from .packed import only_hour_name, write_packed
+from .reading import READING_BOOK, Reading
 from .results import exact_dollars
 from .to_csv import csv_files, csv_text
 from .words import Line, line_names, line_words
@@ -112,7 +113,7 @@ def _write(case: Case, found: Mapping[Line, Exposure], out: Path, force: bool) -
         text = "-o writes the prices of one hour: choose one with --period and --process"
         raise_any([Fault("", 0, "", text)])
     [((period, _), of_line)] = found.items()
-    priced = replace(case, hours=[PricedHour("", 0, period, of_line.prices)])
+    priced = replace(case, hours=[PricedHour("", 0, period, of_line.prices)], terms=[])  # of no day
     files = {name: text.encode() for name, text in csv_files(priced, only_hour_name(priced)).items()}
     return write_packed(priced, out, force, files)
 
@@ -123,14 +124,20 @@ def _write(case: Case, found: Mapping[Line, Exposure], out: Path, force: bool) -
     FOLDER,
     ANY_PERIODS,
     ANY_PROCESSES,
+    *READING_BOOK,
     writes("a folder for the case with these prices, as CSV and bin files; of one period and process"),
     FORCE,
 )
 def exposure(
-    folder: Path, periods: Sequence[int], processes: Sequence[int], out: Optional[Path], force: bool
+    folder: Path,
+    periods: Sequence[int],
+    processes: Sequence[int],
+    reading: Reading,
+    out: Optional[Path],
+    force: bool,
 ) -> Answer:
     """What the book can cost; the status is the test's, since it costs nothing exactly where it passes."""
-    case = opened(folder, prices=False)
+    case = opened(folder, reading, prices=False)
     names = case.names.constraints
     found = exposures(case, [(period, process) for period in periods for process in processes])
     passed = all(not of_line.most.exact for of_line in found.values())

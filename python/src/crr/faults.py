@@ -3,7 +3,10 @@
 from __future__ import annotations
 
 import re
+from pathlib import Path
 from typing import Dict, List, NamedTuple, Sequence, Tuple, Type
+
+from .native import Refused
 
 
 class Fault(NamedTuple):
@@ -20,6 +23,15 @@ class Fault(NamedTuple):
     def place(self) -> str:
         """file:line:column, as far as it has them."""
         return f"{self.file}:{self.line}:{self.column}" if self.line else self.file
+
+    def within(self, folder: Path) -> Fault:
+        """The fault named with its folder."""
+        return self if self.file == str(folder) else self._replace(file=str(folder / self.file))
+
+    @property
+    def object(self) -> Dict[str, object]:
+        """The fault for a script: null where it has no file, line, column or refusal."""
+        return {name: value or None for name, value in self._asdict().items()}
 
     def __str__(self) -> str:
         refusal = f" (refusal {self.refusal})" if self.refusal else ""
@@ -66,6 +78,24 @@ def raise_any(faults: Sequence[Fault]) -> None:
     """Raises the faults, if there are any."""
     if faults:
         raise Faults(faults)
+
+
+def faults_of(problem: Exception) -> List[Fault]:
+    """What a problem of any kind says, as faults."""
+    if isinstance(problem, Faults):
+        return problem.faults
+    if isinstance(problem, Refused):
+        return [Fault(problem.file, 0, "", problem.meaning, problem.number)]
+    if isinstance(problem, OSError) and problem.strerror and problem.filename is not None:
+        return [Fault(str(problem.filename), 0, "", problem.strerror)]
+    return [Fault("", 0, "", str(problem))]
+
+
+def must_agree(what: str, here: object, library: object) -> None:
+    """Raises a fault where a figure that was worked out here is not the library's."""
+    if here != library:
+        text = f"{what}: {here} worked out here, {library} by the library; please tell its authors"
+        raise Faults([Fault("", 0, "", text)])
 
 
 def brief(text: str, most: int = 60) -> str:

@@ -9,10 +9,12 @@ from typing import List, NamedTuple, Optional, Sequence, Tuple
 
 from .files import Grid
 from .interface import FLOW_PLACES, LIMIT, MAX_CONTRACTS
-from .native import Bytes, Entry, Lent, zeros
+from .native import Bytes, Cells, Entry, Lent, zeros
 
 _test_book = Entry("crr_test_book")
 _find_flows = Entry("crr_find_flows")
+_add_flows = Entry("crr_add_flows")
+_judge_flows = Entry("crr_judge_flows")
 _find_cuts = Entry("crr_find_cuts")
 _released_percent = Entry("crr_released_percent")
 
@@ -53,6 +55,13 @@ class Flows(NamedTuple):
     counted: int
 
 
+class Added(NamedTuple):
+    """How many contracts running totals are of, and how many of them were added."""
+
+    summed: int
+    counted: int
+
+
 class Cut(NamedTuple):
     """A contract by its number in the book, and the least by which its quantity, lowered alone, lets a
     failing book pass, in thousandths of a MW."""
@@ -76,6 +85,25 @@ def find_flows(grid: Grid, book: Bytes, period: int) -> Flows:
         grid.nodes, grid.constraints, period, grid.limits, grid.factors, book, Lent(flows, "q", True), counted
     )
     return Flows(list(flows), counted.value)
+
+
+def add_flows(grid: Grid, book: Bytes, period: int, flows: Cells, summed: int = 0) -> Added:
+    """Adds a book's flows of a period to running totals: `flows` are cells of 64 bits with their sign, as
+    array('q') and numpy's int64 have them, one for each constraint, and `summed` says of how many contracts
+    they are so far. Refused, they stay as they were."""
+    count, counted = c_uint64(summed), c_uint64()
+    tables = (grid.nodes, grid.constraints, period, grid.limits, grid.factors, book)
+    _add_flows(*tables, Lent(flows, "q", True, "flows"), count, counted)
+    return Added(count.value, counted.value)
+
+
+def judge_flows(grid: Grid, process: int, flows: Cells, summed: int) -> Verdict:
+    """The test's answer on running totals of so many contracts, on the limits of a grid; its nodes and
+    factors play no part."""
+    overloaded, count, lowest, excess = c_uint64(), c_uint64(), c_uint64(), c_int64()
+    figures = (overloaded, count, lowest, excess)
+    _judge_flows(grid.constraints, process, grid.limits, flows, summed, *figures)
+    return Verdict(overloaded.value, count.value, lowest.value, excess.value)
 
 
 def find_cuts(grid: Grid, book: Bytes, process: int, period: int) -> List[Cut]:

@@ -150,7 +150,8 @@ def _zsh_argument(each: Argument) -> str:
     )
     text = _zsh_text(settings.get("help", ""))
     if not each.names[0].startswith("-"):
-        return f"'{':' if settings.get('nargs') == '?' else ''}:{_zsh_text(settings['metavar'])}:{kind}'"
+        many = {"?": ":", "+": "*"}.get(settings.get("nargs", ""), "")
+        return f"'{many}:{_zsh_text(settings['metavar'])}:{kind}'"
     value = (
         ""
         if settings.get("action") == "store_true"
@@ -226,7 +227,8 @@ def _synopsis(each: Argument) -> str:
     """An argument in a usage line."""
     metavar = each.settings.get("metavar", "")
     if not each.names[0].startswith("-"):
-        return f"[{metavar}]" if each.settings.get("nargs") == "?" else str(metavar)
+        many = {"?": f"[{metavar}]", "+": f"{metavar} .."}
+        return many.get(each.settings.get("nargs", ""), str(metavar))
     text = each.names[0] if each.settings.get("action") == "store_true" else f"{each.names[0]} {metavar}"
     return text if each.settings.get("required") else f"[{text}]"
 

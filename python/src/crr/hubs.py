@@ -2,18 +2,20 @@
 
 from __future__ import annotations
 
+from dataclasses import replace
 from pathlib import Path
 from typing import Dict, List, Sequence
 
 from .book_csv import BOOK, Award
-from .case import NARROW_ENDS, Case, Names
-from .command import FOLDER, FORCE, PASSES, ROUND_PRICES, Answer, command, counted, objects, reads, writes
+from .case import NARROW_ENDS, Case, Names, Term
+from .command import FOLDER, FORCE, PASSES, Answer, command, counted, objects, reads, writes
 from .faults import Fault, raise_any
 from .files import add_hub_contract, read_book, write_book
 from .hubs_csv import Hub, read_hub_contracts, read_hubs
 from .interface import WIDE
 from .native import Refused
-from .opening import opened, owner_numbers, rounded_words, write_like
+from .opening import judged_hours, opened, owner_numbers, rounded_data, rounded_words, write_like
+from .reading import HANDING_ON, READING, Reading
 from .results import mcc_dollars
 from .settlement import find_hub_mcc
 from .sheet import Sheet
@@ -25,15 +27,15 @@ HUB_MCC = ("OPR_DT", "OPR_HR", "TIME_OF_USE", "HUB", "MCC")
 
 
 @command(
-    "hub-mcc", "the marginal cost of congestion of trading hubs, hour by hour", FOLDER, ROUND_PRICES, HUBS
+    "hub-mcc", "the marginal cost of congestion of trading hubs, hour by hour", FOLDER, *READING, HUBS
 )
-def hub_mcc(folder: Path, hubs: Path, round_prices: bool) -> Answer:
+def hub_mcc(folder: Path, hubs: Path, reading: Reading) -> Answer:
     """The MCC of each hub of a file in each hour."""
-    case = opened(folder, round_prices)
+    case = opened(folder, reading, terms=True)
     faults: List[Fault] = []
     of_file = read_hubs(hubs, case.names.nodes, faults)
     raise_any(faults)
-    grid, hours = case.grid, case.priced_hours()
+    grid, hours = case.grid, judged_hours(case, reading)
     rows = [
         (
             *(hour.day, hour.hour or "", TIMES_OF_USE[hour.period], name),
@@ -43,7 +45,7 @@ def hub_mcc(folder: Path, hubs: Path, round_prices: bool) -> Answer:
         for name, hub in of_file.items()
     ]
     note = f"{counted(len(of_file), 'hub')}, {counted(len(hours), 'hour')}{rounded_words(case)}\n"
-    data: Dict[str, object] = {"mcc": objects(HUB_MCC, rows), "rounded_prices": case.rounded}
+    data: Dict[str, object] = {"mcc": objects(HUB_MCC, rows), **rounded_data(case)}
     return Answer(PASSES, csv_text(HUB_MCC, rows), data, note)
 
 
@@ -55,17 +57,18 @@ def _book_for(case: Case, rows: Sequence[Award], hubs: Sequence[Hub]) -> bytes:
 
 def _grown(case: Case, sheet: Sheet, rows: Sequence[Award], hubs: Sequence[Hub]) -> Case:
     """The case with every row's contracts behind those of the book. A contract is called by its row's name
-    and its node's."""
+    and its node's, and has its row's term."""
     names, owners = case.names, owner_numbers(case, sheet, [(row.line, row.owner) for row in rows])
     raise_any(sheet.faults)
     book, nodes = _book_for(case, rows, hubs), len(names.nodes)
     ids, taken = list(names.contracts), set(names.contracts)
+    terms = case.terms or [Term()] * len(case.book)
     for row in rows:
         kind, period, _, place, sink, quantity = row.contract
         hub = hubs[place]
         try:
-            terms = (kind, period, owners[row.owner], hub.nodes, hub.weights, sink, quantity)
-            book = add_hub_contract(nodes, book, *terms)
+            given = (kind, period, owners[row.owner], hub.nodes, hub.weights, sink, quantity)
+            book = add_hub_contract(nodes, book, *given)
         except Refused as refused:  # for too many contracts: all else was looked at
             sheet.fault(row.line, "CRR_ID", refused.meaning, refused.number)
             break
@@ -75,28 +78,30 @@ def _grown(case: Case, sheet: Sheet, rows: Sequence[Award], hubs: Sequence[Hub])
             sheet.fault(row.line, "CRR_ID", f"{crr_id} occurs twice")
         ids += new
         taken.update(new)
+        terms = terms + [row.term] * len(new)
     raise_any(sheet.faults)
     holders = {**names.holders, **{number: name for name, number in owners.items() if name != str(number)}}
-    return case.with_book(book, Names(names.nodes, names.constraints, ids, holders))
+    grown = case.with_book(book, Names(names.nodes, names.constraints, ids, holders))
+    return replace(grown, terms=terms if any(map(any, terms)) else [])
 
 
 @command(
     "hub-add",
     "add contracts from trading hubs to the book, as contracts from their nodes",
     FOLDER,
-    ROUND_PRICES,
+    *HANDING_ON,
     HUBS,
     reads("contracts", "a CSV file like book.csv, with hubs for sources"),
     writes("a folder", required=True),
     FORCE,
 )
-def hub_add(folder: Path, hubs: Path, contracts: Path, out: Path, round_prices: bool, force: bool) -> Answer:
+def hub_add(folder: Path, hubs: Path, contracts: Path, out: Path, reading: Reading, force: bool) -> Answer:
     """Adds contracts from hubs to a book, as contracts from their nodes, and writes the whole case to another
     folder in the form that it had."""
-    case = opened(folder, round_prices)
+    case = opened(folder, reading.handed_on, terms=True)
     faults: List[Fault] = []
     of_file = read_hubs(hubs, case.names.nodes, faults)
-    sheet, rows = read_hub_contracts(contracts, of_file, case.names.nodes, faults)
+    sheet, rows = read_hub_contracts(contracts, of_file, case.names.nodes, faults, reading.dates)
     raise_any(faults)
     grown = _grown(case, sheet, rows, list(of_file.values()))
     write_like(grown, out, force)

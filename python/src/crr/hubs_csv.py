@@ -5,7 +5,8 @@ from __future__ import annotations
 from pathlib import Path
 from typing import Dict, List, NamedTuple, Sequence, Tuple
 
-from .book_csv import BOOK, Award, node_number, read_awards
+from .book_csv import BOOK, TERM, Award, node_number, read_awards
+from .days import ORDERS
 from .decimals import decimal
 from .faults import Fault
 from .interface import HUB_WEIGHT, MAX_HUB_NODES, WEIGHT
@@ -56,10 +57,10 @@ def _read_hub_node(sheet: Sheet, line: int, name: str, numbers: Dict[str, int], 
 
 
 def read_hub_contracts(
-    path: Path, hubs: Dict[str, Hub], nodes: Sequence[str], faults: List[Fault]
+    path: Path, hubs: Dict[str, Hub], nodes: Sequence[str], faults: List[Fault], dates: str = ORDERS[0]
 ) -> Tuple[Sheet, List[Award]]:
     """The contracts of a file with the columns of book.csv, whose sources are hubs, by their place among
     these; and the sheet, for faults that are found later."""
-    sheet = Sheet(path, BOOK, faults)
+    sheet = Sheet(path, BOOK, faults, may=TERM)
     numbers, places = ({name: number for number, name in enumerate(names)} for names in (nodes, hubs))
-    return sheet, read_awards(sheet, numbers, hubs=places)
+    return sheet, read_awards(sheet, numbers, hubs=places, dates=dates)

@@ -21,6 +21,7 @@ MAX_NODES = 4000
 MAX_NARROW_NODES = 200
 MAX_CONSTRAINTS = 64
 MAX_CONTRACTS = 1000
+MAX_SUMMED = 20000000
 MAX_COORDINATORS = 256
 MAX_HUB_NODES = 32
 MAX_LSES = 16
@@ -153,6 +154,12 @@ DECLARATIONS: Dict[str, str] = {
     "crr_find_flows": "size_t nodes, size_t constraints, uint64_t period, const uint64_t *limits, "
     "size_t limits_len, const int64_t *factors, size_t factors_len, const uint8_t *book, size_t book_len, "
     "int64_t *flows, size_t flows_len, size_t *counted",
+    "crr_add_flows": "size_t nodes, size_t constraints, uint64_t period, const uint64_t *limits, "
+    "size_t limits_len, const int64_t *factors, size_t factors_len, const uint8_t *book, size_t book_len, "
+    "int64_t *flows, size_t flows_len, size_t *count, size_t *counted",
+    "crr_judge_flows": "size_t constraints, uint64_t process, const uint64_t *limits, size_t limits_len, "
+    "const int64_t *flows, size_t flows_len, size_t summed, uint64_t *set, size_t *count, size_t *lowest, "
+    "int64_t *excess",
     "crr_find_cuts": "size_t nodes, size_t constraints, uint64_t process, uint64_t period, "
     "const uint64_t *limits, size_t limits_len, const int64_t *factors, size_t factors_len, "
     "const uint8_t *book, size_t book_len, uint64_t *numbers, size_t numbers_len, uint64_t *cuts, "
@@ -203,6 +210,7 @@ DECLARATIONS: Dict[str, str] = {
     "size_t book_file_len, const uint8_t *price_file, size_t price_file_len, uint8_t *text, size_t text_len, "
     "size_t *bytes",
     "crr_month_hours": "uint64_t year, uint64_t month, uint64_t *hours",
+    "crr_hour_period": "uint64_t year, uint64_t month, uint64_t day, uint64_t hour_ending, uint64_t *period",
     "crr_weekday": "uint64_t year, uint64_t month, uint64_t day, uint64_t *weekday",
     "crr_month_later": "uint64_t year, uint64_t month, uint64_t day, uint64_t *later_year, "
     "uint64_t *later_month, uint64_t *later_day",

@@ -8,7 +8,7 @@ from typing import Dict, List, Optional, Tuple
 
 from .book_csv import BOOK
 from .case import Case, Names
-from .command import FOLDER, FORCE, PASSES, PERIOD, ROUND_PRICES, Answer, command, objects, reads, writes
+from .command import FOLDER, FORCE, PASSES, PERIOD, Answer, command, objects, reads, writes
 from .decimals import decimal
 from .faults import Fault, raise_any
 from .files import Contract, read_book, write_book
@@ -17,6 +17,7 @@ from .migration import migrate_load
 from .migration_csv import Migration, read_migration
 from .names_csv import read_names
 from .opening import opened, write_like
+from .reading import HANDING_ON, Reading
 from .to_csv import book_row, csv_text
 from .words import Period
 
@@ -78,7 +79,7 @@ def _migrated(case: Case, period: Period, migration: Migration) -> Case:
     "migrate",
     "the transfer of contracts between load-serving entities whose customers moved, for one period",
     FOLDER,
-    ROUND_PRICES,
+    *HANDING_ON,
     reads("rows", "a CSV file CUSTOMER_CLASS,CUSTOMERS,MW_PER_CUSTOMER,OLD_LSE,NEW_LSE"),
     reads("loads", "a CSV file LSE,LOAD_MW"),
     PERIOD.with_help("whose rates and loads these are"),
@@ -91,12 +92,12 @@ def migrate(
     rows: Path,
     loads: Path,
     out: Optional[Path],
-    round_prices: bool,
+    reading: Reading,
     force: bool,
 ) -> Answer:
     """Migrates load in a book for one period: the nets, and the contracts that are added; with `out` the
     whole case is written there in the form that it had."""
-    case = opened(folder, round_prices)
+    case = opened(folder, reading.handed_on)
     faults: List[Fault] = []
     migration = read_migration(rows, loads, _holders(folder, case.names), faults)
     raise_any(faults)

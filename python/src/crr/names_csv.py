@@ -1,7 +1,8 @@
 """names.csv: the names of what the bin files number. `pack` writes it beside them; `unpack` reads it and
 hands it on, since holders keep their numbers by it.
 
-TABLE is node, constraint, contract, holder, hour or form; the one row of an hour tells the day and hour
+TABLE is node, constraint, contract, holder, start, end, hour or form; start and end are the first and the
+last day on which a contract is in force, by its number; the one row of an hour tells the day and hour
 ending of prices.bin, as 2026-07-01 HE08, and form 0 and 1 whether grid.bin and book.bin are narrow or wide
 (none: narrow where they can be).
 """
@@ -11,7 +12,8 @@ from __future__ import annotations
 from pathlib import Path
 from typing import Dict, List, Sequence, Tuple
 
-from .case import FORMS, Names, plain_number
+from .case import FORMS, Names, Term, plain_number
+from .days import is_date
 from .faults import Fault
 from .inputs import Inputs
 from .interface import HOLDER
@@ -19,12 +21,14 @@ from .sheet import Sheet, is_there
 
 Tables = Dict[str, Dict[int, str]]
 HEADING = ("TABLE", "NUMBER", "NAME")
+_TERM = ("start", "end")
 
 
 def read_names(folder: Path, faults: List[Fault], inputs: Inputs = None) -> Tables:
     """Names by table and number; none where the folder has no names.csv. What was read is noted in
     `inputs`."""
-    tables: Tables = {table: {} for table in ("node", "constraint", "contract", "holder", "hour", "form")}
+    kinds = ("node", "constraint", "contract", "holder", *_TERM, "hour", "form")
+    tables: Tables = {table: {} for table in kinds}
     path = folder / "names.csv"
     if not is_there(path):
         return tables
@@ -43,12 +47,14 @@ def read_names(folder: Path, faults: List[Fault], inputs: Inputs = None) -> Tabl
             sheet.fault(line, "NUMBER", f"holder {number} is above {HOLDER.high}", HOLDER.refusal)
         elif int(number) in tables[table]:
             sheet.fault(line, "NUMBER", f"{table} {number} occurs twice")
-        elif (table, name) in taken and table != "form":
+        elif (table, name) in taken and table not in ("form", *_TERM):
             sheet.fault(line, "NAME", f"{table} {name} occurs twice")
         elif table == "holder" and plain_number(name) not in (None, int(number)):
             sheet.fault(line, "NAME", f"{name} stands for holder {name}, not {number}")
         elif table == "form" and (int(number) > 1 or name not in FORMS):
             sheet.fault(line, "NAME", "form 0, the grid's, and 1, the book's, are narrow or wide")
+        elif table in _TERM and not is_date(name):
+            sheet.fault(line, "NAME", f"{name!r} is not a day, YYYY-MM-DD")
         elif sheet.name_in(line, "NAME", name):
             tables[table][int(number)] = name
             taken.add((table, name))
@@ -63,6 +69,28 @@ def name_rows(names: Names, hour: str, forms: Sequence[int]) -> List[Tuple[str, 
     rows += [("holder", number, name) for number, name in sorted(names.holders.items())]
     rows += [("form", number, FORMS[form]) for number, form in enumerate(forms) if form]
     return rows + ([("hour", 0, hour)] if hour else [])
+
+
+def term_rows(terms: Sequence[Term]) -> List[Tuple[str, int, str]]:
+    """The rows of names.csv that keep the contracts' terms, which book.bin has no room for."""
+    days = [(table, number, day) for number, term in enumerate(terms) for table, day in zip(_TERM, term)]
+    return [row for row in days if row[2]]
+
+
+def terms_of(tables: Tables, contracts: int, faults: List[Fault]) -> List[Term]:
+    """The terms of so many contracts; none where no day is told."""
+    starts, ends = (tables[table] for table in _TERM)
+    beyond = [number for number in (*starts, *ends) if number >= contracts]
+    wrong = [number for number in starts if ends.get(number, starts[number]) < starts[number]]
+    if beyond:
+        text = f"contract {min(beyond)} has a day, and book.bin has {contracts} of them"
+        faults.append(Fault("names.csv", 0, "", text))
+    if wrong:
+        text = f"contract {min(wrong)} ends on {ends[min(wrong)]} and begins on {starts[min(wrong)]}"
+        faults.append(Fault("names.csv", 0, "", text))
+    if not starts and not ends:
+        return []
+    return [Term(starts.get(number, ""), ends.get(number, "")) for number in range(contracts)]
 
 
 def names_of(tables: Tables, nodes: int, constraints: int, contracts: int, faults: List[Fault]) -> Names:

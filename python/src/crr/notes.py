@@ -7,15 +7,16 @@ import os
 from pathlib import Path
 from typing import Dict, List, Tuple
 
-from .book_csv import BOOK
+from .book_csv import BOOK, TERM
 from .from_csv import CONSTRAINTS, PRICES
 from .names_csv import HEADING
 from .packed import price_file_names
 from .sheet import Sheet, alike
+from .words import WEEKDAYS
 
 _CSV: Dict[str, Tuple[str, ...]] = {
     "constraints.csv": CONSTRAINTS,
-    "book.csv": BOOK,
+    "book.csv": (*BOOK, *TERM),
     "prices.csv": PRICES,
     "names.csv": HEADING,
 }
@@ -29,6 +30,17 @@ def unused_columns(folder: Path) -> Dict[str, List[str]]:
         if (folder / name).exists()
     }
     return {name: columns for name, columns in unused.items() if columns}
+
+
+def weekday_words(folder: Path) -> Dict[str, List[str]]:
+    """By file, the words for peak hours of weekdays, which are read as those of the on-peak rule."""
+    found: Dict[str, List[str]] = {}
+    for name in ("book.csv", "prices.csv"):
+        sheet = Sheet(folder / name, ("TIME_OF_USE",), [], name=name)
+        at = sheet.at.get("TIME_OF_USE")
+        words = {row[at] for _, row in sheet.rows()} if at is not None else set()
+        found[name] = sorted(word for word in words if word.upper() in WEEKDAYS)
+    return {name: words for name, words in found.items() if words}
 
 
 def unread_files(folder: Path, is_csv: bool) -> Dict[str, str]:
@@ -66,6 +78,10 @@ def notes(folder: Path, is_csv: bool) -> List[str]:
     if is_csv:
         sentences += [
             f"{name}: not used: {', '.join(columns)}" for name, columns in unused_columns(folder).items()
+        ]
+        sentences += [
+            f"{name}: {', '.join(words)}: read as ON, hours ending 7 to 22, Monday to Saturday"
+            for name, words in weekday_words(folder).items()
         ]
         sentences += [
             f"{packed}: older than {source}; crr pack renews it"

@@ -10,14 +10,15 @@ from dataclasses import replace
 from pathlib import Path
 from typing import Callable, Dict, List, Mapping, NamedTuple, Tuple, Union, cast
 
-from .case import HOUR_FILE, Case, hour_name
+from .case import HOUR_FILE, Case, hour_name, short_name
+from .clock import last_missing, no_such_hour
+from .days import is_date
 from .faults import Fault, Faults, raise_any
 from .files import Contract, Grid, read_book, read_book_form, read_grid
-from .from_csv import is_date
 from .hours import PriceFile
 from .inputs import Input, note
 from .interface import MAX_BOOK_BYTES, MAX_GRID_BYTES
-from .names_csv import HEADING, name_rows, names_of, read_names
+from .names_csv import HEADING, name_rows, names_of, read_names, term_rows, terms_of
 from .native import Refused
 from .sheet import alike, unread
 from .to_csv import csv_text
@@ -62,7 +63,7 @@ def bin_files(case: Case) -> Dict[str, bytes]:
     for hour, _ in case.read_hours():
         files[_bin_name(hour, len(case.hours))] = cast(bytes, hour.file)
     names = name_rows(case.names, only_hour_name(case), (case.grid_form, case.book_form))
-    files["names.csv"] = csv_text(HEADING, names).encode()
+    files["names.csv"] = csv_text(HEADING, names + term_rows(case.terms)).encode()
     return files
 
 
@@ -141,12 +142,28 @@ def _strays(folder: Path) -> List[Fault]:
     return faults
 
 
+def _clock_faults(hours: List[PriceFile]) -> List[Fault]:
+    """The hours that their days do not have, and the days that have all hours but the last."""
+    days: Dict[str, List[PriceFile]] = {}
+    for hour in hours:
+        if is_date(hour.day):
+            days.setdefault(hour.day, []).append(hour)
+    faults = []
+    for day, files in days.items():
+        wrong = [(file, no_such_hour(day, file.hour)) for file in files]
+        wrong.append((files[-1], last_missing(day, [file.hour for file in files])))
+        faults += [Fault(short_name(str(file.file)), 0, "", text) for file, text in wrong if text]
+    return faults
+
+
 def _hours(folder: Path, names: Dict[int, str], faults: List[Fault]) -> List[PriceFile]:
     """A bin folder's hours, by path. The names are those of hours in names.csv."""
     files = price_file_names(folder)
     faults += _strays(folder)
     if files[:1] != ["prices.bin"]:
-        return [PriceFile(file[7:17], int(file[20:22]), os.path.join(folder, file)) for file in files]
+        hours = [PriceFile(file[7:17], int(file[20:22]), os.path.join(folder, file)) for file in files]
+        faults += _clock_faults(hours)
+        return hours
     if len(files) > 1:
         text = "prices.bin and prices/ are both there: which hours are meant?"
         faults.append(Fault("prices.bin", 0, "", text))
@@ -155,6 +172,8 @@ def _hours(folder: Path, names: Dict[int, str], faults: List[Fault]) -> List[Pri
         text = f"hour 0 is called {names.get(0, '')!r} and not YYYY-MM-DD HEhh"
         faults.append(Fault("names.csv", 0, "", text))
     day, hour = (match[1], int(match[2])) if match else ("", 0)
+    if match and is_date(day) and no_such_hour(day, hour):
+        faults.append(Fault("names.csv", 0, "", no_such_hour(day, hour)))
     return [PriceFile(day, hour, os.path.join(folder, "prices.bin"))]
 
 
@@ -171,9 +190,11 @@ def read_bin(folder: Union[str, Path]) -> Case:
     raise_any(faults)
     grid, book, book_form = _tables(grid_file, book_file)
     names = names_of(tables, grid.nodes, grid.constraints, len(book), faults)
+    terms = terms_of(tables, len(book), faults)
     raise_any(faults)
     limits, factors = cast("array[int]", grid.limits), cast("array[int]", grid.factors)
-    return Case(names, limits, factors, book, hours, grid.form, book_form, inputs, is_csv=False)
+    forms = (grid.form, book_form)
+    return Case(names, limits, factors, book, hours, *forms, inputs, is_csv=False, terms=terms)
 
 
 def _read(path: Path, longest: int, faults: List[Fault], inputs: List[Input]) -> bytes:

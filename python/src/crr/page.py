@@ -7,7 +7,7 @@ from __future__ import annotations
 
 from fractions import Fraction
 from html import escape
-from typing import Callable, Dict, List, Mapping, NamedTuple, Sequence, Tuple
+from typing import Callable, Dict, List, Mapping, NamedTuple, Optional, Sequence, Tuple
 
 from .decimals import decimal
 from .drawing import (
@@ -29,7 +29,7 @@ from .exposure import ExactCents, Exposure
 from .exposures import cost_words, dollar_words, price_words
 from .feasibility import Flows, Verdict
 from .inputs import Input
-from .interface import FLOW_PLACES, LIMIT, SHADOW_PRICE
+from .interface import FLOW_PLACES, LIMIT, OFF_PEAK, ON_PEAK, SHADOW_PRICE
 from .results import dollars
 from .style import CSS
 from .words import PERIODS, PROCESSES, Line
@@ -42,12 +42,16 @@ LONGEST = 1.5  # of a limit; a bar that is longer is broken
 
 
 class Month(NamedTuple):
-    """A month's days and hours, and in dollars its payments, rounded and exact, its congestion rent, and its
-    shortfall, the exact payments less the rent."""
+    """A month's days and hours; of these, off-peak and on-peak, how many were found and how many there are,
+    where that is known, and whether that is all of them. In dollars its payments, rounded and exact, its
+    congestion rent, and its shortfall, the exact payments less the rent."""
 
     name: str
     days: int
     hours: int
+    found: Tuple[int, ...]
+    there: Tuple[Optional[int], ...]
+    whole: bool
     sum: str
     exact: str
     rent: str
@@ -119,6 +123,8 @@ def _verdict_card(figures: Figures, period: int, process: int) -> str:
 
 def _at_worst(figures: Figures, at: Line) -> str:
     """What a failing book costs at worst."""
+    if at not in figures.exposures:
+        return "What an hour pays at worst is told for grids of the library's sizes alone"
     return f"At worst an hour pays {cost_words(figures.exposures[at])} more than its congestion rent"
 
 
@@ -313,7 +319,8 @@ def _holder_section(figures: Figures) -> str:
 _MONTHS = (
     "month",
     "days",
-    "hours",
+    "on-peak hours",
+    "off-peak hours",
     "payments, rounded cents",
     "payments, exact",
     "congestion rent",
@@ -321,18 +328,26 @@ _MONTHS = (
 )
 
 
+def _of(month: Month, period: int) -> str:
+    """16 of 416."""
+    there = month.there[period]
+    return f"{month.found[period]:,}" + ("" if there is None else f" of {there:,}")
+
+
 def _month_section(figures: Figures) -> str:
     rows = []
     for month in figures.months:
         amounts = (
             f"{month.days:,}",
-            f"{month.hours:,}",
+            _of(month, ON_PEAK),
+            _of(month, OFF_PEAK),
             *map(exact_money, (month.sum, month.exact, month.rent, month.shortfall)),
         )
         cells = "".join(
             f'<td class=figure data-name="{name}">{figure}</td>' for name, figure in zip(_MONTHS[1:], amounts)
         )
-        rows.append(f"<tr><th scope=row>{escape(month.name)}</th>{cells}</tr>")
+        part = "" if month.whole else "<br><span class=faint>not whole</span>"
+        rows.append(f"<tr><th scope=row>{escape(month.name)}{part}</th>{cells}</tr>")
     heads = "".join(f"<th scope=col class=figure>{name}</th>" for name in _MONTHS[1:])
     others = [
         f"{percent}% ({PROCESSES[process]})"
@@ -358,12 +373,12 @@ def _hour_table(figures: Figures) -> str:
         f"<tr><th scope=row>{escape(hour.name)}</th>"
         + "".join(
             f'<td class=figure data-name="{name}">{exact_money(figure)}</td>'
-            for name, figure in zip(_MONTHS[4:], hour[1:])
+            for name, figure in zip(_MONTHS[-3:], hour[1:])
         )
         + "</tr>"
         for hour in figures.hours
     )
-    heads = "".join(f"<th scope=col class=figure>{name}</th>" for name in _MONTHS[4:])
+    heads = "".join(f"<th scope=col class=figure>{name}</th>" for name in _MONTHS[-3:])
     table = (
         f'<table class="plain months"><tr class=heads><th scope=col>hour</th>{heads}</tr>{rows}</table>'
     )

@@ -7,21 +7,34 @@ from dataclasses import replace
 from datetime import date
 from fractions import Fraction
 from pathlib import Path
-from typing import Dict, List, NamedTuple, Optional, Sequence, Tuple, cast
+from typing import Dict, Iterable, List, NamedTuple, Optional, Sequence, Tuple, cast
 
 from .bar import Bar
 from .case import Case, PricedHour, Time, hour_name
-from .command import FOLDER, FORCE, MONTHLY_RENT, PASSES, ROUND_PRICES, Answer, command, counted, writes
+from .clock import Coverage, coverage
+from .command import (
+    FOLDER,
+    FORCE,
+    MEMORY,
+    MONTHLY_RENT,
+    PASSES,
+    Answer,
+    command,
+    counted,
+    writes,
+)
 from .commands import cut_rows, verdicts
 from .costs import Costs, hour_costs, most_short
 from .exposure import Shortfall
 from .exposures import costs_alone, exposures
-from .feasibility import excesses, find_flows, released_percent, worst
-from .hours import PriceFile, Settled, settle_hours
+from .feasibility import Flows, excesses, released_percent, worst
+from .hours import PriceFile, Settled
 from .inputs import Input, input_of
+from .large import flows_of
 from .library import library_path
-from .opening import counts_words, opened, write_beside
+from .opening import check_periods, counts_words, opened, settled, write_beside
 from .page import MOST_HOURS, Figures, HourRow, Month, is_page, page
+from .reading import READING, Reading
 from .results import dollars, exact_dollars, holder_sums
 from .settlement import HourTotal
 from .streams import readable
@@ -52,13 +65,23 @@ class _Hour(NamedTuple):
     cost: Shortfall
 
 
-def _month(name: str, hours: Sequence[_Hour]) -> Month:
+def _month(name: str, hours: Sequence[_Hour], months: Sequence[Coverage]) -> Month:
     exact = sum((hour.total.exact for hour in hours), Fraction(0))
     rent = sum((hour.cost.rent.exact for hour in hours), Fraction(0))
     shortfall = sum((hour.cost.shortfall.exact for hour in hours), Fraction(0))
     days = len({hour.day for hour in hours if hour.day})
     paid = dollars(sum(hour.total.sum for hour in hours))
-    return Month(name, days, len(hours), paid, *map(exact_dollars, (exact, rent, shortfall)))
+    found = tuple(sum(hour.total.period == period for hour in hours) for period in Period)
+    there = tuple(_sum(month.there[period] for month in months) for period in Period)
+    whole = all(month.whole for month in months)
+    counts = (name, days, len(hours), found, there, whole)
+    return Month(*counts, paid, *map(exact_dollars, (exact, rent, shortfall)))
+
+
+def _sum(counts: Iterable[Optional[int]]) -> Optional[int]:
+    """The counts added; none where one is not known, or there is none."""
+    known = list(counts)
+    return None if None in known or not known else sum(cast(List[int], known))
 
 
 def _months(hours: Sequence[_Hour]) -> List[Month]:
@@ -66,8 +89,9 @@ def _months(hours: Sequence[_Hour]) -> List[Month]:
     months: Dict[str, List[_Hour]] = {}
     for hour in hours:
         months.setdefault(hour.day[:7], []).append(hour)
-    return [_month(name, months[name]) for name in sorted(months) if name] + (
-        [_month("all", hours)] if hours else []
+    found = coverage([(hour.day, 0) for hour in hours], [hour.total.period for hour in hours])
+    return [_month(name, months[name], [found[name]]) for name in sorted(months) if name] + (
+        [_month("all", hours, list(found.values()))] if hours else []
     )
 
 
@@ -95,6 +119,18 @@ def _hours(costs: Costs, times: Sequence[Time]) -> List[HourRow]:
     ]
 
 
+def _flows(case: Case, period: int) -> Flows:
+    """The flow on each constraint, and how many contracts it is of."""
+    return Flows(flows_of(case, period), sum(contract.period == period for contract in case.book))
+
+
+def _read_hours(case: Case) -> List[Tuple[PriceFile, PricedHour]]:
+    """The hours, read once: what is settled is what is hashed. Those of a large case are of its CSV file."""
+    if case.fits:
+        return case.read_hours()
+    return [(PriceFile(hour.day, hour.hour, b""), hour) for hour in case.priced_hours()]
+
+
 def figures(
     folder: Path,
     case: Case,
@@ -103,9 +139,9 @@ def figures(
     process: int = Process.MONTHLY,
 ) -> Figures:
     """All that the page shows of a case."""
-    grid, book, limits, answers = case.grid, case.book_file(), case.limits, verdicts(case)
+    limits, answers = case.limits, verdicts(case)
     percents = [released_percent(process) for process in Process]
-    flows = [find_flows(grid, book, period) for period in Period]
+    flows = [_flows(case, period) for period in Period]
     over = {
         (period, process): excesses(limits, flows[period].flows, percents[process])
         for period, process in answers
@@ -127,8 +163,8 @@ def figures(
         excesses=over,
         worst={line: worst(verdict, over[line]) for line, verdict in answers.items() if not verdict.passed},
         cuts=cut_rows(case, answers),
-        exposures=exposures(case, failing),
-        alone={line: costs_alone(case, line, answers[line].overloaded) for line in failing},
+        exposures=exposures(case, failing) if case.fits else {},
+        alone={line: costs_alone(case, line, answers[line].overloaded) for line in failing if case.fits},
         flows=flows,
         holders=[(case.names.holder(holder), cents) for holder, cents in sums.items()],
         process=process,
@@ -147,18 +183,23 @@ _TEXT = "one HTML page: verdicts, what the book can cost, loading of constraints
     "report",
     _TEXT,
     FOLDER,
-    ROUND_PRICES,
+    *READING,
     MONTHLY_RENT,
     writes("the HTML file; without it, report.html in the folder"),
     FORCE,
+    MEMORY,
 )
-def report(folder: Path, out: Optional[Path], round_prices: bool, process: int, force: bool) -> Answer:
+def report(
+    folder: Path, out: Optional[Path], reading: Reading, process: int, force: bool, memory: int
+) -> Answer:
     """Writes the page, over one of before; a book that fails is what it tells and no fault of it."""
-    case = opened(folder, round_prices)
+    case = opened(folder, reading, any_size=True, memory=memory)
     target = out or folder / "report.html"
-    hours = case.read_hours()  # read once: what is settled is what is hashed
-    files = [file for file, _ in hours]
-    result = settle_hours(case.grid_file(), case.book_file(), files, progress=Bar("settle"))
+    hours = _read_hours(case)
+    if not reading.as_given:
+        check_periods(case, [hour.period for _, hour in hours])
+    taken = replace(case, hours=[file for file, _ in hours]) if case.fits else case
+    result = settled(taken, 1, Bar("settle"))
     text = page(figures(folder, case, hours, result, process))
     write_beside(folder, target, text.encode(), force, is_page)
     return Answer(PASSES, f"{target} written\n", {"out": str(target)})

@@ -7,6 +7,7 @@ from fractions import Fraction
 from typing import Dict, List, Optional, Sequence, Tuple
 
 from .case import Names, Time, hour_name
+from .clock import Coverage, coverage
 from .command import objects
 from .costs import Costs, most_short
 from .decimals import decimal
@@ -17,22 +18,22 @@ from .settlement import HubMcc
 from .to_csv import csv_text
 from .words import HEDGE_TYPES, PROCESSES, TIMES_OF_USE
 
-_CENTS = 2  # decimals of a dollar
+CENT_PLACES = 2  # decimals of a dollar
 
 
 def dollars(cents: int) -> str:
     """1250 cents are '12.50'."""
-    return decimal(cents, _CENTS)
+    return decimal(cents, CENT_PLACES)
 
 
 def exact_dollars(cents: Fraction) -> str:
     """An exact total of cents in dollars, with every one of its ten decimals."""
-    return decimal(int(cents * 10**PART_PLACES), _CENTS + PART_PLACES)
+    return decimal(int(cents * 10**PART_PLACES), CENT_PLACES + PART_PLACES)
 
 
 def mcc_dollars(mcc: HubMcc) -> str:
     """A hub's MCC in dollars per MWh, with every one of its twelve decimals."""
-    return decimal(mcc.quotient * HUB_WEIGHT + mcc.remainder, _CENTS + MCC_PLACES + HUB_PLACES)
+    return decimal(mcc.quotient * HUB_WEIGHT + mcc.remainder, CENT_PLACES + MCC_PLACES + HUB_PLACES)
 
 
 def holder_months(settled: Settled, book: Sequence[Contract]) -> Dict[Tuple[int, str], int]:
@@ -42,6 +43,23 @@ def holder_months(settled: Settled, book: Sequence[Contract]) -> Dict[Tuple[int,
         for contract, amount in zip(book, cents):
             sums[contract.holder, month] = sums.get((contract.holder, month), 0) + amount
     return dict(sorted(sums.items()))
+
+
+def settled_months(settled: Settled, times: Sequence[Time]) -> Dict[str, Coverage]:
+    """How many hours of each month were settled, of those that there are."""
+    return coverage(times, (hour.period for hour in settled.hours))
+
+
+def holder_rows(
+    settled: Settled, names: Names, book: Sequence[Contract], times: Sequence[Time]
+) -> List[Tuple[object, ...]]:
+    """A row for each holder and month; a month that is not whole is marked."""
+    months = settled_months(settled, times)
+    marks = {month: found.mark for month, found in months.items()}
+    return [
+        (names.holder(holder), month, dollars(cents), marks.get(month, ""))
+        for (holder, month), cents in holder_months(settled, book).items()
+    ]
 
 
 def holder_sums(settled: Settled, book: Sequence[Contract]) -> Dict[int, int]:
@@ -68,9 +86,13 @@ def hour_rows(
     return [(*row, process, *of_hour) for row, of_hour in zip(rows, figures)]
 
 
-def month_rows(costs: Costs, times: Sequence[Time]) -> List[Tuple[object, ...]]:
-    """A row for each month: its hours, their exact total, rent and shortfall, and how many fall short."""
+def month_rows(
+    costs: Costs, times: Sequence[Time], months: Dict[str, Coverage]
+) -> List[Tuple[object, ...]]:
+    """A row for each month: its hours, their exact total, rent and shortfall, and how many fall short; a
+    month that is not whole is marked."""
     process = PROCESSES[costs.process]
+    marks = {month: found.mark for month, found in months.items()}
     return [
         (
             month,
@@ -80,19 +102,20 @@ def month_rows(costs: Costs, times: Sequence[Time]) -> List[Tuple[object, ...]]:
             exact_dollars(of_month.rent),
             exact_dollars(of_month.shortfall),
             of_month.short,
+            marks.get(month, ""),
         )
         for month, of_month in costs.by_month(times).items()
     ]
 
 
-def cost_data(costs: Costs, times: Sequence[Time]) -> Dict[str, object]:
+def cost_data(costs: Costs, times: Sequence[Time], months: Dict[str, Coverage]) -> Dict[str, object]:
     """Rent and shortfall for a script: of all hours, and by month."""
     return {
         "process": PROCESSES[costs.process],
         "rent": exact_dollars(costs.rent),
         "shortfall": exact_dollars(costs.shortfall),
         "hours_short": costs.short,
-        "by_month": objects(MONTHS, month_rows(costs, times)),
+        "by_month": objects(MONTHS, month_rows(costs, times, months)),
     }
 
 
@@ -121,17 +144,18 @@ def _short_words(costs: Costs, times: Sequence[Time]) -> str:
 
 HOURS = ("OPR_DT", "OPR_HR", "TIME_OF_USE", "SUM", "EXACT_TOTAL")
 COSTS = ("PROCESS", "RENT", "SHORTFALL")
-MONTHS = ("MONTH", "HOURS", "EXACT_TOTAL", *COSTS, "HOURS_SHORT")
+INCOMPLETE = "INCOMPLETE"  # how many hours of how many, where a month is not whole
+MONTHS = ("MONTH", "HOURS", "EXACT_TOTAL", *COSTS, "HOURS_SHORT", INCOMPLETE)
 MONTHS_FILE = "months.csv"
-HOLDERS = ("OWNER", "MONTH", "AMOUNT")
+HOLDERS = ("OWNER", "MONTH", "AMOUNT", INCOMPLETE)
 CONTRACTS = ("CRR_ID", "OWNER", "HEDGE_TYPE", "TIME_OF_USE", "AMOUNT")
 
 
 _HEADINGS = {
     "hours.csv": (HOURS, (*HOURS, *COSTS)),
-    "holders.csv": (HOLDERS,),
+    "holders.csv": (HOLDERS, HOLDERS[:-1]),  # as they are, and as they were
     "contracts.csv": (CONTRACTS,),
-    MONTHS_FILE: (MONTHS,),
+    MONTHS_FILE: (MONTHS, MONTHS[:-1]),
 }
 
 
@@ -155,10 +179,7 @@ def result_files(
 ) -> Dict[str, str]:
     """hours.csv, holders.csv and contracts.csv, and with costs months.csv. Amounts are dollars; positive is
     paid, negative charged."""
-    holders = [
-        (names.holder(holder), month, dollars(cents))
-        for (holder, month), cents in holder_months(settled, book).items()
-    ]
+    holders = holder_rows(settled, names, book, times)
     contracts = [
         (
             crr_id,
@@ -174,4 +195,7 @@ def result_files(
         "holders.csv": csv_text(HOLDERS, holders),
         "contracts.csv": csv_text(CONTRACTS, contracts),
     }
-    return {**files, MONTHS_FILE: csv_text(MONTHS, month_rows(costs, times))} if costs else files
+    if not costs:
+        return files
+    months = month_rows(costs, times, settled_months(settled, times))
+    return {**files, MONTHS_FILE: csv_text(MONTHS, months)}

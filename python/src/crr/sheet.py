@@ -28,6 +28,8 @@ ALIASES: Dict[str, Tuple[str, ...]] = {
     "SOURCE": ("SOURCE_NAME", "NODE_SOURCE", "FROM_NODE", "SOURCE_LOCATION_NAME"),
     "SINK": ("SINK_NAME", "NODE_SINK", "TO_NODE", "SINK_LOCATION_NAME"),
     "MW": ("CLEARED_MW", "AWARD_MW", "QUANTITY_MW"),
+    "START_DATE": ("STARTDATE", "START_DAY", "START_DT", "EFFECTIVE_DATE", "VALID_FROM"),
+    "END_DATE": ("ENDDATE", "END_DAY", "END_DT", "EXPIRATION_DATE", "VALID_TO"),
     "CONSTRAINT_ID": ("CONSTRAINT", "NOMOGRAM_ID", "TI_ID", "DEVICENAME", "MONITORED_FACILITY"),
     "LIMIT_MW": ("LIMIT", "RATING_MW"),
     "NODE_ID": ("NODE", "PNODE_ID", "PNODE", "BUS", "SETTLEMENTPOINT"),
@@ -47,6 +49,13 @@ ALIASES: Dict[str, Tuple[str, ...]] = {
     "NEW_LSE": ("NEW",),
     "LSE": ("LSE_ID", "LSE_NAME"),
     "LOAD_MW": ("MW", "LOAD", "CURRENT_LOAD", "CURRENT_LOAD_MW"),
+    "BRANCH_ID": ("BRANCH", "LINE_ID", "LINE"),
+    "FROM_BUS": ("FROM", "F_BUS", "FBUS", "BUS0"),
+    "TO_BUS": ("TO", "T_BUS", "TBUS", "BUS1"),
+    "REACTANCE": ("X", "BR_X", "X_PU"),
+    "TAP_RATIO": ("TAP", "RATIO"),
+    "EMERGENCY_MW": ("EMERGENCY_LIMIT_MW", "EMERGENCY_RATING_MW"),
+    "CONTINGENCY_ID": ("CONTINGENCY", "OUTAGE", "OUTAGE_ID"),
     "OPERATION": ("OP",),
     "TIER": (),
     "TABLE": (),
@@ -73,7 +82,8 @@ def column_name(heading: str, need: Sequence[str]) -> str:
 
 class Sheet:
     """A CSV file. Faults go to the list that it is given; `at` says where each column that is needed stands.
-    With `first` the one that is needed is the first column, whatever the others are called. Faults call it by
+    With `first` the one that is needed is the first column, whatever the others are called; `also` says
+    where those stand that `may` be missing. Faults call it by
     its path as it was given, or by its name in a folder. What was read is noted in `inputs`."""
 
     def __init__(
@@ -84,16 +94,19 @@ class Sheet:
         first: bool = False,
         name: str = "",
         inputs: Inputs = None,
+        may: Sequence[str] = (),
     ) -> None:
         self.name, self.faults = name or str(path), faults
         self.heading: List[str] = []
         self.at: Dict[str, int] = {}
+        self.also: Dict[str, int] = {}  # columns that may be missing
+        self.rounded = 0  # how many figures were
         self._text, self._doubtful = self._decoded(path, need, inputs)
-        self._delimiter = _delimiter(self._text)
+        self._delimiter = delimiter_of(self._text, need)
         self._reader = csv.reader(_lines(self._text), delimiter=self._delimiter, strict=True)
         self._starts: List[int] = []  # of lines, found when a fault needs them
         if self._text:
-            self._read_heading(need, first)
+            self._read_heading(need, first, may)
 
     def _decoded(self, path: Path, need: Sequence[str], inputs: Inputs) -> Tuple[str, bool]:
         try:
@@ -117,23 +130,25 @@ class Sheet:
         except UnicodeDecodeError:
             return data.decode("utf-8-sig", "surrogateescape"), True
 
-    def _read_heading(self, need: Sequence[str], first: bool) -> None:
+    def _read_heading(self, need: Sequence[str], first: bool, may: Sequence[str]) -> None:
         try:
             self.heading = [field.strip() for field in next(self._reader, [])]
         except csv.Error as error:
             self._note(1, need[0], f"the heading can't be read: {_reason(error)}")
             return
         self._readable(1, self.heading)
-        names = [column_name(heading, need) for heading in self.heading[: 1 if first else None]]
-        for column in need:
+        names = [column_name(heading, (*need, *may)) for heading in self.heading[: 1 if first else None]]
+        for column in (*need, *may):
             if column not in names:
+                if column in may:
+                    continue
                 missing = "the first column must be this one" if first else "the column is missing"
                 self._note(1, column, missing)
             elif names.count(column) > 1:
                 headings = ", ".join(h for h, name in zip(self.heading, names) if name == column)
                 self._note(1, column, f"more than one column has this meaning: {headings}")
             else:
-                self.at[column] = names.index(column)
+                (self.also if column in may else self.at)[column] = names.index(column)
 
     def rows(self) -> Iterator[Row]:
         """The rows that have a field for each heading; the others are faults."""
@@ -161,7 +176,8 @@ class Sheet:
 
     def fault(self, line: int, column: str, text: str, refusal: int = 0) -> None:
         """Notes a fault in a column by its name, told by its heading where it has one."""
-        self._note(line, self.column(self.at[column]) if column in self.at else column, text, refusal)
+        at = self.at.get(column, self.also.get(column))
+        self._note(line, column if at is None else self.column(at), text, refusal)
 
     def _note(self, line: int, column: str, text: str, refusal: int = 0) -> None:
         self.faults.append(Fault(self.name, line, column, brief(text, _SENTENCE), refusal))
@@ -177,6 +193,7 @@ class Sheet:
             low, high = decimal(unit.low, unit.places), decimal(unit.high, unit.places)
             self._note(line, self.column(at), f"{text} is outside {low} to {high}", unit.refusal)
             return 0
+        self.rounded += rounded and len(text.partition(".")[2].rstrip("0")) > unit.places
         return number
 
     def name_in(self, line: int, column: str, text: str) -> bool:
@@ -214,14 +231,19 @@ class Sheet:
     @property
     def unused(self) -> List[str]:
         """The columns that nobody asked for."""
-        return [self.column(at) for at in range(len(self.heading)) if at not in self.at.values()]
+        used = {*self.at.values(), *self.also.values()}
+        return [self.column(at) for at in range(len(self.heading)) if at not in used]
 
     def _broken_column(self, line: int) -> str:
         """The column of the first field, in the lines from this one on, that is too long, or whose quote is
         not closed or not followed by a separator."""
         if not self._starts:
             self._starts = [0, *accumulate(map(len, _lines(self._text)))]
-        text, at, column = self._text, self._starts[line - 1], 0
+        return self.column(self._broken_in(self._text, self._starts[line - 1]))
+
+    def _broken_in(self, text: str, at: int) -> int:
+        """The place of that column, for lines that begin at a place of a text."""
+        column = 0
         while at < len(text) and text[at] not in "\r\n":
             start = at
             if text[at] == '"':
@@ -234,7 +256,7 @@ class Sheet:
                 break
             if text[at : at + 1] == self._delimiter:
                 at, column = at + 1, column + 1
-        return self.column(column)
+        return column
 
 
 def _reason(error: csv.Error) -> str:
@@ -291,9 +313,17 @@ def _lines(text: str) -> io.StringIO:
     return io.StringIO(text, newline="")
 
 
-def _delimiter(text: str) -> str:
+def delimiter_of(text: str, need: Sequence[str]) -> str:
+    """What separates the heading's fields: that by which most of the columns are found that are needed, since
+    names have separators too; of equal ones the most frequent."""
     heading = text.split("\n", 1)[0]
-    return max(",;\t", key=heading.count)
+
+    def likelihood(delimiter: str) -> Tuple[int, int]:
+        fields = heading.replace('"', "").split(delimiter)
+        names = [column_name(field.strip(" \r"), need) for field in fields]
+        return sum(column in names for column in need), heading.count(delimiter)
+
+    return max(",;\t", key=likelihood)
 
 
 def _behind_field(text: str, at: int, delimiter: str) -> int:

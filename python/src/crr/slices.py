@@ -70,17 +70,16 @@ class SlicedSettler:
         self.case, self.slices = case, cut(case.book)
         self._columns: Dict[int, List["array[int]"]] = {}
 
-    def _column(self, k: int) -> List["array[int]"]:
-        """The factors of a constraint on each slice's nodes, kept for the hours to come."""
-        if k not in self._columns:
-            of_all = self.case.factors[k :: len(self.case.names.constraints)]
+    def fetch(self, hours: Sequence[PricedHour]) -> None:
+        """Takes the factors of each priced constraint on each slice's nodes, and keeps them."""
+        priced = {k for hour in hours for k, price in enumerate(hour.prices) if price}
+        for k, of_all in self.case.columns(sorted(priced - self._columns.keys())).items():
             self._columns[k] = [array("q", map(of_all.__getitem__, piece.nodes)) for piece in self.slices]
-        return self._columns[k]
 
     def settle(self, hour: PricedHour, into: List[int]) -> HourTotal:
-        """Settles an hour and adds each contract's cents to its cell."""
+        """Settles an hour whose factors were fetched, and adds each contract's cents to its cell."""
         posted = [k for k, price in enumerate(hour.prices) if price]
-        columns = [self._column(k) for k in posted]
+        columns = [self._columns[k] for k in posted]
         prices = write_prices(hour.period, array("Q", [hour.prices[k] for k in posted]))
         total, exact = 0, 0
         for place, piece in enumerate(self.slices):
@@ -102,6 +101,7 @@ def _settle_part(settler: SlicedSettler, hours: Sequence[PricedHour]) -> Settled
     """What a worker runs."""
     totals: List[HourTotal] = []
     months: Dict[str, List[int]] = {}
+    settler.fetch(hours)
     for hour in hours:
         totals.append(settler.settle(hour, months.setdefault(hour.day[:7], [0] * len(settler.case.book))))
     return Settled(totals, months)

@@ -15,7 +15,6 @@ from .command import (
     PASSES,
     PERIOD,
     PROCESS,
-    ROUND_PRICES,
     Answer,
     command,
     counted,
@@ -30,6 +29,7 @@ from .files import Contract, Grid, write_book
 from .interface import FLOW_PLACES, WIDE
 from .native import Refused
 from .opening import opened, owner_numbers, write_like
+from .reading import HANDING_ON, Reading
 from .running import TIERS, RunningTest
 from .sheet import Sheet
 from .tiers_csv import ADD, MARK, Operation, read_operations
@@ -153,7 +153,7 @@ _AWARDS = (
     "awards tried one after another on the grid, with tiers to mark and to come back to, "
     "for one period and process",
     FOLDER,
-    ROUND_PRICES,
+    *HANDING_ON,
     reads("awards", _AWARDS, nargs="?"),
     PERIOD,
     PROCESS,
@@ -166,12 +166,12 @@ def tiers(
     process: Process,
     awards: Optional[Path],
     out: Optional[Path],
-    round_prices: bool,
+    reading: Reading,
     force: bool,
 ) -> Answer:
     """Plays operations on a running test on the grid of a folder, or the contracts of its book as awards;
     with `out` writes the whole case there, with the awards held for its book, in the form that it had."""
-    case = opened(folder, round_prices, prices=out is not None)
+    case = opened(folder, reading.handed_on, prices=out is not None)
     grid, names, operations = case.grid, case.names, _of_book(case)
     sheet: Optional[Sheet] = None
     if awards:
@@ -184,5 +184,6 @@ def tiers(
     held, names = played.running.held, replace(names, contracts=played.ids)
     if out:
         form = max(case.book_form, book_form(held))
-        write_like(replace(case, names=names, book=held, book_form=form), out, force)
+        terms = case.terms[:1] * len(held)  # all are alike
+        write_like(replace(case, names=names, book=held, book_form=form, terms=terms), out, force)
     return _answer(played, names, out)

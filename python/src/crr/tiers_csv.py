@@ -11,7 +11,7 @@ from __future__ import annotations
 from pathlib import Path
 from typing import Dict, List, NamedTuple, Sequence, Tuple
 
-from .book_csv import BOOK, read_award
+from .book_csv import BOOK, TERM, read_award
 from .faults import Fault
 from .files import Contract
 from .interface import MARK_LT
@@ -41,6 +41,8 @@ def _award(sheet: Sheet, line: int, row: List[str], nodes: Dict[str, int]) -> Op
     award = read_award(sheet, line, row, nodes)
     if row[sheet.at["TIER"]]:
         sheet.fault(line, "TIER", "an award has no tier: a row of its own marks the tier")
+    if any(award.term):
+        sheet.fault(line, "CRR_ID", "awards are tried together: one with a first or last day can't be")
     return Operation(line, ADD, 0, award.crr_id, award.owner, award.contract)
 
 
@@ -57,7 +59,7 @@ def _tier(sheet: Sheet, line: int, row: List[str], what: str) -> Operation:
 
 def read_operations(path: Path, nodes: Sequence[str], faults: List[Fault]) -> Tuple[Sheet, List[Operation]]:
     """The operations of a file, and the sheet, for faults that are found later. Every fault is noted."""
-    sheet = Sheet(path, OPERATIONS, faults)
+    sheet = Sheet(path, OPERATIONS, faults, may=TERM)
     operations: List[Operation] = []
     if len(sheet.at) < len(OPERATIONS):
         return sheet, operations

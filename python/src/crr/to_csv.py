@@ -5,9 +5,9 @@ from __future__ import annotations
 import csv
 import io
 from pathlib import Path
-from typing import Dict, Iterable, List, Sequence, Tuple, Union
+from typing import Dict, Iterable, List, Mapping, Sequence, Tuple, Union
 
-from .book_csv import BOOK
+from .book_csv import BOOK, TERM
 from .case import Case, Names, PricedHour, check_lengths
 from .decimals import decimal
 from .files import Contract
@@ -25,6 +25,12 @@ def csv_text(heading: Sequence[str], rows: Iterable[Sequence[object]]) -> str:
     writer.writerow(heading)
     writer.writerows(rows)
     return text.getvalue()
+
+
+def csv_rows(text: str) -> Tuple[List[str], List[List[str]]]:
+    """The heading and the rows of a CSV text that was written here."""
+    heading, *rows = csv.reader(io.StringIO(text))
+    return heading, rows
 
 
 def _price_rows(names: Names, hour: PricedHour) -> List[Sequence[object]]:
@@ -58,11 +64,14 @@ def csv_files(case: Case, hour_name: str = "") -> Dict[str, str]:
     factors = [decimal(factor, SHIFT_FACTOR.places) for factor in case.factors]
     nodes = ((node, *factors[n * count : (n + 1) * count]) for n, node in enumerate(names.nodes))
     forms = (case.grid_form, case.book_form)
-    book = [book_row(names, crr_id, contract) for crr_id, contract in zip(names.contracts, case.book)]
+    terms: List[Tuple[str, ...]] = [*case.terms] or [()] * len(case.book)
+    contracts = zip(names.contracts, case.book, terms)
+    book = [(*book_row(names, crr_id, contract), *term) for crr_id, contract, term in contracts]
+    heading = (*BOOK, *TERM) if case.terms else BOOK
     files = {
         "constraints.csv": csv_text(("CONSTRAINT_ID", "LIMIT_MW"), zip(names.constraints, limits)),
         "factors.csv": csv_text(("NODE_ID", *names.constraints), nodes),
-        "book.csv": csv_text(BOOK, book),
+        "book.csv": csv_text(heading, book),
         "names.csv": csv_text(HEADING, name_rows(names, hour_name, forms)),
     }
     if case.hours:
@@ -71,9 +80,15 @@ def csv_files(case: Case, hour_name: str = "") -> Dict[str, str]:
     return files
 
 
-def write_csv(case: Case, folder: Union[str, Path], hour_name: str = "", force: bool = False) -> List[str]:
-    """Writes a case's CSV files and gives their names. A file that is there and says something else is a
-    fault, unless forced."""
-    files = {name: text.encode() for name, text in csv_files(case, hour_name).items()}
+def write_csv(
+    case: Case,
+    folder: Union[str, Path],
+    hour_name: str = "",
+    force: bool = False,
+    beside: Mapping[str, bytes] = {},
+) -> List[str]:
+    """Writes a case's CSV files, with others beside them, and gives the names of all. A file that is there
+    and says something else is a fault, unless forced."""
+    files = {**beside, **{name: text.encode() for name, text in csv_files(case, hour_name).items()}}
     write_files(Path(folder), files, force)
     return list(files)

@@ -40,12 +40,15 @@ class Spelling(NamedTuple):
     others: Tuple[str, ...] = ()
 
 
+# What markets call peak hours of Monday to Friday: read as ON, which has Saturday's too, and told.
+_WEEKDAY = ("PeakWD", "WDPeak", "5x16")
+
 # By number.
 SPELLINGS: Dict[Type[IntEnum], Tuple[Spelling, ...]] = {
     Kind: (Spelling("OBL", "obligation", "obl"), Spelling("OPT", "option", "opt")),
     Period: (
-        Spelling("OFF", "off-peak", "off", ("offpeak", "off_peak")),
-        Spelling("ON", "on-peak", "on", ("onpeak", "on_peak", "peak")),
+        Spelling("OFF", "off-peak", "off", ("offpeak", "off_peak", "off peak", "LLH")),
+        Spelling("ON", "on-peak", "on", ("onpeak", "on_peak", "on peak", "peak", "HLH", *_WEEKDAY)),
     ),
     Process: (
         Spelling("annual", "annual", "annual"),
@@ -60,6 +63,8 @@ BOTH_PERIODS = (
     "24-HOUR",
     "FLAT",
 )  # what markets call contracts of both: a row for each is needed
+WEEKENDS = ("PEAKWE", "WEPEAK", "2X16")  # peak hours of Saturday and Sunday, which no one period has here
+WEEKDAYS = tuple(word.upper() for word in _WEEKDAY)
 
 Word = TypeVar("Word", bound=IntEnum)
 _NUMBERS: Dict[Tuple[Type[IntEnum], str], int] = {

@@ -16,7 +16,7 @@ import signal
 import stat
 from contextlib import contextmanager
 from pathlib import Path
-from typing import Callable, Iterable, Iterator, List, Mapping, Optional, Tuple
+from typing import Callable, Iterable, Iterator, List, Mapping, Optional, Tuple, Union
 
 from .faults import Fault, raise_any
 
@@ -24,6 +24,7 @@ _KEYS = ("grid.bin", "constraints.csv")  # without one of these no folder is tak
 _BEFORE = "before"  # the folder for what was in the way
 
 IsAnswer = Callable[[str, bytes], bool]  # whether a file of this name and these bytes is an earlier answer
+Content = Union[bytes, Callable[[], Iterable[bytes]]]  # of a file: at once, or piece by piece
 
 
 class NotWritten(OSError):
@@ -96,12 +97,23 @@ def _uninterrupted() -> Iterator[None]:
         signal.pthread_sigmask(signal.SIG_SETMASK, before)
 
 
+def _pieces(data: Content) -> Iterable[bytes]:
+    return [data] if isinstance(data, bytes) else data()
+
+
+def _says(path: Path, data: Content) -> bool:
+    """Whether a file has these bytes."""
+    with open(path, "rb") as file:
+        return all(file.read(len(piece)) == piece for piece in _pieces(data)) and not file.read(1)
+
+
 def _spare(
-    name: str, path: Path, data: bytes, force: bool, is_answer: IsAnswer, choose: str
+    name: str, path: Path, data: Content, force: bool, is_answer: IsAnswer, choose: str
 ) -> List[Fault]:
     """A fault where a plain file is there that may be someone's work."""
-    there = path.read_bytes() if path.is_file() else data
-    if force or there == data or is_answer(path.name, there):
+    if force or not path.is_file() or _says(path, data):
+        return []
+    if isinstance(data, bytes) and is_answer(path.name, path.read_bytes()):
         return []
     return [Fault(name, 0, "", f"{path} is there and differs: choose {choose}, or --force")]
 
@@ -167,7 +179,7 @@ def _refuse_others(folder: Path, names: Iterable[str]) -> None:
 
 def write_files(
     folder: Path,
-    files: Mapping[str, bytes],
+    files: Mapping[str, Content],
     force: bool = False,
     is_answer: IsAnswer = no_answer,
     whole: Callable[[Path], None] = lambda staged: None,
@@ -201,13 +213,13 @@ def write_files(
         _remove_empty(made)
 
 
-def _stage(staged: Path, folder: Path, files: Mapping[str, bytes], names: Iterable[str]) -> None:
+def _stage(staged: Path, folder: Path, files: Mapping[str, Content], names: Iterable[str]) -> None:
     """Writes the files into the folder in which they wait."""
     for name in names:
         try:
             _make_folders((staged / name).parent)
             with open(staged / name, "xb") as file:
-                file.write(files[name])
+                file.writelines(_pieces(files[name]))
         except OSError as error:
             raise NotWritten(folder / name, error) from None
 

@@ -77,6 +77,17 @@ pub enum Verdict {
     },
 }
 
+impl Verdict {
+    /// The verdict by the library's figures, all 0 on a pass.
+    pub(crate) fn told(set: u64, count: usize, lowest: usize, excess: i64) -> Verdict {
+        if set == 0 {
+            Verdict::Pass
+        } else {
+            Verdict::Fail { set, count, lowest, excess }
+        }
+    }
+}
+
 /// Tests the contracts of one period, of a book's file, on a grid in a process.
 pub fn test_book(grid: &Grid, process: Process, period: Period, book: &[u8]) -> Result<Verdict, Refused> {
     let Grid { nodes, constraints, limits, factors, .. } = grid;
@@ -85,7 +96,7 @@ pub fn test_book(grid: &Grid, process: Process, period: Period, book: &[u8]) -> 
         let (process, period) = (process as u64, period as u64);
         lent::test_book(*nodes, *constraints, process, period, limits, factors, book, &mut set, &mut count, &mut lowest, &mut excess)
     })?;
-    Ok(if set == 0 { Verdict::Pass } else { Verdict::Fail { set, count, lowest, excess } })
+    Ok(Verdict::told(set, count, lowest, excess))
 }
 
 /// The flows of a period's contracts.

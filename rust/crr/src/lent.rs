@@ -7,11 +7,13 @@ mod exposure;
 mod hubs;
 mod migration;
 mod running;
+mod totals;
 
 pub use exposure::{find_exposure, find_shortfall};
 pub use hubs::{add_hub_contract, find_hub_mcc};
 pub use migration::{migrate_load, net_transfers, Migration};
 pub use running::{add_award, mark_tier, open_running, return_to_tier, Opening, State};
+pub use totals::{add_flows, judge_flows};
 
 mod c {
     extern "C" {
@@ -211,6 +213,7 @@ mod c {
             bytes: *mut usize,
         ) -> u64;
         pub fn crr_month_hours(year: u64, month: u64, hours: *mut u64) -> u64;
+        pub fn crr_hour_period(year: u64, month: u64, day: u64, hour_ending: u64, period: *mut u64) -> u64;
         pub fn crr_weekday(year: u64, month: u64, day: u64, weekday: *mut u64) -> u64;
         pub fn crr_month_later(year: u64, month: u64, day: u64, later_year: *mut u64, later_month: *mut u64, later_day: *mut u64) -> u64;
     }
@@ -474,6 +477,10 @@ pub fn write_statement(grid_file: &[u8], book_file: &[u8], price_file: &[u8], te
 
 pub fn month_hours(year: u64, month: u64, hours: &mut u64) -> u64 {
     unsafe { c::crr_month_hours(year, month, hours) }
+}
+
+pub fn hour_period(year: u64, month: u64, day: u64, hour_ending: u64, period: &mut u64) -> u64 {
+    unsafe { c::crr_hour_period(year, month, day, hour_ending, period) }
 }
 
 pub fn weekday(year: u64, month: u64, day: u64, weekday: &mut u64) -> u64 {

@@ -32,12 +32,13 @@ mod running;
 pub mod sizes;
 mod terms;
 mod texts;
+mod totals;
 
 pub use books::{
     count_contracts, find_cuts, find_flows, remap_book, test_book, write_canonical_book, write_holder_view, write_market_view, Book, Cut,
     Flows, Verdict,
 };
-pub use calendar::{month_hours, month_later, weekday};
+pub use calendar::{hour_period, month_hours, month_later, weekday};
 pub use exposure::{find_exposure, find_shortfall, ExactCents, Exposure, Shortfall};
 pub use grids::Grid;
 pub use hubs::{add_hub_contract, find_hub_mcc, Hub, HubMcc};
@@ -48,3 +49,4 @@ pub use refused::Refused;
 pub use running::Running;
 pub use terms::{released_percent, Contract, Form, Kind, Period, Process, Tier};
 pub use texts::{write_report, write_statement};
+pub use totals::{add_flows, judge_flows, Totals};

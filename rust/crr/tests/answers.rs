@@ -82,6 +82,35 @@ fn test_flows_and_cuts() {
     assert_eq!([Process::Annual, Process::TierLt, Process::Monthly].map(released_percent), [Ok(65), Ok(60), Ok(100)]);
 }
 
+/// Case L tested in blocks of one constraint, each contract by itself on its own two nodes.
+#[test]
+fn any_size() {
+    let (grid, file, _) = case();
+    let limits = [6_001, 50_000];
+    let contracts = Book::read(3, &file).unwrap().contracts;
+    let mut verdicts = vec![];
+    for block in 0..2 {
+        let mut totals = Totals::new(1);
+        for contract in &contracts {
+            let factor = |node: u64| grid.factors[node as usize * 2 + block];
+            let factors = vec![factor(contract.sink), factor(contract.source)];
+            let small = Grid { form: Form::Narrow, nodes: 2, constraints: 1, limits: vec![limits[block]], factors };
+            let book = Book { form: Form::Wide, contracts: vec![Contract { source: 1, sink: 0, ..*contract }] };
+            let counted = add_flows(&small, Period::OnPeak, &book.write(2).unwrap(), &mut totals);
+            assert_eq!(counted, Ok(usize::from(contract.period == Period::OnPeak)));
+        }
+        assert_eq!(totals, Totals { flows: vec![[635_070_000, -200_060_000][block]], count: 3 });
+        verdicts.push(judge_flows(Process::Monthly, &limits[block..=block], &totals));
+    }
+    assert_eq!(verdicts, [Ok(Verdict::Fail { set: 1, count: 1, lowest: 0, excess: 34_970_000 }), Ok(Verdict::Pass)]);
+    let mut most = Totals { flows: vec![0, 0], count: sizes::MAX_SUMMED - 2 };
+    assert_eq!(add_flows(&grid, Period::OnPeak, &file, &mut most), Err(Refused::CONTRACT_COUNT));
+    assert_eq!(add_flows(&grid, Period::OffPeak, &file, &mut most), Ok(1));
+    assert_eq!(most.count, sizes::MAX_SUMMED - 1);
+    assert_eq!(judge_flows(Process::Annual, &grid.limits, &Totals::new(1)), Err(Refused::SHORT_TABLE));
+    assert_eq!(judge_flows(Process::Annual, &[0], &Totals { flows: vec![1], count: 0 }), Err(Refused::CONTRACT_COUNT));
+}
+
 fn cents(whole: i64, parts: u64) -> ExactCents {
     ExactCents { whole, parts }
 }
@@ -137,6 +166,10 @@ fn texts_and_dates() {
     assert!(write_report(&grid, &book).unwrap().starts_with("period,process,"));
     assert!(write_statement(&grid, &book, &prices).unwrap().starts_with("contract,holder,kind,cents,priced\n"));
     assert_eq!(write_statement(&grid, &[], &prices), Ok("refused,book,1\n".to_string()));
+    assert_eq!(hour_period(2024, 7, 5, 22), Ok(Period::OnPeak));
+    assert_eq!(hour_period(2024, 7, 4, 22), Ok(Period::OffPeak));
+    assert_eq!(hour_period(2024, 11, 3, 25), Ok(Period::OffPeak));
+    assert_eq!(hour_period(2024, 7, 5, 26), Err(Refused::NO_SUCH_DATE));
     assert_eq!(weekday(2024, 2, 29), Ok(4));
     assert_eq!(month_later(2024, 1, 31), Ok((2024, 2, 29)));
     assert_eq!(month_later(2037, 12, 1), Err(Refused::NO_SUCH_DATE));

@@ -78,8 +78,9 @@ fn in_header() -> Declarations {
 }
 
 fn in_binding() -> Declarations {
-    let files = ["src/lent.rs", "src/lent/exposure.rs", "src/lent/hubs.rs", "src/lent/migration.rs", "src/lent/running.rs"];
-    let code = files.map(text).join(" ").split_whitespace().collect::<Vec<_>>().join(" ");
+    let files =
+        ["lent", "lent/exposure", "lent/hubs", "lent/migration", "lent/running", "lent/totals"].map(|file| format!("src/{file}.rs"));
+    let code = files.map(|file| text(&file)).join(" ").split_whitespace().collect::<Vec<_>>().join(" ");
     let functions = code.split("pub fn crr_").skip(1).filter_map(|rest| rest.split_once(") -> u64;")?.0.split_once('('));
     let parameter = |words: &str| words.split_once(": ").map(|(name, of)| (name.to_string(), of.to_string()));
     let parameters = |list: &str| list.split(',').map(str::trim).filter_map(parameter).collect();

@@ -44,6 +44,14 @@ impl<T: Cell> Lent<T> {
         Lent { name, cells: entry.clone(), entry }
     }
 
+    /// Cells that are read, too: they hold what is given.
+    pub fn holding(draw: &mut Draw, name: &'static str, held: &[T]) -> Self {
+        let mut lent = Lent::new(draw, name, held.len());
+        lent.slice().copy_from_slice(held);
+        lent.entry.clone_from(&lent.cells);
+        lent
+    }
+
     pub fn slice(&mut self) -> &mut [T] {
         let end = self.cells.len() - MARGIN;
         &mut self.cells[MARGIN..end]

@@ -40,6 +40,14 @@ guarded! {
     STACK: fn find_flows(
         nodes: usize, constraints: usize, period: u64, limits: &[u64], factors: &[i64], book: &[u8], flows: &mut [i64], counted: &mut usize
     );
+    STACK: fn add_flows(
+        nodes: usize, constraints: usize, period: u64, limits: &[u64], factors: &[i64], book: &[u8],
+        flows: &mut [i64], count: &mut usize, counted: &mut usize
+    );
+    STACK: fn judge_flows(
+        constraints: usize, process: u64, limits: &[u64], flows: &[i64], summed: usize,
+        set: &mut u64, count: &mut usize, lowest: &mut usize, excess: &mut i64
+    );
     STACK: fn find_cuts(
         nodes: usize, constraints: usize, process: u64, period: u64, limits: &[u64], factors: &[i64], book: &[u8],
         numbers: &mut [u64], cuts: &mut [u64], listed: &mut usize
@@ -67,6 +75,7 @@ guarded! {
     TEXT_STACK: fn write_report(grid_file: &[u8], book_file: &[u8], text: &mut [u8], bytes: &mut usize);
     TEXT_STACK: fn write_statement(grid_file: &[u8], book_file: &[u8], price_file: &[u8], text: &mut [u8], bytes: &mut usize);
     STACK: fn month_hours(year: u64, month: u64, hours: &mut u64);
+    STACK: fn hour_period(year: u64, month: u64, day: u64, hour_ending: u64, period: &mut u64);
     STACK: fn weekday(year: u64, month: u64, day: u64, weekday: &mut u64);
     STACK: fn month_later(year: u64, month: u64, day: u64, later_year: &mut u64, later_month: &mut u64, later_day: &mut u64);
 }

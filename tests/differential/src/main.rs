@@ -1,8 +1,9 @@
 //! Compares each public entry of the proved library with a second implementation of the scope document and the change requests: every answer and every
 //! lent cell.
 //!
-//! `differential [SEED [ENTRY ROUND]]`: another seed than the usual one; one round of one entry, to see a failure again. `differential vectors`: the
-//! conformance vectors alone.
+//! `differential [SEED [ENTRY [ROUND]]]`: another seed than the usual one; the rounds of one entry; one of them, to see a failure again.
+//! `differential vectors`: the conformance vectors alone. `differential short`: fewer calls, for a second build of the library; that each refusal is
+//! drawn is not asked for.
 
 mod draw;
 mod guarded;
@@ -17,7 +18,7 @@ mod vectors;
 use draw::{Draw, EXTREMES};
 use rounds::{
     calendar, canonical, cuts, demand, exposure, forms, headers, hub_book, hub_mcc, hubs, migration, priced, refusals, reordering, running,
-    shares, shortfall, text, view_pairs, views,
+    shares, shortfall, text, totals, view_pairs, views,
 };
 use std::env;
 use std::process::ExitCode;
@@ -27,6 +28,7 @@ const SEED: u64 = 20_130_101;
 /// Fewer than this for an entry is a failure; so many are aimed at.
 const LEAST: u64 = 100_000;
 const CALLS: u64 = 300_000;
+const FEWER_CALLS: u64 = 3_000;
 const CASES: u64 = 20_000;
 
 const BOOK: &[u64] = &[1, 4, 5, 10, 11, 13];
@@ -41,7 +43,7 @@ const fn plain(name: &'static str, refusals: &'static [u64], cases: &'static [&'
 }
 
 /// Each entry, with the refusals that the papers list for it, each to be drawn and no other, and the cases that the change requests name.
-const ENTRIES: [Entry; 38] = [
+const ENTRIES: [Entry; 42] = [
     plain("read_grid", &[1, 2, 3, 4, 5, 6, 7, 8, 9], &[&forms::GRIDS_READ], rounds::grid::read),
     Entry { rounds: headers::FIRST_BYTES, ..plain("grid_headers", &[1, 2, 3, 4, 5, 6, 7, 8, 9], &[], headers::grid) },
     plain("write_grid", &[2, 3, 6, 7, 9], &[&forms::GRIDS_WRITTEN], rounds::grid::write),
@@ -60,6 +62,10 @@ const ENTRIES: [Entry; 38] = [
     plain("write_prices", &[3, 9, 15, 17], &[], rounds::prices::write),
     plain("test_book", &[1, 2, 3, 4, 5, 6, 7, 9, 10, 11, 13, 16, 17], &[&forms::BOOKS], rounds::test::round),
     plain("find_flows", &[1, 2, 3, 4, 5, 6, 7, 9, 10, 11, 13, 17], &[&forms::BOOKS], rounds::flows::round),
+    // beyond the papers: a test of any size, its steps and a whole of them
+    plain("add_flows", &[1, 2, 3, 4, 5, 6, 7, 9, 10, 11, 13, 17], &[&totals::ADDED, &forms::BOOKS], totals::add),
+    plain("judge_flows", &[3, 6, 9, 10, 16], &[&totals::JUDGED], totals::judge),
+    Entry { rounds: totals::slices::FIRST_ROUNDS, ..plain("sliced_test", &[], &[&totals::slices::CASES], totals::slices::round) },
     Entry {
         rounds: cuts::FIRST_ROUNDS,
         ..plain("find_cuts", &[1, 2, 3, 4, 5, 6, 7, 9, 10, 11, 13, 16, 17], &[&cuts::CASES, &forms::BOOKS], cuts::round)
@@ -96,15 +102,17 @@ const ENTRIES: [Entry; 38] = [
     // beyond the papers: what a refusal's number means
     Entry { rounds: refusals::FIRST_ROUNDS, ..plain("refusal_text", &[9], &[&refusals::CASES], refusals::round) },
     Entry { rounds: calendar::YEARS, ..plain("month_hours", &[19], &[&calendar::HOURS], calendar::hours) },
+    // beyond the papers: an hour's period by the rule
+    Entry { rounds: calendar::MONTHS, ..plain("hour_period", &[19], &[&calendar::PERIODS], calendar::periods) },
     Entry { rounds: calendar::MONTHS, ..plain("weekday", &[19], &[&calendar::WEEKDAYS], calendar::weekdays) },
     Entry { rounds: calendar::MONTHS, ..plain("month_later", &[19], &[&calendar::LATER], calendar::later) },
 ];
 
 /// The rounds of an entry: those that it must have, and then so many that there are enough calls.
-fn run(entry: &Entry, seed: u64) -> Tally {
+fn run(entry: &Entry, seed: u64, calls: u64) -> Tally {
     let mut tally = Tally::default();
     let mut number = 0;
-    while tally.calls < CALLS || number < entry.rounds {
+    while tally.calls < calls || (number < entry.rounds && calls == CALLS) {
         (entry.round)(&mut Round::new(entry.name, seed, number, &mut tally));
         number += 1;
     }
@@ -136,11 +144,23 @@ fn demand_3(seed: u64) -> u64 {
     wrong + u64::from(passing == 0 || failing == 0)
 }
 
+/// The library of another machine: fewer calls of each entry.
+fn short(seed: u64) -> ExitCode {
+    let (mut calls, mut failed) = (0, 0);
+    for entry in &ENTRIES {
+        let tally = run(entry, seed, FEWER_CALLS);
+        calls += tally.calls;
+        failed += tally.failed + tally.unlisted(entry).len() as u64;
+    }
+    println!("{calls} calls of {} entries, {failed} differ", ENTRIES.len());
+    ExitCode::from(u8::from(failed > 0))
+}
+
 fn all(seed: u64) -> ExitCode {
     println!("seed {seed}\n{:<18} | {:>7} | {:>6} | answers (0: none refused), and how often", "entry", "calls", "failed");
     let (mut calls, mut failed, mut lacking) = (0, 0, false);
     for entry in &ENTRIES {
-        let tally = run(entry, seed);
+        let tally = run(entry, seed, CALLS);
         lacking |= report(entry, &tally);
         calls += tally.calls;
         failed += tally.failed;
@@ -154,10 +174,15 @@ fn all(seed: u64) -> ExitCode {
     }
 }
 
-fn one(seed: u64, name: &str, number: u64) -> ExitCode {
+/// The rounds of one entry, or one of them.
+fn one(seed: u64, name: &str, number: Option<u64>) -> ExitCode {
     let Some(entry) = ENTRIES.iter().find(|entry| entry.name == name) else {
         eprintln!("differential: no entry {name}");
         return ExitCode::from(2);
+    };
+    let Some(number) = number else {
+        let tally = run(entry, seed, CALLS);
+        return ExitCode::from(u8::from(report(entry, &tally) || tally.failed > 0));
     };
     let mut tally = Tally::default();
     (entry.round)(&mut Round::new(entry.name, seed, number, &mut tally));
@@ -172,11 +197,15 @@ fn main() -> ExitCode {
     if words == ["vectors"] {
         return ExitCode::from(u8::from(vectors::check() > 0));
     }
+    if words == ["short"] {
+        return short(SEED);
+    }
     match words.len() {
         0 | 1 => all(number(0, SEED)),
-        3 => one(number(0, SEED), &words[1], number(2, 0)),
+        2 => one(number(0, SEED), &words[1], None),
+        3 => one(number(0, SEED), &words[1], Some(number(2, 0))),
         _ => {
-            eprintln!("usage: differential [SEED [ENTRY ROUND] | vectors]");
+            eprintln!("usage: differential [SEED [ENTRY [ROUND]] | vectors | short]");
             ExitCode::from(2)
         }
     }

@@ -67,7 +67,7 @@ fn slots<'a>(function: &'a Function, line: &Line, carried: &Carried, flip: u64) 
         given.remove(name);
         let text = line.given.get(name).map(String::as_str);
         let before = match (parameter.form, held, text) {
-            (Form::Figure, ..) => filled(parameter.cell, 1, &mut draw, flip),
+            (Form::Figure, _, None) => filled(parameter.cell, 1, &mut draw, flip),
             (_, Some((state, length)), None) => match carried.states.get(&(state.clone(), name.to_string())) {
                 Some(cells) if function.name != "open_running" => cells.clone(),
                 _ => filled(parameter.cell, length, &mut draw, flip),
@@ -79,7 +79,7 @@ fn slots<'a>(function: &'a Function, line: &Line, carried: &Carried, flip: u64) 
             }
             (_, _, Some(text)) => cells(text)?,
         };
-        if !before.iter().all(|&cell| in_range(parameter.cell, cell)) || parameter.form == Form::Number && before.len() != 1 {
+        if !before.iter().all(|&cell| in_range(parameter.cell, cell)) || parameter.form != Form::Buffer && before.len() != 1 {
             return Err(format!("{name} is out of its type's range"));
         }
         all.push(Slot { parameter, before, mark: draw.next() ^ flip });

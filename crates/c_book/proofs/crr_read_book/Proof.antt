@@ -1,6 +1,6 @@
 -- `crr_read_book`.
-use mathlib.Core.Path.{sym, ap, _∙_}
-use Rattle.tariff.proofs.Answers.{refused-answers, refused-keeps, given-answers, given-count}
+use mathlib.Core.Path.{ap, _∙_}
+use Rattle.answer_laws.proofs.ForC.{refused-for-c, given-for-c}
 use Rattle.layouts.specs.Forms.{formNumber}
 use Rattle.layouts.specs.BookFile.{contractCountIn, bookFormIn}
 use Rattle.book_rules.specs.ReadBook.{readBookCall, readBookChecked, bookOutcome}
@@ -12,27 +12,26 @@ returns : tie.Need-returns
 returns c =
     let a = c .before .before .before .before .before .before .before .before .before .before .args in
     let f = c .before .before .before .before .before .before .read-book .ensures in
-    let checked = readBookChecked (readBookCall (a .nodes) (a .file .now) (a .book .now)) in
     let refusal = c .before .before .refusal .given in
-    let told = sym (ap bookOutcome (refusal .1)) ∙ f .values-given in
+    let k = refused-for-c (readBookChecked (readBookCall (a .nodes) (a .file .now) (a .book .now))) _ _ (f .values-given)
+    (refusal .0 .0) (ap bookOutcome (refusal .1)) _ (c .number .ensures) in
     record {
-      refusal-number = refused-answers checked _ (refusal .0 .0) told (c .number .ensures);
+      refusal-number = k .refusal-number;
       contracts-read = f .contracts-read;
-      count-given = refused-keeps checked _ (refusal .0 .0) told (contractCountIn (a .file .now)) (a .contracts .now);
-      form-given = refused-keeps checked _ (refusal .0 .0) told (formNumber (bookFormIn (a .file .now))) (a .form .now);
+      count-given = k .keeps (contractCountIn (a .file .now)) (a .contracts .now);
+      form-given = k .keeps (formNumber (bookFormIn (a .file .now))) (a .form .now);
     }
 
 returns-2 : tie.Need-returns-2
 returns-2 c =
     let a = c .before .before .before .before .before .before .before .before .before .before .args in
     let f = c .before .before .before .before .before .before .read-book .ensures in
-    let checked = readBookChecked (readBookCall (a .nodes) (a .file .now) (a .book .now)) in
-    let told = sym (ap bookOutcome (c .before .before .m .given .1)) ∙ f .values-given in
+    let k = given-for-c (readBookChecked (readBookCall (a .nodes) (a .file .now) (a .book .now))) _ _ (f .values-given) _ (ap bookOutcome (c .before .before .m .given .1)) in
     record {
-      refusal-number = given-answers checked _ _ told;
+      refusal-number = k .refusal-number;
       contracts-read = f .contracts-read;
-      count-given = given-count checked _ _ told 0 (a .contracts .now);
-      form-given = c .number2 .ensures ∙ given-count checked _ _ told 1 (a .form .now);
+      count-given = k .count 0 (a .contracts .now);
+      form-given = c .number2 .ensures ∙ k .count 1 (a .form .now);
     }
 
 pub crr-read-book-spec : {M : Type 1} → statement M

@@ -1,11 +1,11 @@
 -- `crr_find_cuts`.
-use mathlib.Core.Path.{_≡_, sym, ap, _∙_, subst}
-use mathlib.Core.List.{List, [], _∷_}
+use mathlib.Core.Path.{_≡_, sym, ap, subst}
+use mathlib.Core.List.{List}
 use Prim.Native.Nat.{ℕ}
 use lib.ListN.{length, getD}
 use lib.IntN.{ℤ, pos, natAbs}
 use borrow.Author.Needs.{needs}
-use Rattle.tariff.proofs.Answers.{refused-answers, refused-keeps, some-refuses, given-answers, given-count, given-values}
+use Rattle.answer_laws.proofs.ForC.{refused-for-c, given-for-c}
 use Rattle.test_rules.specs.TestBook.{testCall}
 use Rattle.cut_rules.specs.FindCuts.{CutsCall, cutsOutcome, listedRows, findCutsChecked, HoldLeastCuts}
 use Rattle.c_cuts.proofs.crr_find_cuts.Statement.{statement}
@@ -24,34 +24,31 @@ returns c =
     let f = c .before .before .before .before .before .before .before .before .find-cuts .ensures in
     let s = c .before .before .before .before .before .before .before .before .before .before .before .before .before .before .before in
     let q = call s in
-    let m = length (listedRows q) in
     let refusal = c .before .before .refusal .given in
-    let r = refusal .0 .0 in
-    let told = sym (ap cutsOutcome (refusal .1)) ∙ f .listed-given in
+    let k = refused-for-c (findCutsChecked q) _ _ (f .listed-given) (refusal .0 .0) (ap cutsOutcome (refusal .1)) _ (c .number .ensures) in
     record {
-      refusal-number = refused-answers (findCutsChecked q) (pos m ∷ []) r told (c .number .ensures);
-      listed-given = refused-keeps (findCutsChecked q) (pos m ∷ []) r told m (s .args .listed .now);
+      refusal-number = k .refusal-number;
+      listed-given = k .keeps (length (listedRows q)) (s .args .listed .now);
       numbers-listed = f .numbers-listed;
       cuts-listed = f .cuts-listed;
-      least-cuts = λ passed. absurd (some-refuses (findCutsChecked q) (pos m ∷ []) r told passed);
+      least-cuts = λ passed. absurd (k .refuses passed);
     }
 
 returns-2 : tie.Need-returns-2
 returns-2 c =
-    let f = c .before .before .before .before .before .before .before .find-cuts .ensures in
+    let found = c .before .before .before .before .before .before .before .find-cuts in
+    let f = found .ensures in
     let s = c .before .before .before .before .before .before .before .before .before .before .before .before .before .before in
     let q = call s in
-    let m = length (listedRows q) in
-    let last = c .before .before .before .before .before .before .before .find-cuts .last in
-    let rows = c .before .rows .given in
-    let told = sym (ap cutsOutcome (rows .1)) ∙ f .listed-given in
-    let many : rows .0 .0 ≡ m = ap (λ (vs : List ℤ). natAbs (getD vs 0 (pos 0))) (given-values (findCutsChecked q) (pos m ∷ []) _ told) in
+    let k = given-for-c (findCutsChecked q) _ _ (f .listed-given) _ (ap cutsOutcome (c .before .rows .given .1)) in
+    let many : c .before .rows .given .0 .0 ≡ length (listedRows q) = ap (λ (vs : List ℤ). natAbs (getD vs 0 (pos 0))) (k .values) in
     record {
-      refusal-number = given-answers (findCutsChecked q) (pos m ∷ []) _ told;
-      listed-given = given-count (findCutsChecked q) (pos m ∷ []) _ told 0 (s .args .listed .now);
+      refusal-number = k .refusal-number;
+      listed-given = k .count 0 (s .args .listed .now);
       numbers-listed = f .numbers-listed;
       cuts-listed = f .cuts-listed;
-      least-cuts = λ passed. subst (λ (n : ℕ). HoldLeastCuts q n (last .1 .1 .1 .1 .1 .1 .1 .0) (last .1 .1 .1 .1 .1 .1 .1 .1 .0)) (sym many) (f .least-cuts passed);
+      least-cuts = λ passed.
+          subst (λ (n : ℕ). HoldLeastCuts q n (found .last .1 .1 .1 .1 .1 .1 .1 .0) (found .last .1 .1 .1 .1 .1 .1 .1 .1 .0)) (sym many) (f .least-cuts passed);
     }
 
 pub crr-find-cuts-spec : {M : Type 1} → statement M

@@ -1,55 +1,54 @@
 -- `crr_find_exposure`.
-use mathlib.Core.Path.{sym, ap, _∙_}
+use mathlib.Core.Path.{ap, _∙_}
 use mir.Syntax.{w64}
 use mir.Facts.{toZ-ofZ}
 use borrow.Author.Needs.{needs}
-use Rattle.tariff.specs.declared.refusals.Checked.{Checked}
 use Rattle.tariff.specs.Settlement.{wholeCents, parts}
-use Rattle.tariff.proofs.Answers.{refused-answers, refused-keeps, given-answers, given-signed, given-count}
+use Rattle.answer_laws.proofs.ForC.{refused-for-c, given-for-c}
 use Rattle.test_rules.specs.TestBook.{TestCall, testCall}
 use Rattle.exposure_bounds.specs.FindExposure.{exposureOutcome, exposureChecked, exposureValues, least, most}
 use Rattle.c_exposure.proofs.crr_find_exposure.Statement.{statement}
 use Rattle.c_exposure.proofs.crr_find_exposure.Tie as tie
 
-abbrev call : tie.Start → TestCall
-call c = testCall (c .args .nodes) (c .args .constraints) (c .args .process) (c .args .period) (c .args .limits .now) (c .args .factors .now) (c .args .book .now)
+-- the entry has answered
+module _ (r : tie.After-find-exposure) where
+  abbrev s : tie.Start
+  s = r .before .before .before .before .before
 
-abbrev found : tie.Start → Checked
-found c = exposureChecked (call c) (c .args .prices .now)
+  abbrev q : TestCall
+  q = testCall (s .args .nodes) (s .args .constraints) (s .args .process) (s .args .period) (s .args .limits .now) (s .args .factors .now) (s .args .book .now)
 
 returns : tie.Need-returns
 returns c =
-    let f = c .before .before .before .before .before .before .find-exposure .ensures in
-    let s = c .before .before .before .before .before .before .before .before .before .before .before in
-    let q = call s in
+    let r = c .before .before .before .before .before .before in
+    let f = r .find-exposure .ensures in
+    let a = s r .args in
     let refusal = c .before .before .refusal .given in
-    let told = sym (ap exposureOutcome (refusal .1)) ∙ f .figures-given in
-    let r = refusal .0 .0 in
+    let k = refused-for-c (exposureChecked (q r) (a .prices .now)) _ _ (f .figures-given) (refusal .0 .0) (ap exposureOutcome (refusal .1)) _ (c .number .ensures) in
     record {
-      refusal-number = refused-answers (found s) (exposureValues q) r told (c .number .ensures);
+      refusal-number = k .refusal-number;
       prices-found = f .prices-found;
-      least-whole-given = refused-keeps (found s) (exposureValues q) r told (wholeCents (least q)) (s .args .least-whole .now);
-      least-parts-given = refused-keeps (found s) (exposureValues q) r told (parts (least q)) (s .args .least-parts .now);
-      most-whole-given = refused-keeps (found s) (exposureValues q) r told (wholeCents (most q)) (s .args .most-whole .now);
-      most-parts-given = refused-keeps (found s) (exposureValues q) r told (parts (most q)) (s .args .most-parts .now);
+      least-whole-given = k .keeps (wholeCents (least (q r))) (a .least-whole .now);
+      least-parts-given = k .keeps (parts (least (q r))) (a .least-parts .now);
+      most-whole-given = k .keeps (wholeCents (most (q r))) (a .most-whole .now);
+      most-parts-given = k .keeps (parts (most (q r))) (a .most-parts .now);
       exposes = f .exposes;
     }
 
 returns-2 : tie.Need-returns-2
 returns-2 c =
-    let f = c .before .before .before .before .before .find-exposure .ensures in
-    let s = c .before .before .before .before .before .before .before .before .before .before in
-    let q = call s in
-    let given = c .before .low .given in
+    let r = c .before .before .before .before .before in
+    let f = r .find-exposure .ensures in
+    let a = s r .args in
     let fits = c .known-told2 .given in
-    let told = sym (ap exposureOutcome (given .1)) ∙ f .figures-given in
+    let k = given-for-c (exposureChecked (q r) (a .prices .now)) (exposureValues (q r)) _ (f .figures-given) _ (ap exposureOutcome (c .before .low .given .1)) in
     record {
-      refusal-number = given-answers (found s) (exposureValues q) _ told;
+      refusal-number = k .refusal-number;
       prices-found = f .prices-found;
-      least-whole-given = toZ-ofZ {w = w64} (record { sfits = fits .0 .1 }) ∙ given-signed (found s) (exposureValues q) _ told 0 (s .args .least-whole .now);
-      least-parts-given = given-count (found s) (exposureValues q) _ told 1 (s .args .least-parts .now);
-      most-whole-given = toZ-ofZ {w = w64} (record { sfits = fits .1 .1 .0 .1 }) ∙ given-signed (found s) (exposureValues q) _ told 2 (s .args .most-whole .now);
-      most-parts-given = given-count (found s) (exposureValues q) _ told 3 (s .args .most-parts .now);
+      least-whole-given = toZ-ofZ {w = w64} (record { sfits = fits .0 .1 }) ∙ k .signed 0 (a .least-whole .now);
+      least-parts-given = k .count 1 (a .least-parts .now);
+      most-whole-given = toZ-ofZ {w = w64} (record { sfits = fits .1 .1 .0 .1 }) ∙ k .signed 2 (a .most-whole .now);
+      most-parts-given = k .count 3 (a .most-parts .now);
       exposes = f .exposes;
     }
 

@@ -1,42 +1,47 @@
 -- `crr_read_grid`.
-use mathlib.Core.Path.{sym, ap, _∙_}
-use Rattle.tariff.proofs.Answers.{refused-answers, refused-keeps, given-answers, given-count}
+use mathlib.Core.Path.{ap, _∙_}
+use Rattle.answer_laws.proofs.ForC.{refused-for-c, given-for-c}
 use Rattle.layouts.specs.Forms.{formNumber}
 use Rattle.layouts.specs.GridFile.{gridFormIn, nodesIn, constraintsIn}
-use Rattle.grid_rules.specs.ReadGrid.{readGridCall, readGridChecked, gridOutcome}
+use Rattle.grid_rules.specs.ReadGrid.{ReadGridCall, readGridCall, readGridChecked, gridOutcome}
 use borrow.Author.Needs.{needs}
 use Rattle.c_grid.proofs.crr_read_grid.Statement.{statement}
 use Rattle.c_grid.proofs.crr_read_grid.Tie as tie
 
+-- the entry has answered
+module _ (r : tie.After-read-grid) where
+  abbrev handed : ReadGridCall
+  handed = let a = r .before .before .before .before .before .args in readGridCall (a .file .now) (a .limits .now) (a .factors .now)
+
 returns : tie.Need-returns
 returns c =
-    let f = c .before .before .before .before .before .before .before .read-grid .ensures in
-    let a = c .before .before .before .before .before .before .before .before .before .before .before .before .args in
-    let checked = readGridChecked (readGridCall (a .file .now) (a .limits .now) (a .factors .now)) in
+    let r = c .before .before .before .before .before .before .before in
+    let f = r .read-grid .ensures in
+    let a = r .before .before .before .before .before .args in
     let refusal = c .before .before .refusal .given in
-    let told = sym (ap gridOutcome (refusal .1)) ∙ f .values-given in
+    let k = refused-for-c (readGridChecked (handed r)) _ _ (f .values-given) (refusal .0 .0) (ap gridOutcome (refusal .1)) _ (c .number .ensures) in
     record {
-      refusal-number = refused-answers checked _ (refusal .0 .0) told (c .number .ensures);
+      refusal-number = k .refusal-number;
       limits-read = f .limits-read;
       factors-read = f .factors-read;
-      nodes-given = refused-keeps checked _ (refusal .0 .0) told (nodesIn (a .file .now)) (a .nodes .now);
-      constraints-given = refused-keeps checked _ (refusal .0 .0) told (constraintsIn (a .file .now)) (a .constraints .now);
-      form-given = refused-keeps checked _ (refusal .0 .0) told (formNumber (gridFormIn (a .file .now))) (a .form .now);
+      nodes-given = k .keeps (nodesIn (a .file .now)) (a .nodes .now);
+      constraints-given = k .keeps (constraintsIn (a .file .now)) (a .constraints .now);
+      form-given = k .keeps (formNumber (gridFormIn (a .file .now))) (a .form .now);
     }
 
 returns-2 : tie.Need-returns-2
 returns-2 c =
-    let f = c .before .before .before .before .before .before .before .read-grid .ensures in
-    let a = c .before .before .before .before .before .before .before .before .before .before .before .before .args in
-    let checked = readGridChecked (readGridCall (a .file .now) (a .limits .now) (a .factors .now)) in
-    let told = sym (ap gridOutcome (c .before .before .n .given .1)) ∙ f .values-given in
+    let r = c .before .before .before .before .before .before .before in
+    let f = r .read-grid .ensures in
+    let a = r .before .before .before .before .before .args in
+    let k = given-for-c (readGridChecked (handed r)) _ _ (f .values-given) _ (ap gridOutcome (c .before .before .n .given .1)) in
     record {
-      refusal-number = given-answers checked _ _ told;
+      refusal-number = k .refusal-number;
       limits-read = f .limits-read;
       factors-read = f .factors-read;
-      nodes-given = given-count checked _ _ told 0 (a .nodes .now);
-      constraints-given = given-count checked _ _ told 1 (a .constraints .now);
-      form-given = c .number2 .ensures ∙ given-count checked _ _ told 2 (a .form .now);
+      nodes-given = k .count 0 (a .nodes .now);
+      constraints-given = k .count 1 (a .constraints .now);
+      form-given = c .number2 .ensures ∙ k .count 2 (a .form .now);
     }
 
 pub crr-read-grid-spec : {M : Type 1} → statement M

@@ -1,23 +1,12 @@
 -- `crr_find_mcc`.
-use mathlib.Core.Path.{sym, ap, _∙_}
-use Rattle.hour_mcc.specs.FindMcc.{mccOutcome}
-use Rattle.hour_mcc.specs.declared.MccAnswer.{MccAnswer}
+use mathlib.Core.Path.{refl}
 use borrow.Author.Needs.{needs}
+use Rattle.answer_laws.proofs.ForC.{number-for-c}
 use Rattle.c_hour.proofs.crr_find_mcc.Statement.{statement}
 use Rattle.c_hour.proofs.crr_find_mcc.Tie as tie
 
-returns : tie.Need-returns
-returns c =
-    let f = c .before .before .before .before .before .find-mcc in
-    let told = ap (λ (a : MccAnswer). mccOutcome a .number) (c .before .before .refusal .given .1) in
-    record { answer = f .result; promised = f .ensures; refusal-number = c .number .ensures ∙ sym told }
-
-returns-2 : tie.Need-returns-2
-returns-2 c =
-    let f = c .before .before .before .find-mcc in
-    record { answer = f .result; promised = f .ensures; refusal-number = sym (ap (λ (a : MccAnswer). mccOutcome a .number) (c .enum-told .given .1)) }
-
 pub crr-find-mcc-spec : {M : Type 1} → statement M
 crr-find-mcc-spec =
-    tie.close (tie.spec
-    (λ c κs. search needs) (λ c. search needs) (λ c κs. search needs) (λ c. search needs) (λ c. search needs) returns (λ c. search needs) returns-2)
+    tie.close (tie.spec (λ c κs. search needs) (λ c. search needs) (λ c κs. search needs) (λ c. search needs) (λ c. search needs)
+    (λ c. number-for-c _ _ (c .before .before .before .before .before .find-mcc .ensures) (c .before .before .refusal .given .1) _ (c .number .ensures))
+    (λ c. search needs) (λ c. number-for-c _ _ (c .before .before .before .find-mcc .ensures) (c .enum-told .given .1) _ refl))

@@ -1,9 +1,7 @@
 -- `crr_find_flows`.
-use mathlib.Core.Path.{sym, ap, _∙_}
-use mathlib.Core.List.{[], _∷_}
+use mathlib.Core.Path.{ap}
 use lib.ListN.{length}
-use lib.IntN.{pos}
-use Rattle.tariff.proofs.Answers.{refused-answers, refused-keeps, given-answers, given-count}
+use Rattle.answer_laws.proofs.ForC.{refused-for-c, given-for-c}
 use Rattle.test_loading.specs.FindFlows.{FlowsCall, flowsCall, findFlowsChecked, flowsOutcome, countedContracts}
 use borrow.Author.Needs.{needs}
 use Rattle.c_loading.proofs.crr_find_flows.Statement.{statement}
@@ -16,30 +14,20 @@ returns : tie.Need-returns
 returns c =
     let f = c .before .before .before .before .before .find-flows .ensures in
     let s = c .before .before .before .before .before .before .before .before .before in
-    let q = call s in
-    let m = length (countedContracts q) in
     let refusal = c .before .before .refusal .given in
-    let r = refusal .0 .0 in
-    let told = sym (ap flowsOutcome (refusal .1)) ∙ f .counted-given in
+    let k = refused-for-c (findFlowsChecked (call s)) _ _ (f .counted-given) (refusal .0 .0) (ap flowsOutcome (refusal .1)) _ (c .number .ensures) in
     record {
-      refusal-number = refused-answers (findFlowsChecked q) (pos m ∷ []) r told (c .number .ensures);
+      refusal-number = k .refusal-number;
       flows-found = f .flows-found;
-      counted-given = refused-keeps (findFlowsChecked q) (pos m ∷ []) r told m (s .args .counted .now);
+      counted-given = k .keeps (length (countedContracts (call s))) (s .args .counted .now);
     }
 
 returns-2 : tie.Need-returns-2
 returns-2 c =
     let f = c .before .before .before .before .find-flows .ensures in
     let s = c .before .before .before .before .before .before .before .before in
-    let q = call s in
-    let m = length (countedContracts q) in
-    let found = c .before .many .given in
-    let told = sym (ap flowsOutcome (found .1)) ∙ f .counted-given in
-    record {
-      refusal-number = given-answers (findFlowsChecked q) (pos m ∷ []) _ told;
-      flows-found = f .flows-found;
-      counted-given = given-count (findFlowsChecked q) (pos m ∷ []) _ told 0 (s .args .counted .now);
-    }
+    let k = given-for-c (findFlowsChecked (call s)) _ _ (f .counted-given) _ (ap flowsOutcome (c .before .many .given .1)) in
+    record { refusal-number = k .refusal-number; flows-found = f .flows-found; counted-given = k .count 0 (s .args .counted .now) }
 
 pub crr-find-flows-spec : {M : Type 1} → statement M
 crr-find-flows-spec =

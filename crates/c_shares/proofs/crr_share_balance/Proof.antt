@@ -1,10 +1,10 @@
 -- `crr_share_balance`.
-use mathlib.Core.Path.{sym, ap, _∙_, subst}
+use mathlib.Core.Path.{refl, subst}
 use lib.IntN.{ℤ}
 use mir.Syntax.{w64}
 use mir.ValLaws.{toZ-ofZ}
-use Rattle.share_rules.specs.ShareBalance.{ShareCall, shareCall, shareOutcome, SharesBalance}
-use Rattle.share_rules.specs.declared.ShareAnswer.{ShareAnswer}
+use Rattle.answer_laws.proofs.ForC.{number-for-c}
+use Rattle.share_rules.specs.ShareBalance.{ShareCall, shareCall, SharesBalance}
 use borrow.Author.Needs.{needs}
 use Rattle.c_shares.proofs.crr_share_balance.Statement.{statement}
 use Rattle.c_shares.proofs.crr_share_balance.Tie as tie
@@ -21,16 +21,10 @@ shared c =
     (toZ-ofZ w64 (s .args .balance) (s .fits .balance)) (r .ensures)
 
 returns : tie.Need-returns
-returns c =
-    let f = c .before .before .before .before .before in
-    let told = ap (λ (a : ShareAnswer). shareOutcome a .number) (c .before .before .refusal .given .1) in
-    record { answer = f .share-balance .result; promised = shared f; refusal-number = c .number .ensures ∙ sym told }
+returns c = number-for-c _ _ (shared (c .before .before .before .before .before)) (c .before .before .refusal .given .1) _ (c .number .ensures)
 
 returns-2 : tie.Need-returns-2
-returns-2 c =
-    let f = c .before .before .before in
-    let told = ap (λ (a : ShareAnswer). shareOutcome a .number) (c .enum-told .given .1) in
-    record { answer = f .share-balance .result; promised = shared f; refusal-number = sym told }
+returns-2 c = number-for-c _ _ (shared (c .before .before .before)) (c .enum-told .given .1) _ refl
 
 pub crr-share-balance-spec : {M : Type 1} → statement M
 crr-share-balance-spec =

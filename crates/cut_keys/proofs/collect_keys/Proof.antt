@@ -45,7 +45,8 @@ contract-at-requires : tie.Need-contract-at-requires Inv-loop μ-loop
 contract-at-requires c κs =
     let f = c .before .before in
     let s = f .before .before .before .before in
-    accepted-room (s .args .nodes) (s .args .book .now) (ok s) (f .book-form .result) (f .book-form .ensures) (c .before .loop .i) (omega (arith, f .before .contract-count .ensures .0))
+    accepted-room (s .args .nodes) (s .args .book .now) (ok s) (f .book-form .result) (f .book-form .ensures) (c .before .loop .i)
+    (omega (arith, f .before .contract-count .ensures .0))
 
 -- contract i is the one that the bytes say, and in range
 module _ (c : tie.After-contract-at Inv-loop μ-loop) where
@@ -75,24 +76,21 @@ add-key-requires c κs =
       (omega (arith, ok (s r) .few, below r), omega (arith, ok (s r) .few, below r, l .inv .1, l .inv .2)),
     )
 
-add-i : tie.Need-add-i Inv-loop μ-loop
-add-i c = search needs
-
-loop-less : tie.Need-loop-less Inv-loop μ-loop
-loop-less c = search needs
-
 loop-again : tie.Need-loop-again Inv-loop μ-loop
 loop-again c =
     let k = c .before .before .add-key in
     let r = c .before .before .before .before in
     let l = r .before .before .loop in
-    let cutOf : ℕ → ℕ = λ j. periodCut (s r .args .constraints) (s r .args .factors .now) (s r .args .excesses .now) (s r .args .period) (contractAt (s r .args .book .now) j) in
+    let cutOf : ℕ → ℕ = λ j. periodCut (s r .args .constraints) (s r .args .factors .now) (s r .args .excesses .now) (s r .args .period)
+    (contractAt (s r .args .book .now) j) in
     let cut : Contract → ℕ = periodCut (s r .args .constraints) (s r .args .factors .now) (s r .args .excesses .now) (s r .args .period) in
-    let more : List ℕ → ℕ → List ℕ = λ keys x. keys ++ cond (ltb 0 x) (cutKey x (l .i) ∷ []) [] in
-    (omega arith, omega (arith, k .ensures .0 .0, l .inv .1), k .ensures .0 .1 ∙ l .inv .2, k .ensures .1 ∙ ap₂ more (l .inv .3) (ap cut (read r)) ∙ sym (keys-more cutOf (l .i)))
-
-same-length : tie.Need-same-length Inv-loop μ-loop
-same-length c = search needs
+    let more : List ℕ → ℕ → List ℕ = λ keys x. keys ++ cond (ltb 0 x) (cutKey x (l .i) ∷ []) [] in (
+      omega arith,
+      omega (arith, k .ensures .0 .0, l .inv .1),
+      k .ensures .0 .1 ∙ l .inv .2,
+      k .ensures .1 ∙ ap₂ more (l .inv .3) (ap cut (read r)) ∙ sym
+          (keys-more cutOf (l .i)),
+    )
 
 returns : tie.Need-returns Inv-loop μ-loop
 returns c =
@@ -100,9 +98,11 @@ returns c =
     let l = c .before .loop in
     let many = c .before .before .before .contract-count .ensures .0 in
     let last : l .i ≡ contractCountIn (s .args .book .now) = omega (arith, many) in
-    let cutOf : ℕ → ℕ = λ j. periodCut (s .args .constraints) (s .args .factors .now) (s .args .excesses .now) (s .args .period) (contractAt (s .args .book .now) j) in
+    let cutOf : ℕ → ℕ = λ j. periodCut (s .args .constraints) (s .args .factors .now) (s .args .excesses .now) (s .args .period)
+    (contractAt (s .args .book .now) j) in
     ((omega (arith, ok s .few, l .inv .1, last), l .inv .2), l .inv .3 ∙ ap (keysTo cutOf) last)
 
 pub collect-keys-spec : {M : Type 1} → statement M
 collect-keys-spec =
-    tie.close (tie.spec Inv-loop μ-loop contract-count-requires book-form-requires loop-holds contract-at-requires add-key-requires add-i loop-less loop-again same-length returns)
+    tie.close (tie.spec Inv-loop μ-loop contract-count-requires book-form-requires loop-holds contract-at-requires add-key-requires (λ c. search needs)
+    (λ c. search needs) loop-again (λ c. search needs) returns)

@@ -15,12 +15,13 @@ use Rattle.cut_keys.proofs.row_keys.Tie as tie
 carry-requires : tie.Need-carry-requires
 carry-requires c κs = let s = c .before .before .before in (s .pre .0 .1, s .pre .0 .2)
 
-judged : (c : tie.After-carry) → let s = c .before .before .before .before in Judgeable (s .args .constraints) (s .args .limits .now) (c .carry .result)
+judged : (c : tie.After-carry) → let s = c .before .before .before .before in Judgeable (s .args .terms .constraints) (s .args .limits .now) (c .carry .result)
 judged c =
     let s = c .before .before .before .before in
     let a = s .args in
     let p = s .pre .0 in
-    carried-judgeable (a .nodes) (a .constraints) (a .limits .now) (a .factors .now) (a .period) (a .book .now) (p .0) (p .1) (p .2) (c .carry .result) (c .carry .ensures)
+    carried-judgeable (a .terms .nodes) (a .terms .constraints) (a .limits .now) (a .factors .now) (a .terms .period) (a .book .now) (p .0) (p .1) (p .2)
+    (c .carry .result) (c .carry .ensures)
 
 overload-set-requires : tie.Need-overload-set-requires
 overload-set-requires c κs = judged c
@@ -33,7 +34,8 @@ returns c =
     let p = s .pre .0 in
     let o = c .before .overload-set in (
       (omega arith, s .pre .1),
-      passes (a .nodes) (a .constraints) (a .limits .now) (a .factors .now) (a .process) (a .period) (a .book .now) (p .0) (p .1) (p .2) (f .carry .result) (f .carry .ensures)
+      passes (a .terms .nodes) (a .terms .constraints) (a .limits .now) (a .factors .now) (a .terms .process) (a .terms .period) (a .book .now) (p .0) (p .1) (p .2)
+          (f .carry .result) (f .carry .ensures)
           (o .result) (o .ensures) (c .if1 .taken),
     )
 
@@ -41,13 +43,15 @@ fill-excess-requires : tie.Need-fill-excess-requires
 fill-excess-requires c κs = let j = judged (c .before .before .before) in (j, j .few)
 
 -- the excesses are filled
-good : (x : tie.After-fill-excess) → Excesses (x .before .before .before .before .before .before .before .before .args .constraints) (x .fill-excess .last .1 .1 .1 .1 .0)
+good : (x : tie.After-fill-excess) → Excesses (x .before .before .before .before .before .before .before .before .args .terms .constraints)
+    (x .fill-excess .last .1 .1 .1 .1 .0)
 good x =
     let f = x .before .before .before .before in
     let s = f .before .before .before .before in
     let a = s .args in
     let p = s .pre .0 in
-    excesses (a .nodes) (a .constraints) (a .limits .now) (a .factors .now) (a .process) (a .period) (a .book .now) (p .0) (p .1) (p .2) (f .carry .result) (f .carry .ensures)
+    excesses (a .terms .nodes) (a .terms .constraints) (a .limits .now) (a .factors .now) (a .terms .process) (a .terms .period) (a .book .now) (p .0) (p .1) (p .2)
+    (f .carry .result) (f .carry .ensures)
     _ _ (x .fill-excess .ensures)
 
 first-overload-requires : tie.Need-first-overload-requires
@@ -81,15 +85,18 @@ returns-2 c =
     let h = k .collect-keys .ensures in
     let sort = c .before .before .sort .ensures in
     let room : k .collect-keys .result ≤ length (k .collect-keys .last .1 .1 .1 .1 .1 .1 .0) = omega (arith, h .0 .0, h .0 .1) in
-    let out = fails (a .nodes) (a .constraints) (a .limits .now) (a .factors .now) (a .process) (a .period) (a .book .now) (p .0) (p .1) (p .2) (f .carry .result) (f .carry .ensures)
+    let out = fails (a .terms .nodes) (a .terms .constraints) (a .limits .now) (a .factors .now) (a .terms .process) (a .terms .period) (a .book .now) (p .0) (p .1)
+    (p .2) (f .carry .result) (f .carry .ensures)
     (o .overload-set .result) (o .overload-set .ensures) (x .before .before .if1 .left) in (
       (h .0 .0, cells-long (k .collect-keys .result) _ _ room sort ∙ h .0 .1),
-      listed-keys (a .nodes) (a .constraints) (a .limits .now) (a .factors .now) (a .process) (a .period) (a .book .now) (p .0) (p .1) (p .2) (f .carry .result) (f .carry .ensures)
+      listed-keys (a .terms .nodes) (a .terms .constraints) (a .limits .now) (a .factors .now) (a .terms .process) (a .terms .period) (a .book .now) (p .0) (p .1)
+          (p .2) (f .carry .result) (f .carry .ensures)
           _ _ (x .fill-excess .ensures) out (k .collect-keys .result) _ _ room (h .1) sort,
     )
 
 pub row-keys-spec : {M : Type 1} → statement M
 row-keys-spec =
     tie.close (tie.spec
-    carry-requires overload-set-requires returns (λ c. search needs) fill-excess-requires (λ c. search needs) first-overload-requires (λ c. search needs) overloads-end-requires (λ c. search needs)
+    carry-requires overload-set-requires returns (λ c. search needs) fill-excess-requires (λ c. search needs) first-overload-requires
+    (λ c. search needs) overloads-end-requires (λ c. search needs)
     collect-keys-requires sort-requires (λ c. search needs) returns-2)

@@ -1,15 +1,19 @@
 -- `find_cuts`: the test's checks, then the rows' keys, then the room for them; the keys taken apart are the rows.
-use mathlib.Core.Path.{_≡_, refl, sym, ap₂, _∙_}
+use mathlib.Core.Path.{_≡_, refl, sym, ap, _∙_, subst}
 use mathlib.Core.List.{map}
 use Prim.Native.Nat.{_≤_}
 use native.Mathlib.Omega.{arith}
 use lib.ListN.{length, take}
 use borrow.Author.Needs.{needs}
-use Rattle.tariff.specs.declared.contracts.Period.{Period}
-use Rattle.tariff.specs.declared.processes.Process.{Process}
+use Rattle.tariff.specs.declared.refusals.Checked.the-variants.{Passed}
+use Rattle.tariff.specs.Units.{gridOf, maxLimit}
+use Rattle.tariff.specs.Refusals.{first}
 use Rattle.layouts.specs.BookFile.{bookIn}
+use Rattle.grid_tables.specs.Inner.{GoodCells, GoodFactors}
+use Rattle.book_rules.specs.BookChecks.{bookChecks}
 use Rattle.book_rules.proofs.Accepted.{book-accepted}
-use Rattle.test_rules.specs.TestBook.{TestCall, testCall, testedGrid}
+use Rattle.test_rules.specs.TestBook.{TestCall, testCall}
+use Rattle.test_excesses.specs.declared.Terms.{Terms}
 use Rattle.test_rules.proofs.Checking.{Tested, tested}
 use Rattle.cut_rules.specs.Cuts.{leastCuts}
 use Rattle.cut_rules.specs.Inner.{rowKey}
@@ -36,16 +40,24 @@ returns c =
 ok : (c : tie.After-enum-told) → Tested (test (c .before .before .before .before .before .before .before))
 ok c = tested (test (c .before .before .before .before .before .before .before)) (sym (c .before .before .check-test .ensures) ∙ c .enum-told .given .1)
 
-from-number-requires : tie.Need-from-number-requires
-from-number-requires c κs = ok c .tables .process-number
+from-numbers-requires : tie.Need-from-numbers-requires
+from-numbers-requires c κs = ok c .tables .process-number
 
 row-keys-requires : tie.Need-row-keys-requires
-row-keys-requires c κs = let o = ok (c .before .before .before) in ((o .tables .good-limits, o .tables .good-factors, o .book), refl)
+row-keys-requires c κs =
+    let o = ok (c .before .before) in
+    let a = c .before .before .before .before .before .before .before .before .before .args in (
+      subst
+          (λ (x : Terms). GoodCells maxLimit (x .constraints) (a .limits .now) × GoodFactors (x .nodes) (x .constraints) (a .factors .now)
+          × (first (bookChecks (x .nodes) (a .book .now)) ≡ Passed))
+          (sym (c .before .from-numbers .ensures)) (o .tables .good-limits, o .tables .good-factors, o .book),
+      refl,
+    )
 
 -- the rows' keys
 module _ (x : tie.After-row-keys) where
   abbrev e : tie.After-enum-told
-  e = x .before .before .before .before
+  e = x .before .before .before
 
   abbrev s : tie.Start
   s = e .before .before .before .before .before .before .before
@@ -53,13 +65,14 @@ module _ (x : tie.After-row-keys) where
   abbrev q : CutsCall
   q = call s
 
-  keys : take (x .row-keys .result) (x .row-keys .last .1 .1 .1 .1 .1 .1 .1 .0) ≡ map rowKey (listedRows q)
+  keys : take (x .row-keys .result) (x .row-keys .last .1 .1 .1 .1 .0) ≡ map rowKey (listedRows q)
   keys =
       x .row-keys .ensures .1
-      ∙ ap₂ (λ (p : Process) (t : Period). map rowKey (leastCuts (testedGrid (q .test)) p t (bookIn (q .test .book))))
-      (x .before .before .before .from-number .ensures) (x .before .before .from-number2 .ensures)
+      ∙ ap (λ (t : Terms). map rowKey (leastCuts (gridOf (t .nodes) (t .constraints) (q .test .limits) (q .test .factors)) (t .process) (t .period)
+      (bookIn (q .test .book))))
+      (x .before .before .from-numbers .ensures)
 
-  room : x .row-keys .result ≤ length (x .row-keys .last .1 .1 .1 .1 .1 .1 .1 .0)
+  room : x .row-keys .result ≤ length (x .row-keys .last .1 .1 .1 .1 .0)
   room = let h = x .row-keys .ensures .0 in omega (arith, h .0, h .1)
 
   few : Few (listedRows q)
@@ -80,5 +93,5 @@ returns-2 c =
 pub find-cuts-spec : {M : Type 1} → statement M
 find-cuts-spec =
     tie.close (tie.spec
-    (λ c κs. search needs) (λ c. search needs) returns (λ c. search needs) from-number-requires (λ c κs. search needs) (λ c. search needs)
+    (λ c κs. search needs) (λ c. search needs) returns (λ c. search needs) from-numbers-requires (λ c. search needs)
     row-keys-requires (λ c. search needs) (λ c κs. search needs) (λ c. search needs) (λ c. search needs) returns-2)

@@ -22,30 +22,6 @@ abbrev μ-loop : tie.MeasureT-loop
 loop-holds : tie.Need-loop-holds Inv-loop μ-loop
 loop-holds c = (omega arith, refl, refl, refl, refl, refl, refl)
 
-mul-key : tie.Need-mul-key Inv-loop μ-loop
-mul-key c = search needs
-
-shared-slice-read-key : tie.Need-shared-slice-read-key Inv-loop μ-loop
-shared-slice-read-key c = search needs
-
-mul-numbers : tie.Need-mul-numbers Inv-loop μ-loop
-mul-numbers c = search needs
-
-slice-write-numbers : tie.Need-slice-write-numbers Inv-loop μ-loop
-slice-write-numbers c = search needs
-
-mul-cuts : tie.Need-mul-cuts Inv-loop μ-loop
-mul-cuts c = search needs
-
-slice-write-cuts : tie.Need-slice-write-cuts Inv-loop μ-loop
-slice-write-cuts c = search needs
-
-add-i : tie.Need-add-i Inv-loop μ-loop
-add-i c = search needs
-
-loop-less : tie.Need-loop-less Inv-loop μ-loop
-loop-less c = search needs
-
 loop-again : tie.Need-loop-again Inv-loop μ-loop
 loop-again c =
     let s = c .before .before .before in
@@ -58,17 +34,13 @@ loop-again c =
       omega arith,
       simp length-set (l .inv .1),
       simp length-set (l .inv .2),
-      fill-turn (listTo (s .args .count) n) (l .numbers) (l .i) (l .inv .3) _ 0 hn (rw (length-listTo (s .args .count) n) h) (sym (getD-listTo (s .args .count) n (l .i) 0 h)),
+      fill-turn (listTo (s .args .count) n) (l .numbers) (l .i) (l .inv .3) _ 0 hn (rw (length-listTo (s .args .count) n) h)
+          (sym (getD-listTo (s .args .count) n (l .i) 0 h)),
       rest-turn (l .numbers) (s .args .numbers .now) (l .i) _ (l .inv .4),
-      fill-turn (listTo (s .args .count) t) (l .cuts) (l .i) (l .inv .5) _ 0 ht (rw (length-listTo (s .args .count) t) h) (sym (getD-listTo (s .args .count) t (l .i) 0 h)),
+      fill-turn (listTo (s .args .count) t) (l .cuts) (l .i) (l .inv .5) _ 0 ht (rw (length-listTo (s .args .count) t) h)
+          (sym (getD-listTo (s .args .count) t (l .i) 0 h)),
       rest-turn (l .cuts) (s .args .cuts .now) (l .i) _ (l .inv .6),
     )
-
-same-length : tie.Need-same-length Inv-loop μ-loop
-same-length c = search needs
-
-same-length-2 : tie.Need-same-length-2 Inv-loop μ-loop
-same-length-2 c = search needs
 
 returns : tie.Need-returns Inv-loop μ-loop
 returns c =
@@ -76,11 +48,13 @@ returns c =
     let l = c .before .loop in
     let n : ℕ → ℕ = λ j. getD (s .args .keys .now) j 0 % 1024 in
     let t : ℕ → ℕ = λ j. getD (s .args .keys .now) j 0 / 1024 in (
-      fill-front (listTo (s .args .count) n) (l .numbers) (s .args .numbers .now) (l .i) (l .inv .3) (l .inv .4) (rw (length-listTo (s .args .count) n) (omega arith)),
+      fill-front (listTo (s .args .count) n) (l .numbers) (s .args .numbers .now) (l .i) (l .inv .3) (l .inv .4)
+          (rw (length-listTo (s .args .count) n) (omega arith)),
       fill-front (listTo (s .args .count) t) (l .cuts) (s .args .cuts .now) (l .i) (l .inv .5) (l .inv .6) (rw (length-listTo (s .args .count) t) (omega arith)),
     )
 
 pub store-rows-spec : {M : Type 1} → statement M
 store-rows-spec =
     tie.close (tie.spec
-    Inv-loop μ-loop loop-holds mul-key shared-slice-read-key mul-numbers slice-write-numbers mul-cuts slice-write-cuts add-i loop-less loop-again same-length same-length-2 returns)
+    Inv-loop μ-loop loop-holds (λ c. search needs) (λ c. search needs) (λ c. search needs) (λ c. search needs) (λ c. search needs) (λ c. search needs)
+    (λ c. search needs) (λ c. search needs) loop-again (λ c. search needs) (λ c. search needs) returns)

@@ -3,15 +3,12 @@ use mathlib.Core.Path.{_≡_, refl, sym, _∙_, subst}
 use Prim.Native.Nat.{_-_, _≤_, _<_}
 use native.Mathlib.Omega.{arith}
 use lib.ListN.{length}
-use lib.IntN.{ℤ, pos, natAbs}
+use lib.IntN.{ℤ, pos}
 use lib.Signed.{ltZ}
-use mir.Syntax.{w64}
-use mir.Val.{toZ, ofZ}
 use borrow.Author.Needs.{needs}
-use Rattle.integers.proofs.Machine.{back}
 use Rattle.lists.specs.Sets.{countOf}
-use Rattle.test_excesses.specs.Inner.{cellAt}
-use Rattle.exposure_prices.specs.Inner.{aboveIn, maxExcess, Noted, Listed}
+use Rattle.exposure_prices.specs.Inner.{aboveIn, Noted, Listed}
+use Rattle.exposure_prices.proofs.Cells.{read-excess}
 use Rattle.exposure_prices.proofs.Counting.{count-next, counted-most, list-start, list-next}
 use Rattle.exposure_prices.proofs.fill_over.Statement.{statement}
 use Rattle.exposure_prices.proofs.fill_over.Tie as tie
@@ -30,28 +27,23 @@ loop-holds c = (omega arith, omega arith, refl, c .before .pre .1, list-start _ 
 shared-slice-copy-out-excess : tie.Need-shared-slice-copy-out-excess Inv-loop μ-loop
 shared-slice-copy-out-excess c = omega (arith, c .before .before .before .pre .0 .long)
 
-kept : (c : tie.After-excess Inv-loop μ-loop) → let e = cellAt (c .before .before .before .before .args .excesses .now) (c .before .before .loop .k) in (toZ w64 (ofZ w64 e) ≡ e) × (natAbs e ≤ maxExcess)
-kept c =
-    let s = c .before .before .before .before in
-    let k = c .before .before .loop .k in
-    let sized = s .pre .0 .sized k (omega arith) in
-    (back (cellAt (s .args .excesses .now) k) (omega (arith, sized)), sized)
-
 note-over-requires : tie.Need-note-over-requires Inv-loop μ-loop
 note-over-requires c κs =
     let l = c .before .before .before .loop in
-    let few = c .before .before .before .before .before .pre .0 .few in
-    let room : l .count < 64 = omega (arith, l .inv .1, few) in
-    (rw (kept (c .before) .0) (kept (c .before) .1), omega (arith, room, l .inv .3), room)
+    let room : l .count < 64 = omega (arith, l .inv .1, c .before .before .before .before .before .pre .0 .few) in
+    let s = c .before .before .before .before .before in
+    let read = read-excess (s .args .constraints) (s .args .excesses .now) (s .pre .0) (l .k) (omega arith) in
+    (rw (read .0) (read .1), omega (arith, room, l .inv .3), room)
 
 loop-again : tie.Need-loop-again Inv-loop μ-loop
 loop-again c =
-    let x = c .before .before .before .before in
-    let a = c .before .before .before .before .before .before .before .before .args in
+    let s = c .before .before .before .before .before .before .before .before in
+    let a = s .args in
     let l = c .before .before .before .before .before .before .loop in
     let r = c .before .before .note-over in
     let b = aboveIn (a .excesses .now) in
-    let noted = subst (λ (z : ℤ). Noted (ltZ (pos 0) z) (l .k) (l .count) (l .over) (r .last .1 .1 .1 .0) (r .result)) (kept x .0) (r .ensures) in (
+    let read = read-excess (a .constraints) (a .excesses .now) (s .pre .0) (l .k) (omega arith) in
+    let noted = subst (λ (z : ℤ). Noted (ltZ (pos 0) z) (l .k) (l .count) (l .over) (r .last .1 .1 .1 .0) (r .result)) (read .0) (r .ensures) in (
       omega arith,
       counted-most (b (l .k)) (l .count) (l .k) (r .result) (l .inv .1) (noted .counts),
       count-next (l .k) b (l .count) (r .result) (l .inv .2) (noted .counts),
@@ -67,7 +59,7 @@ returns c =
     let s = c .before .before .before in
     let l = c .before .loop in
     let last : l .k ≡ s .args .constraints = omega arith in
-    (rw last at (l .inv .4), l .inv .3)
+    (rw last at (l .inv .2), rw last at (l .inv .4), l .inv .3)
 
 pub fill-over-spec : {M : Type 1} → statement M
 fill-over-spec =

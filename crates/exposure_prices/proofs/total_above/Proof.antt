@@ -2,14 +2,12 @@
 use mathlib.Core.Path.{_≡_, refl, ap, _∙_}
 use Prim.Native.Nat.{ℕ, _-_, _*_, _≤_, _<_}
 use native.Mathlib.Omega.{arith}
-use lib.IntN.{pos, natAbs}
-use mir.Syntax.{w64}
-use mir.Val.{toZ, ofZ}
-use Rattle.integers.proofs.Machine.{back}
+use lib.IntN.{pos}
 use borrow.Author.Needs.{needs}
 use Rattle.test_excesses.specs.Inner.{cellAt}
 use Rattle.exposure_prices.specs.Inner.{maxExcess}
 use Rattle.integers.specs.Sums.{max0, sumTo}
+use Rattle.exposure_prices.proofs.Cells.{read-excess, sized-read}
 use Rattle.exposure_prices.proofs.Figures.{sum-more}
 use Rattle.exposure_prices.proofs.total_above.Statement.{statement}
 use Rattle.exposure_prices.proofs.total_above.Tie as tie
@@ -20,13 +18,6 @@ Inv-loop constraints excesses total₀ k₀ total k = (k ≤ constraints) × (po
 abbrev μ-loop : tie.MeasureT-loop
 μ-loop constraints excesses total₀ k₀ total k = constraints - k
 
-kept : (c : tie.After-over Inv-loop μ-loop) → let e = cellAt (c .before .before .before .args .excesses .now) (c .before .before .loop .k) in (toZ w64 (ofZ w64 e) ≡ e) × (natAbs e ≤ maxExcess)
-kept c =
-    let s = c .before .before .before in
-    let k = c .before .before .loop .k in
-    let sized = s .pre .sized k (omega arith) in
-    (back (cellAt (s .args .excesses .now) k) (omega (arith, sized)), sized)
-
 near : (c : tie.After-above-zero Inv-loop μ-loop) → c .before .before .before .loop .k < 64
 near c = omega (arith, c .before .before .before .before .pre .few)
 
@@ -35,7 +26,9 @@ unfolding sumTo
 loop-holds c = (omega arith, refl, omega arith)
 
 above-zero-requires : tie.Need-above-zero-requires Inv-loop μ-loop
-above-zero-requires c κs = rw (kept c .0) (kept c .1)
+above-zero-requires c κs =
+    let s = c .before .before .before in
+    sized-read (s .args .constraints) (s .args .excesses .now) (s .pre) (c .before .before .loop .k) (omega arith)
 
 add-total : tie.Need-add-total Inv-loop μ-loop
 add-total c = let t = c .before .before .before .loop .inv .2 in omega (arith, t, near c, c .above-zero .ensures .1)
@@ -44,9 +37,10 @@ loop-again : tie.Need-loop-again Inv-loop μ-loop
 loop-again c =
     let s = c .before .before .before .before in
     let l = c .before .before .before .loop in
-    let r = c .above-zero in (
+    let r = c .above-zero in
+    let read = read-excess (s .args .constraints) (s .args .excesses .now) (s .pre) (l .k) (omega arith) in (
       omega arith,
-      sum-more (l .k) (λ (j : ℕ). max0 (cellAt (s .args .excesses .now) j)) (l .total) (r .result) (l .inv .1) (r .ensures .0 ∙ ap max0 (kept (c .before) .0)),
+      sum-more (l .k) (λ (j : ℕ). max0 (cellAt (s .args .excesses .now) j)) (l .total) (r .result) (l .inv .1) (r .ensures .0 ∙ ap max0 (read .0)),
       omega (arith, l .inv .2, r .ensures .1),
     )
 

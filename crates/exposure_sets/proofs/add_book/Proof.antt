@@ -47,7 +47,8 @@ contract-at-requires c κs =
     (omega (arith, c .before .before .before .contract-count .ensures .0))
 
 -- contract i is the one that the bytes say, and is in range
-read : (c : tie.After-contract-at Inv-loop μ-loop) → c .contract-at .result ≡ contractAt (c .before .before .before .before .before .before .before .args .book .now) (c .before .before .loop .i)
+read : (c : tie.After-contract-at Inv-loop μ-loop) → c .contract-at .result ≡ contractAt
+    (c .before .before .before .before .before .before .before .args .book .now) (c .before .before .loop .i)
 read c = c .contract-at .ensures ∙ ap (λ (f : Form). contractIn f (c .before .before .before .before .before .before .before .args .book .now)
     (c .before .before .loop .i)) (c .before .before .before .book-form .ensures)
 
@@ -58,8 +59,8 @@ below c = omega (arith, c .before .before .before .before .contract-count .ensur
 own : (c : tie.After-contract-at Inv-loop μ-loop) → InRange (c .before .before .before .before .before .before .before .args .nodes) (c .contract-at .result)
 own c = rw (read c) (ok (c .before .before .before .before .before .before .before) .each (c .before .before .loop .i) (below c))
 
-add-own-requires : tie.Need-add-own-requires Inv-loop μ-loop
-add-own-requires c κs =
+add-contract-requires : tie.Need-add-contract-requires Inv-loop μ-loop
+add-contract-requires c κs =
     let s = c .before .before .before .before .before .before .before .before .before in
     let a = s .args in
     let l = c .before .before .before .before .loop in
@@ -75,10 +76,10 @@ loop-again c =
     let a = s .args in
     let l = c .before .before .before .before .before .before .before .loop in
     let x = c .before .before .before .before .before in
-    let e = c .before .before .add-own .ensures in
+    let e = c .before .before .add-contract .ensures in
     let f : ℕ → ℕ → ℤ = λ j m. ownIn (a .constraints) (a .factors .now) (a .over .now) (a .count) (a .period) (contractAt (a .book .now) j) m in
     let added = subst (λ (d : Contract). Added (a .n) (ownIn (a .constraints) (a .factors .now) (a .over .now) (a .count) (a .period) d) (l .costs)
-    (c .before .before .add-own .last .1 .1 .1 .1 .1 .1 .1 .1 .0)) (read x) (e .0) in (
+    (c .before .before .add-contract .last .1 .1 .1 .1 .1 .1 .1 .1 .0)) (read x) (e .0) in (
       omega arith,
       e .1,
       added .length-kept ∙ l .inv .2,
@@ -107,5 +108,5 @@ returns c =
 pub add-book-spec : {M : Type 1} → statement M
 add-book-spec =
     tie.close (tie.spec
-    Inv-loop μ-loop contract-count-requires book-form-requires loop-holds contract-at-requires add-own-requires (λ c. search needs)
+    Inv-loop μ-loop contract-count-requires book-form-requires loop-holds contract-at-requires add-contract-requires (λ c. search needs)
     (λ c. search needs) loop-again same-length (λ c. search needs) returns)

@@ -51,7 +51,8 @@ counts c =
     let is = c .counted .ensures ∙ ap (counted (s .args .kind)) (back z (omega (arith, summed (c .before)))) in
     (is, rw is (le-trans (counted-sized (s .args .kind) z) (summed (c .before))))
 
-cost-old : (c : tie.After-t132 Inv-loop μ-loop) → natAbs (cellIn (c .before .before .before .before .loop .costs) (c .before .before .before .before .loop .m)) ≤ 2 ^ 61
+cost-old : (c : tie.After-t132 Inv-loop μ-loop) → natAbs
+    (cellIn (c .before .before .before .before .loop .costs) (c .before .before .before .before .loop .m)) ≤ 2 ^ 61
 cost-old c =
     let l = c .before .before .before .before .loop in
     rw (l .inv .3 (l .m) (omega arith)) (c .before .before .before .before .before .pre .4 (l .m) (omega arith))

@@ -1,5 +1,5 @@
 -- `contract_sums`: the sums of the places passed.
-use mathlib.Core.Path.{_≡_, refl, ap₂, _∙_}
+use mathlib.Core.Path.{ap₂, _∙_}
 use Prim.Native.Nat.{ℕ, _+_, _-_, _*_, _^_, _≤_, _<_}
 use native.Mathlib.Omega.{arith}
 use lib.ListN.{length, getD, length-set}
@@ -12,15 +12,14 @@ use Rattle.integers.proofs.Machine.{back}
 use Rattle.tariff.specs.declared.contracts.Kind.the-variants.{Obligation}
 use Rattle.tariff.specs.Inner.{maxReleased}
 use Rattle.test_rules.proofs.Flowing.{rows-kept, part-small}
-use Rattle.exposure_sets.specs.Inner.{Sums, rawIn}
-use Rattle.exposure_sets.proofs.Laws.{sums-start, sums-grow, pow-on, pow-small, sums-small}
+use Rattle.exposure_sets.specs.Inner.{rawIn}
+use Rattle.exposure_sets.proofs.Laws.{Summed, summed-start, half, room-to-grow, summed-next, summed-end}
 use Rattle.exposure_sets.proofs.contract_sums.Statement.{statement}
 use Rattle.exposure_sets.proofs.contract_sums.Tie as tie
 
 abbrev Inv-loop : tie.InvT-loop
 Inv-loop constraints factors over count sums₀ source sink quantity n₀ t₀ sums n t =
-    (t ≤ count) × (n ≡ 2 ^ t) × (length sums ≡ 1024)
-    × Sums t (λ (s : ℕ). (getD factors (source + getD over s 0) (pos 0) -ℤ getD factors (sink + getD over s 0) (pos 0)) *ℤ pos (quantity .0)) sums
+    Summed count (λ (s : ℕ). (getD factors (source + getD over s 0) (pos 0) -ℤ getD factors (sink + getD over s 0) (pos 0)) *ℤ pos (quantity .0)) sums n t
 
 abbrev μ-loop : tie.MeasureT-loop
 μ-loop constraints factors over count sums₀ source sink quantity n₀ t₀ sums n t = count - t
@@ -38,7 +37,7 @@ loop-holds : tie.Need-loop-holds Inv-loop μ-loop
 loop-holds c =
     let s = c .before .before .before .before in
     let cells = s .args .sums .now in
-    (omega arith, refl, length-set cells 0 (pos 0) ∙ s .pre .2, sums-start _ _ (getD-set-same cells 0 (pos 0) (pos 0) (omega (arith, s .pre .2))))
+    summed-start (s .args .count) _ _ (length-set cells 0 (pos 0) ∙ s .pre .2) (getD-set-same cells 0 (pos 0) (pos 0) (omega (arith, s .pre .2)))
 
 shared-slice-read-k : tie.Need-shared-slice-read-k Inv-loop μ-loop
 shared-slice-read-k c = omega (arith, c .before .before .before .before .before .before .before .pre .1 .long)
@@ -99,24 +98,21 @@ small c =
     (r .0) (r .1) (s .pre .0 .quantity-sized) in
     omega (arith, b)
 
-half : (c : tie.After-grow-arg Inv-loop μ-loop) → c .before .before .before .before .before .before .loop .n ≤ 512
-half c =
-    let l = c .before .before .before .before .before .before .loop in
-    pow-small (l .t) (l .n) (c .before .before .before .before .before .before .before .before .before .before .before .args .count) (l .inv .1) (omega arith)
-    (c .before .before .before .before .before .before .before .before .before .before .before .pre .1 .few)
+-- the sums of the places passed
+abbrev part : tie.Start Inv-loop μ-loop → ℕ → ℤ
+part s t = rawIn (s .args .constraints) (s .args .factors .now) (s .args .c) (getD (s .args .over .now) t 0)
 
 grow-requires : tie.Need-grow-requires Inv-loop μ-loop
 grow-requires c κs =
-    let l = c .before .before .before .before .before .before .loop in (
-      omega (arith, half c, l .inv .2),
-      half c,
-      small (c .before),
-      sums-small (l .t) (l .n) _ (l .sums) (l .inv .1)
-          (omega (arith, c .before .before .before .before .before .before .before .before .before .before .before .pre .1 .few)) (l .inv .3),
-    )
+    let s = c .before .before .before .before .before .before .before .before .before .before .before in
+    let l = c .before .before .before .before .before .before .loop in
+    room-to-grow (s .args .count) (part s) (l .sums) (l .n) (l .t) (l .inv) (omega arith) (s .pre .1 .few) (c .before .flow .result .0) (small (c .before))
 
 add-n : tie.Need-add-n Inv-loop μ-loop
-add-n c = record { fits = omega (arith, half (c .before .before)) }
+add-n c =
+    let s = c .before .before .before .before .before .before .before .before .before .before .before .before .before in
+    let l = c .before .before .before .before .before .before .before .before .loop in
+    record { fits = omega (arith, half (s .args .count) (part s) (l .sums) (l .n) (l .t) (l .inv) (omega arith) (s .pre .1 .few)) }
 
 loop-again : tie.Need-loop-again Inv-loop μ-loop
 loop-again c =
@@ -124,31 +120,22 @@ loop-again c =
     let a = s .args in
     let l = c .before .before .before .before .before .before .before .before .loop in
     let f = c .before .before .before in
-    let g = c .before .grow .ensures in
     let k = getD (a .over .now) (l .t) 0 in
     let b = s .pre .1 .each (l .t) (omega arith) in
     let y = f .flow .ensures ∙ ap₂ (λ (u v : ℤ). (u -ℤ v) *ℤ pos (a .c .quantity .0))
     (back (getD (a .factors .now) (a .c .source * a .constraints + k) (pos 0)) (omega (arith, s .pre .0 .source-sized k b)))
-    (back (getD (a .factors .now) (a .c .sink * a .constraints + k) (pos 0)) (omega (arith, s .pre .0 .sink-sized k b))) in (
-      omega arith,
-      pow-on (l .t) (l .n) (l .inv .1),
-      g .length-kept ∙ l .inv .2,
-      sums-grow (l .t) (λ (i : ℕ). rawIn (a .constraints) (a .factors .now) (a .c) (getD (a .over .now) i 0)) (l .n) (f .flow .result .0) (l .sums) _ (l .inv .1) y
-          (small f) (l .inv .3) g,
-    )
-
-same-length : tie.Need-same-length Inv-loop μ-loop
-same-length c = search needs
+    (back (getD (a .factors .now) (a .c .sink * a .constraints + k) (pos 0)) (omega (arith, s .pre .0 .sink-sized k b))) in
+    summed-next (a .count) (part s) (l .sums) (l .n) (l .t) (l .inv) (omega arith) (s .pre .1 .few) (f .flow .result .0) _ y (small f) (c .before .grow .ensures)
 
 returns : tie.Need-returns Inv-loop μ-loop
 returns c =
     let s = c .before .before .before .before .before .before in
     let l = c .before .loop in
-    let last : l .t ≡ s .args .count = omega arith in
-    (rw last at (l .inv .3), l .inv .2)
+    summed-end (s .args .count) (part s) (l .sums) (l .n) (l .t) (l .inv) (omega arith)
 
 pub contract-sums-spec : {M : Type 1} → statement M
 contract-sums-spec =
     tie.close (tie.spec
-    Inv-loop μ-loop mul-source mul-sink slice-set-of-sums loop-holds (λ c. search needs) shared-slice-read-k add-flow mul-flow shared-slice-copy-out-flow add-flow-2 mul-flow-2
-    shared-slice-copy-out-flow-2 flow-requires grow-requires add-n (λ c. search needs) (λ c. search needs) loop-again same-length returns)
+    Inv-loop μ-loop mul-source mul-sink slice-set-of-sums loop-holds
+    (λ c. search needs) shared-slice-read-k add-flow mul-flow shared-slice-copy-out-flow add-flow-2 mul-flow-2
+    shared-slice-copy-out-flow-2 flow-requires grow-requires add-n (λ c. search needs) (λ c. search needs) loop-again (λ c. search needs) returns)

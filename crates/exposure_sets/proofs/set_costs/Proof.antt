@@ -54,10 +54,11 @@ returns c =
     let r = c .before .before .before .before .before .before .before .before .before .before .rent-sums .ensures in
     let e = c .before .before .before .before .before .before .add-counted .ensures in
     let b = c .before .before .add-book .ensures in
-    let each = book-accepted (a .nodes) (a .book .now) (s .pre .0 .2) .each in
+    let each = book-accepted (a .terms .nodes) (a .book .now) (s .pre .0 .2) .each in
     record {
       each = λ m h. let l : m < n .result = rw (n .ensures .0) h in
-          unit-is (a .nodes) (a .constraints) (a .limits .now) (a .factors .now) (a .process) (a .period) (a .book .now) (a .over .now) (a .count)
+          unit-is (a .terms .nodes) (a .terms .constraints) (a .limits .now) (a .factors .now) (a .terms .process) (a .terms .period) (a .book .now) (a .over .now)
+          (a .count)
           (s .pre .1 .0) each m _ _ _ _
           (s .pre .1 .2 m (omega (arith, l, n .ensures .2))) (r .0 .each m h) (e .each m l) (b .each m l);
       sized = λ m h. b .sized m (rw (n .ensures .0) h);

@@ -15,7 +15,7 @@ use Rattle.exposure_shortfall.proofs.shortfall_at.Statement.{statement}
 use Rattle.exposure_shortfall.proofs.shortfall_at.Tie as tie
 
 few : (s : tie.Start) → contractCountIn (s .args .book .now) ≤ 1000
-few s = book-accepted (s .args .nodes) (s .args .book .now) (s .pre .1) .few
+few s = book-accepted (s .args .terms .nodes) (s .args .book .now) (s .pre .1) .few
 
 settle-requires : tie.Need-settle-requires
 settle-requires c κs = let s = c .before .before .before .before .before in ((s .pre .0 .1, s .pre .1), (few s, few s))
@@ -44,7 +44,8 @@ returns c =
     let e = p .settle .ensures in
     let owed = c .before .before .rent in
     let paid = ap (λ (z : ℤ). cents z (p .settle .result .parts)) (same p) ∙ e .exact in
-    costs (a .nodes) (a .constraints) (a .limits .now) (a .factors .now) (a .process) (a .period) (a .prices .now) (bookIn (a .book .now)) _ (owed .result)
+    costs (a .terms .nodes) (a .terms .constraints) (a .limits .now) (a .factors .now) (a .terms .process) (a .terms .period) (a .prices .now)
+    (bookIn (a .book .now)) _ (owed .result)
     (record { is = paid; parts-small = e .bounded .parts-small; whole-sized = rw (same p) (omega (arith, sized p)) })
     (owed .ensures .0) (c .exact .ensures) (c .before .less .ensures)
 

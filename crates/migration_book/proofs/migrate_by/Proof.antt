@@ -14,8 +14,9 @@ use Rattle.layouts.specs.BookFile.{bookBytes, bookFile, bookFormIn, contractCou
 use Rattle.layouts.proofs.BookFile.{book-bytes-least}
 use Rattle.migration_rules.specs.Contracts.{newBook}
 use Rattle.migration_transfers.specs.Squares.{lostIn}
-use Rattle.migration_book.specs.Inner.{migrationRoomChecks}
-use Rattle.migration_book.proofs.Accepted.{grown-length, book-fits, file-size, room-parts}
+use Rattle.book_growth.specs.Inner.{growthChecks}
+use Rattle.book_growth.proofs.Keeping.{room-parts}
+use Rattle.migration_book.proofs.Accepted.{grown-length, book-fits, file-size}
 use Rattle.migration_book.proofs.migrate_by.Statement.{statement}
 use Rattle.migration_book.proofs.migrate_by.Tie as tie
 
@@ -41,7 +42,7 @@ grown-is c =
 
 -- what 10 and 9 found, by the grown book
 found : (c : tie.After-check-room) → let s = c .before .before .before .before .before .before .before in
-    c .check-room .result ≡ first (migrationRoomChecks (bookFormIn (s .args .book .now)) (length (grownBook s)) (length (s .args .file .now)))
+    c .check-room .result ≡ first (growthChecks (bookFormIn (s .args .book .now)) (length (grownBook s)) (length (s .args .file .now)))
 found c =
     let b = c .before .before .before in
     rw (← b .book-form .ensures, ← grown-is (c .before)) (c .check-room .ensures)

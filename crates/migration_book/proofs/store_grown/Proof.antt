@@ -10,8 +10,9 @@ use Rattle.layouts.specs.BookFile.{contractIn}
 use Rattle.layouts.proofs.BookFile.{contract-in-fits}
 use Rattle.migration_rules.specs.Contracts.{newFrom}
 use Rattle.migration_transfers.specs.Squares.{lostIn}
-use Rattle.migration_pairs.specs.Inner.{Appended}
-use Rattle.migration_pairs.proofs.Pairs.{none-appended, more-appended, room-fewer, row-ready, new-by-row}
+use Rattle.book_growth.specs.Inner.{Appended}
+use Rattle.book_growth.proofs.Appending.{room-fewer, none-appended, more-appended}
+use Rattle.migration_pairs.proofs.Pairs.{row-ready, new-by-row}
 use Rattle.migration_book.specs.Inner.{newTo}
 use Rattle.migration_book.proofs.Growing.{contract-there, none-new, new-more, length-more, new-grow}
 use Rattle.migration_book.proofs.store_grown.Statement.{statement}
@@ -35,7 +36,8 @@ contract-at-requires c κs =
     contract-there (s .args .form) (s .args .count) (s .args .book .now) (s .pre .0 .0) (c .before .loop .i) (omega arith)
 
 -- room for what follows this contract
-room : (c : tie.After-store-new-arg Inv-loop μ-loop) → let a = c .before .before .before .before .before .before .before .before .before .args in let l = c .before .before .before .before .before .loop in
+room : (c : tie.After-store-new-arg Inv-loop μ-loop) → let a = c .before .before .before .before .before .before .before .before .before .args in
+    let l = c .before .before .before .before .before .loop in
     l .place + length (newFrom (lostIn (a .t6)) (a .loads .now) (a .period) (contractIn (a .form) (a .book .now) (l .i)))
     ≤ a .count + length (newTo (a .form) (a .book .now) (a .period) (a .t6) (a .loads .now) (a .count))
 room c =
@@ -77,7 +79,8 @@ loop-again c =
       omega arith,
       w .store-new .kept .0 ∙ l .inv .1,
       rw (new-more (a .form) (a .book .now) (a .period) (a .t6) (a .loads .now) (l .i))
-          (more-appended (a .form) (a .count) (newTo (a .form) (a .book .now) (a .period) (a .t6) (a .loads .now) (l .i)) (a .file .now) (l .file) (l .place) (l .inv .2) _ _ _
+          (more-appended (a .form) (a .count) (newTo (a .form) (a .book .now) (a .period) (a .t6) (a .loads .now) (l .i)) (a .file .now) (l .file) (l .place)
+          (l .inv .2) _ _ _
           (rw (same, k .contract-at .ensures) at (w .store-new .ensures))),
     )
 
@@ -92,4 +95,5 @@ returns c =
 
 pub store-grown-spec : {M : Type 1} → statement M
 store-grown-spec =
-    tie.close (tie.spec Inv-loop μ-loop loop-holds contract-at-requires (λ c κs. search needs) (λ c. search needs) (λ c. search needs) store-new-requires (λ c. search needs) (λ c. search needs) loop-again same-length returns)
+    tie.close (tie.spec Inv-loop μ-loop loop-holds contract-at-requires (λ c κs. search needs) (λ c. search needs) (λ c. search needs) store-new-requires
+    (λ c. search needs) (λ c. search needs) loop-again same-length returns)

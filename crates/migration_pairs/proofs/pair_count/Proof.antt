@@ -29,7 +29,8 @@ share-of-requires c κs =
     let s = c .before .before .before .before in
     (s .pre .1, net-ready (s .args .t2) (s .args .loads .now) (s .args .c) (c .before .before .loop .j) (s .pre .0) (s .pre .1) (omega arith))
 
-counted : (c : tie.After-pair-size Inv-loop μ-loop) → let a = c .before .before .before .before .before .before .args in let l = c .before .before .before .before .loop in
+counted : (c : tie.After-pair-size Inv-loop μ-loop) → let a = c .before .before .before .before .before .before .args in
+    let l = c .before .before .before .before .loop in
     l .count + c .pair-size .result ≡ length (pairsTo (rowLosses (a .t2)) (a .loads .now) (a .c) (l .j + 1))
 counted c =
     let a = c .before .before .before .before .before .before .args in
@@ -58,4 +59,5 @@ returns c =
 
 pub pair-count-spec : {M : Type 1} → statement M
 pair-count-spec =
-    tie.close (tie.spec Inv-loop μ-loop loop-holds (λ c. search needs) array-copy-out-share-of share-of-requires (λ c κs. search needs) add-count (λ c. search needs) (λ c. search needs) loop-again returns)
+    tie.close (tie.spec Inv-loop μ-loop loop-holds (λ c. search needs) array-copy-out-share-of share-of-requires (λ c κs. search needs) add-count
+    (λ c. search needs) (λ c. search needs) loop-again returns)

@@ -5,7 +5,8 @@ use borrow.Author.Needs.{needs}
 use lib.ListN.{length}
 use Rattle.migration_rules.specs.Contracts.{migrates}
 use Rattle.migration_transfers.specs.Squares.{rowLosses}
-use Rattle.migration_pairs.proofs.Pairs.{new-some, new-none, base-held, none-appended}
+use Rattle.book_growth.proofs.Appending.{none-appended}
+use Rattle.migration_pairs.proofs.Pairs.{new-some, new-none, base-held}
 use Rattle.migration_pairs.proofs.store_new.Statement.{statement}
 use Rattle.migration_pairs.proofs.store_new.Tie as tie
 
@@ -31,7 +32,8 @@ returns c =
 returns-2 : tie.Need-returns-2
 returns-2 c =
     let a = c .before .before .before .before .args in
-    rw (new-none (rowLosses (a .row)) (a .loads .now) (a .period) (a .c) (sym (c .before .migrates .ensures) ∙ c .if1 .left)) (none-appended (a .form) (a .at) (a .file .now))
+    rw (new-none (rowLosses (a .row)) (a .loads .now) (a .period) (a .c) (sym (c .before .migrates .ensures) ∙ c .if1 .left))
+    (none-appended (a .form) (a .at) (a .file .now))
 
 pub store-new-spec : {M : Type 1} → statement M
 store-new-spec = tie.close (tie.spec (λ c κs. search needs) store-pairs-requires (λ c. search needs) returns returns-2)

@@ -8,8 +8,10 @@ use borrow.Author.Needs.{needs}
 use lib.ListN.{length}
 use Rattle.migration_rules.specs.Contracts.{gainerShare, pairsTo}
 use Rattle.migration_transfers.specs.Squares.{rowLosses}
-use Rattle.migration_pairs.specs.Inner.{pairOf, Appended}
-use Rattle.migration_pairs.proofs.Pairs.{share-by-net, net-ready, no-pairs, pairs-more, length-more, pairs-grow, none-appended, more-appended, room-fewer}
+use Rattle.book_growth.specs.Inner.{Appended}
+use Rattle.book_growth.proofs.Appending.{room-fewer, none-appended, more-appended}
+use Rattle.migration_pairs.specs.Inner.{pairOf}
+use Rattle.migration_pairs.proofs.Pairs.{share-by-net, net-ready, no-pairs, pairs-more, length-more, pairs-grow}
 use Rattle.migration_pairs.proofs.store_pairs.Statement.{statement}
 use Rattle.migration_pairs.proofs.store_pairs.Tie as tie
 
@@ -34,14 +36,17 @@ share-of-requires c κs =
     (s .pre .0 .1, net-ready (s .args .t5) (s .args .loads .now) (s .args .c) (c .before .before .loop .j) (s .pre .0 .0) (s .pre .0 .1) (omega arith))
 
 -- the share, by the row
-share-is : (c : tie.After-share-of Inv-loop μ-loop) → let a = c .before .before .before .before .before .before .args in c .share-of .result .0 ≡ gainerShare (rowLosses (a .t5)) (a .loads .now) (a .c) (suc (c .before .before .before .loop .j))
+share-is : (c : tie.After-share-of Inv-loop μ-loop) → let a = c .before .before .before .before .before .before .args in c .share-of .result .0
+    ≡ gainerShare (rowLosses (a .t5)) (a .loads .now) (a .c) (suc (c .before .before .before .loop .j))
 share-is c =
     let a = c .before .before .before .before .before .before .args in
     share-by-net (a .t5) (a .loads .now) (a .c) (c .before .before .before .loop .j) (c .share-of .result .0) (c .share-of .ensures .0)
 
 -- room for this gainer's contracts
-room : (c : tie.After-store-pair-arg Inv-loop μ-loop) → let a = c .before .before .before .before .before .before .before .args in let l = c .before .before .before .before .loop in
-    l .place + length (pairOf (a .c) (l .j + 1) (c .before .share-of .result .0)) ≤ a .at + length (pairsTo (rowLosses (a .t5)) (a .loads .now) (a .c) (length (a .loads .now)))
+room : (c : tie.After-store-pair-arg Inv-loop μ-loop) → let a = c .before .before .before .before .before .before .before .args in
+    let l = c .before .before .before .before .loop in
+    l .place + length (pairOf (a .c) (l .j + 1) (c .before .share-of .result .0)) ≤ a .at
+    + length (pairsTo (rowLosses (a .t5)) (a .loads .now) (a .c) (length (a .loads .now)))
 room c =
     let a = c .before .before .before .before .before .before .before .args in
     let l = c .before .before .before .before .loop in
@@ -72,7 +77,8 @@ loop-again c =
       omega arith,
       w .store-pair .kept .0 ∙ l .inv .1,
       rw (add-one (l .j), pairs-more lost (a .loads .now) (a .c) (l .j) (h .result .0) (share-is (w .before .before)))
-          (more-appended (a .form) (a .at) (pairsTo lost (a .loads .now) (a .c) (l .j)) (a .file .now) (l .file) (l .place) (l .inv .2) _ _ _ (rw (add-one (l .j)) at (w .store-pair .ensures))),
+          (more-appended (a .form) (a .at) (pairsTo lost (a .loads .now) (a .c) (l .j)) (a .file .now) (l .file) (l .place) (l .inv .2) _ _ _
+          (rw (add-one (l .j)) at (w .store-pair .ensures))),
     )
 
 same-length : tie.Need-same-length Inv-loop μ-loop
@@ -86,4 +92,5 @@ returns c =
 
 pub store-pairs-spec : {M : Type 1} → statement M
 store-pairs-spec =
-    tie.close (tie.spec Inv-loop μ-loop loop-holds (λ c. search needs) array-copy-out-share-of share-of-requires (λ c. search needs) store-pair-requires (λ c. search needs) (λ c. search needs) loop-again same-length returns)
+    tie.close (tie.spec Inv-loop μ-loop loop-holds (λ c. search needs) array-copy-out-share-of share-of-requires (λ c. search needs) store-pair-requires
+    (λ c. search needs) (λ c. search needs) loop-again same-length returns)

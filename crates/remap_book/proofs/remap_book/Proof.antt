@@ -13,7 +13,8 @@ use Rattle.remap_book.proofs.remap_book.Statement.{statement}
 use Rattle.remap_book.proofs.remap_book.Tie as tie
 
 abbrev call : (c : tie.After-enum-told) → RemapBookCall
-call c = let a = c .before .before .before .before .before .before .before .args in remapBookCall (a .nodes) (a .book .now) (a .old .now) (a .new .now) (a .file .now)
+call c = let a = c .before .before .before .before .before .before .before .args in remapBookCall (a .nodes) (a .book .now) (a .old .now) (a .new .now)
+    (a .file .now)
 
 ok : (c : tie.After-enum-told) → Remappable (call c)
 ok c = remappable (call c) (sym (c .before .before .check-remap .ensures (call c .place) refl) ∙ c .enum-told .given .1)
@@ -54,7 +55,12 @@ returns-2 c =
     let found = e .before .before .check-remap .ensures (q .place) refl in
     let told = e .enum-told .given .1 in
     let written = w .write-moved .ensures in
-    let stored = rw (w .before .before .before .before .book-form .ensures, w .before .before .before .contract-count .ensures .0, looked-up-list q (ok e) (m .moved-ends .result) (m .moved-ends .ensures)) at written in
+    let stored = rw (
+      w .before .before .before .before .book-form .ensures,
+      w .before .before .before .contract-count .ensures .0,
+      looked-up-list q (ok e)
+          (m .moved-ends .result) (m .moved-ends .ensures),
+    ) at written in
     record {
       length-given = rw (sym (length-remade q (ok e))) (answer-passed _ _ found told _);
       bytes-written = cells-passed _ _ found told (bookRemapped q) (q .place) _ stored;
@@ -63,4 +69,5 @@ returns-2 c =
 pub remap-book-spec : {M : Type 1} → statement M
 remap-book-spec =
     tie.close (tie.spec
-    (λ c κs. search needs) (λ c. search needs) (λ c. search needs) moved-ends-requires (λ c κs. header-there (c .before)) (λ c κs. header-there (c .before .before)) (λ c. search needs) write-moved-requires returns (λ c. search needs) returns-2)
+    (λ c κs. search needs) (λ c. search needs) (λ c. search needs) moved-ends-requires (λ c κs. header-there (c .before))
+    (λ c κs. header-there (c .before .before)) (λ c. search needs) write-moved-requires returns (λ c. search needs) returns-2)

@@ -1,21 +1,17 @@
 -- `write_moved`: after i turns the front of the book is there, as far as its first i contracts.
 use mathlib.Core.Path.{_≡_, refl, _∙_}
 use mathlib.Core.List.{List}
-use Prim.Native.Nat.{ℕ, _-_, _≤_}
+use Prim.Native.Nat.{ℕ, _+_, _-_, _≤_}
 use native.Mathlib.Omega.{arith}
 use lib.ListN.{length}
 use Rattle.lists.specs.Lists.{listTo}
-use Rattle.lists.specs.Lent.{overwrite}
-use Rattle.lists.proofs.Lists.{length-listTo, listTo-more, each-listTo}
 use Rattle.tariff.specs.declared.contracts.Contract.{Contract}
 use Rattle.layouts.specs.declared.forms.Form.{Form}
-use Rattle.layouts.specs.Forms.{endWidth}
 use Rattle.layouts.specs.BookFile.{contractIn}
 use Rattle.layouts.proofs.BookFile.{record-room}
-use Rattle.layouts.specs.BookTable.{ContractFits}
-use Rattle.book_rules.specs.Inner.{headerBytes, bookFront}
-use Rattle.book_rules.proofs.Making.{front-begins, front-more, front-ends}
 use Rattle.remap_rules.specs.Inner.{movedBy}
+use Rattle.book_growth.specs.Inner.{Appended}
+use Rattle.book_growth.proofs.Appending.{no-rows, row-appended, rows-written}
 use borrow.Author.Needs.{needs}
 use Rattle.remap_book.proofs.write_moved.Statement.{statement}
 use Rattle.remap_book.proofs.write_moved.Tie as tie
@@ -26,17 +22,15 @@ movedAt ends form book j = movedBy ends (contractIn form book j)
 
 abbrev Inv-loop : tie.InvT-loop
 Inv-loop book form count ends file₀ i₀ file i =
-    (i ≤ count) × (length file ≡ length file₀)
-    × ((f : List ℕ) → file₀ ≡ overwrite (headerBytes form count) f → file ≡ overwrite (bookFront form count (listTo i (movedAt ends form book))) f)
+    (i ≤ count) × (length file ≡ length file₀) × Appended form 0 (listTo i (movedAt ends form book)) file₀ file i
 
 abbrev μ-loop : tie.MeasureT-loop
 μ-loop book form count ends file₀ i₀ file i = count - i
 
 loop-holds : tie.Need-loop-holds Inv-loop μ-loop
-unfolding listTo
 loop-holds c =
     let a = c .before .before .before .before .before .before .before .args in
-    (omega arith, refl, λ f e. front-begins (a .form) (a .count) f _ e)
+    (omega arith, refl, no-rows (a .form) 0 (movedAt (a .ends .now) (a .form) (a .book .now)) _ 0 refl)
 
 moved-contract-requires : tie.Need-moved-contract-requires Inv-loop μ-loop
 moved-contract-requires c κs =
@@ -62,9 +56,8 @@ loop-again c =
     let stored = c .before .before .store-contract in (
       omega arith,
       stored .kept .0 ∙ l .inv .1,
-      λ f e.
-          rw (listTo-more (l .i) g, ← c .before .before .before .moved-contract .ensures)
-          (front-more (a .form) (a .count) f (listTo (l .i) g) _ (l .i) (l .file) _ (length-listTo (l .i) g) (l .inv .2 f e) (stored .ensures)),
+      row-appended (a .form) 0 g _ (l .file) _ (l .i) (l .i) (l .i + 1) refl (l .inv .2)
+          (rw (← c .before .before .before .moved-contract .ensures) (stored .ensures)),
     )
 
 same-length : tie.Need-same-length Inv-loop μ-loop
@@ -74,13 +67,11 @@ returns : tie.Need-returns Inv-loop μ-loop
 returns c =
     let l = c .before .loop in
     let s = c .before .before .before .before .before .before .before .before .before in
-    let m = s .args .count in
-    let g = movedAt (s .args .ends .now) (s .args .form) (s .args .book .now) in
-    let last : l .i ≡ m = omega arith in
-    front-ends (s .args .form) m (s .args .file .now) (listTo m g) (l .file) (length-listTo m g) (each-listTo (ContractFits (endWidth (s .args .form))) m g (λ i h. s .pre .1 i h .fits))
-    (rw last at (l .inv .2 (s .args .file .now) (c .before .before .before .before .store-header .ensures)))
+    rows-written (s .args .form) (s .args .count) (movedAt (s .args .ends .now) (s .args .form) (s .args .book .now)) (s .args .file .now) _ (l .file) (l .i)
+    (c .before .before .before .before .store-header .ensures) (l .inv .2) (omega arith) (λ i h. s .pre .1 i h .fits)
 
 pub write-moved-spec : {M : Type 1} → statement M
 write-moved-spec =
     tie.close (tie.spec
-    Inv-loop μ-loop (λ c κs. search needs) loop-holds moved-contract-requires store-contract-requires (λ c. search needs) (λ c. search needs) loop-again same-length returns)
+    Inv-loop μ-loop (λ c κs. search needs) loop-holds moved-contract-requires store-contract-requires (λ c. search needs)
+    (λ c. search needs) loop-again same-length returns)

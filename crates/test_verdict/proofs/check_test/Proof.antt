@@ -12,7 +12,7 @@ call c = testCall (c .args .nodes) (c .args .constraints) (c .args .process) (c 
 returns : tie.Need-returns
 returns c =
     let k = c .before .before .before in
-    table-refuses (call (k .before .before .before)) (k .check-grid-tables .result) (k .check-grid-tables .ensures) _ (c .before .in-tables .given .1)
+    table-refuses (call (k .before .before .before)) (k .check-grid-tables .result) (k .check-grid-tables .ensures) _ (c .before .grid .given .1)
 
 returns-2 : tie.Need-returns-2
 returns-2 c =

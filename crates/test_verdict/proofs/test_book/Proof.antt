@@ -8,6 +8,7 @@ use Rattle.test_rules.specs.TestBook.{TestCall, testCall, testedGrid, testedCon
 use Rattle.test_rules.specs.Carried.{Carries}
 use Rattle.test_rules.proofs.Checking.{Tested, tested, refusal-answers, verdict-answers}
 use Rattle.test_rules.proofs.Flowing.{carried-judgeable}
+use Rattle.test_verdict.proofs.Judging.{judges}
 use borrow.Author.Needs.{needs}
 use Rattle.test_verdict.proofs.test_book.Statement.{statement}
 use Rattle.test_verdict.proofs.test_book.Tie as tie
@@ -47,7 +48,8 @@ returns-2 c =
     let q = call (e .before .before .before .before .before) in
     let k = e .before .before .check-test in
     verdict-answers q (k .result) (k .ensures) (e .enum-told .given .1) (c .before .from-number2 .result) (c .before .from-number2 .ensures) (c .verdict .result)
-    (c .verdict .ensures (q .nodes) (q .factors) (periodOf (q .period)) (bookIn (q .book)) (carried (c .before .before)))
+    (judges (q .nodes) (q .constraints) (ok e .tables .good-factors .few) (q .limits) (q .factors) (c .before .from-number2 .result) (periodOf (q .period)) (bookIn (q .book)) _
+    (carried (c .before .before)) (c .verdict .result) (c .verdict .ensures))
 
 pub test-book-spec : {M : Type 1} → statement M
 test-book-spec =

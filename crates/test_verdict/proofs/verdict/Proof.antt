@@ -7,7 +7,8 @@ use lib.ListN.{getD}
 use lib.Count.{ones-le, trailingZeros}
 use lib.IntN.{pos}
 use Rattle.test_rules.proofs.Flowing.{kept-sized}
-use Rattle.test_rules.proofs.Judging.{over, lowest-in, released-small, difference-is, set-small, pass-answer, fail-answer}
+use Rattle.test_rules.proofs.Judging.{over, lowest-in, released-small, difference-is, set-small}
+use Rattle.test_verdict.proofs.Judging.{empty-outcome, full-outcome}
 use borrow.Author.Needs.{needs}
 use Rattle.test_verdict.proofs.verdict.Statement.{statement}
 use Rattle.test_verdict.proofs.verdict.Tie as tie
@@ -17,9 +18,9 @@ abbrev overloaded : tie.Start → ℕ → Bool
 overloaded s = over (s .args .limits .now) (s .args .process) (s .args .flows .flows)
 
 returns : tie.Need-returns
-returns c n fs t cs carried =
+returns c =
     let s = c .before .before .before in
-    pass-answer n (s .args .constraints) (s .args .limits .now) fs (s .args .process) t cs (s .args .flows) carried (c .before .overload-set .result) (c .before .overload-set .ensures) (c .if1 .taken)
+    empty-outcome (s .args .constraints) (s .args .limits .now) (s .args .process) (s .args .flows .flows) (c .before .overload-set .result) (c .before .overload-set .ensures) (c .if1 .taken)
 
 -- the lowest is one of the constraints
 inside : (c : tie.Else1) → trailingZeros 64 (c .before .overload-set .result) < c .before .before .before .args .constraints
@@ -62,14 +63,14 @@ minus-requires c κs =
     omega (arith, flow, limit)
 
 returns-2 : tie.Need-returns-2
-returns-2 c n fs t cs carried =
+returns-2 c =
     let e = c .before .before .before .before .before in
     let s = e .before .before .before in
     let l = trailingZeros 64 (e .before .overload-set .result) in
     let r = c .before .released in
     let over = difference-is (getD (s .args .flows .flows) l (pos 0)) (r .result .0) (c .minus .result .0) _ (s .pre .flows-sized l (inside e)) (r .ensures) (c .minus .ensures) in
     let o = e .before .overload-set in
-    fail-answer n (s .args .constraints) (s .args .limits .now) fs (s .args .process) t cs (s .args .flows) carried
+    full-outcome (s .args .constraints) (s .args .limits .now) (s .args .process) (s .args .flows .flows)
     (o .result) (o .ensures) (s .pre .few) (e .if1 .left) (c .minus .result) over
 
 pub verdict-spec : {M : Type 1} → statement M

@@ -1,57 +1,37 @@
--- `return_to_tier`: where no check refuses, the numbers and the flows are those of the mark.
-use mathlib.Core.Path.{_≡_, sym, _∙_}
-use mathlib.Core.Logic.{inr}
+-- `return_to_tier`: as `mark_tier`, with the numbers and the flows of the mark put back.
+use mathlib.Core.Path.{sym, _∙_}
 use native.Mathlib.Omega.{arith}
 use borrow.Author.Needs.{needs}
-use Rattle.tariff.specs.declared.refusals.Checked.the-variants.{Passed}
-use lib.Dec.{eqb}
-use lib.ListN.{getD}
-use Rattle.tier_rules.specs.Cells.{flagCell, returnedNumbers, returnedFlows}
-use Rattle.tier_rules.proofs.Going.{both-kept, both-made}
-use Rattle.tier_mark_rules.specs.MarkTier.{markTierCall}
-use Rattle.tier_mark_rules.specs.ReturnToTier.{ReturnToTierCall, returnToTierCall, returnToTierChecked, ReturnsToTier}
-use Rattle.tier_mark_rules.proofs.Marks.{AtTier, at-tier, return-parts, returns-to-tier}
+use Rattle.tier_mark_rules.specs.ReturnToTier.{returnToTierCall}
+use Rattle.tier_mark_rules.proofs.Marks.{AtTier, at-return, mark-apart, return-kept, return-made}
 use Rattle.tier_marks.proofs.return_to_tier.Statement.{statement}
 use Rattle.tier_marks.proofs.return_to_tier.Tie as tie
 
-abbrev call : tie.Start → ReturnToTierCall
-call c = returnToTierCall (c .args .tier) (c .args .numbers .now) (c .args .flows .now)
+abbrev start : tie.After-check-return → tie.Start
+start k = k .before .before .before .before
 
--- none of the checks refuses
-passed : (c : tie.After-enum-told) → returnToTierChecked (call (c .before .before .before .before .before .before)) ≡ Passed
-passed c = sym (c .before .before .check-return .ensures) ∙ c .enum-told .given .1
-
-ok : (c : tie.After-enum-told) → let a = c .before .before .before .before .before .before .args in AtTier (a .tier) (a .numbers .now) (a .flows .now)
-ok c =
-    let q = call (c .before .before .before .before .before .before) in
-    at-tier (markTierCall (q .tier) (q .numbers) (q .flows)) (return-parts q (eqb (getD (q .numbers) (flagCell (q .tier)) 0) 0) (passed c) .0)
+ok : (e : tie.After-enum-told) → let a = start (e .before .before) .args in AtTier (a .tier) (a .numbers .now) (a .flows .now)
+ok e = let k = e .before .before in at-return _ (sym (k .check-return .ensures) ∙ e .enum-told .given .1)
 
 return-numbers-requires : tie.Need-return-numbers-requires
 return-numbers-requires c κs = let o = ok (c .before) in (o .some-tier, o .last-tier, o .numbers-long)
-
-returns : tie.Need-returns
-returns c =
-    let k = c .before .before .before in
-    let q = call (k .before .before .before .before) in
-    both-kept (returnToTierChecked q) (returnedNumbers (q .tier) (q .numbers)) (q .numbers) (returnedFlows (q .tier) (q .flows)) (q .flows)
-    (ReturnsToTier q) (returns-to-tier q) (k .check-return .result) (k .check-return .ensures) _ (c .before .refusal .given .1)
-
-returns-2 : tie.Need-returns-2
-returns-2 c =
-    let e = c .before .before .before .before .before .before .before in
-    let k = e .before .before in
-    let q = call (k .before .before .before .before) in
-    both-made (returnToTierChecked q) (returnedNumbers (q .tier) (q .numbers)) (q .numbers) (returnedFlows (q .tier) (q .flows)) (q .flows)
-    (ReturnsToTier q) (returns-to-tier q) (k .check-return .result) (k .check-return .ensures) (e .enum-told .given .1) _ _
-    (c .before .before .before .before .before .return-numbers .ensures) (c .before .copy-block .ensures)
 
 mul-copy-block : tie.Need-mul-copy-block
 mul-copy-block c = omega (arith, ok (c .before .before .before .before .before) .last-tier)
 
 copy-block-requires : tie.Need-copy-block-requires
-copy-block-requires c κs =
-    let o = ok (c .before .before .before .before .before) in
-    record { source-in = omega (arith, o .last-tier, o .flows-long); target-in = omega (arith, o .last-tier, o .flows-long); apart = inr (omega (arith, o .some-tier)) }
+copy-block-requires c κs = mark-apart _ _ _ (ok (c .before .before .before .before .before)) .1
+
+returns : tie.Need-returns
+returns c = let k = c .before .before .before in return-kept _ (k .check-return .result) (k .check-return .ensures) _ (c .before .refusal .given .1)
+
+returns-2 : tie.Need-returns-2
+returns-2 c =
+    let e = c .before .before .before .before .before .before .before in
+    let k = e .before .before in
+    let a = start k .args in
+    return-made (returnToTierCall (a .tier) (a .numbers .now) (a .flows .now)) (k .check-return .result) (k .check-return .ensures) (e .enum-told .given .1) _ _
+    (c .before .before .before .before .before .return-numbers .ensures) (c .before .copy-block .ensures)
 
 pub return-to-tier-spec : {M : Type 1} → statement M
 return-to-tier-spec =

@@ -4,7 +4,7 @@ use super::names;
 use crate::draw::Draw;
 use crate::lent::Lent;
 use crate::library;
-use crate::second::calendar::{self, months, Date, Month, SATURDAY, SUNDAY};
+use crate::second::calendar::{self, months, Date, Month, MONDAY, SATURDAY, SUNDAY};
 use crate::tally::Round;
 
 /// So many first rounds go through every month, and through every date.
@@ -15,10 +15,13 @@ pub const MONTHS: u64 = 336;
 const OTHER_YEARS: [u64; 14] =
     [0, 1, 1900, 1999, 2000, 2008, 2009, 2038, 2040, 2100, 65_536 + 2024, (1 << 32) + 2024, (1 << 63) + 2024, u64::MAX];
 const OTHER_MONTHS: [u64; 7] = [0, 13, 14, 256 + 5, (1 << 32) + 5, (1 << 63) + 5, u64::MAX];
+const OTHER_HOURS: [u64; 6] = [27, 31, 256 + 8, (1 << 32) + 8, (1 << 63) + 8, u64::MAX];
 const OTHER_DAYS: [u64; 7] = [0, 32, 33, 256 + 5, (1 << 32) + 5, (1 << 63) + 5, u64::MAX];
 
 pub const HOURS: [&str; 8] =
     ["384", "400", "416", "432", "29 days", "a holiday on Sunday", "a holiday on Saturday", "a month of no holiday"];
+pub const PERIODS: [&str; 7] =
+    ["on-peak", "off-peak", "hour 25", "a Sunday", "a holiday", "a Monday after a holiday", "neither date nor hour"];
 pub const WEEKDAYS: [&str; 5] =
     ["29 February", "29 February in a year of 365 days", "31 of a month of 30", "the first day", "the last day"];
 pub const LATER: [&str; 7] =
@@ -95,6 +98,37 @@ fn dates(round: &mut Round) -> Vec<Date> {
     let mut dates: Vec<Date> = (1..=31).chain(OTHER_DAYS).map(|day| (year, month, day)).collect();
     dates.extend((0..8).map(|_| date(&mut round.draw)));
     dates
+}
+
+fn period_call(round: &mut Round, date: Date, hour: u64) {
+    let (year, month, day) = date;
+    let mut period = Lent::<u64>::new(&mut round.draw, "period", 1);
+    let proved = library::hour_period(year, month, day, hour, period.figure());
+    let second = calendar::hour_period(date, hour);
+    let figure: Vec<i128> = second.into_iter().collect();
+    round.compare(proved, second.err().unwrap_or(0), &[period.difference(&figure)]);
+    let day_time = second.is_ok() && (7..=22).contains(&hour);
+    let shown = [
+        second == Ok(1),
+        second == Ok(0),
+        second.is_ok() && hour == 25,
+        day_time && calendar::weekday(date) == Ok(SUNDAY.into()),
+        day_time && some(year, month, |own| own.holiday == Some(day)),
+        day_time && calendar::weekday(date) == Ok(MONDAY.into()) && some(year, month, |own| own.holiday == Some(day - 1)),
+        calendar::weekday(date).is_err() && !(1..=25).contains(&hour),
+    ];
+    round.shown(&names(&PERIODS, shown));
+}
+
+/// Every hour of a month's dates, the numbers beside them, and another.
+pub fn periods(round: &mut Round) {
+    for date in dates(round) {
+        for hour in 0..=26 {
+            period_call(round, date, hour);
+        }
+        let other = round.draw.pick(&OTHER_HOURS);
+        period_call(round, date, other);
+    }
 }
 
 fn weekday_call(round: &mut Round, date: Date) {

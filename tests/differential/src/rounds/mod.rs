@@ -25,6 +25,7 @@ pub mod shares;
 pub mod shortfall;
 pub mod test;
 pub mod text;
+pub mod totals;
 pub mod view_pairs;
 pub mod views;
 

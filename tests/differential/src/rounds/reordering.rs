@@ -155,7 +155,7 @@ fn show(round: &mut Round, shown: &[(usize, bool)]) {
 }
 
 /// The numbers below `count` in any order.
-fn order(draw: &mut Draw, count: usize) -> Vec<usize> {
+pub fn order(draw: &mut Draw, count: usize) -> Vec<usize> {
     let mut order: Vec<usize> = (0..count).collect();
     for last in (1..count).rev() {
         order.swap(last, draw.below(last as u64 + 1) as usize);

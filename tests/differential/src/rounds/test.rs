@@ -28,7 +28,7 @@ impl Tables {
 }
 
 /// One call; gives the second implementation's answer.
-fn call(round: &mut Round, asked: &Tables) -> Answer<[i128; 4]> {
+pub fn call(round: &mut Round, asked: &Tables) -> Answer<[i128; 4]> {
     let Tables { nodes, constraints, process, period, limits, factors, book } = asked;
     let (nodes, constraints, process, period) = (*nodes, *constraints, *process, *period);
     let second = test(&asked.asked());

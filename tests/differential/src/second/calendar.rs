@@ -24,6 +24,8 @@ pub struct Month {
     /// Of each day, from the first on.
     pub weekdays: Vec<u64>,
     pub holiday: Option<u64>,
+    /// Of each day, whether it has on-peak hours.
+    pub on_peak: Vec<bool>,
     pub hours: i128,
 }
 
@@ -55,16 +57,20 @@ fn holiday(month: u64, weekdays: &[u64]) -> Option<u64> {
     }
 }
 
-/// The hours ending 7 to 22 of the days that have any. `moved`: the day before the month's first is a holiday and a Sunday; the same of its last, at the end.
-fn hours(weekdays: &[u64], holiday: Option<u64>, moved: &mut bool) -> i128 {
-    let mut count = 0;
+/// The days that have on-peak hours. `moved`: the day before the month's first is a holiday and a Sunday; the same of its last, at the end.
+fn on_peak_days(weekdays: &[u64], holiday: Option<u64>, moved: &mut bool) -> Vec<bool> {
+    let mut days = Vec::new();
     for (day, &weekday) in (1..).zip(weekdays) {
         let own = holiday == Some(day);
-        let on_peak_day = weekday != SUNDAY && !own && !*moved;
-        count += (1..=24).filter(|hour_ending| on_peak_day && (7..=22).contains(hour_ending)).count();
+        days.push(weekday != SUNDAY && !own && !*moved);
         *moved = own && weekday == SUNDAY;
     }
-    count as i128
+    days
+}
+
+/// "On-peak is hours ending 7 to 22"
+fn peak(hour_ending: u64) -> bool {
+    (7..=22).contains(&hour_ending)
 }
 
 fn walked() -> Vec<Month> {
@@ -77,8 +83,9 @@ fn walked() -> Vec<Month> {
             weekday = if weekday == SUNDAY { MONDAY } else { weekday + 1 };
         }
         let holiday = holiday(month, &weekdays);
-        let hours = hours(&weekdays, holiday, &mut moved);
-        months.push(Month { year, month, weekdays, holiday, hours });
+        let on_peak = on_peak_days(&weekdays, holiday, &mut moved);
+        let hours = on_peak.iter().flat_map(|&day| (1..=24).filter(move |&hour| day && peak(hour))).count() as i128;
+        months.push(Month { year, month, weekdays, holiday, on_peak, hours });
     }
     months
 }
@@ -111,6 +118,15 @@ fn dated((year, month, day): Date) -> Answer<usize> {
 
 pub fn month_hours(year: u64, month: u64) -> Answer<i128> {
     place(year, month).map(|at| months()[at].hours)
+}
+
+/// 1 on-peak, 0 off-peak. Hours ending are 1 to 24, and 25 is the hour that comes twice where the clock is set back: none of 7 to 22.
+pub fn hour_period(date: Date, hour_ending: u64) -> Answer<i128> {
+    let at = dated(date)?;
+    if !(1..=25).contains(&hour_ending) {
+        return Err(NO_SUCH_DATE);
+    }
+    Ok((months()[at].on_peak[date.2 as usize - 1] && peak(hour_ending)).into())
 }
 
 pub fn weekday(date: Date) -> Answer<i128> {

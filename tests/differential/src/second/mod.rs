@@ -19,6 +19,7 @@ pub mod settlement;
 pub mod shares;
 pub mod test;
 pub mod text;
+pub mod totals;
 pub mod views;
 pub mod word;
 

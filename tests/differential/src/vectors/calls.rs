@@ -22,9 +22,10 @@ macro_rules! entries {
 
 entries! {
     crr_read_grid crr_write_grid crr_read_book crr_write_book crr_remap_book crr_write_market_view crr_write_holder_view crr_write_canonical_book
-    crr_add_hub_contract crr_read_prices crr_write_prices crr_test_book crr_find_flows crr_find_cuts crr_find_shortfall crr_find_exposure
-    crr_open_running crr_add_award crr_mark_tier crr_return_to_tier crr_released_percent crr_find_mcc crr_find_hub_mcc crr_settle_hour crr_share_balance crr_migrate_load crr_write_report
-    crr_write_statement crr_month_hours crr_weekday crr_month_later crr_net_transfers crr_refusal_text crr_interface
+    crr_add_hub_contract crr_read_prices crr_write_prices crr_test_book crr_find_flows crr_add_flows crr_judge_flows crr_find_cuts
+    crr_find_shortfall crr_find_exposure crr_open_running crr_add_award crr_mark_tier crr_return_to_tier crr_released_percent crr_find_mcc
+    crr_find_hub_mcc crr_settle_hour crr_share_balance crr_migrate_load crr_write_report
+    crr_write_statement crr_month_hours crr_hour_period crr_weekday crr_month_later crr_net_transfers crr_refusal_text crr_interface
 }
 
 macro_rules! word {

@@ -9,7 +9,7 @@ use crate::second::hubs::Hub;
 use crate::second::running::{add_by_cells, mark_by_cells, return_by_cells, Running};
 use crate::second::{
     book, calendar, canonical, exposure, flows, grid, hubs, migration, prices, refusals, remap, set_of, settlement, shares, test, text,
-    views, Answer, Form,
+    totals, views, Answer, Form,
 };
 use std::collections::HashMap;
 
@@ -185,6 +185,19 @@ fn find_flows(g: &Given) -> Answer<Written> {
     Ok(vec![("flows", found.flows), one("counted", found.counted)])
 }
 
+fn add_flows(g: &Given) -> Answer<Written> {
+    let added = tested(g, 0, |asked| totals::add_flows(asked, &g.signed("flows"), g.count("count")))?;
+    Ok(vec![("flows", added.flows), one("count", added.count), one("counted", added.counted)])
+}
+
+fn judge_flows(g: &Given) -> Answer<Written> {
+    let (limits, flows) = (g.list("limits"), g.signed("flows"));
+    let (constraints, process, summed) = (g.count("constraints"), g.number("process"), g.count("summed"));
+    let [set, count, lowest, excess] =
+        totals::judge_flows(&totals::Block { constraints, process, limits: &limits, flows: &flows, summed })?;
+    Ok(vec![one("set", set), one("count", count), one("lowest", lowest), one("excess", excess)])
+}
+
 fn find_cuts(g: &Given) -> Answer<Written> {
     let found = tested(g, g.number("process"), Tested::new).map(|tested| tested.by_halving());
     let rows: Vec<Row> = placed(&found, g.room("numbers"), g.room("cuts"))?;
@@ -259,6 +272,11 @@ fn month_hours(g: &Given) -> Answer<Written> {
     Ok(vec![one("hours", calendar::month_hours(g.number("year"), g.number("month"))?)])
 }
 
+fn hour_period(g: &Given) -> Answer<Written> {
+    let date = (g.number("year"), g.number("month"), g.number("day"));
+    Ok(vec![one("period", calendar::hour_period(date, g.number("hour_ending"))?)])
+}
+
 fn weekday(g: &Given) -> Answer<Written> {
     Ok(vec![one("weekday", calendar::weekday((g.number("year"), g.number("month"), g.number("day")))?)])
 }
@@ -285,6 +303,8 @@ pub fn answered(function: &str, slots: &[Slot], run: Option<&str>, runs: &mut Ru
         "write_prices" => write_prices(&g),
         "test_book" => test_book(&g),
         "find_flows" => find_flows(&g),
+        "add_flows" => add_flows(&g),
+        "judge_flows" => judge_flows(&g),
         "find_cuts" => find_cuts(&g),
         "find_shortfall" => find_shortfall(&g),
         "find_exposure" => find_exposure(&g),
@@ -302,6 +322,7 @@ pub fn answered(function: &str, slots: &[Slot], run: Option<&str>, runs: &mut Ru
         "write_report" => write_report(&g),
         "write_statement" => write_statement(&g),
         "month_hours" => month_hours(&g),
+        "hour_period" => hour_period(&g),
         "weekday" => weekday(&g),
         "month_later" => month_later(&g),
         _ => panic!("the second implementation has no {function}"),

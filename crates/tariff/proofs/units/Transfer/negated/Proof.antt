@@ -5,11 +5,7 @@ use Rattle.tariff.proofs.Rounding.{minus-is}
 use Rattle.tariff.proofs.units.Transfer.negated.Statement.{statement}
 use Rattle.tariff.proofs.units.Transfer.negated.Tie as tie
 
-sub-t2 : tie.Need-sub-t2
-sub-t2 c = let s = c .before .before in search (zero-fits (s .args .self .0) (s .pre))
-
-returns : tie.Need-returns
-returns c = let s = c .before .before in minus-is (back (s .args .self .0) (s .pre)) (s .pre)
-
 pub negated-spec : {M : Type 1} → statement M
-negated-spec = tie.close (tie.spec sub-t2 returns)
+negated-spec =
+    tie.close (tie.spec (λ c. let s = c .before .before in search (zero-fits (s .args .self .0) (s .pre)))
+    (λ c. let s = c .before .before in minus-is (back (s .args .self .0) (s .pre)) (s .pre)))

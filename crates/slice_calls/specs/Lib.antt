@@ -1,0 +1,4 @@
+pub mod Calls
+pub mod Taking
+pub mod Hours
+pub mod Theorems

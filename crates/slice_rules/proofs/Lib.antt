@@ -1,0 +1,4 @@
+pub mod Flowing
+pub mod Cutting
+pub mod Amounts
+pub mod Theorems

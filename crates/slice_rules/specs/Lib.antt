@@ -1,0 +1,5 @@
+pub mod Slices
+pub mod Totals
+pub mod Cutting
+pub mod Hours
+pub mod Theorems

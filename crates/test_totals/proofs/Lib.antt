@@ -1,0 +1,3 @@
+pub mod Totalling
+pub mod Adding
+pub mod Judged

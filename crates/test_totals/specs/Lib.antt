@@ -1,0 +1,4 @@
+pub mod Totals
+pub mod AddFlows
+pub mod JudgeFlows
+pub mod Inner

@@ -1,0 +1,173 @@
+"""MATPOWER case files: `crr from-matpower` against numpy's PTDFs and against `crr grid`, and every fault with
+its line."""
+
+import csv
+import io
+import json
+import re
+import unittest
+
+from support import IEEE14, ROOT, FolderTest, command
+from crr.matpower import read_case
+
+try:
+    import numpy
+except ImportError:
+    numpy = None
+
+CASES = ROOT / "tests" / "matpower"
+SMALL = """function mpc = small
+mpc.version = '2';  % with 100 % of what is needed ]
+%{
+mpc.branch = [ of no use ];
+%}
+mpc.bus = [ 1 3; 2, 1; 3 1; 4 4 ];
+mpc.bus_name = {'A'; 'B % [not a comment]'; 'C'; 'D'};
+mpc.branch = [
+    1 2 0 0.1 0 50 0 60 0   0 1; 1 2 0 0.1 0 50 0 0 0 0 1  % a parallel one
+    2 3 0 0.2 0 40 0 0  0.5 0 1;
+    1 3 0 1e-1 0 0 0 0  0   30 1;
+    3 4 0 0.1 0 10 0 0  0   0 1;
+    1 3 0 0.1 0 10 0 0  0   0 0;
+];
+"""
+
+
+def table(path, name):
+    """A table's rows by numpy, with nothing of the package."""
+    text = re.sub("%.*", "", path.read_text())
+    rows = re.search(rf"mpc\.{name} = \[(.*?)\]", text, re.S)[1].split("\n")
+    cells = [re.split(r"[\s,;]+", row.strip(" \t;")) for row in rows if row.strip()]
+    return numpy.array([[float(cell) for cell in row] for row in cells])
+
+
+def numpy_ptdf(path, slack):
+    """B_f · B_bus^-1 of the DC power flow, a row for each branch, a column for each bus."""
+    buses, branches = table(path, "bus")[:, 0], table(path, "branch")
+    taps = numpy.where(branches[:, 8] == 0, 1, branches[:, 8])
+    incidence = (branches[:, :1] == buses).astype(float) - (branches[:, 1:2] == buses)
+    flows = incidence / (branches[:, 3] * taps)[:, None]
+    others = buses != slack
+    out = numpy.zeros_like(flows)
+    out[:, others] = flows[:, others] @ numpy.linalg.inv((incidence.T @ flows)[numpy.ix_(others, others)])
+    return out
+
+
+class Cases(FolderTest):
+    def made(self, case, *options, status=0):
+        got = command("from-matpower", case, *options, "-o", self.folder / "grid", "--force")
+        self.assertEqual(got[0], status, got[2])
+        return got
+
+    def factors(self):
+        rows = list(csv.reader(io.StringIO((self.folder / "grid" / "factors.csv").read_text())))
+        figures = [[float(cell) for cell in row[1:]] for row in rows[1:]]
+        return rows[0][1:], [row[0] for row in rows[1:]], figures
+
+    @unittest.skipIf(numpy is None, "numpy is not installed")
+    def test_against_numpy(self):
+        cases = (("case14", "1", (14, 40)), ("case14", "9", (14, 40)), ("case30", "22", (30, 82)))
+        for name, slack, counts in cases:
+            case = CASES / f"{name}.m"
+            self.made(case, "--slack", slack, "--limit", "100")
+            constraints, nodes, factors = self.factors()
+            self.assertEqual((len(nodes), len(constraints)), counts)
+            expected = numpy_ptdf(case, float(slack)).T
+            buses = [str(int(bus)) for bus in table(case, "bus")[:, 0]]
+            found = numpy.array([factors[nodes.index(bus)] for bus in buses])
+            self.assertLessEqual(abs(found[:, ::2] - expected).max(), 0.000005 + 1e-12)
+            self.assertTrue((found[:, 1::2] == -found[:, ::2]).all())
+
+    def test_case14_is_the_example(self):
+        """The example's network is the same, with ratings of its own and buses by name."""
+        self.made(CASES / "case14.m", "--limit", "100")
+        example = (IEEE14 / "factors.csv").read_text().replace("Bus ", "")
+        rows, expected = (self.folder / "grid" / "factors.csv").read_text().splitlines(), example.splitlines()
+        self.assertEqual((rows[0], sorted(rows)), (expected[0], sorted(expected)))
+
+    def test_case30_has_its_ratings(self):
+        status, out, err = self.made(CASES / "case30.m")
+        limits = dict(csv.reader(io.StringIO((self.folder / "grid" / "constraints.csv").read_text())))
+        names = ("4-6", "4-6 reverse", "29-30")
+        self.assertEqual([limits[name] for name in names], ["90.000", "90.000", "16.000"])
+        self.assertNotIn("not monitored", err)
+        self.assertTrue(out.endswith(": 30 nodes, 82 constraints\n"), out)
+
+    def test_crr_grid_makes_the_same(self):
+        """Of the branches that are written, with an outage."""
+        (self.folder / "out.csv").write_text("CONTINGENCY_ID,BRANCH_ID\nwest,1-3\n")
+        for case in ("case14", "case30"):
+            outages = (self.folder / "out.csv",) if case == "case30" else ()
+            self.made(CASES / f"{case}.m", *outages, "--limit", "75")
+            again = ("grid", self.folder / "grid" / "branches.csv", *outages, "--slack", "1", "-o")
+            self.assertEqual(command(*again, self.folder / "again", "--force")[0], 0)
+            for name in ("constraints.csv", "factors.csv"):
+                made, same = (self.folder / place / name for place in ("grid", "again"))
+                self.assertEqual(made.read_bytes(), same.read_bytes())
+
+    @unittest.skipIf(numpy is None, "numpy is not installed")
+    def test_recipe(self):
+        """The page's recipe, with numpy's PTDFs of the case, gives what the command gives."""
+        case = CASES / "case30.m"
+        self.made(case, "--slack", "22")
+        page = (ROOT / "docs" / "NETWORKS.md").read_text()
+        made = {}
+        exec(re.search(r"```python\n(.*?)```", page, re.S)[1], made)
+        rows = table(case, "branch")
+        branches = [f"{int(row[0])}-{int(row[1])}" for row in rows]
+        buses = [str(int(bus)) for bus in table(case, "bus")[:, 0]]
+        made["write_grid_files"](numpy_ptdf(case, 22), branches, buses, rows[:, 5], self.folder / "recipe")
+        for name in ("constraints.csv", "factors.csv"):
+            one, other = ((self.folder / place / name).read_text() for place in ("grid", "recipe"))
+            self.assertEqual(sorted(one.splitlines()), sorted(other.splitlines()))
+
+    def test_what_is_read(self):
+        """Comments, parallel branches, taps, ratings, branches out of service and isolated buses."""
+        path = self.folder / "small.m"
+        path.write_text(SMALL)
+        read = read_case(path)
+        self.assertEqual((read.reference, read.out_of_service), ("1", 2))
+        rows = [(b.name, float(b.reactance), b.limit, b.emergency) for b in read.network.branches]
+        self.assertEqual(
+            rows,
+            [
+                ("1-2", 0.1, 50_000, 60_000),
+                ("1-2 2", 0.1, 50_000, None),
+                ("2-3", 0.1, 40_000, None),
+                ("1-3", 0.1, None, None),
+            ],
+        )
+        self.assertEqual(read.network.branch_lines, [9, 9, 10, 11])
+        _, _, err = self.made(path)
+        self.assertIn("2 branches out of service left out\n1 branch of rating 0, which is none, not", err)
+        data = json.loads(self.made(path, "--json")[1])
+        self.assertEqual((data["out_of_service"], data["not_monitored"]), (2, 1))
+
+    def test_faults(self):
+        path = self.folder / "small.m"
+        for old, new, said in (
+            ("0.2 0 40", "x 0 40", "small.m:10:BR_X: 'x' is not a number"),
+            ("    2 3 0", "    2 7 0", "small.m:10:T_BUS: no bus '7' in mpc.bus"),
+            ("0 40 0", "0 40.0001 0", "small.m:10:RATE_A: 40.0001 has more than 3 decimals"),
+            ("0 40 0", "0 1e6 0", "small.m:10:RATE_A: 1e6 is outside 0.000 to 100000.000 (refusal 6)"),
+            ("0.5 0 1;", ";", "small.m:10:mpc.branch: 8 fields; at least 11 are needed"),
+            ("2, 1;", "1, 1;", "small.m:6:BUS_I: bus 1 occurs twice"),
+            ("mpc.branch = [\n", "branch = [\n", "small.m: no table mpc.branch = [ .. ]"),
+            ("];\n", "];\nmpc.branch(:, 4) = 2;\n", "small.m:15:mpc.branch: worked out here"),
+            ("0 1e-1 0", "0 0 0", "small.m:11:REACTANCE: "),
+        ):
+            at = SMALL.rindex(old) if old == "];\n" else SMALL.index(old)
+            path.write_text(SMALL[:at] + new + SMALL[at + len(old) :])
+            _, out, err = self.made(path, status=2)
+            self.assertEqual((out, said in err), ("", True), err)
+        _, _, err = self.made(CASES / "case14.m", status=2)
+        self.assertIn("every branch has rating 0, which is no limit: --limit MW gives them one", err)
+        _, _, err = self.made(CASES / "case14.m", "--limit", "0", status=2)
+        self.assertIn("0 is no limit above 0 and up to 100000.000 MW", err)
+        _, _, err = self.made(self.folder / "none.m", status=2)
+        self.assertIn("none.m: No such file or directory", err)
+        self.assertFalse((self.folder / "grid").exists())
+
+
+if __name__ == "__main__":
+    unittest.main()
