@@ -8,6 +8,7 @@ market_engines.py beside it times `crr test` on the CSV files by engine.
 Usage: market.py beside [NODES CONSTRAINTS CONTRACTS]        the test, beside numpy and scipy
        market.py grow                                        growth with contracts and with constraints
        market.py make FOLDER [NODES CONSTRAINTS CONTRACTS]   the case's CSV files
+       market.py pack FOLDER [NODES CONSTRAINTS CONTRACTS]   the case packed, as crr pack has it, without them
        market.py time FOLDER                                 the commands on them
 
 Contracts are of 100 MW, so that every flow is a whole number of thousandths of a MW, and each limit is the
@@ -21,6 +22,7 @@ import subprocess
 import sys
 import time
 from array import array
+from dataclasses import replace
 from pathlib import Path
 
 import numpy as np
@@ -29,6 +31,7 @@ ROOT = Path(__file__).resolve().parents[1]
 sys.path.insert(0, str(ROOT / "python" / "src"))
 from crr.blocks import MEMORY, Blocks  # noqa: E402
 from crr.case import Case, Names  # noqa: E402
+from crr.dense import write_dense  # noqa: E402
 from crr.files import Contract  # noqa: E402
 from crr.sliced_test import test_sliced  # noqa: E402
 
@@ -188,6 +191,14 @@ def case_of(factors, limits, book, memory=MEMORY):
     return Case(names, cells, array("q"), rows, blocks=blocks)
 
 
+def pack(folder, sizes):
+    """Writes the case as `crr pack` would of its CSV files."""
+    factors, book = draw(*sizes)
+    case = case_of(factors, limits_of(flows_int(factors, book)), book)
+    names = [[f"{letter}{number}" for number in range(size)] for letter, size in zip("NKC", sizes)]
+    write_dense(replace(case, names=Names(*names)), folder, False)
+
+
 def shared(case):
     """The test of a case by one process, two, and two dask workers; all give the same."""
     from concurrent.futures import ProcessPoolExecutor
@@ -257,6 +268,8 @@ def grow():
 def main(asked):
     if asked[:1] == ["make"] and len(asked) in (2, 5):
         make(Path(asked[1]), [int(size) for size in asked[2:]] or MARKET)
+    elif asked[:1] == ["pack"] and len(asked) in (2, 5):
+        pack(Path(asked[1]), [int(size) for size in asked[2:]] or MARKET)
     elif asked[:1] == ["time"] and len(asked) == 2:
         timed(Path(asked[1]))
     elif asked[:1] == ["beside"] and len(asked) in (1, 4):
