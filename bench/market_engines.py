@@ -3,8 +3,8 @@
 its processes, those by the clock, the largest process and the machine's load. The files are those of
 market.py. dask's distributed and mpi4py where they are asked for.
 
-Usage: market_engines.py test FOLDER [ENGINE ..]                     on a folder of CSV files, or a packed case
-       market_engines.py row ENGINE NODES CONSTRAINTS CONTRACTS      on a case made in TMPDIR and removed again
+Usage: market_engines.py test FOLDER [ENGINE ..]                  on a folder of CSV files, or a packed case
+       market_engines.py row ENGINE NODES CONSTRAINTS CONTRACTS   on a case made in TMPDIR and removed again
 Engines: one, two (processes, -j 2), dask (two workers), mpi (two, and the process that hands out).
 
 All engines must print the same table. `crr test` knows processes alone: for dask and MPI the pool that it
