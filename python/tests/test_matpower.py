@@ -7,13 +7,9 @@ import json
 import re
 import unittest
 
+from power_flow import numpy, power_flow, table
 from support import IEEE14, ROOT, FolderTest, command
 from crr.matpower import read_case
-
-try:
-    import numpy
-except ImportError:
-    numpy = None
 
 CASES = ROOT / "tests" / "matpower"
 SMALL = """function mpc = small
@@ -32,13 +28,14 @@ mpc.branch = [
 ];
 """
 
-
-def table(path, name):
-    """A table's rows by numpy, with nothing of the package."""
-    text = re.sub("%.*", "", path.read_text())
-    rows = re.search(rf"mpc\.{name} = \[(.*?)\]", text, re.S)[1].split("\n")
-    cells = [re.split(r"[\s,;]+", row.strip(" \t;")) for row in rows if row.strip()]
-    return numpy.array([[float(cell) for cell in row] for row in cells])
+# Magnitude and angle of each bus as MATPOWER prints the power flow of its case 30.
+SOLVED30 = """
+1.000 0.000   1.000 -0.415  0.983 -1.522  0.980 -1.795  0.982 -1.864  0.973 -2.267  0.967 -2.652
+0.961 -2.726  0.981 -2.997  0.984 -3.375  0.981 -2.997  0.985 -1.537  1.000 1.476   0.977 -2.308
+0.980 -2.312  0.977 -2.644  0.977 -3.392  0.968 -3.478  0.965 -3.958  0.969 -3.871  0.993 -3.488
+1.000 -3.393  1.000 -1.589  0.989 -2.631  0.990 -1.690  0.972 -2.139  1.000 -0.828  0.975 -2.266
+0.980 -2.128  0.968 -3.042
+"""
 
 
 def numpy_ptdf(path, slack):
@@ -51,6 +48,39 @@ def numpy_ptdf(path, slack):
     out = numpy.zeros_like(flows)
     out[:, others] = flows[:, others] @ numpy.linalg.inv((incidence.T @ flows)[numpy.ix_(others, others)])
     return out
+
+
+def degrees(volts):
+    return numpy.degrees(numpy.angle(volts))
+
+
+@unittest.skipIf(numpy is None, "numpy is not installed")
+class Figures(unittest.TestCase):
+    """A case's figures, held to the solution of its AC power flow as it is published."""
+
+    def setUp(self):
+        self.tables = [table(CASES / "case30.m", name) for name in ("bus", "gen", "branch")]
+        self.solved = numpy.array(SOLVED30.split(), dtype=float).reshape(30, 2)
+
+    def off(self, volts):
+        return max(abs(abs(volts) - self.solved[:, 0]).max(), abs(degrees(volts) - self.solved[:, 1]).max())
+
+    def test_case30_is_solved_as_published(self):
+        volts, injections = power_flow(*self.tables)
+        self.assertLess(self.off(volts), 0.0005)
+        self.assertEqual(round(injections.real.sum(), 3), 2.444)  # the losses
+        self.assertEqual([round(load, 3) for load in self.tables[0][:, 2:4].sum(0)], [189.2, 107.2])
+
+    def test_a_wrong_reactance_shows(self):
+        """By one in its last digit; but of 9-11, behind which nothing is drawn."""
+        buses, generators, branches = self.tables
+        unseen = []
+        for at, branch in enumerate(branches):
+            other = branches.copy()
+            other[at, 3] += 0.01
+            if self.off(power_flow(buses, generators, other)[0]) < 0.0005:
+                unseen.append(tuple(branch[:2]))
+        self.assertEqual(unseen, [(9, 11)])
 
 
 class Cases(FolderTest):
