@@ -39,7 +39,7 @@ loop-again c =
     let f = differAt (a .factors .now) (a .source) (a .sink) in (
       omega arith,
       c .eight-more .ensures ∙ ap (λ (x : ℕ). l .set * 256 + x) (differ-from (a .factors .now) (a .source) (a .sink) i 8)
-      ∙ set-turn 8 (a .constraints) (l .eight * 8) i f (l .set) _ (omega arith) (omega (arith, l .inv .0)) (l .inv .1) refl,
+          ∙ set-turn 8 (a .constraints) (l .eight * 8) i f (l .set) _ (omega arith) (omega (arith, l .inv .0)) (l .inv .1) refl,
     )
 
 returns : tie.Need-returns Inv-loop μ-loop
