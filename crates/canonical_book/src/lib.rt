@@ -45,7 +45,7 @@ fn write_rows(form: Form, cells: &[u64], rows: usize, file: &mut [u8])
     }
 }
 
-// Writes the canonical form of a book for a grid of `nodes` nodes. Takes 16,000 bytes of stack.
+// Writes the canonical form of a book for a grid of `nodes` nodes. Takes 21,000 bytes of stack.
 pub fn write_canonical_book(nodes: usize, book: &[u8], file: &mut [u8]) -> WriteAnswer
     ensures { λ r. ⌜ WritesCanonicalBook (canonicalBookCall nodes (before book) (before file)) r (after file) ⌝ }
 {

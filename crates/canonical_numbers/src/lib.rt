@@ -133,6 +133,6 @@ pub fn canonical_rows(book: &[u8], form: Form, count: usize, cells: &mut [u64]) 
         return 0;
     }
     fill_numbers(book, form, count, cells);
-    sorting::sort(cells, count);
+    sorting_digits::sort(cells, count);
     walk(cells, count)
 }
