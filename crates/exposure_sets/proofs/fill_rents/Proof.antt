@@ -1,4 +1,4 @@
--- `rent_sums`: the sums of the places passed.
+-- `fill_rents`: the rents of the places passed.
 use mathlib.Core.Path.{ap, _∙_}
 use Prim.Native.Nat.{ℕ, _-_, _≤_}
 use native.Mathlib.Omega.{arith}
@@ -8,20 +8,20 @@ use borrow.Author.Needs.{needs}
 use Rattle.integers.proofs.Sizes.{natAbs-sub}
 use Rattle.test_rules.proofs.Judging.{released-small}
 use Rattle.tariff.specs.Inner.{maxReleased}
-use Rattle.exposure_sets.specs.Inner.{dueIn}
-use Rattle.exposure_sets.proofs.Laws.{Summed, summed-start, half, room-to-grow, summed-next, summed-end}
-use Rattle.exposure_sets.proofs.rent_sums.Statement.{statement}
-use Rattle.exposure_sets.proofs.rent_sums.Tie as tie
+use Rattle.exposure_sets.specs.Inner.{Filled, dueIn}
+use Rattle.exposure_sets.proofs.Laws.{filled-start, filled-kept, filled-end}
+use Rattle.exposure_sets.proofs.fill_rents.Statement.{statement}
+use Rattle.exposure_sets.proofs.fill_rents.Tie as tie
 
 abbrev Inv-loop : tie.InvT-loop
-Inv-loop constraints process limits over count sums₀ n₀ t₀ sums n t =
-    Summed count (λ (s : ℕ). dueIn limits process (getD over s 0)) sums n t
+Inv-loop constraints process limits over count figures₀ t₀ figures t =
+    (t ≤ count) × Filled t (λ (s : ℕ). dueIn limits process (getD over s 0)) figures₀ figures
 
 abbrev μ-loop : tie.MeasureT-loop
-μ-loop constraints process limits over count sums₀ n₀ t₀ sums n t = count - t
+μ-loop constraints process limits over count figures₀ t₀ figures t = count - t
 
 loop-holds : tie.Need-loop-holds Inv-loop μ-loop
-loop-holds c = let p = c .before .before .pre in summed-start (c .before .before .args .count) _ _ (p .2) (p .3)
+loop-holds c = (omega arith, filled-start _ _)
 
 shared-slice-read-k : tie.Need-shared-slice-read-k Inv-loop μ-loop
 shared-slice-read-k c = omega (arith, c .before .before .before .before .before .pre .1 .long)
@@ -66,35 +66,27 @@ due c = rw (c .minus .ensures) (omega (arith, natAbs-sub (pos 0) (c .before .rel
 abbrev part : tie.Start Inv-loop μ-loop → ℕ → ℤ
 part s t = dueIn (s .args .limits .now) (s .args .process) (getD (s .args .over .now) t 0)
 
-grow-requires : tie.Need-grow-requires Inv-loop μ-loop
-grow-requires c κs =
+slice-set-from-cell : tie.Need-slice-set-from-cell Inv-loop μ-loop
+slice-set-from-cell c =
     let s = c .before .before .before .before .before .before .before .before .before in
-    let l = c .before .before .before .before .before .before .loop in
-    room-to-grow (s .args .count) (part s) (l .sums) (l .n) (l .t) (l .inv) (omega arith) (s .pre .1 .few) (c .before .minus .result .0) (due (c .before))
-
-add-n : tie.Need-add-n Inv-loop μ-loop
-add-n c =
-    let s = c .before .before .before .before .before .before .before .before .before .before .before in
-    let l = c .before .before .before .before .before .before .before .before .loop in
-    record { fits = omega (arith, half (s .args .count) (part s) (l .sums) (l .n) (l .t) (l .inv) (omega arith) (s .pre .1 .few)) }
+    omega (arith, s .pre .2, c .before .before .before .before .before .before .loop .inv .1 .length-kept)
 
 loop-again : tie.Need-loop-again Inv-loop μ-loop
 loop-again c =
-    let s = c .before .before .before .before .before .before .before .before .before .before .before in
-    let l = c .before .before .before .before .before .before .before .before .loop in
-    let m = c .before .before .before in
+    let s = c .before .before .before .before .before .before .before .before .before in
+    let l = c .before .before .before .before .before .before .loop in
+    let m = c .before in
     let y = m .minus .ensures ∙ ap (λ (z : ℤ). pos 0 -ℤ z) (m .before .released .ensures) in
-    summed-next (s .args .count) (part s) (l .sums) (l .n) (l .t) (l .inv) (omega arith) (s .pre .1 .few) (m .minus .result .0) _ y (due m)
-    (c .before .grow .ensures)
+    (omega arith, filled-kept (part s) (l .t) (m .minus .result .0) (s .args .figures .now) (l .figures) (slice-set-from-cell c) y (due m) (l .inv .1))
 
 returns : tie.Need-returns Inv-loop μ-loop
 returns c =
     let s = c .before .before .before .before in
     let l = c .before .loop in
-    summed-end (s .args .count) (part s) (l .sums) (l .n) (l .t) (l .inv) (omega arith)
+    filled-end (part s) (l .t) (s .args .count) (s .args .figures .now) (l .figures) (l .inv .0) (omega arith) (l .inv .1)
 
-pub rent-sums-spec : {M : Type 1} → statement M
-rent-sums-spec =
+pub fill-rents-spec : {M : Type 1} → statement M
+fill-rents-spec =
     tie.close (tie.spec
-    Inv-loop μ-loop loop-holds (λ c. search needs) shared-slice-read-k mul-released shared-slice-read-released released-requires minus-requires grow-requires add-n
-    (λ c. search needs) (λ c. search needs) loop-again (λ c. search needs) returns)
+    Inv-loop μ-loop loop-holds (λ c. search needs) shared-slice-read-k mul-released shared-slice-read-released released-requires minus-requires
+    (λ c. search needs) slice-set-from-cell (λ c. search needs) (λ c. search needs) loop-again (λ c. search needs) returns)

@@ -1,9 +1,8 @@
--- `contract_sums`: the sums of the places passed.
+-- `fill_spreads`: the figures of the places passed.
 use mathlib.Core.Path.{ap₂, _∙_}
-use Prim.Native.Nat.{ℕ, _+_, _-_, _*_, _^_, _≤_, _<_}
+use Prim.Native.Nat.{ℕ, _+_, _-_, _*_, _≤_, _<_}
 use native.Mathlib.Omega.{arith}
-use lib.ListN.{length, getD, length-set}
-use lib.Seq.{getD-set-same}
+use lib.ListN.{getD}
 use lib.IntN.{ℤ, pos, natAbs, _-ℤ_, _*ℤ_}
 use mir.Syntax.{w64}
 use mir.Val.{toZ, ofZ}
@@ -12,17 +11,18 @@ use Rattle.integers.proofs.Machine.{back}
 use Rattle.tariff.specs.declared.contracts.Kind.the-variants.{Obligation}
 use Rattle.tariff.specs.Inner.{maxReleased}
 use Rattle.test_rules.proofs.Flowing.{rows-kept, part-small}
-use Rattle.exposure_sets.specs.Inner.{rawIn}
-use Rattle.exposure_sets.proofs.Laws.{Summed, summed-start, half, room-to-grow, summed-next, summed-end}
-use Rattle.exposure_sets.proofs.contract_sums.Statement.{statement}
-use Rattle.exposure_sets.proofs.contract_sums.Tie as tie
+use Rattle.exposure_sets.specs.Inner.{Filled, rawIn}
+use Rattle.exposure_sets.proofs.Laws.{filled-start, filled-kept, filled-end}
+use Rattle.exposure_sets.proofs.fill_spreads.Statement.{statement}
+use Rattle.exposure_sets.proofs.fill_spreads.Tie as tie
 
 abbrev Inv-loop : tie.InvT-loop
-Inv-loop constraints factors over count sums₀ source sink quantity n₀ t₀ sums n t =
-    Summed count (λ (s : ℕ). (getD factors (source + getD over s 0) (pos 0) -ℤ getD factors (sink + getD over s 0) (pos 0)) *ℤ pos (quantity .0)) sums n t
+Inv-loop constraints factors over count figures₀ source sink quantity t₀ figures t =
+    (t ≤ count)
+    × Filled t (λ (s : ℕ). (getD factors (source + getD over s 0) (pos 0) -ℤ getD factors (sink + getD over s 0) (pos 0)) *ℤ pos (quantity .0)) figures₀ figures
 
 abbrev μ-loop : tie.MeasureT-loop
-μ-loop constraints factors over count sums₀ source sink quantity n₀ t₀ sums n t = count - t
+μ-loop constraints factors over count figures₀ source sink quantity t₀ figures t = count - t
 
 mul-source : tie.Need-mul-source Inv-loop μ-loop
 mul-source c = search needs
@@ -30,14 +30,8 @@ mul-source c = search needs
 mul-sink : tie.Need-mul-sink Inv-loop μ-loop
 mul-sink c = search needs
 
-slice-set-of-sums : tie.Need-slice-set-of-sums Inv-loop μ-loop
-slice-set-of-sums c = omega (arith, c .before .before .before .before .pre .2)
-
 loop-holds : tie.Need-loop-holds Inv-loop μ-loop
-loop-holds c =
-    let s = c .before .before .before .before in
-    let cells = s .args .sums .now in
-    summed-start (s .args .count) _ _ (length-set cells 0 (pos 0) ∙ s .pre .2) (getD-set-same cells 0 (pos 0) (pos 0) (omega (arith, s .pre .2)))
+loop-holds c = (omega arith, filled-start _ _)
 
 shared-slice-read-k : tie.Need-shared-slice-read-k Inv-loop μ-loop
 shared-slice-read-k c = omega (arith, c .before .before .before .before .before .before .before .pre .1 .long)
@@ -98,44 +92,38 @@ small c =
     (r .0) (r .1) (s .pre .0 .quantity-sized) in
     omega (arith, b)
 
--- the sums of the places passed
+-- the figure of a place
 abbrev part : tie.Start Inv-loop μ-loop → ℕ → ℤ
 part s t = rawIn (s .args .constraints) (s .args .factors .now) (s .args .c) (getD (s .args .over .now) t 0)
 
-grow-requires : tie.Need-grow-requires Inv-loop μ-loop
-grow-requires c κs =
+slice-set-from-cell : tie.Need-slice-set-from-cell Inv-loop μ-loop
+slice-set-from-cell c =
     let s = c .before .before .before .before .before .before .before .before .before .before .before in
-    let l = c .before .before .before .before .before .before .loop in
-    room-to-grow (s .args .count) (part s) (l .sums) (l .n) (l .t) (l .inv) (omega arith) (s .pre .1 .few) (c .before .flow .result .0) (small (c .before))
-
-add-n : tie.Need-add-n Inv-loop μ-loop
-add-n c =
-    let s = c .before .before .before .before .before .before .before .before .before .before .before .before .before in
-    let l = c .before .before .before .before .before .before .before .before .loop in
-    record { fits = omega (arith, half (s .args .count) (part s) (l .sums) (l .n) (l .t) (l .inv) (omega arith) (s .pre .1 .few)) }
+    omega (arith, s .pre .2, c .before .before .before .before .before .before .loop .inv .1 .length-kept)
 
 loop-again : tie.Need-loop-again Inv-loop μ-loop
 loop-again c =
-    let s = c .before .before .before .before .before .before .before .before .before .before .before .before .before in
+    let s = c .before .before .before .before .before .before .before .before .before .before .before in
     let a = s .args in
-    let l = c .before .before .before .before .before .before .before .before .loop in
-    let f = c .before .before .before in
+    let l = c .before .before .before .before .before .before .loop in
+    let f = c .before in
     let k = getD (a .over .now) (l .t) 0 in
     let b = s .pre .1 .each (l .t) (omega arith) in
     let y = f .flow .ensures ∙ ap₂ (λ (u v : ℤ). (u -ℤ v) *ℤ pos (a .c .quantity .0))
     (back (getD (a .factors .now) (a .c .source * a .constraints + k) (pos 0)) (omega (arith, s .pre .0 .source-sized k b)))
     (back (getD (a .factors .now) (a .c .sink * a .constraints + k) (pos 0)) (omega (arith, s .pre .0 .sink-sized k b))) in
-    summed-next (a .count) (part s) (l .sums) (l .n) (l .t) (l .inv) (omega arith) (s .pre .1 .few) (f .flow .result .0) _ y (small f) (c .before .grow .ensures)
+    (omega arith, filled-kept (part s) (l .t) (f .flow .result .0) (a .figures .now) (l .figures) (slice-set-from-cell c) y (small f) (l .inv .1))
 
 returns : tie.Need-returns Inv-loop μ-loop
 returns c =
     let s = c .before .before .before .before .before .before in
     let l = c .before .loop in
-    summed-end (s .args .count) (part s) (l .sums) (l .n) (l .t) (l .inv) (omega arith)
+    filled-end (part s) (l .t) (s .args .count) (s .args .figures .now) (l .figures) (l .inv .0) (omega arith) (l .inv .1)
 
-pub contract-sums-spec : {M : Type 1} → statement M
-contract-sums-spec =
+pub fill-spreads-spec : {M : Type 1} → statement M
+fill-spreads-spec =
     tie.close (tie.spec
-    Inv-loop μ-loop mul-source mul-sink slice-set-of-sums loop-holds
+    Inv-loop μ-loop mul-source mul-sink loop-holds
     (λ c. search needs) shared-slice-read-k add-flow mul-flow shared-slice-copy-out-flow add-flow-2 mul-flow-2
-    shared-slice-copy-out-flow-2 flow-requires grow-requires add-n (λ c. search needs) (λ c. search needs) loop-again (λ c. search needs) returns)
+    shared-slice-copy-out-flow-2 flow-requires (λ c. search needs) slice-set-from-cell (λ c. search needs) (λ c. search needs) loop-again
+    (λ c. search needs) returns)
