@@ -1,4 +1,4 @@
--- `add_asked`: the checks before 21, then the flows, then the award's row.
+-- `add_award`: the checks before 21, then the flows, then the award's row.
 use mathlib.Core.Path.{_≡_, sym, ap, ap₂, subst, _∙_}
 use mathlib.Core.Bool.{Bool, cond}
 use mathlib.Core.List.{List}
@@ -18,14 +18,15 @@ use Rattle.tier_running_rules.specs.Inner.{AddsFlows}
 use Rattle.tier_running_rules.proofs.Checking.{Fields, fields}
 use Rattle.tier_running_rules.proofs.Overs.{counts-kept}
 use Rattle.tier_running_rules.proofs.Promises.{field-refuses, over-refuses, held-passes, adds-refused, adds-21, adds-passed}
-use Rattle.tier_running_test.proofs.adding.add_asked.Statement.{statement}
-use Rattle.tier_running_test.proofs.adding.add_asked.Tie as tie
+use Rattle.tier_running_test.proofs.adding.add_award.Statement.{statement}
+use Rattle.tier_running_test.proofs.adding.add_award.Tie as tie
 
 abbrev call : tie.Start → AddAwardCall
 call c =
     let a = c .args in
     let n = a .asked in
-    addAwardOn (n .nodes) (n .constraints) (n .process) (n .period) (a .limits .now) (a .factors .now) (a .award .now) (a .awards .now) (a .numbers .now) (a .flows .now)
+    addAwardOn (n .nodes) (n .constraints) (n .process) (n .period) (a .limits .now) (a .factors .now) (a .award .now) (a .awards .now)
+    (a .numbers .now) (a .flows .now)
 
 abbrev asked : tie.After-check-award → AddAwardCall
 asked k = call (k .before .before .before .before .before .before .before .before)
@@ -84,7 +85,8 @@ module _ (a : tie.After-try-flows) where
   tried : AddsFlows (ownPeriod q) (q .limits) (addProcess q) (addFactors q) (awarded q) (q .numbers) (q .flows) (a .try-flows .result) numbers flows
   tried =
       subst
-      (λ (c : Contract). AddsFlows (samePeriod (c .period) (addPeriod q)) (q .limits) (addProcess q) (addFactors q) c (q .numbers) (q .flows) (a .try-flows .result) numbers flows)
+      (λ (c : Contract). AddsFlows (samePeriod (c .period) (addPeriod q)) (q .limits) (addProcess q) (addFactors q) c (q .numbers) (q .flows)
+      (a .try-flows .result) numbers flows)
       (a .before .before .before .contract-from .ensures) (a .try-flows .ensures)
 
   -- by whether it comes
@@ -130,9 +132,9 @@ returns-3 c =
     (st .store-award .ensures .0 ∙ ap₂ (λ (m : ℕ) (x : Contract). withAwardRow m x (r .awards)) held (a .before .before .before .contract-from .ensures))
     (st .store-award .ensures .1 ∙ ap₂ (λ (l : List ℕ) (m : ℕ). set l 0 (m + 1)) (counts e1) held) (flows-by a _ (e1 .if1 .left))
 
-pub add-asked-spec : {M : Type 1} → statement M
-add-asked-spec =
+pub add-award-spec : {M : Type 1} → statement M
+add-award-spec =
     tie.close (tie.spec
-    (λ c κs. search needs) (λ c. search needs) (λ c. search needs) (λ c. search needs) (λ c. search needs) returns (λ c. search needs) (λ c κs. ok c .before .award-long)
-    try-flows-requires (λ c. search needs) (λ c. search needs) (λ c. search needs) returns-2
+    (λ c κs. search needs) (λ c. search needs) (λ c. search needs) (λ c. search needs) (λ c. search needs) returns (λ c. search needs)
+    (λ c κs. ok c .before .award-long) try-flows-requires (λ c. search needs) (λ c. search needs) (λ c. search needs) returns-2
     store-award-requires (λ c. search needs) (λ c. search needs) (λ c. search needs) returns-3)

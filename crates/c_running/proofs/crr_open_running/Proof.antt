@@ -1,7 +1,7 @@
 -- `crr_open_running`.
 use borrow.Author.Needs.{needs}
-use Rattle.c_running.proofs.opening.crr_open_running.Statement.{statement}
-use Rattle.c_running.proofs.opening.crr_open_running.Tie as tie
+use Rattle.c_running.proofs.crr_open_running.Statement.{statement}
+use Rattle.c_running.proofs.crr_open_running.Tie as tie
 
 returns : tie.Need-returns
 returns c = let m = c .before .before .before .before .open-running in record { answer = m .result; promised = m .ensures; refusal-number = c .number .ensures }

@@ -1,7 +1,7 @@
 -- `crr_add_award`.
 use borrow.Author.Needs.{needs}
-use Rattle.c_running.proofs.adding.crr_add_award.Statement.{statement}
-use Rattle.c_running.proofs.adding.crr_add_award.Tie as tie
+use Rattle.c_running.proofs.crr_add_award.Statement.{statement}
+use Rattle.c_running.proofs.crr_add_award.Tie as tie
 
 returns : tie.Need-returns
 returns c =
