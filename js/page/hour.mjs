@@ -1,0 +1,150 @@
+// An hour: its prices, which can be set, the statement, rent and shortfall, and what holders are paid.
+import { cents, decimal, exactMoney, PLACES } from "./decimals.mjs";
+import { byId, fill, make, options, show } from "./dom.mjs";
+import { holderSums } from "./figures.mjs";
+import { List } from "./list.mjs";
+import { hourName, KINDS, PERIODS, PROCESSES } from "./words.mjs";
+
+const SLICE = 8; // milliseconds of work on all hours before the page has its turn
+
+const SUMS = [
+  ["sum", "payments, rounded cents"],
+  ["exact", "payments, exact"],
+  ["rent", "congestion rent"],
+  ["shortfall", "shortfall"],
+];
+
+export class Hour {
+  constructor(app) {
+    this.app = app;
+    const parts = SUMS.map(([id, name]) => make("div", {}, make("dt", {}, name), make("dd", { id })));
+    byId("sums").replaceChildren(...parts);
+    byId("hour").onchange = (event) => app.edit(() => app.model.pick(Number(event.target.value)));
+    options(byId("rent-process"), PROCESSES.map((name, i) => [i, name]), 2);
+    byId("rent-process").onchange = () => this.sums(app.model.now.hour);
+    this.prices = new List(byId("prices"), this.pricesList());
+    this.statement = new List(byId("statement"), this.statementList());
+    this.holders = new List(byId("holders"), this.holdersList());
+  }
+
+  pricesList() {
+    return {
+      label: "Shadow prices of the hour",
+      columns: [["constraint", "id"], ["$/MWh", "mw"]],
+      key: (item) => String(item.k),
+      row: () => [{ kind: "id", of: "" }, { kind: "mw", of: this.priceField() }],
+      fill: (element, { k, price }) => {
+        const [name, cell] = element.children;
+        const input = cell.firstChild;
+        show(name, this.app.model.opened.names.constraints[k]);
+        input.dataset.shadow = k;
+        input.dataset.value = price;
+        input.setAttribute("aria-label", `Shadow price of ${name.textContent}, dollars per MWh`);
+        input.classList.toggle("changed", this.app.model.opened.hours[this.app.model.hour].prices[k] !== price);
+        fill(input, decimal(price, PLACES.price));
+      },
+    };
+  }
+
+  priceField() {
+    const input = make("input", { inputmode: "decimal", autocomplete: "off", "data-column": "price" });
+    this.app.field(input, PLACES.price, (price) => {
+      const k = Number(input.dataset.shadow);
+      this.app.model.setPrice(k, Number(price), `p${this.app.model.hour}.${k}`);
+    });
+    return input;
+  }
+
+  statementList() {
+    return {
+      label: "Statement of the hour",
+      columns: [["contract", "id"], ["owner", "owner"], ["kind", "kind"], ["priced by", "ends"], ["amount", "mw"]],
+      key: (item) => item.row.key,
+      row: () => ["id", "owner", "kind", "ends", "mw"].map((kind) => ({ kind, of: "" })),
+      fill: (element, { row, cents: amount, priced }) => {
+        const { names } = this.app.model.opened;
+        const [id, owner, kind, by, paid] = element.children;
+        element.dataset.settled = row.key;
+        element.dataset.value = amount;
+        element.dataset.priced = priced.length;
+        show(id, this.app.model.id(row.key));
+        show(owner, names.owner(row.holder));
+        show(kind, KINDS[row.kind]);
+        show(by, priced.map((k) => names.constraints[k]).join(", "));
+        by.title = by.textContent;
+        show(paid, cents(amount), amount);
+      },
+    };
+  }
+
+  holdersList() {
+    return {
+      label: "Payments by holder",
+      columns: [["holder", "id"], ["this hour", "mw"], ["all hours", "mw"]],
+      key: (item) => String(item.holder),
+      row: () => ["id", "mw", "mw"].map((kind) => ({ kind, of: "" })),
+      fill: (element, { holder, hour, all }) => {
+        const [name, now, ever] = element.children;
+        element.dataset.holder = holder;
+        show(name, this.app.model.opened.names.owner(holder));
+        show(now, hour === undefined ? "" : cents(hour), hour ?? "");
+        show(ever, all === undefined ? "" : cents(all), all ?? "");
+      },
+    };
+  }
+
+  // A new case: its hours.
+  open() {
+    const { hours } = this.app.model.opened;
+    const name = (hour) => `${hourName(hour) || "the hour"}${hour.own ? "" : ` (${PERIODS[hour.period]})`}`;
+    options(byId("hour"), hours.map((hour) => [hour.number, name(hour)]));
+  }
+
+  update({ hour, priced }) {
+    byId("hour").value = String(this.app.model.hour);
+    this.prices.show(Array.from(priced.prices, (price, k) => ({ k, price })));
+    this.statement.show(hour.contracts);
+    this.sums(hour);
+    this.all(hour.holders);
+  }
+
+  sums(hour) {
+    const cost = hour.costs[Number(byId("rent-process").value)];
+    show(byId("sum"), cents(hour.sum), hour.sum);
+    show(byId("exact"), exactMoney(hour.exact), hour.exact);
+    show(byId("rent"), exactMoney(cost.rent), cost.rent);
+    show(byId("shortfall"), exactMoney(cost.shortfall), cost.shortfall);
+    byId("shortfall").classList.toggle("short", cost.shortfall > 0n);
+  }
+
+  // Sums over all hours, in slices, so that a month of a large case holds nothing up; begun anew by an edit.
+  all(hour) {
+    clearTimeout(this.timer);
+    const { given } = this.app.model.opened;
+    const steps = this.app.model.everyHour();
+    let last;
+    const list = byId("holders");
+    const work = () => {
+      for (const until = performance.now() + SLICE; performance.now() < until; ) {
+        const { value, done } = steps.next();
+        if (done) return this.showHolders(hour, holderSums(last?.sums ?? []), given);
+        last = value;
+      }
+      list.dataset.state = "working";
+      show(byId("holders-words"), `All hours: ${last.done} of ${given} settled so far.`);
+      this.timer = setTimeout(work);
+      return undefined;
+    };
+    if (!this.shown) this.showHolders(hour, new Map(), given);
+    work();
+  }
+
+  showHolders(hour, all, given) {
+    const holders = [...new Set([...all.keys(), ...hour.keys()])].sort((a, b) => a - b);
+    this.shown = true;
+    this.holders.show(holders.map((holder) => ({ holder, hour: hour.get(holder), all: all.get(holder) })));
+    byId("holders").dataset.state = "done";
+    const words = given ? `All hours: the ${given} of the case, with their prices as set.` : "The case has no prices.";
+    show(byId("holders-words"), words);
+  }
+}

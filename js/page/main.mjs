@@ -1,0 +1,209 @@
+// The page: what it holds, the case that it is on, and what happens to it.
+import { constants, load, Refused } from "../crr.mjs";
+import { openCase } from "./case.mjs";
+import { readFragment } from "./changes.mjs";
+import { Contracts } from "./contracts.mjs";
+import { whole } from "./decimals.mjs";
+import { byId, faulty, make, show } from "./dom.mjs";
+import { Exposure } from "./exposure.mjs";
+import { dropped, embedded, fromBase64, Held } from "./files.mjs";
+import { History } from "./history.mjs";
+import { Hour } from "./hour.mjs";
+import { Loading } from "./loading.mjs";
+import { Model } from "./model.mjs";
+import { sha256 } from "./sha256.mjs";
+import { Tiers } from "./tiers.mjs";
+import { Verdicts } from "./verdicts.mjs";
+import { counted } from "./words.mjs";
+
+const root = document.documentElement;
+
+// What went wrong, as the library or the page says it.
+const problemWords = (problem) =>
+  problem instanceof Refused ? `refused ${problem.number}: ${problem.text}` : problem.message;
+
+class App {
+  constructor(crr) {
+    this.crr = crr;
+    this.held = new Held();
+    this.views = [Verdicts, Loading, Contracts, Exposure, Hour, Tiers, History].map((View) => new View(this));
+    this.listen();
+  }
+
+  listen() {
+    for (const id of ["files", "folder"]) {
+      byId(id).addEventListener("change", (event) => {
+        const files = Array.from(event.target.files, (file) => ({ path: file.webkitRelativePath || file.name, file }));
+        event.target.value = "";
+        this.take(files);
+      });
+    }
+    byId("open-other").onclick = () => this.wait();
+    document.addEventListener("dragover", (event) => event.preventDefault());
+    document.addEventListener("drop", async (event) => {
+      event.preventDefault();
+      this.take(await dropped(event.dataTransfer));
+    });
+    addEventListener("hashchange", () => this.model && this.applyLink());
+    addEventListener("beforeprint", () => this.print(true));
+    addEventListener("afterprint", () => this.print(false));
+  }
+
+  // Waits for files.
+  wait() {
+    byId("waiting").hidden = false;
+    root.dataset.state = this.model ? "open" : "waiting";
+    byId("files").focus();
+  }
+
+  // Messages above all else; none clears them.
+  tell(texts) {
+    const items = texts.map(({ text, number }) => make("p", { class: "problem", "data-message": text, "data-refusal": number || undefined }, text));
+    byId("messages").replaceChildren(...items);
+  }
+
+  say(text) {
+    clearTimeout(this.saying);
+    this.saying = setTimeout(() => show(byId("spoken"), text), 150);
+  }
+
+  // Takes files; where grid and book are there the case is opened.
+  async take(files) {
+    const told = [];
+    for (const { path, file } of files) {
+      try {
+        const text = this.held.take(path, new Uint8Array(await file.arrayBuffer()));
+        if (text) told.push({ text });
+      } catch (problem) {
+        told.push({ text: problem.message });
+      }
+    }
+    const { missing } = this.held;
+    if (missing.length === 0) told.push(...this.openHeld());
+    else show(byId("held"), `Still missing: ${missing.join(" and ")}.`);
+    this.tell(told);
+  }
+
+  openHeld() {
+    try {
+      this.open(this.held.files);
+      this.held = new Held();
+      return [];
+    } catch (problem) {
+      return [{ text: problemWords(problem), number: problem.number }];
+    }
+  }
+
+  open(files) {
+    const began = performance.now();
+    this.model = new Model(this.crr, openCase(this.crr, files));
+    const { opened } = this.model;
+    const counts = [[opened.grid.nodes, "node"], [opened.grid.constraints, "constraint"], [opened.rows.length, "contract"], [opened.given, "hour"]];
+    show(byId("title"), opened.title);
+    document.title = `${opened.title}: try a book of congestion revenue rights`;
+    show(byId("summary"), `${counts.map((each) => counted(...each)).join(", ")}.`);
+    show(byId("case-hash"), opened.hash);
+    this.know();
+    byId("waiting").hidden = true;
+    for (const id of ["parts", "strip", "other-files"]) byId(id).hidden = false;
+    for (const view of this.views) view.open?.();
+    this.update(began);
+    root.dataset.state = "open";
+    this.applyLink();
+  }
+
+  // Nodes and owners by name, for forms.
+  know() {
+    const { names } = this.model.opened;
+    this.nodes = new Map(names.nodes.map((name, number) => [name, number]));
+    this.owners = new Map(Object.entries(names.owners).map(([number, name]) => [name, Number(number)]));
+    byId("nodes").replaceChildren(...names.nodes.map((value) => make("option", { value })));
+    byId("owners").replaceChildren(...[...this.owners.keys()].map((value) => make("option", { value })));
+  }
+
+  // Applies the changes of a link where they are of this case.
+  applyLink() {
+    try {
+      const read = readFragment(location.hash, this.model.opened.hash);
+      if (!read) return;
+      this.model.hour = Math.min(read.hour, this.model.opened.hours.length - 1);
+      this.model.take(read.version);
+      this.update();
+      this.say(`${counted(read.version.size, "change")} of the link applied.`);
+    } catch (problem) {
+      this.tell([{ text: problemWords(problem), number: problem.number }]);
+    }
+  }
+
+  // An edit: every figure follows, or why it was not taken is told.
+  edit(doing, told = (text) => this.tell([{ text }])) {
+    const began = performance.now();
+    try {
+      doing();
+    } catch (problem) {
+      told(problemWords(problem));
+      return false;
+    }
+    this.tell([]);
+    this.update(began);
+    return true;
+  }
+
+  update(began = performance.now()) {
+    const worked = performance.now();
+    for (const view of this.views) view.update(this.model.now);
+    root.dataset.worked = (worked - began).toFixed(1);
+    root.dataset.edit = (performance.now() - began).toFixed(1);
+    root.dataset.edits = String(Number(root.dataset.edits ?? 0) + 1);
+  }
+
+  // A field of decimals: figures follow while it is typed; what is not taken is marked and told.
+  field(input, places, take) {
+    let touched = false;
+    const typed = () => {
+      touched = true;
+      const told = (text) => faulty(input, text);
+      if (this.edit(() => take(within(input.value, places)), told)) faulty(input);
+    };
+    input.addEventListener("input", typed);
+    input.addEventListener("change", () => {
+      this.model.changes.settle();
+      if (input.title && input.classList.contains("faulty")) this.say(`Not taken: ${input.title}`);
+    });
+    input.addEventListener("blur", () => {
+      this.model.changes.settle();
+      if (!touched) return;
+      touched = false;
+      faulty(input);
+      queueMicrotask(() => this.update());
+    });
+  }
+
+  // All rows of the lists on paper.
+  print(whole) {
+    for (const view of this.views) for (const each of Object.values(view)) each?.drawWhole?.(whole);
+  }
+}
+
+// A decimal that is not below 0: the library's own ranges follow.
+function within(text, places) {
+  const number = whole(text, places);
+  if (number < 0n) throw new Error("not below 0, please");
+  return number;
+}
+
+async function start() {
+  const wasm = fromBase64(byId("wasm").textContent);
+  const same = sha256(wasm) === root.dataset.wasm;
+  show(byId("wasm-same"), same ? "(worked out again here: the same)" : "(worked out here it is ANOTHER: do not use this page)");
+  const app = new App(await load(wasm));
+  show(byId("interface"), String(constants.INTERFACE));
+  const files = embedded(byId("case").textContent);
+  if (files) app.open(files);
+  else app.wait();
+}
+
+start().catch((problem) => {
+  root.dataset.state = "failed";
+  byId("messages").append(make("p", { class: "problem", "data-message": problem.message }, `The page could not start: ${problem.message}`));
+});
