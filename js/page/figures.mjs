@@ -77,23 +77,24 @@ export class Figures {
     return { constraints, counted: flows.map((found) => found.counted) };
   }
 
-  // An hour's statement, and its rent and shortfall in each process.
-  hour(grid, rows, book, { period, prices }) {
-    const tables = { ...grid, period, prices, book };
+  // An hour's statement, with its rent and shortfall in a process.
+  hour(grid, rows, book, { period, prices }, process) {
+    const tables = { ...grid, process, period, prices, book };
     const settled = this.crr.settle_hour(tables);
     const contracts = rows.flatMap((row, i) =>
       row.period === period ? [{ row, cents: settled.cents[i], priced: members(settled.priced[i]) }] : [],
     );
-    const costs = [0, 1, 2].map((process) => {
-      const found = this.crr.find_shortfall({ ...tables, process });
-      return {
-        payment: together(found.payment_whole, found.payment_parts),
-        rent: together(found.rent_whole, found.rent_parts),
-        shortfall: together(found.shortfall_whole, found.shortfall_parts),
-      };
-    });
-    const exact = together(settled.whole, settled.parts);
-    return { period, contracts, sum: settled.sum, exact, costs, holders: holderSums(contracts) };
+    const cost = this.crr.find_shortfall(tables);
+    return {
+      period,
+      process,
+      contracts,
+      sum: settled.sum,
+      exact: together(settled.whole, settled.parts),
+      rent: together(cost.rent_whole, cost.rent_parts),
+      shortfall: together(cost.shortfall_whole, cost.shortfall_parts),
+      holders: holderSums(contracts),
+    };
   }
 
   // What each contract is paid in an hour, for sums over hours.

@@ -20,8 +20,8 @@ export class Hour {
     const parts = SUMS.map(([id, name]) => make("div", {}, make("dt", {}, name), make("dd", { id })));
     byId("sums").replaceChildren(...parts);
     byId("hour").onchange = (event) => app.edit(() => app.model.pick(Number(event.target.value)));
-    options(byId("rent-process"), PROCESSES.map((name, i) => [i, name]), 2);
-    byId("rent-process").onchange = () => this.sums(app.model.now.hour);
+    options(byId("rent-process"), PROCESSES.map((name, i) => [i, name]));
+    byId("rent-process").onchange = (event) => app.edit(() => app.model.pick(app.model.hour, Number(event.target.value)));
     this.prices = new List(byId("prices"), this.pricesList());
     this.statement = new List(byId("statement"), this.statementList());
     this.holders = new List(byId("holders"), this.holdersList());
@@ -102,6 +102,7 @@ export class Hour {
 
   update({ hour, priced }) {
     byId("hour").value = String(this.app.model.hour);
+    byId("rent-process").value = String(hour.process);
     this.prices.show(Array.from(priced.prices, (price, k) => ({ k, price })));
     this.statement.show(hour.contracts);
     this.sums(hour);
@@ -109,12 +110,9 @@ export class Hour {
   }
 
   sums(hour) {
-    const cost = hour.costs[Number(byId("rent-process").value)];
     show(byId("sum"), cents(hour.sum), hour.sum);
-    show(byId("exact"), exactMoney(hour.exact), hour.exact);
-    show(byId("rent"), exactMoney(cost.rent), cost.rent);
-    show(byId("shortfall"), exactMoney(cost.shortfall), cost.shortfall);
-    byId("shortfall").classList.toggle("short", cost.shortfall > 0n);
+    for (const id of ["exact", "rent", "shortfall"]) show(byId(id), exactMoney(hour[id]), hour[id]);
+    byId("shortfall").classList.toggle("short", hour.shortfall > 0n);
   }
 
   // Sums over all hours, in slices, so that a month of a large case holds nothing up; begun anew by an edit.

@@ -1,4 +1,5 @@
 // A case with its changes: the tables that follow from both, and every figure of them.
+import { constants } from "../crr.mjs";
 import { bookFileOf } from "./case.mjs";
 import { changed, Changes } from "./changes.mjs";
 import { Figures } from "./figures.mjs";
@@ -39,6 +40,8 @@ function hourAt(opened, version, number) {
   return { ...hour, prices };
 }
 
+const same = (a, b) => a.length === b.length && a.every((cell, i) => cell === b[i]);
+
 // Whether each change speaks of something that the case has; a link may be damaged.
 function checkTargets(opened, version) {
   const { grid, rows, hours } = opened;
@@ -60,6 +63,7 @@ export class Model {
     this.figures = new Figures(crr);
     this.changes = new Changes();
     this.hour = 0;
+    this.process = constants.MONTHLY; // whose rent an hour is given
     this.work(new Map());
   }
 
@@ -69,11 +73,21 @@ export class Model {
     const grid = { ...this.opened.grid, limits: limitsAt(this.opened, version) };
     const rows = rowsAt(this.opened, version);
     const book = bookFileOf(this.crr, this.opened, rows);
-    const lines = this.figures.lines(grid, rows, book);
-    const loading = this.figures.loading(grid, book, lines);
+    const judged = this.judge(grid, rows, book);
     const priced = hourAt(this.opened, version, this.hour);
-    const hour = this.figures.hour(grid, rows, book, priced);
-    this.now = { grid, rows, book, lines, loading, priced, hour, version };
+    const hour = this.figures.hour(grid, rows, book, priced, this.process);
+    this.now = { grid, rows, book, ...judged, priced, hour, version };
+  }
+
+  // Verdicts and loading; where limits and book are those of before, so are they.
+  judge(grid, rows, book) {
+    const before = this.now;
+    const keys = (all) => all.map((row) => row.key);
+    if (before && same(before.book, book) && same(before.grid.limits, grid.limits) && same(keys(before.rows), keys(rows))) {
+      return { lines: before.lines, loading: before.loading };
+    }
+    const lines = this.figures.lines(grid, rows, book);
+    return { lines, loading: this.figures.loading(grid, book, lines) };
   }
 
   // Takes a version where the library takes it; else throws its refusal, and nothing has changed.
@@ -124,15 +138,16 @@ export class Model {
     else this.setQuantity(row.key, row.quantity - cut);
   }
 
-  // The prices of the worst, in the hour of one's own of that period, which is picked.
-  tryPrices(period, prices) {
+  // The worst prices of a period and process, in the hour of one's own of that period, which is picked.
+  tryPrices({ period, process, exposure: { prices } }) {
+    this.process = process;
     this.hour = this.opened.given + (period === 1 ? 0 : 1);
     const entries = Array.from(prices, (price, k) => [`p${this.hour}.${k}`, price ? Number(price) : undefined]);
     this.take(changed(this.changes.now, entries));
   }
 
-  pick(hour) {
-    this.hour = hour;
+  pick(hour, process = this.process) {
+    Object.assign(this, { hour, process });
     this.work(this.changes.now);
   }
 
