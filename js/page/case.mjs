@@ -67,7 +67,7 @@ function readHours(crr, grid, hours) {
 function ownHours(grid, count) {
   return [1, 0].map((period, i) => ({
     number: count + i,
-    day: `my own hour, ${PERIOD_WORDS[period]}`,
+    day: `an hour of your own, ${PERIOD_WORDS[period]}`,
     hour: 0,
     period,
     prices: new BigUint64Array(grid.constraints),

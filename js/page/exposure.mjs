@@ -24,7 +24,7 @@ export class Exposure {
   }
 
   tried(line) {
-    if (this.app.edit(() => this.app.model.tryPrices(line))) this.app.say("Set in an hour of one's own.");
+    if (this.app.edit(() => this.app.model.tryPrices(line))) this.app.say("Set in an hour of your own.");
   }
 
   part(line) {
