@@ -151,6 +151,18 @@ export class Model {
     this.work(this.changes.now);
   }
 
+  // The changes and the hour of a link; refused, all is as before.
+  apply({ hour, version }) {
+    const before = this.hour;
+    this.hour = Math.min(hour, this.opened.hours.length - 1);
+    try {
+      this.take(version);
+    } catch (problem) {
+      this.hour = before;
+      throw problem;
+    }
+  }
+
   step(by) {
     this.changes.step(by);
     this.work(this.changes.now);
