@@ -96,6 +96,7 @@ export class Hour {
   // A new case: its hours.
   open() {
     const { hours } = this.app.model.opened;
+    this.sumsBefore = undefined;
     const name = (hour) => `${hourName(hour) || "the hour"}${hour.own ? "" : ` (${PERIODS[hour.period]})`}`;
     options(byId("hour"), hours.map((hour) => [hour.number, name(hour)]));
   }
@@ -115,33 +116,33 @@ export class Hour {
     byId("shortfall").classList.toggle("short", hour.shortfall > 0n);
   }
 
-  // Sums over all hours, in slices, so that a month of a large case holds nothing up; begun anew by an edit.
+  // Sums over all hours, in slices after the edit, so that a month of a large case holds nothing up; begun anew
+  // by the next edit.
   all(hour) {
     clearTimeout(this.timer);
     const { given } = this.app.model.opened;
     const steps = this.app.model.everyHour();
     let last;
-    const list = byId("holders");
     const work = () => {
       for (const until = performance.now() + SLICE; performance.now() < until; ) {
         const { value, done } = steps.next();
-        if (done) return this.showHolders(hour, holderSums(last?.sums ?? []), given);
+        if (done) return this.showHolders(hour, holderSums(last?.sums ?? []), "done");
         last = value;
       }
-      list.dataset.state = "working";
       show(byId("holders-words"), `All hours: ${last.done} of ${given} settled so far.`);
       this.timer = setTimeout(work);
       return undefined;
     };
-    if (!this.shown) this.showHolders(hour, new Map(), given);
-    work();
+    this.showHolders(hour, this.sumsBefore ?? new Map(), "working");
+    this.timer = setTimeout(work);
   }
 
-  showHolders(hour, all, given) {
+  showHolders(hour, all, state) {
+    const { given } = this.app.model.opened;
     const holders = [...new Set([...all.keys(), ...hour.keys()])].sort((a, b) => a - b);
-    this.shown = true;
+    this.sumsBefore = all;
     this.holders.show(holders.map((holder) => ({ holder, hour: hour.get(holder), all: all.get(holder) })));
-    byId("holders").dataset.state = "done";
+    byId("holders").dataset.state = state;
     const words = given ? `All hours: the ${given} of the case, with their prices as set.` : "The case has no prices.";
     show(byId("holders-words"), words);
   }

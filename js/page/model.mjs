@@ -3,6 +3,7 @@ import { constants } from "../crr.mjs";
 import { bookFileOf } from "./case.mjs";
 import { changed, Changes } from "./changes.mjs";
 import { Figures } from "./figures.mjs";
+import { LINES } from "./words.mjs";
 
 function withRow(row, version) {
   const quantity = version.get(`q${row.key}`);
@@ -40,7 +41,7 @@ function hourAt(opened, version, number) {
   return { ...hour, prices };
 }
 
-const same = (a, b) => a.length === b.length && a.every((cell, i) => cell === b[i]);
+const rowKey = (row) => [row.key, row.kind, row.holder, row.source, row.sink, row.quantity].join(" ");
 
 // Whether each change speaks of something that the case has; a link may be damaged.
 function checkTargets(opened, version) {
@@ -62,6 +63,7 @@ export class Model {
     this.opened = opened;
     this.figures = new Figures(crr);
     this.changes = new Changes();
+    this.known = [];
     this.hour = 0;
     this.process = constants.MONTHLY; // whose rent an hour is given
     this.work(new Map());
@@ -79,15 +81,16 @@ export class Model {
     this.now = { grid, rows, book, ...judged, priced, hour, version };
   }
 
-  // Verdicts and loading; where limits and book are those of before, so are they.
+  // Verdicts and loading. A period whose contracts and limits are those of before has the figures of before.
   judge(grid, rows, book) {
-    const before = this.now;
-    const keys = (all) => all.map((row) => row.key);
-    if (before && same(before.book, book) && same(before.grid.limits, grid.limits) && same(keys(before.rows), keys(rows))) {
-      return { lines: before.lines, loading: before.loading };
-    }
-    const lines = this.figures.lines(grid, rows, book);
-    return { lines, loading: this.figures.loading(grid, book, lines) };
+    const limits = grid.limits.join();
+    const periods = [constants.OFF_PEAK, constants.ON_PEAK].map((period) => {
+      const key = `${limits} ${rows.filter((row) => row.period === period).map(rowKey).join()}`;
+      if (this.known[period]?.key === key) return this.known[period];
+      return (this.known[period] = { key, ...this.figures.period(grid, rows, book, period) });
+    });
+    const lines = LINES.map(({ period, process }) => periods[period].lines[process]);
+    return { lines, loading: this.figures.loading(grid, periods) };
   }
 
   // Takes a version where the library takes it; else throws its refusal, and nothing has changed.

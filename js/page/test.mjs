@@ -108,6 +108,8 @@ test("figures are the library's", () => {
   page.setQuantity("0", 11000);
   page.add({ kind: 1, period: 1, holder: 3, source: 2, sink: 1, quantity: 1500 });
   page.drop("2");
+  page.step(-1);
+  page.step(1);
   const grid = { ...crr.read_grid({ file: small().grid }), limits: [6000, 40000] };
   const cells = [0, 1, 0, 0, 1, 11000, 1, 1, 1, 0, 2, 500, 1, 1, 3, 2, 1, 1500];
   const book = crr.write_book({ form: 0, nodes: 3, contracts: 3, book: cells }).file;
@@ -119,12 +121,12 @@ test("figures are the library's", () => {
     const { cuts } = crr.find_cuts({ ...grid, process, period, book });
     assert.deepEqual(line.cuts.map((cut) => BigInt(cut.cut)), [...cuts]);
     assert.deepEqual(line.exposure.prices, crr.find_exposure({ ...grid, process, period, book }).prices);
-    const { k, released, periods } = page.now.loading.constraints[line.verdict.lowest];
+    const { k, released, periods } = page.now.loading[line.verdict.lowest];
     assert.equal(periods[period].flow - released[process], line.verdict.excess);
     assert.equal(periods[period].excess[process], line.verdict.excess, `constraint ${k}`);
   }
   const { flows } = crr.find_flows({ ...grid, period: 1, book });
-  assert.deepEqual(page.now.loading.constraints.map(({ periods }) => periods[1].flow), [...flows]);
+  assert.deepEqual(page.now.loading.map(({ periods }) => periods[1].flow), [...flows]);
   const settled = crr.settle_hour({ ...grid, period: 1, prices: [1000, 2550], book });
   assert.equal(page.now.hour.sum, settled.sum);
   assert.deepEqual(page.now.hour.contracts.map((contract) => contract.cents), [...settled.cents]);
