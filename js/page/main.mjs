@@ -82,9 +82,9 @@ class App {
         told.push({ text: problem.message });
       }
     }
+    if (this.held.any && (this.model || this.held.missing.length === 0)) told.push(...this.openHeld());
     const { missing } = this.held;
-    if (this.held.any && (this.model || missing.length === 0)) told.push(...this.openHeld());
-    else show(byId("held"), `Still missing: ${missing.join(" and ")}.`);
+    show(byId("held"), this.model || missing.length === 0 ? "" : `Still missing: ${missing.join(" and ")}.`);
     this.tell(told);
   }
 
@@ -95,6 +95,8 @@ class App {
       this.held = new Held();
       return notes;
     } catch (problem) {
+      if (this.model) this.held = new Held();
+      else this.held.forget(problem.file);
       return [{ text: problemWords(problem), number: problem.number }];
     }
   }
