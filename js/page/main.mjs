@@ -19,9 +19,18 @@ import { counted } from "./words.mjs";
 const root = document.documentElement;
 const VIEWS = [Verdicts, Loading, Contracts, Exposure, Hour, Tiers, History];
 
+// The units that the library's sentences count in, where the page has others.
+const UNITS = {
+  [constants.LIMIT_RANGE]: " thousandths of a MW",
+  [constants.QUANTITY_RANGE]: " thousandths of a MW",
+  [constants.PRICE_RANGE]: " cents per MWh",
+};
+
 // What went wrong, as the library or the page says it.
-const problemWords = (problem) =>
-  problem instanceof Refused ? `refused ${problem.number}: ${problem.text}` : problem.message;
+function problemWords(problem) {
+  if (!(problem instanceof Refused)) return problem.message;
+  return `refused ${problem.number}: ${problem.text}${UNITS[problem.number] ?? ""}`;
+}
 
 const message = ({ text, number }) =>
   make("p", { class: "problem", "data-message": text, "data-refusal": number || undefined }, text);
@@ -115,7 +124,7 @@ class App {
     show(byId("case-hash"), opened.hash);
     this.know();
     byId("waiting").hidden = true;
-    for (const id of ["parts", "strip", "other-files"]) byId(id).hidden = false;
+    for (const id of ["parts", "strip", "other-files", "case-hash-words"]) byId(id).hidden = false;
     for (const view of this.views) view.open?.();
     this.update(began);
     root.dataset.state = "open";
