@@ -22,6 +22,13 @@ export const byId = (id) => document.getElementById(id);
 export const figure = (text, value, attributes = {}) =>
   make("span", { class: "figure", "data-value": value, ...attributes }, text);
 
+// a, b and c, each name whole on its line where that has room for it.
+export function namesOn(names, more = []) {
+  const all = [...names.map((name) => make("span", { class: "name" }, name)), ...more];
+  const between = (i) => (i === 0 ? "" : i === all.length - 1 ? " and " : ", ");
+  return all.flatMap((each, i) => [between(i), each]);
+}
+
 // What an element shows and stands for; untouched where it is the same already.
 export function show(element, text, value) {
   if (element.textContent !== text) element.textContent = text;
