@@ -22,9 +22,12 @@ export const byId = (id) => document.getElementById(id);
 export const figure = (text, value, attributes = {}) =>
   make("span", { class: "figure", "data-value": value, ...attributes }, text);
 
-// a, b and c, each name whole on its line where that has room for it.
+const SHORT_NAME = 24; // letters; a longer one may be broken
+
+// a, b and c, each name whole on its line.
 export function namesOn(names, more = []) {
-  const all = [...names.map((name) => make("span", { class: "name" }, name)), ...more];
+  const kind = (name) => (name.length > SHORT_NAME ? undefined : "name");
+  const all = [...names.map((name) => make("span", { class: kind(name) }, name)), ...more];
   const between = (i) => (i === 0 ? "" : i === all.length - 1 ? " and " : ", ");
   return all.flatMap((each, i) => [between(i), each]);
 }

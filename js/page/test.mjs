@@ -199,7 +199,8 @@ test("files", () => {
   assert.throws(() => held.take("names.csv", Uint8Array.of(0xff)), /UTF-8/);
   const one = new Held();
   one.take("prices.bin", files.hours[0].file);
-  one.take("names.csv", new TextEncoder().encode("TABLE,NUMBER,NAME\nhour,0,2026-07-01 HE08\nstart,0,2026-07-01\n"));
+  const names = writeNames([["hour", 0, "2026-07-01 HE08"], ["start", 0, "2026-07-01"]]);
+  one.take("names.csv", new TextEncoder().encode(names));
   assert.deepEqual(one.hours.map(({ day, hour }) => [day, hour]), [["2026-07-01", 8]]);
   assert.equal(one.notes.length, 1);
   assert.equal(openCase(crr, one.filesOn(files)).given, 1);
