@@ -4,7 +4,7 @@ import { byId, fill, make, options, show } from "./dom.mjs";
 import { List } from "./list.mjs";
 import { counted, KINDS, PERIODS } from "./words.mjs";
 
-const COLUMNS = [["contract", "id"], ["owner", "owner"], ["kind", "kind"], ["from", "ends"], ["MW", "mw"], ["", "act"]];
+const COLUMNS = [["contract", "id"], ["owner", "owner"], ["kind", "kind"], ["from \u2192 to", "ends"], ["MW", "mw"], ["", "act"]];
 
 export class Contracts {
   constructor(app) {

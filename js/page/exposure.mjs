@@ -23,6 +23,13 @@ export class Exposure {
     redraw(byId("exposure"), parts.length ? parts : [none], byId("exposure-head"));
   }
 
+  // The rent is then that of the process in which these prices are the worst.
+  tried({ period, process, exposure }) {
+    byId("rent-process").value = String(process);
+    this.app.edit(() => this.app.model.tryPrices(period, exposure.prices));
+    this.app.say("Set in an hour of one's own.");
+  }
+
   part(line) {
     const { least, most, prices } = line.exposure;
     const words = `At worst an hour pays ${costWords(line.exposure)} more than its congestion rent: at ` +
@@ -32,7 +39,7 @@ export class Exposure {
       "data-try": line.name,
       "data-focus": `try ${line.name}`,
       "aria-label": `Settle an hour at these prices, ${lineWords(line)}`,
-      onclick: () => this.app.edit(() => this.app.model.tryPrices(line.period, prices)),
+      onclick: () => this.tried(line),
     }, "Settle an hour at these prices");
     const data = { "data-exposure": line.name, "data-least": least, "data-most": most, "data-prices": prices.join(" ") };
     return make("div", { class: "part", ...data }, make("h3", {}, lineWords(line)), make("p", {}, words), button);

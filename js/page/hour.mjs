@@ -5,7 +5,7 @@ import { holderSums } from "./figures.mjs";
 import { List } from "./list.mjs";
 import { hourName, KINDS, PERIODS, PROCESSES } from "./words.mjs";
 
-const SLICE = 8; // milliseconds of work on all hours before the page has its turn
+const SLICE = 4; // milliseconds of work on all hours before the page has its turn
 
 const SUMS = [
   ["sum", "payments, rounded cents"],

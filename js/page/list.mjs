@@ -7,7 +7,7 @@ const BEYOND = 6; // rows drawn above and below those in sight
 export class List {
   // `columns` are the headings; `row` makes a row's cells and `fill` writes an item into them.
   constructor(element, { label, columns, key, row, fill }) {
-    Object.assign(this, { element, key, row, fill, items: [], rows: new Map(), whole: false });
+    Object.assign(this, { element, key, row, fill, items: [], rows: new Map(), whole: false, top: 0 });
     element.setAttribute("role", "table");
     element.setAttribute("aria-label", label);
     element.tabIndex = 0;
@@ -17,11 +17,14 @@ export class List {
     element.append(make("div", { role: "rowgroup", class: "heads" }, this.head), this.body);
     element.addEventListener("scroll", () => this.ask(), { passive: true });
     element.addEventListener("keydown", (event) => this.move(event));
-    new ResizeObserver(() => this.ask()).observe(element);
+    this.measure();
+    new ResizeObserver(() => this.measure() || this.ask()).observe(element);
   }
 
-  get height() {
-    return parseFloat(getComputedStyle(this.element).getPropertyValue("--row")) || 40;
+  // Measured when the list's size changes and not when it is drawn, which would lay the page out each time.
+  measure() {
+    this.height = parseFloat(getComputedStyle(this.element).getPropertyValue("--row")) || 40;
+    this.seen = this.element.clientHeight;
   }
 
   // Draws before the next frame, once.
@@ -30,12 +33,14 @@ export class List {
     this.asked = true;
     requestAnimationFrame(() => {
       this.asked = false;
+      this.top = this.element.scrollTop;
       this.draw();
     });
   }
 
   show(items) {
     this.items = items;
+    this.top = Math.min(this.top, Math.max(0, items.length * this.height - this.seen));
     this.element.setAttribute("aria-rowcount", String(items.length + 1));
     this.draw(true);
   }
@@ -43,9 +48,8 @@ export class List {
   // The numbers of the first row in sight and of the one behind the last.
   span(height) {
     if (this.whole) return [0, this.items.length];
-    const top = this.element.scrollTop;
-    const first = Math.max(0, Math.floor(top / height) - BEYOND);
-    const last = Math.ceil((top + this.element.clientHeight) / height) + BEYOND;
+    const first = Math.max(0, Math.floor(this.top / height) - BEYOND);
+    const last = Math.ceil((this.top + this.seen) / height) + BEYOND;
     return [first, Math.min(last, this.items.length)];
   }
 
@@ -114,12 +118,14 @@ export class List {
     const seen = element.clientHeight - this.head.offsetHeight;
     if (at * height < element.scrollTop) element.scrollTop = at * height;
     if ((at + 1) * height > element.scrollTop + seen) element.scrollTop = (at + 1) * height - seen;
+    this.top = element.scrollTop;
     this.draw();
   }
 
   // All rows, for print, and back.
   drawWhole(whole) {
     this.whole = whole;
+    this.measure();
     this.draw();
   }
 }

@@ -3,7 +3,7 @@
 import { constants } from "../crr.mjs";
 import { decimal, flowWords, limitWords, percentWords, PLACES } from "./decimals.mjs";
 import { byId, draw, fill, make, show } from "./dom.mjs";
-import { PERIOD_WORDS, PERIODS, PROCESSES } from "./words.mjs";
+import { PERIODS, PROCESSES } from "./words.mjs";
 
 const LONGEST = 1.5; // of a limit: a longer bar ends there, and its figure tells
 const KEYS = [["within", "within in every process"], ["some", "over in some"], ["over", "over in all"]];
@@ -51,6 +51,12 @@ function words(constraint, period) {
   const of = whole > 0n ? percentWords(period.flow, whole) : "limit 0";
   const over = period.over.map((process) => `over ${PROCESSES[process]} by ${flowWords(period.excess[process])} MW`);
   return `${flowWords(period.flow)} MW, ${of}${over.length ? `; ${over.join(", ")}` : ""}`;
+}
+
+function fillBar({ parts, text, element }, constraint, of, full) {
+  drawBar(parts, constraint, of, full);
+  show(text, words(constraint, of));
+  Object.assign(element.dataset, { value: of.flow, state: kindOf(of), over: of.over.join(" "), excess: of.excess.join(" ") });
 }
 
 export class Loading {
@@ -108,19 +114,21 @@ export class Loading {
     if (!this.body.contains(document.activeElement)) this.sort(shares);
   }
 
+  // Bars whose figures are those that they show are left alone.
   fill(constraint, full) {
     const { bars, input, element } = this.rows[constraint.k];
-    for (const { period, parts, text, element: bar } of bars) {
-      const of = constraint.periods[period];
-      drawBar(parts, constraint, of, full);
-      show(text, words(constraint, of));
-      bar.setAttribute("aria-label", `${PERIOD_WORDS[period]} ${text.textContent}`);
-      Object.assign(bar.dataset, { value: of.flow, state: kindOf(of), over: of.over.join(" "), excess: of.excess.join(" ") });
+    for (const bar of bars) {
+      const of = constraint.periods[bar.period];
+      const figures = [full, constraint.limit, of.flow, of.over].join();
+      if (bar.figures !== figures) fillBar(bar, constraint, of, full);
+      bar.figures = figures;
     }
-    Object.assign(element.dataset, { value: constraint.limit, released: constraint.released.join(" ") });
+    const before = this.app.model.opened.grid.limits[constraint.k];
+    element.dataset.value = constraint.limit;
+    element.dataset.released = constraint.released.join(" ");
     fill(input, decimal(constraint.limit, PLACES.limit));
-    input.classList.toggle("changed", constraint.limit !== this.app.model.opened.grid.limits[constraint.k]);
-    input.title = `${limitWords(this.app.model.opened.grid.limits[constraint.k])} MW in the case`;
+    input.classList.toggle("changed", constraint.limit !== before);
+    if (!input.classList.contains("faulty")) input.title = `${limitWords(before)} MW in the case`;
   }
 
   // Not while a limit is typed: the row would go away from under it.

@@ -157,25 +157,25 @@ class App {
     root.dataset.edits = String(Number(root.dataset.edits ?? 0) + 1);
   }
 
-  // A field of decimals: figures follow while it is typed; what is not taken is marked and told.
+  // A field of decimals: figures follow while it is typed; what is not taken is marked and told. Left with a
+  // text that is not taken, it has what it had before.
   field(input, places, take) {
-    let touched = false;
-    const typed = () => {
-      touched = true;
-      const told = (text) => faulty(input, text);
-      if (this.edit(() => take(within(input.value, places)), told)) faulty(input);
+    let before;
+    const told = (text) => {
+      faulty(input, text);
+      this.tell([{ text }]);
     };
-    input.addEventListener("input", typed);
-    input.addEventListener("change", () => {
-      this.model.changes.settle();
-      if (input.title && input.classList.contains("faulty")) this.say(`Not taken: ${input.title}`);
+    input.addEventListener("input", () => {
+      before ??= this.model.changes.now;
+      if (this.edit(() => take(within(input.value, places)), told)) faulty(input);
     });
     input.addEventListener("blur", () => {
-      this.model.changes.settle();
-      if (!touched) return;
-      touched = false;
+      if (before === undefined) return;
+      const back = input.classList.contains("faulty") && this.model.changes.now !== before;
+      before = undefined;
       faulty(input);
-      queueMicrotask(() => this.update());
+      this.model.changes.settle();
+      queueMicrotask(() => (back ? this.edit(() => this.model.step(-1)) : this.update()));
     });
   }
 

@@ -18,7 +18,7 @@ export function costWords({ least, most }) {
 function whereWords(app, line) {
   const { names } = app.model.opened;
   const { count, lowest, excess } = line.verdict;
-  const at = make("p", {}, `${names.constraints[lowest]}, by `, figure(flowWords(excess), excess), " MW");
+  const at = make("p", {}, `${names.constraints[lowest]}, by `, figure(flowWords(excess), excess), " MW.");
   const all = line.overloaded.map((k) => names.constraints[k]);
   const more = all.length > MOST_NAMES ? [...all.slice(0, MOST_NAMES), counted(all.length - MOST_NAMES, "other")] : all;
   at.prepend(count === 1 ? "1 constraint overloaded: " : "Lowest numbered: ");
