@@ -90,7 +90,8 @@ class Browser(FolderTest):
         self.assertEqual(shown["exposures"], told.exposures())
         self.assertEqual(shown["cuts"], told.cuts())
         self.assertEqual(shown["flows"], told.flows())
-        self.assertEqual(page.quantities(), dict(zip(case.names.contracts, (row.quantity for row in case.book))))
+        quantities = {name: row.quantity for name, row in zip(case.names.contracts, case.book)}
+        self.assertEqual(page.quantities(), quantities)
         self.assertEqual(page.statement(case.names.constraints), told.statement(hour))
         for number, process in enumerate(("annual", "lt", "monthly")):
             page.choose("rent-process", number)

@@ -129,7 +129,7 @@ class Shown:
                 flows[f"{period} {process}", int(k)] = (int(flow), of, over)
         cuts = {line: [(self.name(key), int(cut)) for key, cut in rows] for line, rows in read["cuts"]}
         cuts = {line: rows for line, rows in cuts.items() if verdicts[line][0] == "fail" or rows}
-        exposures = {line: (int(least), int(most), numbers(prices)) for line, least, most, prices in read["exposures"]}
+        exposures = {line: (*map(int, costs), numbers(prices)) for line, *costs, prices in read["exposures"]}
         sums = tuple(map(int, read["sums"]))
         return {"verdicts": verdicts, "cuts": cuts, "exposures": exposures, "flows": flows, "sums": sums}
 

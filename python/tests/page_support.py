@@ -34,7 +34,8 @@ def answer(*arguments):
 
 
 class Told:
-    """What crr says of a case. Constraints go by their numbers, contracts by their ids, lines as `ON annual`."""
+    """What crr says of a case. Constraints go by their numbers, contracts by their ids, a period and process as
+    `ON annual`."""
 
     def __init__(self, case, folder):
         self.folder = Path(folder)
@@ -140,8 +141,8 @@ def chromium(*arguments, downloads=None):
 
     options = ChromeOptions()
     options.binary_location = CHROMIUM
-    shell = ("--headless=new", "--no-sandbox", "--disable-gpu", "--disable-dev-shm-usage", "--hide-scrollbars")
-    for argument in (*shell, "--window-size=1280,1000", *arguments):
+    shell = ("--headless=new", "--no-sandbox", "--disable-gpu", "--disable-dev-shm-usage")
+    for argument in (*shell, "--hide-scrollbars", "--window-size=1280,1000", *arguments):
         options.add_argument(argument)
     options.set_capability("goog:loggingPrefs", {"performance": "ALL", "browser": "ALL"})
     if downloads:
@@ -150,11 +151,14 @@ def chromium(*arguments, downloads=None):
 
 
 def asked_for(driver):
-    """The addresses that were asked for since it was asked last, whoever asked."""
-    urls = []
+    """The addresses that were asked for since it was asked last, whoever asked. What a page's policy stopped
+    left nothing."""
+    urls, stopped = {}, set()
     for entry in driver.get_log("performance"):
         message = json.loads(entry["message"])["message"]
+        params = message["params"]
         if message["method"] in ("Network.requestWillBeSent", "Network.webSocketCreated"):
-            params = message["params"]
-            urls.append(params.get("request", params).get("url"))
-    return urls
+            urls[params["requestId"]] = params.get("request", params).get("url")
+        elif message["method"] == "Network.loadingFailed" and params.get("blockedReason") == "csp":
+            stopped.add(params["requestId"])
+    return [url for number, url in urls.items() if number not in stopped]

@@ -1,5 +1,5 @@
-"""The command `crr page`: the case that it puts into the page is the case's own files and names, and it writes
-as `crr report` does. What the page shows is read in browsers (test_page_chromium.py, test_page_firefox.py)."""
+"""The command `crr page`: the case that it puts into the page is the case's own files and names, and it
+writes as `crr report` does. What the page shows is read in browsers (test_page_chromium.py and others)."""
 
 import base64
 import json
@@ -149,7 +149,8 @@ class Faults(FolderTest):
         """An earlier page is replaced; another file by force alone, and never one of the case."""
         case, out = self.folder / "case", self.folder / "page.html"
         shutil.copytree(IEEE14, case)
-        self.assertIn("that is a file of the case itself", self.refused(case, "-o", case / "book.csv", "--force"))
+        said = self.refused(case, "-o", case / "book.csv", "--force")
+        self.assertIn("that is a file of the case itself", said)
         out.write_text("somebody's")
         for given in ((), (case,)):
             self.assertIn("is there and differs", self.refused(*given, "-o", out))

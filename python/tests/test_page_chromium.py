@@ -131,7 +131,8 @@ class Files(Browser):
     def files(self, case):
         """The files of a packed case, by their paths."""
         folder = self.told(case, "packed").folder
-        return {path.relative_to(folder).as_posix(): path for path in sorted(folder.rglob("*")) if path.is_file()}
+        paths = [path for path in sorted(folder.rglob("*")) if path.is_file()]
+        return {path.relative_to(folder).as_posix(): path for path in paths}
 
     def test_dropped(self):
         """First the book, then the rest: the hours go by their folders."""
