@@ -1,5 +1,6 @@
 """Chromium with the page in it, for tests; and cases with a change, as the page makes them."""
 
+import unittest
 from array import array
 from dataclasses import replace
 
@@ -45,12 +46,20 @@ def with_more(case, name, contract):
 @needs_page
 @needs_chromium
 class Browser(FolderTest):
-    """A test with a page of its own, in one browser for all."""
+    """A test with a page of its own, in one browser for all of a module."""
+
+    driver = None
 
     @classmethod
     def setUpClass(cls):
-        cls.driver = chromium()
-        cls.addClassCleanup(cls.driver.quit)
+        if Browser.driver is None:
+            Browser.driver = chromium()
+            unittest.addModuleCleanup(cls.closed)
+
+    @staticmethod
+    def closed():
+        Browser.driver.quit()
+        Browser.driver = None
 
     def setUp(self):
         super().setUp()

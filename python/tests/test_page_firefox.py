@@ -1,4 +1,4 @@
-"""The page in Firefox: it opens, shows what `crr --json` says, follows an edit, and its console stays empty."""
+"""The page in Firefox: it opens, shows what `crr --json` says, follows an edit, and its console is empty."""
 
 import unittest
 
