@@ -35,7 +35,12 @@ function rowsOf(book) {
 
 // The six cells of each contract, as the library takes them.
 export function cellsOf(rows) {
-  return rows.flatMap((row) => [row.kind, row.period, row.holder, row.source, row.sink, row.quantity]);
+  const cells = new BigUint64Array(CELLS * rows.length);
+  rows.forEach((row, i) => {
+    const { kind, period, holder, source, sink, quantity } = row;
+    cells.set([kind, period, holder, source, sink, quantity].map(BigInt), CELLS * i);
+  });
+  return cells;
 }
 
 // One hash over all files of a case, each with its length before it.
@@ -62,7 +67,7 @@ function readHours(crr, grid, hours) {
 function ownHours(grid, count) {
   return [1, 0].map((period, i) => ({
     number: count + i,
-    day: `my own hour, ${PERIOD_WORDS[period]}`,
+    day: `an hour of your own, ${PERIOD_WORDS[period]}`,
     hour: 0,
     period,
     prices: new BigUint64Array(grid.constraints),

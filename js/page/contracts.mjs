@@ -51,6 +51,7 @@ export class Contracts {
     show(owner, names.owner(row.holder));
     show(kind, `${PERIODS[row.period]} ${KINDS[row.kind]}`);
     show(ends, `${names.nodes[row.source]} \u2192 ${names.nodes[row.sink]}`);
+    ends.title = ends.textContent;
     const input = mw.firstChild;
     fill(input, decimal(row.quantity, PLACES.quantity));
     input.dataset.quantity = row.key;

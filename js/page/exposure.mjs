@@ -23,11 +23,8 @@ export class Exposure {
     redraw(byId("exposure"), parts.length ? parts : [none], byId("exposure-head"));
   }
 
-  // The rent is then that of the process in which these prices are the worst.
-  tried({ period, process, exposure }) {
-    byId("rent-process").value = String(process);
-    this.app.edit(() => this.app.model.tryPrices(period, exposure.prices));
-    this.app.say("Set in an hour of one's own.");
+  tried(line) {
+    if (this.app.edit(() => this.app.model.tryPrices(line))) this.app.say("Set in an hour of your own.");
   }
 
   part(line) {

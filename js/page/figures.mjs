@@ -48,52 +48,52 @@ export class Figures {
     this.percents = [0, 1, 2].map((process) => Number(crr.released_percent({ process }).percent));
   }
 
-  // Verdicts, and where the book fails what clears it and what it can cost, by period and process.
-  lines(grid, rows, book) {
-    return LINES.map((line) => {
-      const tables = { ...grid, process: line.process, period: line.period, book };
+  // Of a period: the flows, and by process the verdict and, where the book fails, what clears it and what it
+  // can cost.
+  period(grid, rows, book, period) {
+    const { flows, counted } = this.crr.find_flows({ ...grid, period, book });
+    const lines = LINES.filter((line) => line.period === period).map((line) => {
+      const tables = { ...grid, process: line.process, period, book };
       const verdict = this.crr.test_book(tables);
       const overloaded = members(verdict.set);
       if (overloaded.length === 0) return { ...line, verdict, overloaded, cuts: [] };
       const cuts = cutsOf(this.crr, tables, rows);
       return { ...line, verdict, overloaded, cuts, exposure: exposureOf(this.crr, tables) };
     });
+    return { flows, counted, lines };
   }
 
   // Each constraint's flow by period, what each process releases, and the difference of the two.
-  loading(grid, book, lines) {
-    const flows = [0, 1].map((period) => this.crr.find_flows({ ...grid, period, book }));
-    const over = (period, process, k) =>
-      lines.some((line) => line.period === period && line.process === process && line.overloaded.includes(k));
-    const constraints = Array.from(grid.limits, (limit, k) => {
+  loading({ limits }, periods) {
+    return Array.from(limits, (limit, k) => {
       const released = [0, 1, 2].map((process) => this.released(limit, process));
-      const periods = flows.map(({ flows: of }, period) => ({
-        flow: of[k],
-        excess: released.map((capacity) => of[k] - capacity),
-        over: [0, 1, 2].filter((process) => over(period, process, k)),
+      const of = periods.map(({ flows, lines }) => ({
+        flow: flows[k],
+        excess: released.map((capacity) => flows[k] - capacity),
+        over: lines.filter((line) => line.overloaded.includes(k)).map((line) => line.process),
       }));
-      return { k, limit, released, periods };
+      return { k, limit, released, periods: of };
     });
-    return { constraints, counted: flows.map((found) => found.counted) };
   }
 
-  // An hour's statement, and its rent and shortfall in each process.
-  hour(grid, rows, book, { period, prices }) {
-    const tables = { ...grid, period, prices, book };
+  // An hour's statement, with its rent and shortfall in a process.
+  hour(grid, rows, book, { period, prices }, process) {
+    const tables = { ...grid, process, period, prices, book };
     const settled = this.crr.settle_hour(tables);
     const contracts = rows.flatMap((row, i) =>
       row.period === period ? [{ row, cents: settled.cents[i], priced: members(settled.priced[i]) }] : [],
     );
-    const costs = [0, 1, 2].map((process) => {
-      const found = this.crr.find_shortfall({ ...tables, process });
-      return {
-        payment: together(found.payment_whole, found.payment_parts),
-        rent: together(found.rent_whole, found.rent_parts),
-        shortfall: together(found.shortfall_whole, found.shortfall_parts),
-      };
-    });
-    const exact = together(settled.whole, settled.parts);
-    return { period, contracts, sum: settled.sum, exact, costs, holders: holderSums(contracts) };
+    const cost = this.crr.find_shortfall(tables);
+    return {
+      period,
+      process,
+      contracts,
+      sum: settled.sum,
+      exact: together(settled.whole, settled.parts),
+      rent: together(cost.rent_whole, cost.rent_parts),
+      shortfall: together(cost.shortfall_whole, cost.shortfall_parts),
+      holders: holderSums(contracts),
+    };
   }
 
   // What each contract is paid in an hour, for sums over hours.

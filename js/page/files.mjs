@@ -16,6 +16,10 @@ export class Held {
     this.title = "";
   }
 
+  get any() {
+    return Boolean(this.grid || this.book || this.tables || this.prices.size);
+  }
+
   get missing() {
     return [!this.grid && "grid.bin", !this.book && "book.bin"].filter(Boolean);
   }
@@ -47,6 +51,22 @@ export class Held {
   get files() {
     const names = this.tables ? namesOf(this.tables) : {};
     return { title: this.title || "A case", grid: this.grid, book: this.book, hours: this.hours, names };
+  }
+
+  // The same on an open case: what is not among the files is the case's, with the names that still go with it.
+  filesOn(files) {
+    const { nodes, constraints, contracts, owners } = files.names ?? {};
+    const ofGrid = this.grid ? {} : { nodes, constraints };
+    const names = this.tables ? namesOf(this.tables) : { ...ofGrid, owners, contracts: this.book ? undefined : contracts };
+    const hours = this.prices.size ? this.hours : this.grid ? [] : files.hours;
+    return { title: this.title || files.title, grid: this.grid ?? files.grid, book: this.book ?? files.book, hours, names };
+  }
+
+  // What is told of files that were opened.
+  get notes() {
+    const terms = this.tables && this.tables.start.size + this.tables.end.size > 0;
+    const words = "names.csv: the contracts' first and last days are not looked at: all are taken to be in force";
+    return terms ? [{ text: words }] : [];
   }
 }
 

@@ -10,9 +10,9 @@ import { counted, hourName, KINDS, PERIODS } from "./words.mjs";
 export function changeWords(model, target, value) {
   const { names, rows, grid, hours } = model.opened;
   const [first, second] = target.slice(1).split(".").map(Number);
-  if (target[0] === "d") return `${model.id(String(first))} dropped`;
+  if (target[0] === "d") return `contract ${model.id(String(first))} dropped`;
   if (target[0] === "q") {
-    return `${model.id(String(first))}: ${limitWords(rows[first].quantity)} to ${limitWords(value)} MW`;
+    return `contract ${model.id(String(first))}: ${limitWords(rows[first].quantity)} to ${limitWords(value)} MW`;
   }
   if (target[0] === "l") {
     return `limit of ${names.constraints[first]}: ${limitWords(grid.limits[first])} to ${limitWords(value)} MW`;
@@ -25,7 +25,7 @@ export function changeWords(model, target, value) {
   const [kind, period, holder, source, sink, quantity] = value;
   const ends = `${names.nodes[source]} \u2192 ${names.nodes[sink]}`;
   const words = `${PERIODS[period]} ${KINDS[kind]} of ${names.owner(holder)}, ${ends}, ${limitWords(quantity)} MW`;
-  return `${model.id(target)} added: ${words}`;
+  return `contract ${model.id(target)} added: ${words}`;
 }
 
 // names.csv of the case as it is now, for the hour that is saved.
@@ -42,6 +42,16 @@ function namesFile(model) {
     ...(model.crr.read_book({ ...grid, file: model.now.book }).form ? [["form", 1, "wide"]] : []),
     ...(hour.hour ? [["hour", 0, hourName(hour)]] : []),
   ]);
+}
+
+// A button that is no longer to be pressed hands the focus on.
+function enable(id, can, other) {
+  const focused = byId(id) === document.activeElement;
+  byId(id).disabled = !can;
+  if (!can && focused) {
+    byId(other).disabled = false;
+    byId(other).focus();
+  }
 }
 
 export class History {
@@ -106,8 +116,8 @@ export class History {
     redraw(byId("changes"), rows, byId("changes-head"));
     byId("no-changes").hidden = rows.length > 0;
     byId("undo-all").disabled = rows.length === 0;
-    byId("undo").disabled = !changes.canUndo;
-    byId("redo").disabled = !changes.canRedo;
+    enable("undo", changes.canUndo, "redo");
+    enable("redo", changes.canRedo, "undo");
     show(byId("change-count"), rows.length ? counted(rows.length, "change") : "no changes");
     if (!byId("link").hidden) byId("link").value = this.link;
   }

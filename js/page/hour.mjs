@@ -20,8 +20,8 @@ export class Hour {
     const parts = SUMS.map(([id, name]) => make("div", {}, make("dt", {}, name), make("dd", { id })));
     byId("sums").replaceChildren(...parts);
     byId("hour").onchange = (event) => app.edit(() => app.model.pick(Number(event.target.value)));
-    options(byId("rent-process"), PROCESSES.map((name, i) => [i, name]), 2);
-    byId("rent-process").onchange = () => this.sums(app.model.now.hour);
+    options(byId("rent-process"), PROCESSES.map((name, i) => [i, name]));
+    byId("rent-process").onchange = (event) => app.edit(() => app.model.pick(app.model.hour, Number(event.target.value)));
     this.prices = new List(byId("prices"), this.pricesList());
     this.statement = new List(byId("statement"), this.statementList());
     this.holders = new List(byId("holders"), this.holdersList());
@@ -96,12 +96,14 @@ export class Hour {
   // A new case: its hours.
   open() {
     const { hours } = this.app.model.opened;
+    this.sumsBefore = undefined;
     const name = (hour) => `${hourName(hour) || "the hour"}${hour.own ? "" : ` (${PERIODS[hour.period]})`}`;
     options(byId("hour"), hours.map((hour) => [hour.number, name(hour)]));
   }
 
   update({ hour, priced }) {
     byId("hour").value = String(this.app.model.hour);
+    byId("rent-process").value = String(hour.process);
     this.prices.show(Array.from(priced.prices, (price, k) => ({ k, price })));
     this.statement.show(hour.contracts);
     this.sums(hour);
@@ -109,41 +111,38 @@ export class Hour {
   }
 
   sums(hour) {
-    const cost = hour.costs[Number(byId("rent-process").value)];
     show(byId("sum"), cents(hour.sum), hour.sum);
-    show(byId("exact"), exactMoney(hour.exact), hour.exact);
-    show(byId("rent"), exactMoney(cost.rent), cost.rent);
-    show(byId("shortfall"), exactMoney(cost.shortfall), cost.shortfall);
-    byId("shortfall").classList.toggle("short", cost.shortfall > 0n);
+    for (const id of ["exact", "rent", "shortfall"]) show(byId(id), exactMoney(hour[id]), hour[id]);
+    byId("shortfall").classList.toggle("short", hour.shortfall > 0n);
   }
 
-  // Sums over all hours, in slices, so that a month of a large case holds nothing up; begun anew by an edit.
+  // Sums over all hours, in slices after the edit, so that a month of a large case holds nothing up; begun anew
+  // by the next edit.
   all(hour) {
     clearTimeout(this.timer);
     const { given } = this.app.model.opened;
     const steps = this.app.model.everyHour();
     let last;
-    const list = byId("holders");
     const work = () => {
       for (const until = performance.now() + SLICE; performance.now() < until; ) {
         const { value, done } = steps.next();
-        if (done) return this.showHolders(hour, holderSums(last?.sums ?? []), given);
+        if (done) return this.showHolders(hour, holderSums(last?.sums ?? []), "done");
         last = value;
       }
-      list.dataset.state = "working";
       show(byId("holders-words"), `All hours: ${last.done} of ${given} settled so far.`);
       this.timer = setTimeout(work);
       return undefined;
     };
-    if (!this.shown) this.showHolders(hour, new Map(), given);
-    work();
+    this.showHolders(hour, this.sumsBefore ?? new Map(), "working");
+    this.timer = setTimeout(work);
   }
 
-  showHolders(hour, all, given) {
+  showHolders(hour, all, state) {
+    const { given } = this.app.model.opened;
     const holders = [...new Set([...all.keys(), ...hour.keys()])].sort((a, b) => a - b);
-    this.shown = true;
+    this.sumsBefore = all;
     this.holders.show(holders.map((holder) => ({ holder, hour: hour.get(holder), all: all.get(holder) })));
-    byId("holders").dataset.state = "done";
+    byId("holders").dataset.state = state;
     const words = given ? `All hours: the ${given} of the case, with their prices as set.` : "The case has no prices.";
     show(byId("holders-words"), words);
   }

@@ -41,6 +41,7 @@ export class List {
   show(items) {
     this.items = items;
     this.top = Math.min(this.top, Math.max(0, items.length * this.height - this.seen));
+    this.element.style.setProperty("--rows", Math.max(1, items.length));
     this.element.setAttribute("aria-rowcount", String(items.length + 1));
     this.draw(true);
   }

@@ -108,9 +108,9 @@ export class Loading {
   }
 
   update({ loading }) {
-    const shares = loading.constraints.map((each) => Math.max(...each.periods.map((period) => share(each, period))));
+    const shares = loading.map((each) => Math.max(...each.periods.map((period) => share(each, period))));
     const full = 1.04 * Math.max(1, ...shares.map((of) => Math.min(of, LONGEST)));
-    loading.constraints.forEach((constraint) => this.fill(constraint, full));
+    loading.forEach((constraint) => this.fill(constraint, full));
     if (!this.body.contains(document.activeElement)) this.sort(shares);
   }
 

@@ -79,16 +79,17 @@ class App {
       }
     }
     const { missing } = this.held;
-    if (missing.length === 0) told.push(...this.openHeld());
+    if (this.held.any && (this.model || missing.length === 0)) told.push(...this.openHeld());
     else show(byId("held"), `Still missing: ${missing.join(" and ")}.`);
     this.tell(told);
   }
 
   openHeld() {
     try {
-      this.open(this.held.files);
+      const { notes } = this.held;
+      this.open(this.model ? this.held.filesOn(this.files) : this.held.files);
       this.held = new Held();
-      return [];
+      return notes;
     } catch (problem) {
       return [{ text: problemWords(problem), number: problem.number }];
     }
@@ -97,6 +98,7 @@ class App {
   open(files) {
     const began = performance.now();
     this.model = new Model(this.crr, openCase(this.crr, files));
+    this.files = files;
     const { opened } = this.model;
     const counts = [[opened.grid.nodes, "node"], [opened.grid.constraints, "constraint"], [opened.rows.length, "contract"], [opened.given, "hour"]];
     show(byId("title"), opened.title);
@@ -126,8 +128,7 @@ class App {
     try {
       const read = readFragment(location.hash, this.model.opened.hash);
       if (!read) return;
-      this.model.hour = Math.min(read.hour, this.model.opened.hours.length - 1);
-      this.model.take(read.version);
+      this.model.apply(read);
       this.update();
       this.say(`${counted(read.version.size, "change")} of the link applied.`);
     } catch (problem) {

@@ -1,7 +1,9 @@
 // A case with its changes: the tables that follow from both, and every figure of them.
+import { constants } from "../crr.mjs";
 import { bookFileOf } from "./case.mjs";
 import { changed, Changes } from "./changes.mjs";
 import { Figures } from "./figures.mjs";
+import { LINES } from "./words.mjs";
 
 function withRow(row, version) {
   const quantity = version.get(`q${row.key}`);
@@ -39,6 +41,8 @@ function hourAt(opened, version, number) {
   return { ...hour, prices };
 }
 
+const rowKey = (row) => [row.key, row.kind, row.holder, row.source, row.sink, row.quantity].join(" ");
+
 // Whether each change speaks of something that the case has; a link may be damaged.
 function checkTargets(opened, version) {
   const { grid, rows, hours } = opened;
@@ -59,7 +63,9 @@ export class Model {
     this.opened = opened;
     this.figures = new Figures(crr);
     this.changes = new Changes();
+    this.known = [];
     this.hour = 0;
+    this.process = constants.MONTHLY; // whose rent an hour is given
     this.work(new Map());
   }
 
@@ -69,11 +75,22 @@ export class Model {
     const grid = { ...this.opened.grid, limits: limitsAt(this.opened, version) };
     const rows = rowsAt(this.opened, version);
     const book = bookFileOf(this.crr, this.opened, rows);
-    const lines = this.figures.lines(grid, rows, book);
-    const loading = this.figures.loading(grid, book, lines);
+    const judged = this.judge(grid, rows, book);
     const priced = hourAt(this.opened, version, this.hour);
-    const hour = this.figures.hour(grid, rows, book, priced);
-    this.now = { grid, rows, book, lines, loading, priced, hour, version };
+    const hour = this.figures.hour(grid, rows, book, priced, this.process);
+    this.now = { grid, rows, book, ...judged, priced, hour, version };
+  }
+
+  // Verdicts and loading. A period whose contracts and limits are those of before has the figures of before.
+  judge(grid, rows, book) {
+    const limits = grid.limits.join();
+    const periods = [constants.OFF_PEAK, constants.ON_PEAK].map((period) => {
+      const key = `${limits} ${rows.filter((row) => row.period === period).map(rowKey).join()}`;
+      if (this.known[period]?.key === key) return this.known[period];
+      return (this.known[period] = { key, ...this.figures.period(grid, rows, book, period) });
+    });
+    const lines = LINES.map(({ period, process }) => periods[period].lines[process]);
+    return { lines, loading: this.figures.loading(grid, periods) };
   }
 
   // Takes a version where the library takes it; else throws its refusal, and nothing has changed.
@@ -124,16 +141,29 @@ export class Model {
     else this.setQuantity(row.key, row.quantity - cut);
   }
 
-  // The prices of the worst, in the hour of one's own of that period, which is picked.
-  tryPrices(period, prices) {
+  // The worst prices of a period and process, in the hour of one's own of that period, which is picked.
+  tryPrices({ period, process, exposure: { prices } }) {
+    this.process = process;
     this.hour = this.opened.given + (period === 1 ? 0 : 1);
     const entries = Array.from(prices, (price, k) => [`p${this.hour}.${k}`, price ? Number(price) : undefined]);
     this.take(changed(this.changes.now, entries));
   }
 
-  pick(hour) {
-    this.hour = hour;
+  pick(hour, process = this.process) {
+    Object.assign(this, { hour, process });
     this.work(this.changes.now);
+  }
+
+  // The changes and the hour of a link; refused, all is as before.
+  apply({ hour, version }) {
+    const before = this.hour;
+    this.hour = Math.min(hour, this.opened.hours.length - 1);
+    try {
+      this.take(version);
+    } catch (problem) {
+      this.hour = before;
+      throw problem;
+    }
   }
 
   step(by) {

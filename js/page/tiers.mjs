@@ -27,7 +27,7 @@ export class Tiers {
     byId("tier-all").onclick = () => this.all();
     byId("tier-mark").onclick = () => this.tier((test, tier) => test.markTier(tier, TIERS[tier]));
     byId("tier-return").onclick = () => this.tier((test, tier) => test.returnTo(tier, TIERS[tier]));
-    awardForm(app, "award", (row) => this.played(this.test.add(`my own ${(this.own += 1)}`, row)));
+    awardForm(app, "award", (row) => this.played(this.test.add(`your own ${(this.own += 1)}`, row)));
   }
 
   // Opens a running test on the grid as it is now; the awards of the book begin with the first.
