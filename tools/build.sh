@@ -179,7 +179,10 @@ fill_dist() { # FOLDER
 page_sources() {
     local file files=(js/crr.mjs js/header.mjs)
     for file in js/page/*; do
-        case $file in *.md) ;; *) [ ! -f "$file" ] || files+=("$file") ;; esac
+        case $file in
+        *.md | */test.mjs | */largest.mjs) ;; # about it
+        *) [ ! -f "$file" ] || files+=("$file") ;;
+        esac
     done
     sha256sum "${files[@]}"
 }
