@@ -45,7 +45,8 @@ export function cellsOf(rows) {
 
 // One hash over all files of a case, each with its length before it.
 function hashOf(files) {
-  const parts = files.flatMap((file) => [new Uint8Array(BigUint64Array.of(BigInt(file.length)).buffer), file]);
+  const lengthOf = (file) => new Uint8Array(BigUint64Array.of(BigInt(file.length)).buffer);
+  const parts = files.flatMap((file) => [lengthOf(file), file]);
   const all = new Uint8Array(parts.reduce((sum, part) => sum + part.length, 0));
   let at = 0;
   for (const part of parts) {

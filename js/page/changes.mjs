@@ -1,4 +1,4 @@
-// What was changed in a case: a Map by what it changes, whose every version is kept, to be undone and redone.
+// What was changed in a case: a Map by what it changes. Every version is kept, to be undone and redone.
 //
 //   q17      the quantity of contract 17, in thousandths of a MW
 //   d17      contract 17 is dropped
@@ -86,7 +86,8 @@ function readChange(text) {
   return [`${text[0]}${number}`, text[0] === "a" ? value.split("-").map(Number) : Number(value)];
 }
 
-// What a fragment says: nothing where it is none of ours. One of another case, or a damaged one, is an Error.
+// What a fragment says: nothing where it is none of ours. That of another case, or a damaged one, is an
+// Error.
 export function readFragment(fragment, hash) {
   const words = new URLSearchParams(fragment.replace(/^#/, ""));
   if (!words.has("case")) return undefined;

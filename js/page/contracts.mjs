@@ -4,7 +4,14 @@ import { byId, fill, make, options, show } from "./dom.mjs";
 import { List } from "./list.mjs";
 import { counted, KINDS, PERIODS } from "./words.mjs";
 
-const COLUMNS = [["contract", "id"], ["owner", "owner"], ["kind", "kind"], ["from \u2192 to", "ends"], ["MW", "mw"], ["", "act"]];
+const COLUMNS = [
+  ["contract", "id"],
+  ["owner", "owner"],
+  ["kind", "kind"],
+  ["from \u2192 to", "ends"],
+  ["MW", "mw"],
+  ["", "act"],
+];
 
 export class Contracts {
   constructor(app) {
@@ -23,8 +30,10 @@ export class Contracts {
   cells() {
     const input = make("input", { inputmode: "decimal", autocomplete: "off", "data-column": "mw" });
     const key = () => input.closest("[data-key]").dataset.key;
-    this.app.field(input, PLACES.quantity, (mw) => this.app.model.setQuantity(key(), Number(mw), `q${key()}`));
-    const drop = make("button", { type: "button", "data-column": "drop", onclick: () => this.drop(key()) }, "Drop");
+    const take = (mw) => this.app.model.setQuantity(key(), Number(mw), `q${key()}`);
+    this.app.field(input, PLACES.quantity, take);
+    const pressed = { onclick: () => this.drop(key()) };
+    const drop = make("button", { type: "button", "data-column": "drop", ...pressed }, "Drop");
     const of = { id: "", owner: "", kind: "", ends: "", mw: input, act: drop };
     return Object.entries(of).map(([kind, content]) => ({ kind, of: content }));
   }
@@ -64,7 +73,8 @@ export class Contracts {
   // Whether a contract has a text in its id, owner or nodes.
   has(row, text) {
     const { names } = this.app.model.opened;
-    const words = [this.app.model.id(row.key), names.owner(row.holder), names.nodes[row.source], names.nodes[row.sink]];
+    const ends = [names.nodes[row.source], names.nodes[row.sink]];
+    const words = [this.app.model.id(row.key), names.owner(row.holder), ...ends];
     return words.some((word) => word.toLowerCase().includes(text));
   }
 

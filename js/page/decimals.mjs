@@ -9,8 +9,9 @@ export function whole(text, places) {
   const plain = text.trim().replace(/^\$/, "");
   const match = DECIMAL.exec(plain);
   if (!match || !(match[2] || match[3])) {
-    const why = plain === "" ? "empty" : plain.includes(",") ? "no thousands separators, please" : "no decimal";
-    throw new Error(`${plain === "" ? "" : `${plain.slice(0, 40)}: `}${why}`);
+    if (plain === "") throw new Error("empty");
+    const why = plain.includes(",") ? "no thousands separators, please" : "no decimal";
+    throw new Error(`${plain.slice(0, 40)}: ${why}`);
   }
   const parts = (match[3] ?? "").replace(/0+$/, "");
   if (parts.length > places) throw new Error(`${plain.slice(0, 40)} has more than ${places} decimals`);
@@ -54,7 +55,7 @@ export const exactMoney = (number) => dollarSign(grouped(shortened(decimal(numbe
 // Whole cents and their parts of 10^-8 as one number, as the header reads them.
 export const together = (cents, parts) => cents * 100000000n + parts;
 
-// A flow in percent of a capacity to one decimal, a half away from zero; both in 10^-8 MW. For reading alone.
+// A flow in percent of a capacity, both in 10^-8 MW, to one decimal, a half away from zero: for reading.
 export function percentWords(flow, capacity) {
   const size = flow < 0n ? -flow : flow;
   const tenths = (2000n * size + capacity) / (2n * capacity);

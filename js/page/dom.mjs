@@ -40,7 +40,8 @@ export function redraw(parent, children, heading) {
   const key = focused?.dataset.focus;
   parent.replaceChildren(...children.flat(Infinity));
   if (!focused) return;
-  const again = key && [...parent.querySelectorAll("[data-focus]")].find((each) => each.dataset.focus === key);
+  const those = [...parent.querySelectorAll("[data-focus]")];
+  const again = key && those.find((each) => each.dataset.focus === key);
   (again || heading)?.focus({ preventScroll: true });
 }
 

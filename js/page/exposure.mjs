@@ -19,7 +19,8 @@ export class Exposure {
   update({ lines }) {
     const failing = lines.filter((line) => line.exposure);
     const parts = failing.map((line) => this.part(line));
-    const none = make("p", { "data-exposure": "none" }, "Nothing: the book passes in every period and process.");
+    const words = "Nothing: the book passes in every period and process.";
+    const none = make("p", { "data-exposure": "none" }, words);
     redraw(byId("exposure"), parts.length ? parts : [none], byId("exposure-head"));
   }
 
@@ -38,7 +39,8 @@ export class Exposure {
       "aria-label": `Settle an hour at these prices, ${lineWords(line)}`,
       onclick: () => this.tried(line),
     }, "Settle an hour at these prices");
-    const data = { "data-exposure": line.name, "data-least": least, "data-most": most, "data-prices": prices.join(" ") };
-    return make("div", { class: "part", ...data }, make("h3", {}, lineWords(line)), make("p", {}, words), button);
+    const data = { "data-exposure": line.name, "data-least": least, "data-most": most };
+    const head = make("h3", {}, lineWords(line));
+    return make("div", { ...data, "data-prices": prices.join(" ") }, head, make("p", {}, words), button);
   }
 }

@@ -53,19 +53,24 @@ export class Held {
     return { title: this.title || "A case", grid: this.grid, book: this.book, hours: this.hours, names };
   }
 
-  // The same on an open case: what is not among the files is the case's, with the names that still go with it.
+  // The same on an open case: what is not among the files is the case's, with the names that still fit.
   filesOn(files) {
     const { nodes, constraints, contracts, owners } = files.names ?? {};
     const ofGrid = this.grid ? {} : { nodes, constraints };
-    const names = this.tables ? namesOf(this.tables) : { ...ofGrid, owners, contracts: this.book ? undefined : contracts };
-    const hours = this.prices.size ? this.hours : this.grid ? [] : files.hours;
-    return { title: this.title || files.title, grid: this.grid ?? files.grid, book: this.book ?? files.book, hours, names };
+    const ofBook = this.book ? {} : { contracts };
+    return {
+      title: this.title || files.title,
+      grid: this.grid ?? files.grid,
+      book: this.book ?? files.book,
+      hours: this.prices.size ? this.hours : this.grid ? [] : files.hours,
+      names: this.tables ? namesOf(this.tables) : { ...ofGrid, ...ofBook, owners },
+    };
   }
 
   // What is told of files that were opened.
   get notes() {
     const terms = this.tables && this.tables.start.size + this.tables.end.size > 0;
-    const words = "names.csv: the contracts' first and last days are not looked at: all are taken to be in force";
+    const words = "names.csv: first and last days are not looked at: all contracts are taken to be in force";
     return terms ? [{ text: words }] : [];
   }
 }

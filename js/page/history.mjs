@@ -1,5 +1,5 @@
 // What was changed: listed, undone and redone, saved as files, or copied as a link.
-import { changed, fragmentOf } from "./changes.mjs";
+import { fragmentOf } from "./changes.mjs";
 import { cents, limitWords } from "./decimals.mjs";
 import { byId, make, redraw, show } from "./dom.mjs";
 import { save } from "./files.mjs";
@@ -10,13 +10,10 @@ import { counted, hourName, KINDS, PERIODS } from "./words.mjs";
 export function changeWords(model, target, value) {
   const { names, rows, grid, hours } = model.opened;
   const [first, second] = target.slice(1).split(".").map(Number);
+  const change = (before) => `${limitWords(before)} to ${limitWords(value)} MW`;
   if (target[0] === "d") return `contract ${model.id(String(first))} dropped`;
-  if (target[0] === "q") {
-    return `contract ${model.id(String(first))}: ${limitWords(rows[first].quantity)} to ${limitWords(value)} MW`;
-  }
-  if (target[0] === "l") {
-    return `limit of ${names.constraints[first]}: ${limitWords(grid.limits[first])} to ${limitWords(value)} MW`;
-  }
+  if (target[0] === "q") return `contract ${model.id(String(first))}: ${change(rows[first].quantity)}`;
+  if (target[0] === "l") return `limit of ${names.constraints[first]}: ${change(grid.limits[first])}`;
   if (target[0] === "p") {
     const before = hours[first].prices[second];
     const when = hourName(hours[first]) || "the hour";
@@ -24,8 +21,8 @@ export function changeWords(model, target, value) {
   }
   const [kind, period, holder, source, sink, quantity] = value;
   const ends = `${names.nodes[source]} \u2192 ${names.nodes[sink]}`;
-  const words = `${PERIODS[period]} ${KINDS[kind]} of ${names.owner(holder)}, ${ends}, ${limitWords(quantity)} MW`;
-  return `contract ${model.id(target)} added: ${words}`;
+  const words = `${PERIODS[period]} ${KINDS[kind]} of ${names.owner(holder)}, ${ends}`;
+  return `contract ${model.id(target)} added: ${words}, ${limitWords(quantity)} MW`;
 }
 
 // names.csv of the case as it is now, for the hour that is saved.
@@ -70,14 +67,14 @@ export class History {
 
   savePrices() {
     const { crr, now } = this.app.model;
-    const { constraints } = now.grid;
-    save("prices.bin", crr.write_prices({ period: now.priced.period, constraints, prices: now.priced.prices }).file);
+    save("prices.bin", crr.write_prices({ ...now.priced, constraints: now.grid.constraints }).file);
   }
 
   // Undo and redo by keys, where no text is being typed.
   key(event) {
-    const typing = event.target.matches?.("input, textarea, select");
-    if (typing || !(event.ctrlKey || event.metaKey) || event.key.toLowerCase() !== "z" || !this.app.model) return;
+    const typing = event.target.matches?.("input, select");
+    const pressed = (event.ctrlKey || event.metaKey) && event.key.toLowerCase() === "z";
+    if (typing || !pressed || !this.app.model) return;
     event.preventDefault();
     this.app.edit(() => this.app.model.step(event.shiftKey ? 1 : -1));
   }
@@ -105,9 +102,14 @@ export class History {
 
   row(target, value) {
     const words = changeWords(this.app.model, target, value);
-    const undo = () => this.app.edit(() => this.app.model.take(changed(this.app.model.changes.now, [[target, undefined]])));
-    const data = { "data-undo": target, "data-focus": `undo ${target}`, "aria-label": `Undo: ${words}` };
-    return make("li", { "data-change": target }, make("span", {}, words), make("button", { type: "button", ...data, onclick: undo }, "Undo"));
+    const button = make("button", {
+      type: "button",
+      "data-undo": target,
+      "data-focus": `undo ${target}`,
+      "aria-label": `Undo: ${words}`,
+      onclick: () => this.app.edit(() => this.app.model.set(target, undefined)),
+    }, "Undo");
+    return make("li", { "data-change": target }, make("span", {}, words), button);
   }
 
   update() {

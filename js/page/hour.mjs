@@ -14,6 +14,14 @@ const SUMS = [
   ["shortfall", "shortfall"],
 ];
 
+const STATEMENT = [
+  ["contract", "id"],
+  ["owner", "owner"],
+  ["kind", "kind"],
+  ["priced by", "ends"],
+  ["amount", "mw"],
+];
+
 export class Hour {
   constructor(app) {
     this.app = app;
@@ -21,7 +29,8 @@ export class Hour {
     byId("sums").replaceChildren(...parts);
     byId("hour").onchange = (event) => app.edit(() => app.model.pick(Number(event.target.value)));
     options(byId("rent-process"), PROCESSES.map((name, i) => [i, name]));
-    byId("rent-process").onchange = (event) => app.edit(() => app.model.pick(app.model.hour, Number(event.target.value)));
+    byId("rent-process").onchange = ({ target: { value } }) =>
+      app.edit(() => app.model.pick(app.model.hour, Number(value)));
     this.prices = new List(byId("prices"), this.pricesList());
     this.statement = new List(byId("statement"), this.statementList());
     this.holders = new List(byId("holders"), this.holdersList());
@@ -40,7 +49,8 @@ export class Hour {
         input.dataset.shadow = k;
         input.dataset.value = price;
         input.setAttribute("aria-label", `Shadow price of ${name.textContent}, dollars per MWh`);
-        input.classList.toggle("changed", this.app.model.opened.hours[this.app.model.hour].prices[k] !== price);
+        const { opened, hour } = this.app.model;
+        input.classList.toggle("changed", opened.hours[hour].prices[k] !== price);
         fill(input, decimal(price, PLACES.price));
       },
     };
@@ -58,9 +68,9 @@ export class Hour {
   statementList() {
     return {
       label: "Statement of the hour",
-      columns: [["contract", "id"], ["owner", "owner"], ["kind", "kind"], ["priced by", "ends"], ["amount", "mw"]],
+      columns: STATEMENT,
       key: (item) => item.row.key,
-      row: () => ["id", "owner", "kind", "ends", "mw"].map((kind) => ({ kind, of: "" })),
+      row: () => STATEMENT.map(([, kind]) => ({ kind, of: "" })),
       fill: (element, { row, cents: amount, priced }) => {
         const { names } = this.app.model.opened;
         const [id, owner, kind, by, paid] = element.children;
@@ -116,8 +126,8 @@ export class Hour {
     byId("shortfall").classList.toggle("short", hour.shortfall > 0n);
   }
 
-  // Sums over all hours, in slices after the edit, so that a month of a large case holds nothing up; begun anew
-  // by the next edit.
+  // Sums over all hours, in slices after the edit, so that a month of a large case holds nothing up. The next
+  // edit begins anew.
   all(hour) {
     clearTimeout(this.timer);
     const { given } = this.app.model.opened;
@@ -143,7 +153,7 @@ export class Hour {
     this.sumsBefore = all;
     this.holders.show(holders.map((holder) => ({ holder, hour: hour.get(holder), all: all.get(holder) })));
     byId("holders").dataset.state = state;
-    const words = given ? `All hours: the ${given} of the case, with their prices as set.` : "The case has no prices.";
-    show(byId("holders-words"), words);
+    const words = `All hours: the ${given} of the case, with their prices as set.`;
+    show(byId("holders-words"), given ? words : "The case has no prices.");
   }
 }

@@ -1,5 +1,5 @@
-// Loading of constraints: a bar for each period against the limit, a mark for what each process releases, and
-// the limit, which can be changed.
+// Loading of constraints: a bar for each period against the limit, a mark for what each process releases,
+// and the limit, which can be changed.
 import { constants } from "../crr.mjs";
 import { decimal, flowWords, limitWords, percentWords, PLACES } from "./decimals.mjs";
 import { byId, draw, fill, make, show } from "./dom.mjs";
@@ -18,7 +18,10 @@ function share(constraint, { flow }) {
   return limit ? Number(flow) / limit : flow > 0n ? 1e9 : 0;
 }
 
-const kindOf = ({ over }) => (over.length === 0 ? "within" : over.length === PROCESSES.length ? "over" : "some");
+function kindOf({ over }) {
+  if (over.length === 0) return "within";
+  return over.length === PROCESSES.length ? "over" : "some";
+}
 
 function barOf(percents) {
   const rect = (kind) => draw("rect", { class: kind, y: 3, height: 12 });
@@ -49,14 +52,18 @@ function drawBar(parts, constraint, period, full) {
 function words(constraint, period) {
   const whole = limitFlow(constraint);
   const of = whole > 0n ? percentWords(period.flow, whole) : "limit 0";
-  const over = period.over.map((process) => `over ${PROCESSES[process]} by ${flowWords(period.excess[process])} MW`);
+  const excess = (process) => `over ${PROCESSES[process]} by ${flowWords(period.excess[process])} MW`;
+  const over = period.over.map(excess);
   return `${flowWords(period.flow)} MW, ${of}${over.length ? `; ${over.join(", ")}` : ""}`;
 }
+
+const sample = (...of) => draw("svg", { "aria-hidden": "true" }, ...of);
 
 function fillBar({ parts, text, element }, constraint, of, full) {
   drawBar(parts, constraint, of, full);
   show(text, words(constraint, of));
-  Object.assign(element.dataset, { value: of.flow, state: kindOf(of), over: of.over.join(" "), excess: of.excess.join(" ") });
+  Object.assign(element.dataset, { value: of.flow, state: kindOf(of) });
+  Object.assign(element.dataset, { over: of.over.join(" "), excess: of.excess.join(" ") });
 }
 
 export class Loading {
@@ -73,7 +80,8 @@ export class Loading {
   open() {
     const { names } = this.app.model.opened;
     const heads = ["constraint", "on-peak and off-peak", "limit, MW"];
-    const head = make("div", { role: "row", class: "head" }, heads.map((name) => make("div", { role: "columnheader" }, name)));
+    const cells = heads.map((name) => make("div", { role: "columnheader" }, name));
+    const head = make("div", { role: "row", class: "head" }, cells);
     this.rows = names.constraints.map((name, k) => this.row(name, k));
     this.body = make("div", { role: "rowgroup" });
     byId("loading").replaceChildren(make("div", { role: "rowgroup" }, head), this.body);
@@ -83,12 +91,13 @@ export class Loading {
   legend() {
     const { percents } = this.app.model.figures;
     const boxes = KEYS.map(([kind, text]) => {
-      const hatch = kind === "over" ? draw("rect", { width: "100%", height: 12, fill: "url(#hatch)" }) : "";
-      return make("span", {}, draw("svg", { "aria-hidden": "true" }, draw("rect", { class: kind, width: "100%", height: 12 }), hatch), text);
+      const size = { width: "100%", height: 12 };
+      const hatch = kind === "over" ? draw("rect", { ...size, fill: "url(#hatch)" }) : "";
+      return make("span", {}, sample(draw("rect", { ...size, class: kind }), hatch), text);
     });
     const marks = percents.map((percent, process) => {
       const line = draw("line", { class: `mark mark${process}`, x1: "50%", x2: "50%", y1: 0, y2: 14 });
-      return make("span", {}, draw("svg", { "aria-hidden": "true" }, line), `${PROCESSES[process]} ${percent}%`);
+      return make("span", {}, sample(line), `${PROCESSES[process]} ${percent}%`);
     });
     byId("legend").replaceChildren(...boxes, ...marks);
   }
@@ -98,13 +107,18 @@ export class Loading {
       const parts = barOf(this.app.model.figures.percents);
       const text = make("span", { class: "words" });
       const label = make("span", { class: "when" }, PERIODS[period]);
-      const element = make("div", { class: "bar", "data-flow": `${PERIODS[period]} ${k}` }, label, parts.svg, text);
+      const data = { "data-flow": `${PERIODS[period]} ${k}` };
+      const element = make("div", { class: "bar", ...data }, label, parts.svg, text);
       return { period, parts, text, element };
     });
-    const input = make("input", { inputmode: "decimal", autocomplete: "off", "data-limit": k, "aria-label": `Limit of ${name}, MW` });
+    const data = { "data-limit": k, "aria-label": `Limit of ${name}, MW` };
+    const input = make("input", { inputmode: "decimal", autocomplete: "off", ...data });
     this.app.field(input, PLACES.limit, (limit) => this.app.model.setLimit(k, Number(limit), `l${k}`));
-    const cells = [name, bars.map((bar) => bar.element), input].map((of, i) => make("div", { role: i ? "cell" : "rowheader" }, of));
-    return { k, bars, input, element: make("div", { role: "row", class: "line", "data-constraint": k }, cells) };
+    const cells = [name, bars.map((bar) => bar.element), input].map((of, i) => {
+      return make("div", { role: i ? "cell" : "rowheader" }, of);
+    });
+    const element = make("div", { role: "row", class: "line", "data-constraint": k }, cells);
+    return { k, bars, input, element };
   }
 
   update({ loading }) {

@@ -17,23 +17,28 @@ import { Verdicts } from "./verdicts.mjs";
 import { counted } from "./words.mjs";
 
 const root = document.documentElement;
+const VIEWS = [Verdicts, Loading, Contracts, Exposure, Hour, Tiers, History];
 
 // What went wrong, as the library or the page says it.
 const problemWords = (problem) =>
   problem instanceof Refused ? `refused ${problem.number}: ${problem.text}` : problem.message;
 
+const message = ({ text, number }) =>
+  make("p", { class: "problem", "data-message": text, "data-refusal": number || undefined }, text);
+
 class App {
   constructor(crr) {
     this.crr = crr;
     this.held = new Held();
-    this.views = [Verdicts, Loading, Contracts, Exposure, Hour, Tiers, History].map((View) => new View(this));
+    this.views = VIEWS.map((View) => new View(this));
     this.listen();
   }
 
   listen() {
     for (const id of ["files", "folder"]) {
       byId(id).addEventListener("change", (event) => {
-        const files = Array.from(event.target.files, (file) => ({ path: file.webkitRelativePath || file.name, file }));
+        const path = (file) => file.webkitRelativePath || file.name;
+        const files = Array.from(event.target.files, (file) => ({ path: path(file), file }));
         event.target.value = "";
         this.take(files);
       });
@@ -58,8 +63,7 @@ class App {
 
   // Messages above all else; none clears them.
   tell(texts) {
-    const items = texts.map(({ text, number }) => make("p", { class: "problem", "data-message": text, "data-refusal": number || undefined }, text));
-    byId("messages").replaceChildren(...items);
+    byId("messages").replaceChildren(...texts.map(message));
   }
 
   say(text) {
@@ -100,10 +104,12 @@ class App {
     this.model = new Model(this.crr, openCase(this.crr, files));
     this.files = files;
     const { opened } = this.model;
-    const counts = [[opened.grid.nodes, "node"], [opened.grid.constraints, "constraint"], [opened.rows.length, "contract"], [opened.given, "hour"]];
+    const { nodes, constraints } = opened.grid;
+    const counts = { node: nodes, constraint: constraints, contract: opened.rows.length, hour: opened.given };
+    const words = Object.entries(counts).map(([what, count]) => counted(count, what));
     show(byId("title"), opened.title);
     document.title = `${opened.title}: try a book of congestion revenue rights`;
-    show(byId("summary"), `${counts.map((each) => counted(...each)).join(", ")}.`);
+    show(byId("summary"), `${words.join(", ")}.`);
     show(byId("case-hash"), opened.hash);
     this.know();
     byId("waiting").hidden = true;
@@ -196,7 +202,8 @@ function within(text, places) {
 async function start() {
   const wasm = fromBase64(byId("wasm").textContent);
   const same = sha256(wasm) === root.dataset.wasm;
-  show(byId("wasm-same"), same ? "(worked out again here: the same)" : "(worked out here it is ANOTHER: do not use this page)");
+  if (!same) throw new Error("its WebAssembly is not the one that it was made with");
+  show(byId("wasm-same"), "(worked out again here: the same)");
   const app = new App(await load(wasm));
   show(byId("interface"), String(constants.INTERFACE));
   const files = embedded(byId("case").textContent);
@@ -206,5 +213,5 @@ async function start() {
 
 start().catch((problem) => {
   root.dataset.state = "failed";
-  byId("messages").append(make("p", { class: "problem", "data-message": problem.message }, `The page could not start: ${problem.message}`));
+  byId("messages").append(message({ text: `The page could not start: ${problemWords(problem)}` }));
 });

@@ -109,7 +109,8 @@ export class Model {
       const cells = [...this.changes.now.get(key).slice(0, 5), quantity];
       this.set(key, cells, touched);
     } else {
-      this.set(`q${key}`, quantity === this.opened.rows[Number(key)].quantity ? undefined : quantity, touched);
+      const same = quantity === this.opened.rows[Number(key)].quantity;
+      this.set(`q${key}`, same ? undefined : quantity, touched);
     }
   }
 
@@ -145,7 +146,8 @@ export class Model {
   tryPrices({ period, process, exposure: { prices } }) {
     this.process = process;
     this.hour = this.opened.given + (period === 1 ? 0 : 1);
-    const entries = Array.from(prices, (price, k) => [`p${this.hour}.${k}`, price ? Number(price) : undefined]);
+    const target = (k) => `p${this.hour}.${k}`;
+    const entries = Array.from(prices, (price, k) => [target(k), price ? Number(price) : undefined]);
     this.take(changed(this.changes.now, entries));
   }
 

@@ -1,4 +1,4 @@
-// names.csv, the names of what the bin files number, as `crr pack` writes it; and names where there are none.
+// names.csv, the names of what the bin files number, as `crr pack` writes it, and names where there are none.
 
 const TABLES = ["node", "constraint", "contract", "holder", "start", "end", "hour", "form"];
 const MOST_HOLDER = 1023;
@@ -37,7 +37,8 @@ function fieldAt(text, at, line) {
   const [quoted] = /^"(?:[^"]|"")*"/.exec(text.slice(at)) ?? [];
   if (quoted === undefined) throw new Error(`line ${line}: a quote is left open`);
   const end = at + quoted.length;
-  if (end < text.length && !",\r\n".includes(text[end])) throw new Error(`line ${line}: text behind a quote`);
+  const behind = text[end] ?? "\n";
+  if (!",\r\n".includes(behind)) throw new Error(`line ${line}: text behind a quote`);
   return { field: quoted.slice(1, -1).replaceAll('""', '"'), end };
 }
 
@@ -45,7 +46,9 @@ function rowFault(tables, table, number, name) {
   if (!(table in tables)) return `TABLE: ${table} is none of ${TABLES.join(", ")}`;
   if (!/^[0-9]{1,9}$/.test(number)) return `NUMBER: ${number} is not a number from 0 on`;
   if (tables[table].has(Number(number))) return `NUMBER: ${table} ${number} occurs twice`;
-  if (table === "holder" && Number(number) > MOST_HOLDER) return `NUMBER: holder ${number} is above ${MOST_HOLDER}`;
+  if (table === "holder" && Number(number) > MOST_HOLDER) {
+    return `NUMBER: holder ${number} is above ${MOST_HOLDER}`;
+  }
   return name === "" ? "NAME: empty" : "";
 }
 
@@ -76,11 +79,12 @@ export function namesOf(tables) {
   return { nodes: list("node"), constraints: list("constraint"), owners, contracts };
 }
 
-// Names for so many of each: N0, K0 and the contract's number where there are none. More than there are is an
-// Error, as two of one name are.
+// Names for so many of each: N0, K0 and the contract's number where there are none. More than there are is
+// an Error, as two of one name are.
 export function completed(names, counts) {
   const of = (what, given, count, prefix) => {
-    if (given.length > count) throw new Error(`${what} ${given.length - 1} is named, and the files have ${count}`);
+    const last = given.length - 1;
+    if (last >= count) throw new Error(`${what} ${last} is named, and the files have ${count}`);
     const all = Array.from({ length: count }, (_, i) => given[i] ?? `${prefix}${i}`);
     if (new Set(all).size < count) throw new Error(`two of the ${what}s have one name`);
     return all;
@@ -102,5 +106,6 @@ function quoted(text) {
 
 // names.csv of rows of table, number and name.
 export function writeNames(rows) {
-  return `${["TABLE,NUMBER,NAME", ...rows.map((row) => row.map(String).map(quoted).join(","))].join("\n")}\n`;
+  const lines = rows.map((row) => row.map(String).map(quoted).join(","));
+  return `${["TABLE,NUMBER,NAME", ...lines].join("\n")}\n`;
 }

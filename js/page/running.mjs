@@ -27,7 +27,8 @@ export class RunningTest {
 
   add(name, row) {
     const award = cellsOf([row]);
-    const entry = this.carry("add", name, () => this.crr.add_award({ ...this.tables, award, ...this.state }));
+    const words = { ...this.tables, award, ...this.state };
+    const entry = this.carry("add", name, () => this.crr.add_award(words));
     if (entry.number === constants.AWARD_OVERLOAD) entry.over = this.overload(row);
     if (entry.number === 0) this.held.push({ name, row });
     return entry;
@@ -48,7 +49,8 @@ export class RunningTest {
       operation();
     } catch (problem) {
       if (!(problem instanceof Refused)) throw problem;
-      Object.assign(entry, { answer: `refused ${problem.number}`, number: problem.number, text: problem.text });
+      const { number, text } = problem;
+      Object.assign(entry, { answer: `refused ${number}`, number, text });
     }
     this.held.length = Math.min(this.held.length, Number(this.state.numbers[0]));
     entry.held = Number(this.state.numbers[0]);

@@ -3,12 +3,13 @@
 const ROUNDS = 64;
 const { START, CONSTANTS } = fractions();
 
-// The first 32 bits of the fractions of roots of the first primes: square roots to start, cube roots for rounds.
+// The first 32 bits of the fractions of roots of primes: square roots to start with, cube roots for rounds.
 function fractions() {
   const primes = [];
   for (let n = 2; primes.length < ROUNDS; n++) if (primes.every((prime) => n % prime)) primes.push(n);
   const bits = (root) => ((root - Math.floor(root)) * 0x100000000) | 0;
-  return { START: primes.slice(0, 8).map((p) => bits(Math.sqrt(p))), CONSTANTS: primes.map((p) => bits(Math.cbrt(p))) };
+  const squares = primes.slice(0, 8).map((prime) => bits(Math.sqrt(prime)));
+  return { START: squares, CONSTANTS: primes.map((prime) => bits(Math.cbrt(prime))) };
 }
 
 function padded(bytes) {

@@ -28,7 +28,8 @@ function small(limits = [100000, 50000]) {
   const grid = crr.write_grid({ form: 0, nodes: 3, constraints: 2, limits, factors }).file;
   const prices = crr.write_prices({ period: 1, constraints: 2, prices: [1000, 2550] }).file;
   const hours = [{ day: "2026-07-01", hour: 8, file: prices }];
-  return { title: "small", grid, book: crr.write_book({ form: 0, nodes: 3, contracts: 3, book }).file, hours };
+  const { file } = crr.write_book({ form: 0, nodes: 3, contracts: 3, book });
+  return { title: "small", grid, book: file, hours };
 }
 
 const model = (files = small()) => new Model(crr, openCase(crr, files));
@@ -66,12 +67,16 @@ test("names.csv", () => {
   assert.deepEqual(names.constraints, ["K0"]);
   assert.deepEqual(names.contracts, ["x\ny", "1"]);
   assert.equal(names.owner(7) + names.owner(8), "Dogwood8");
-  assert.deepEqual(records("a,b\r\nc,\r\n").map(({ line, row }) => [line, ...row]), [[1, "a", "b"], [2, "c", ""]]);
-  const damaged = ["A,B\n", 'TABLE,NUMBER,NAME\nnode,0,"x', "TABLE,NUMBER,NAME\nnode,x,y", "TABLE,NUMBER,NAME\nbus,0,y"];
-  damaged.push("TABLE,NUMBER,NAME\nnode,0,y\nnode,0,z", "TABLE,NUMBER,NAME\nholder,1024,y", "");
-  for (const text of damaged) assert.throws(() => readNames(text), Error, text);
-  assert.throws(() => completed({ nodes: ["a", "a"] }, { nodes: 2, constraints: 0, contracts: 0 }), /one name/);
-  assert.throws(() => completed({ nodes: ["a", "b"] }, { nodes: 1, constraints: 0, contracts: 0 }), /is named/);
+  const read = records("a,b\r\nc,\r\n").map(({ line, row }) => [line, ...row]);
+  assert.deepEqual(read, [[1, "a", "b"], [2, "c", ""]]);
+  const damaged = ['node,0,"x', 'node,0,"x"y', "node,x,y", "bus,0,y", "node,0,y\nnode,0,z", "node,0,"];
+  for (const rows of [...damaged, "holder,1024,y"]) {
+    assert.throws(() => readNames(`TABLE,NUMBER,NAME\n${rows}`), /^Error: line /, rows);
+  }
+  for (const text of ["", "A,B\n"]) assert.throws(() => readNames(text), /first line/);
+  const counts = { nodes: 2, constraints: 0, contracts: 0 };
+  assert.throws(() => completed({ nodes: ["a", "a"] }, counts), /one name/);
+  assert.throws(() => completed({ nodes: ["a", "b", "c"] }, counts), /is named/);
 });
 
 test("changes are undone and redone", () => {
@@ -89,12 +94,14 @@ test("changes are undone and redone", () => {
 });
 
 test("links", () => {
-  const version = new Map([["q0", 5000], ["d1", true], ["a1", [0, 1, 2, 3, 4, 5]], ["l3", 80000], ["p5.3", 2500]]);
-  const hash = sha256(new Uint8Array());
-  const read = readFragment(`#${fragmentOf(hash, 5, version)}`, hash);
+  const changes = { q0: 5000, d1: true, a1: [0, 1, 2, 3, 4, 5], l3: 80000, "p5.3": 2500 };
+  const version = new Map(Object.entries(changes));
+  const [hash, other] = [[], [1]].map((bytes) => sha256(Uint8Array.from(bytes)));
+  const link = `#${fragmentOf(hash, 5, version)}`;
+  const read = readFragment(link, hash);
   assert.deepEqual(read, { hour: 5, version });
   assert.equal(readFragment("#changes-part", hash), undefined);
-  assert.throws(() => readFragment(`#${fragmentOf(hash, 5, version)}`, sha256(Uint8Array.of(1))), /another case/);
+  assert.throws(() => readFragment(link, other), /another case/);
   for (const text of ["z1:2", "q1", "q1:x", "a1:1-2", "d1:2", "l-1:2"]) {
     assert.throws(() => readFragment(`#case=${hash.slice(0, 16)}&changes=${text}`, hash), /damaged/, text);
   }
@@ -136,9 +143,10 @@ test("figures are the library's", () => {
 test("a refusal changes nothing", () => {
   const page = model();
   const before = page.now;
-  assert.throws(() => page.setQuantity("0", 0), (problem) => problem instanceof Refused && problem.number === 13);
-  assert.throws(() => page.setLimit(0, 100000001), (problem) => problem.number === 6);
-  assert.throws(() => page.setPrice(0, 500001), (problem) => problem.number === 15);
+  const refused = (number) => (problem) => problem instanceof Refused && problem.number === number;
+  assert.throws(() => page.setQuantity("0", 0), refused(13));
+  assert.throws(() => page.setLimit(0, 100000001), refused(6));
+  assert.throws(() => page.setPrice(0, 500001), refused(15));
   assert.equal(page.now, before);
   assert.equal(page.changes.canUndo, false);
   page.setQuantity("0", 10000);
@@ -190,7 +198,8 @@ test("files", () => {
   assert.equal(openCase(crr, held.files).given, 2);
   assert.throws(() => held.take("names.csv", Uint8Array.of(0xff)), /UTF-8/);
   held.take("book.bin", files.book.slice(1));
-  assert.throws(() => openCase(crr, held.files), (problem) => problem instanceof FileFault && problem.number > 0);
+  const faulty = (problem) => problem instanceof FileFault && problem.number > 0;
+  assert.throws(() => openCase(crr, held.files), faulty);
 });
 
 // The least of several edits of a case of the largest size, in milliseconds of wall clock.
@@ -208,6 +217,6 @@ function timed(limit) {
 console.log(`page: ${tried.length} tests without a browser pass: ${tried.join("; ")}`);
 for (const limit of [90000000, 5000000, 2500000]) {
   const { failing, least, median } = timed(limit);
-  const words = `${failing} of 6 failing: ${least.toFixed(1)} ms at least, ${median.toFixed(1)} in the middle`;
-  console.log(`page: an edit of the largest case, every figure, ${words}`);
+  const words = `${least.toFixed(1)} ms at least, ${median.toFixed(1)} in the middle`;
+  console.log(`page: an edit of the largest case, every figure, ${failing} of 6 failing: ${words}`);
 }

@@ -19,7 +19,8 @@ export class Tiers {
     const cells = () => KINDS.map((kind) => ({ kind, of: "" }));
     const fill = (element, entry) => this.fill(element, entry);
     const key = (entry) => String(entry.operation);
-    this.list = new List(byId("operations"), { label: "Operations, the last one first", columns, key, row: cells, fill });
+    const label = "Operations, the last one first";
+    this.list = new List(byId("operations"), { label, columns, key, row: cells, fill });
     for (const id of ["tier-open", "tier-period", "tier-process"]) {
       byId(id).addEventListener(id === "tier-open" ? "click" : "change", () => this.open());
     }
@@ -109,19 +110,25 @@ export class Tiers {
     over.title = over.textContent;
   }
 
+  // The tiers that are marked, in words.
+  markWords() {
+    const at = (tier) => this.test.mark(tier);
+    const marked = [1, 2, 3, 4].filter((tier) => at(tier) !== undefined);
+    const words = marked.map((tier) => `tier ${TIERS[tier]} at ${counted(at(tier), "award")}`);
+    return words.length ? `Marked: ${words.join(", ")}.` : "No tier is marked.";
+  }
+
   show() {
-    const { test } = this;
-    const { rows } = this.app.model.now;
-    const marks = TIERS.map((name, tier) => [name, tier && test.mark(tier)]).filter(([, held]) => held !== undefined);
-    const marked = marks.slice(1).map(([name, held]) => `tier ${name} at ${counted(held, "award")}`);
-    const stale = this.limits !== this.app.model.now.grid.limits.join() ? " On the limits as they were when it was opened." : "";
-    const state = byId("tier-state");
-    Object.assign(state.dataset, { held: test.held.length, counted: test.counted, line: lineName(test.period, test.process) });
-    const said = `${lineName(test.period, test.process)}: ${counted(test.held.length, "award")} held, ` +
-      `${test.counted} of them ${PERIODS[test.period]}. ${marked.length ? `Marked: ${marked.join(", ")}.` : "No tier is marked."}`;
+    const { held, counted: of, period, process, log } = this.test;
+    const { rows, grid } = this.app.model.now;
     const left = Math.max(0, rows.length - this.following);
-    show(state, `${said} ${counted(left, "contract")} of the book to come.${stale}`);
+    const stale = this.limits === grid.limits.join() ? "" : " On the limits as they were when it was opened.";
+    const line = lineName(period, process);
+    const state = byId("tier-state");
+    Object.assign(state.dataset, { held: held.length, counted: of, line });
+    const said = `${line}: ${counted(held.length, "award")} held, ${of} of them ${PERIODS[period]}.`;
+    show(state, `${said} ${this.markWords()} ${counted(left, "contract")} of the book to come.${stale}`);
     byId("tier-next").disabled = byId("tier-all").disabled = left === 0;
-    this.list.show([...test.log].reverse());
+    this.list.show([...log].reverse());
   }
 }

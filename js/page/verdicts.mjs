@@ -20,9 +20,11 @@ function whereWords(app, line) {
   const { count, lowest, excess } = line.verdict;
   const at = make("p", {}, `${names.constraints[lowest]}, by `, figure(flowWords(excess), excess), " MW.");
   const all = line.overloaded.map((k) => names.constraints[k]);
-  const more = all.length > MOST_NAMES ? [...all.slice(0, MOST_NAMES), counted(all.length - MOST_NAMES, "other")] : all;
   at.prepend(count === 1 ? "1 constraint overloaded: " : "Lowest numbered: ");
-  return count === 1 ? [at] : [make("p", {}, `${counted(count, "constraint")} overloaded: ${listed(more)}.`), at];
+  if (count === 1) return [at];
+  const others = all.length > MOST_NAMES ? [counted(all.length - MOST_NAMES, "other")] : [];
+  const named = listed([...all.slice(0, MOST_NAMES), ...others]);
+  return [make("p", {}, `${counted(count, "constraint")} overloaded: ${named}.`), at];
 }
 
 function cutRow(app, line, cut) {
@@ -47,7 +49,8 @@ function cutTable(rows) {
   const heads = ["contract", "cut, MW", "left, MW"].map((name, i) =>
     make("th", { scope: "col", class: i ? "figure" : undefined }, name));
   const last = make("th", { scope: "col" }, make("span", { class: "unseen" }, "take it"));
-  return make("table", { class: "cuts" }, make("thead", {}, make("tr", {}, heads, last)), make("tbody", {}, rows));
+  const head = make("thead", {}, make("tr", {}, heads, last));
+  return make("table", { class: "cuts" }, head, make("tbody", {}, rows));
 }
 
 // A long list of cuts is drawn when it is unfolded.
@@ -93,10 +96,15 @@ export class Verdicts {
       data["data-excess"] = line.verdict.excess;
       data["data-overloaded"] = line.overloaded.join(" ");
     }
-    const worst = line.exposure && `At worst an hour pays ${costWords(line.exposure)} more than its congestion rent.`;
-    const told = state === "pass" ? [] : [whereWords(this.app, line), make("p", {}, worst)];
-    const cuts = state === "pass" ? [] : cutsPart(this.app, line, this.unfolded);
-    return make("li", { class: state, ...data }, head, make("b", {}, mark(line)), told, cuts);
+    const told = state === "pass" ? [] : this.told(line);
+    return make("li", { class: state, ...data }, head, make("b", {}, mark(line)), told);
+  }
+
+  // Of a failing book: where, what it costs, and what clears it.
+  told(line) {
+    const cost = costWords(line.exposure);
+    const worst = make("p", {}, `At worst an hour pays ${cost} more than its congestion rent.`);
+    return [whereWords(this.app, line), worst, cutsPart(this.app, line, this.unfolded)];
   }
 
   chip(line) {
@@ -113,7 +121,8 @@ export class Verdicts {
     const changed = this.before ? lines.filter((line, i) => now[i] !== this.before[i]) : [];
     this.before = now;
     if (changed.length === 0) return;
-    const words = changed.map((line) => `${lineWords(line)} ${stateOf(line) === "pass" ? "passes now" : "fails now"}`);
+    const state = (line) => (stateOf(line) === "pass" ? "passes now" : "fails now");
+    const words = changed.map((line) => `${lineWords(line)} ${state(line)}`);
     this.app.say(`${words.join(". ")}.`);
   }
 }
