@@ -101,7 +101,7 @@ class Tiers(Browser):
         page.choose("tier", 2)
         page.click("#tier-return")
         heading, *rows = (IEEE14 / "book.csv").read_text().splitlines()
-        own = ["my own 1,Fir Storage,OBL,ON,Bus 8,Bus 9,30"]
+        own = [f"{page.operations()[6][1]},Fir Storage,OBL,ON,Bus 8,Bus 9,30"]
         added = [f"add,,{row}" for row in rows[:5] + own]
         lines = [f"OPERATION,TIER,{heading}", *added[:3], "mark,1,,,,,,,", *added[3:]]
         awards = self.folder / "awards.csv"
