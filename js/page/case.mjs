@@ -11,6 +11,7 @@ export class FileFault extends Error {
   constructor(file, problem) {
     const refused = problem instanceof Refused;
     super(refused ? `${file}: refused ${problem.number}: ${problem.text}` : `${file}: ${problem.message}`);
+    this.file = file;
     this.number = refused ? problem.number : 0;
   }
 }

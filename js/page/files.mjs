@@ -37,6 +37,13 @@ export class Held {
     return "";
   }
 
+  // Puts away a file that was found faulty.
+  forget(path) {
+    const field = { "grid.bin": "grid", "book.bin": "book", "names.csv": "tables" }[path];
+    if (field) this[field] = undefined;
+    else this.prices.delete(path);
+  }
+
   // The hours in their order: by day and hour where paths tell them, else by name.
   get hours() {
     const paths = [...this.prices.keys()].sort();

@@ -25,7 +25,7 @@ function kindOf({ over }) {
 
 function barOf(percents) {
   const rect = (kind) => draw("rect", { class: kind, y: 3, height: 12 });
-  const parts = { track: rect("track"), bar: rect("within"), hatch: rect("none") };
+  const parts = { track: rect("track"), bar: rect("within"), hatch: rect("hatched") };
   parts.track.setAttribute("width", "100%");
   parts.hatch.setAttribute("fill", "url(#hatch)");
   parts.marks = percents.map((_, process) => draw("line", { class: `mark mark${process}`, y1: 0, y2: 18 }));

@@ -19,9 +19,18 @@ import { counted } from "./words.mjs";
 const root = document.documentElement;
 const VIEWS = [Verdicts, Loading, Contracts, Exposure, Hour, Tiers, History];
 
+// The units that the library's sentences count in, where the page has others.
+const UNITS = {
+  [constants.LIMIT_RANGE]: " thousandths of a MW",
+  [constants.QUANTITY_RANGE]: " thousandths of a MW",
+  [constants.PRICE_RANGE]: " cents per MWh",
+};
+
 // What went wrong, as the library or the page says it.
-const problemWords = (problem) =>
-  problem instanceof Refused ? `refused ${problem.number}: ${problem.text}` : problem.message;
+function problemWords(problem) {
+  if (!(problem instanceof Refused)) return problem.message;
+  return `refused ${problem.number}: ${problem.text}${UNITS[problem.number] ?? ""}`;
+}
 
 const message = ({ text, number }) =>
   make("p", { class: "problem", "data-message": text, "data-refusal": number || undefined }, text);
@@ -82,9 +91,9 @@ class App {
         told.push({ text: problem.message });
       }
     }
+    if (this.held.any && (this.model || this.held.missing.length === 0)) told.push(...this.openHeld());
     const { missing } = this.held;
-    if (this.held.any && (this.model || missing.length === 0)) told.push(...this.openHeld());
-    else show(byId("held"), `Still missing: ${missing.join(" and ")}.`);
+    show(byId("held"), this.model || missing.length === 0 ? "" : `Still missing: ${missing.join(" and ")}.`);
     this.tell(told);
   }
 
@@ -95,6 +104,8 @@ class App {
       this.held = new Held();
       return notes;
     } catch (problem) {
+      if (this.model) this.held = new Held();
+      else this.held.forget(problem.file);
       return [{ text: problemWords(problem), number: problem.number }];
     }
   }
@@ -113,7 +124,7 @@ class App {
     show(byId("case-hash"), opened.hash);
     this.know();
     byId("waiting").hidden = true;
-    for (const id of ["parts", "strip", "other-files"]) byId(id).hidden = false;
+    for (const id of ["parts", "strip", "other-files", "case-hash-words"]) byId(id).hidden = false;
     for (const view of this.views) view.open?.();
     this.update(began);
     root.dataset.state = "open";
