@@ -22,6 +22,16 @@ export const byId = (id) => document.getElementById(id);
 export const figure = (text, value, attributes = {}) =>
   make("span", { class: "figure", "data-value": value, ...attributes }, text);
 
+const SHORT_NAME = 24; // letters; a longer one may be broken
+
+// a, b and c, each name whole on its line.
+export function namesOn(names, more = []) {
+  const kind = (name) => (name.length > SHORT_NAME ? undefined : "name");
+  const all = [...names.map((name) => make("span", { class: kind(name) }, name)), ...more];
+  const between = (i) => (i === 0 ? "" : i === all.length - 1 ? " and " : ", ");
+  return all.flatMap((each, i) => [between(i), each]);
+}
+
 // What an element shows and stands for; untouched where it is the same already.
 export function show(element, text, value) {
   if (element.textContent !== text) element.textContent = text;

@@ -46,6 +46,7 @@ export class Hour {
         const [name, cell] = element.children;
         const input = cell.firstChild;
         show(name, this.app.model.opened.names.constraints[k]);
+        element.classList.toggle("zero", price === 0n);
         input.dataset.shadow = k;
         input.dataset.value = price;
         input.setAttribute("aria-label", `Shadow price of ${name.textContent}, dollars per MWh`);

@@ -193,7 +193,10 @@ class App {
       before = undefined;
       faulty(input);
       this.model.changes.settle();
-      queueMicrotask(() => (back ? this.edit(() => this.model.step(-1)) : this.update()));
+      queueMicrotask(() => {
+        if (back) this.model.step(-1);
+        this.update();
+      });
     });
   }
 

@@ -197,6 +197,13 @@ test("files", () => {
   assert.deepEqual(held.hours.map(({ day, hour }) => [day, hour]), [["2026-07-01", 8], ["2026-07-01", 9]]);
   assert.equal(openCase(crr, held.files).given, 2);
   assert.throws(() => held.take("names.csv", Uint8Array.of(0xff)), /UTF-8/);
+  const one = new Held();
+  one.take("prices.bin", files.hours[0].file);
+  const names = writeNames([["hour", 0, "2026-07-01 HE08"], ["start", 0, "2026-07-01"]]);
+  one.take("names.csv", new TextEncoder().encode(names));
+  assert.deepEqual(one.hours.map(({ day, hour }) => [day, hour]), [["2026-07-01", 8]]);
+  assert.equal(one.notes.length, 1);
+  assert.equal(openCase(crr, one.filesOn(files)).given, 1);
   held.take("book.bin", files.book.slice(1));
   const faulty = (problem) => problem instanceof FileFault && problem.number > 0;
   assert.throws(() => openCase(crr, held.files), faulty);

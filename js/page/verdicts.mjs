@@ -1,13 +1,18 @@
 // The verdicts by period and process, with the cuts that clear a failing book, and the same in short.
 import { exactMoney, flowWords, limitWords } from "./decimals.mjs";
-import { byId, figure, make, redraw } from "./dom.mjs";
-import { counted, lineWords, listed, PROCESSES } from "./words.mjs";
+import { byId, figure, make, namesOn, redraw } from "./dom.mjs";
+import { counted, lineWords, PROCESSES } from "./words.mjs";
 
 const MOST_CUTS = 5; // shown at once; the others unfold
 const MOST_NAMES = 8;
 
 export const stateOf = (line) => (line.overloaded.length === 0 ? "pass" : "fail");
 const mark = (line) => (stateOf(line) === "pass" ? "\u2713 pass" : "\u2717 FAIL");
+
+// Whether an edit left all verdicts, and what goes with them, as they were.
+export function sameLines(before, lines) {
+  return before !== undefined && lines.every((line, i) => line === before[i]);
+}
 
 // $1,125.00, or between that and more.
 export function costWords({ least, most }) {
@@ -18,13 +23,14 @@ export function costWords({ least, most }) {
 function whereWords(app, line) {
   const { names } = app.model.opened;
   const { count, lowest, excess } = line.verdict;
-  const at = make("p", {}, `${names.constraints[lowest]}, by `, figure(flowWords(excess), excess), " MW.");
+  const by = figure(flowWords(excess), excess);
+  const at = make("p", {}, namesOn([names.constraints[lowest]]), ", by ", by, " MW.");
   const all = line.overloaded.map((k) => names.constraints[k]);
   at.prepend(count === 1 ? "1 constraint overloaded: " : "Lowest numbered: ");
   if (count === 1) return [at];
   const others = all.length > MOST_NAMES ? [counted(all.length - MOST_NAMES, "other")] : [];
-  const named = listed([...all.slice(0, MOST_NAMES), ...others]);
-  return [make("p", {}, `${counted(count, "constraint")} overloaded: ${named}.`), at];
+  const named = namesOn(all.slice(0, MOST_NAMES), others);
+  return [make("p", {}, `${counted(count, "constraint")} overloaded: `, named, "."), at];
 }
 
 function cutRow(app, line, cut) {
@@ -45,12 +51,13 @@ function cutRow(app, line, cut) {
     make("td", { class: "figure" }, take));
 }
 
-function cutTable(rows) {
+function cutTable(line, rows) {
   const heads = ["contract", "cut, MW", "left, MW"].map((name, i) =>
     make("th", { scope: "col", class: i ? "figure" : undefined }, name));
   const last = make("th", { scope: "col" }, make("span", { class: "unseen" }, "take it"));
   const head = make("thead", {}, make("tr", {}, heads, last));
-  return make("table", { class: "cuts" }, head, make("tbody", {}, rows));
+  const label = `Cuts that clear ${lineWords(line)}`;
+  return make("table", { class: "cuts", "aria-label": label }, head, make("tbody", {}, rows));
 }
 
 // A long list of cuts is drawn when it is unfolded.
@@ -58,11 +65,11 @@ function cutsPart(app, line, unfolded) {
   if (line.cuts.length === 0) return [make("p", {}, "No cut of a single contract clears it.")];
   const rows = (cuts) => cuts.map((cut) => cutRow(app, line, cut));
   const words = line.cuts.length > 1 ? "Any one of these cuts clears it:" : "This cut clears it:";
-  const parts = [make("p", {}, words), cutTable(rows(line.cuts.slice(0, MOST_CUTS)))];
+  const parts = [make("p", {}, words), cutTable(line, rows(line.cuts.slice(0, MOST_CUTS)))];
   const more = line.cuts.slice(MOST_CUTS);
   if (more.length === 0) return parts;
   const rest = make("details", { "data-more": line.name }, make("summary", {}, `${more.length} more`));
-  const unfold = () => rest.open && rest.childElementCount === 1 && rest.append(cutTable(rows(more)));
+  const unfold = () => rest.open && rest.childElementCount === 1 && rest.append(cutTable(line, rows(more)));
   rest.addEventListener("toggle", () => {
     unfolded[rest.open ? "add" : "delete"](line.name);
     unfold();
@@ -80,6 +87,8 @@ export class Verdicts {
   }
 
   update({ lines }) {
+    if (sameLines(this.lines, lines)) return;
+    this.lines = lines;
     const heading = byId("verdicts-head");
     redraw(byId("verdicts"), lines.map((line) => this.card(line)), heading);
     redraw(byId("chips"), lines.map((line) => this.chip(line)), heading);

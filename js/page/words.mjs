@@ -34,9 +34,3 @@ export function counted(count, what) {
 export function hourName({ day, hour }) {
   return hour ? `${day} HE${String(hour).padStart(2, "0")}`.trim() : day;
 }
-
-// a, b and c.
-export function listed(names) {
-  if (names.length < 2) return names.join("");
-  return `${names.slice(0, -1).join(", ")} and ${names[names.length - 1]}`;
-}
