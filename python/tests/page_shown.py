@@ -36,16 +36,17 @@ const gather = () => {
 };
 const frame = () => new Promise((next) => requestAnimationFrame(() => setTimeout(next)));
 (async () => {
+  gather();
+  if (rows.size === list.getAttribute("aria-rowcount") - 1) return done([...rows.values()]);
   const before = list.scrollTop;
-  for (let at = 0; ; at += Math.max(40, list.clientHeight / 2)) {
+  for (let at = 0; ; at += Math.max(40, list.clientHeight)) {
     list.scrollTop = at;
     await frame();
     gather();
     if (at >= list.scrollHeight - list.clientHeight) break;
   }
   list.scrollTop = before;
-  await frame();
-  done([...rows.values()]);
+  return done([...rows.values()]);
 })();
 """
 DROP = """

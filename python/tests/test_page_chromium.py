@@ -52,11 +52,11 @@ class Edits(Browser):
         case = overbooked()
         page = self.opened(case)
         self.assert_shows(case)
-        states = [case]
+        states = [(case, {**page.figures(), "sums": None})]
 
         def changed(case, hour=0):
             self.assert_shows(case, hour)
-            states.append(case)
+            states.append((case, {**page.figures(), "sums": None}))
             return case
 
         page.type(f'input[data-quantity="{CRR_011}"]', "36.125")
@@ -73,11 +73,11 @@ class Edits(Browser):
         self.assert_shows(case, 16)
         page.type('input[data-shadow="5"]', "12.34")
         case = changed(with_price(case, 16, 5, 1234), 16)
-        (name, cut), *_ = page.cuts()["ON monthly"] or page.cuts()["ON annual"]
         self.assertEqual(page.count("#changes li"), 5)
-        for before in reversed(states[:-1]):
+        for _, before in reversed(states[:-1]):
             page.click("#undo")
-            self.assert_shows(before, 16)
+            self.assertEqual({**page.figures(), "sums": None}, before)
+        self.assert_shows(states[0][0], 16)
         self.assertEqual((page.count("#changes li"), page.text("#change-count")), (0, "no changes"))
         for _ in states[1:]:
             page.click("#redo")
@@ -85,7 +85,7 @@ class Edits(Browser):
         page.click('button[data-undo="d3"]')
         self.assertEqual(len(page.quantities()), 17)
         page.click("#undo-all")
-        self.assert_shows(states[0], 16)
+        self.assertEqual({**page.figures(), "sums": None}, states[0][1])
 
     def test_a_cut(self):
         """Taken from the list, it clears its line, and nothing less does."""
