@@ -34,7 +34,7 @@ def answer(*arguments):
 
 
 class Told:
-    """What crr says of a case. Constraints go by their numbers, contracts by their ids, a period with a process
+    """What crr says of a case. Constraints go by their numbers, contracts by their ids, a period and process
     as `ON annual`."""
 
     def __init__(self, case, folder):
