@@ -3,9 +3,12 @@
 the test of it by slices, beside what numpy and scipy take for the same flows. Needs numpy and scipy; dask
 where it is installed.
 
+market_engines.py beside it times `crr test` on the CSV files by engine.
+
 Usage: market.py beside [NODES CONSTRAINTS CONTRACTS]        the test, beside numpy and scipy
        market.py grow                                        growth with contracts and with constraints
        market.py make FOLDER [NODES CONSTRAINTS CONTRACTS]   the case's CSV files
+       market.py pack FOLDER [NODES CONSTRAINTS CONTRACTS]   the case packed, as crr pack has it, without them
        market.py time FOLDER                                 the commands on them
 
 Contracts are of 100 MW, so that every flow is a whole number of thousandths of a MW, and each limit is the
@@ -19,14 +22,16 @@ import subprocess
 import sys
 import time
 from array import array
+from dataclasses import replace
 from pathlib import Path
 
 import numpy as np
 
 ROOT = Path(__file__).resolve().parents[1]
 sys.path.insert(0, str(ROOT / "python" / "src"))
-from crr.blocks import Blocks  # noqa: E402
+from crr.blocks import MEMORY, Blocks  # noqa: E402
 from crr.case import Case, Names  # noqa: E402
+from crr.dense import write_dense  # noqa: E402
 from crr.files import Contract  # noqa: E402
 from crr.sliced_test import test_sliced  # noqa: E402
 
@@ -173,17 +178,25 @@ def command(*arguments):
     return done.stdout
 
 
-def case_of(factors, limits, book):
-    """A case of drawn tables, without names that matter, its factors in blocks."""
+def case_of(factors, limits, book, memory=MEMORY):
+    """A case of drawn tables, without names that matter, its factors in blocks, held or in a file."""
     nodes, constraints = factors.shape
     names = Names([""] * nodes, [""] * constraints, [""] * len(book[0]))
     rows = [Contract(k, p, 0, s, e, q) for k, p, s, e, q in zip(*(part.tolist() for part in book))]
     cells = array("Q", limits.astype(np.uint64).tobytes())
-    blocks = Blocks(cells)
+    blocks = Blocks(cells, memory)
     for row in factors:
         blocks.add(array("q", row.astype(np.int64).tobytes()))
     blocks.close()
     return Case(names, cells, array("q"), rows, blocks=blocks)
+
+
+def pack(folder, sizes):
+    """Writes the case as `crr pack` would of its CSV files."""
+    factors, book = draw(*sizes)
+    case = case_of(factors, limits_of(flows_int(factors, book)), book)
+    names = [[f"{letter}{number}" for number in range(size)] for letter, size in zip("NKC", sizes)]
+    write_dense(replace(case, names=Names(*names)), folder, False)
 
 
 def shared(case):
@@ -198,7 +211,8 @@ def shared(case):
 
     def by_dask():
         with Client(n_workers=2, threads_per_worker=1, dashboard_address=None) as client:
-            return test_sliced(case, executor=client.get_executor(), parts=8)
+            # A pure task would be named by a hash of all that is handed to it.
+            return test_sliced(case, executor=client.get_executor(pure=False), parts=8)
 
     assert told("test_sliced, two processes, started and ended", by_pool) == alone
     try:
@@ -221,8 +235,9 @@ def beside(sizes):
         wrong = int(np.count_nonzero((near > limits / 1000) != (exact > limits * 10**5)))
         off = float(np.abs(near - exact / 1e8).max())
         print(f"  {wrong:,} of {len(limits):,} constraints judged wrongly; largest error {off:.1e} MW")
-    case = told("the case in blocks", lambda: case_of(factors, limits, book))
-    print(f"  {case.blocks.held / 1e6:,.0f} MB of factors", flush=True)
+    # In a file, as crr test -j has it: processes are handed places, and read what they need.
+    case = told("the case in blocks", lambda: case_of(factors, limits, book, memory=0))
+    print(f"  {case.blocks.spilled / 1e6:,.0f} MB of factors", flush=True)
     del factors
     tested = shared(case)
     assert tested.flows[ON] == exact.tolist() and tested.verdicts[ON, MONTHLY].passed
@@ -253,6 +268,8 @@ def grow():
 def main(asked):
     if asked[:1] == ["make"] and len(asked) in (2, 5):
         make(Path(asked[1]), [int(size) for size in asked[2:]] or MARKET)
+    elif asked[:1] == ["pack"] and len(asked) in (2, 5):
+        pack(Path(asked[1]), [int(size) for size in asked[2:]] or MARKET)
     elif asked[:1] == ["time"] and len(asked) == 2:
         timed(Path(asked[1]))
     elif asked[:1] == ["beside"] and len(asked) in (1, 4):

@@ -455,7 +455,7 @@ uint64_t crr_write_holder_view(size_t nodes,
  *
  * On success writes the file to the first bytes of file, and its length to *bytes. The
  * form stays. There are never more rows than the book has, so book_len bytes are
- * enough, and fewer often are. The rows are sorted in 16,000 bytes of stack.
+ * enough, and fewer often are. The rows are sorted in 21,000 bytes of stack.
  *
  * Two books of one form have equal bytes in the canonical form exactly when, for each
  * kind, period, holder, source and sink, their total quantities are equal. The

@@ -1,4 +1,5 @@
-"""Puts the shared library into the package, that of dist/ where it is of these sources (crr/library.py).
+"""Puts the shared library and the page for browsers into the package, those of dist/ where they are of these
+sources (crr/library.py); a page of others is left out.
 
 The wheel is tagged for any Python 3 on the machine that CRR_WHEEL names, x86-64-linux, aarch64-linux or
 x86-64-windows, else on this one. Neither a compiler nor the Rattle kit is needed.
@@ -11,6 +12,7 @@ from pathlib import Path
 
 from setuptools import Distribution, setup
 from setuptools.command.build_py import build_py
+from setuptools.command.sdist import sdist
 
 try:
     from setuptools.command.bdist_wheel import bdist_wheel
@@ -18,7 +20,7 @@ except ImportError:  # setuptools before 70.1
     from wheel.bdist_wheel import bdist_wheel
 
 sys.path.insert(0, str(Path(__file__).resolve().parent / "src"))
-from crr.library import libraries_to_pack, this_machine  # noqa: E402
+from crr.library import libraries_to_pack, page_path, this_machine  # noqa: E402
 
 # The library asks for memset and memcpy of any version. pip before 20.3 knows the second name alone.
 TAGS = {
@@ -29,6 +31,16 @@ TAGS = {
 MACHINE = os.environ.get("CRR_WHEEL") or this_machine()
 if MACHINE not in TAGS:
     raise SystemExit(f"no library for {MACHINE}: CRR_WHEEL names one of {', '.join(TAGS)}")
+
+
+def put_page(package):
+    """Copies the page to a package's folder."""
+    try:
+        shutil.copyfile(page_path(), package / "page.html")
+    except FileNotFoundError as missing:
+        print(f"crr page will not work: {missing}", file=sys.stderr)
+    except shutil.SameFileError:  # an unpacked source package
+        pass
 
 
 class Build(build_py):
@@ -43,6 +55,13 @@ class Build(build_py):
         for name, library in libraries.items():
             (package / name).parent.mkdir(parents=True, exist_ok=True)
             shutil.copyfile(library, package / name)
+        put_page(package)
+
+
+class Source(sdist):
+    def make_release_tree(self, base_dir, files):
+        super().make_release_tree(base_dir, files)
+        put_page(Path(base_dir) / "src" / "crr")
 
 
 class Wheel(bdist_wheel):
@@ -59,4 +78,4 @@ class Binary(Distribution):
         return True
 
 
-setup(cmdclass={"build_py": Build, "bdist_wheel": Wheel}, distclass=Binary)
+setup(cmdclass={"build_py": Build, "bdist_wheel": Wheel, "sdist": Source}, distclass=Binary)

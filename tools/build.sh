@@ -168,9 +168,33 @@ fill_dist() { # FOLDER
         echo "# source file with its hash (sha256sum --check dist/MADE-FROM)."
         echo "# kit: $(rt version)"
         made_from
+        page_sources
     } > "$out/MADE-FROM"
+    js/page/build target/machines/wasm32/crr.wasm "$out/page.html"
     sums=$(cd "$out" && find . -type f ! -name SHA256SUMS -printf '%P\n' | LC_ALL=C sort | xargs sha256sum)
     echo "$sums" > "$out/SHA256SUMS"
+}
+
+# What the page for browsers is made from, beside crr.wasm, as lines of MADE-FROM: no source of the library.
+page_sources() {
+    local file files=(js/crr.mjs js/header.mjs)
+    for file in js/page/*; do
+        case $file in
+        *.md | */test.mjs | */largest.mjs) ;; # about it
+        *) [ ! -f "$file" ] || files+=("$file") ;;
+        esac
+    done
+    sha256sum "${files[@]}"
+}
+
+# dist/'s page anew, of dist/'s crr.wasm: a change of js/ needs no proof and no kit. All else stays.
+renew_page() {
+    local lines
+    js/page/build dist/wasm32/crr.wasm dist/page.html
+    lines=$(grep -v '^[0-9a-f]*  js/' dist/MADE-FROM && page_sources)
+    echo "$lines" > dist/MADE-FROM
+    lines=$(cd dist && { grep -v '  \(MADE-FROM\|page.html\)$' SHA256SUMS && sha256sum MADE-FROM page.html; } | LC_ALL=C sort -k 2)
+    echo "$lines" > dist/SHA256SUMS
 }
 
 made_from() {

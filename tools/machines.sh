@@ -129,12 +129,17 @@ wasm_library() { # FILE OBJECT..
         "${functions[@]/#/--export=}" --export=__heap_base "$@" -o "$file"
 }
 
+# What the library for a machine is made from, and how.
+modules_stamp() { # CRATE..
+    local modules=("${@/#/target/modules/}")
+    { rt version && cat tools/machines.sh include/crr.h "${modules[@]/%/.bc}"; } | sha256sum
+}
+
 # The library for a machine, into its folder, unless that was made from the same modules in the same way.
 library_for() { # MACHINE CRATE..
-    local name=$1 out=target/machines/$1 crate objects=() modules=() stamp
+    local name=$1 out=target/machines/$1 crate objects=() stamp
     shift
-    modules=("${@/#/target/modules/}")
-    stamp=$({ rt version && cat tools/machines.sh include/crr.h "${modules[@]/%/.bc}"; } | sha256sum)
+    stamp=$(modules_stamp "$@")
     [ "$(cat "$out.stamp" 2> /dev/null)" != "$stamp" ] || return 0
     rm -rf "$out.stamp" "$out.new"
     mkdir -p "$out.new/objects"

@@ -22,7 +22,7 @@ pub const ENTRIES: [Entry; 23] = [
     Entry { name: "remap_book", run: remap_book },
     Entry { name: "write_market_view", run: write_market_view },
     Entry { name: "write_canonical_book", run: write_canonical_book },
-    Entry { name: "canonical, of split rows", run: canonical_of_split },
+    Entry { name: "canonical of split rows", run: canonical_of_split },
     Entry { name: "canonical again", run: canonical_again },
     Entry { name: "add_hub_contract", run: add_hub_contract },
     Entry { name: "read_prices", run: read_prices },

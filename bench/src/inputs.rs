@@ -15,6 +15,7 @@ pub struct Size {
 pub const LARGEST: Size = Size { nodes: 200, constraints: 64, contracts: 1000 };
 pub const WIDEST: Size = Size { nodes: 4000, constraints: 64, contracts: 1000 };
 pub const WIDEST_TEXT: Size = Size { nodes: 226, constraints: 64, contracts: 1000 };
+pub const WIDEST_TEXT_AT_8: Size = Size { nodes: 1818, constraints: 8, contracts: 1000 };
 
 /// The longest files.
 pub const GRID_BYTES: usize = 576_220;

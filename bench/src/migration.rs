@@ -28,9 +28,8 @@ struct Rows {
     loads: Vec<u64>,
 }
 
-/// The largest of each form.
+/// The largest; a wide grid has more nodes.
 pub const MOST: Load = Load { nodes: 200, rows: 1000, lses: 16, contracts: 1000 };
-pub const WIDEST: Load = Load { nodes: 4000, ..MOST };
 
 /// Rows drawn at random, and for each LSE a load of ten times the most that it can lose.
 fn lists(draw: &mut Draw, load: Load) -> Rows {

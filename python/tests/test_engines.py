@@ -1,4 +1,5 @@
-"""A year of hours by engines of several processes, dask's cluster and MPI's pool: what one thread gives."""
+"""A year of hours, and a test by slices, by engines of several processes, dask's cluster and MPI's pool: what
+one thread gives."""
 
 import importlib.util
 import pickle
@@ -10,37 +11,39 @@ import unittest
 from datetime import date, timedelta
 
 from support import ENVIRONMENT, SEED, FolderTest, draw_book, draw_grid, draw_prices
+from test_large import drawn
 import crr
+from crr.dense import read_dense, write_dense
+from crr.sliced_test import test_sliced as sliced
 
 # Run by a Python of its own, since the engines' processes look at the script that started them; MPI's are all
 # started beforehand, and lent to the pool of the first.
 SCRIPT = """
 import os, pickle, sys
-import crr
 
-def by_dask(year, folder):
+def by_dask(task, arguments, folder):
     from distributed import Client, LocalCluster
 
     place = dict(local_directory=folder, dashboard_address=None)
     with LocalCluster(n_workers=2, threads_per_worker=1, processes=True, **place) as cluster:
         with Client(cluster) as client:
             workers = set(client.run(os.getpid).values()) - {os.getpid()}
-            return len(workers), crr.settle_hours(*year, client.get_executor(), parts=12)
+            return len(workers), task(*arguments, executor=client.get_executor(), parts=12)
 
-def by_mpi(year, folder):
+def by_mpi(task, arguments, folder):
     from mpi4py.MPI import COMM_WORLD
     from mpi4py.futures import MPIPoolExecutor
 
     with MPIPoolExecutor() as engine:
-        return COMM_WORLD.Get_size() - 1, crr.settle_hours(*year, engine, parts=12)
+        return COMM_WORLD.Get_size() - 1, task(*arguments, executor=engine, parts=12)
 
 if __name__ == "__main__":
     engine, folder = sys.argv[1:]
-    with open(os.path.join(folder, "year"), "rb") as file:
-        year = pickle.load(file)
-    settled = globals()[engine](year, folder)
-    with open(os.path.join(folder, "settled"), "wb") as file:
-        pickle.dump(settled, file)
+    with open(os.path.join(folder, "asked"), "rb") as file:
+        asked = pickle.load(file)
+    given = globals()[engine](*asked, folder)
+    with open(os.path.join(folder, "given"), "wb") as file:
+        pickle.dump(given, file)
 """
 # Open MPI asks for leave to run as root, and for more processes than cores.
 MPI = {
@@ -54,6 +57,10 @@ def lacking(*modules):
     return ", ".join(name for name in modules if importlib.util.find_spec(name) is None)
 
 
+NO_DASK = lacking("distributed") and "dask's distributed is not installed"
+NO_MPI = "" if shutil.which("mpiexec") and not lacking("mpi4py") else "mpi4py or mpiexec is not installed"
+
+
 def make_year():
     """(grid, book, 8,760 price files), the files few and often the same, which nobody can tell."""
     rng = random.Random(SEED)
@@ -64,18 +71,11 @@ def make_year():
     return grid, book, hours
 
 
-class Year(FolderTest):
-    @classmethod
-    def setUpClass(cls):
-        cls.year = make_year()
-        cls.alone = crr.settle_hours(*cls.year)
+class Engines(FolderTest):
+    """Tasks that a Python of its own shares out, and what they give."""
 
-    def test_it_is_a_year(self):
-        self.assertEqual((len(self.alone.hours), len(self.alone.months)), (8760, 12))
-        self.assertEqual(len({hour.sum for hour in self.alone.hours}) > 50, True)
-
-    def settled_by(self, engine, *command):
-        (self.folder / "year").write_bytes(pickle.dumps(self.year))
+    def given_by(self, engine, command, task, *arguments):
+        (self.folder / "asked").write_bytes(pickle.dumps((task, arguments)))
         (self.folder / "script.py").write_text(SCRIPT)
         done = subprocess.run(
             [*command, self.folder / "script.py", engine, self.folder],
@@ -85,16 +85,61 @@ class Year(FolderTest):
             timeout=300,
         )
         self.assertEqual(done.returncode, 0, done.stdout.decode())
-        return pickle.loads((self.folder / "settled").read_bytes())
+        return pickle.loads((self.folder / "given").read_bytes())
 
-    @unittest.skipIf(lacking("distributed"), "dask's distributed is not installed")
+    def by_dask(self, task, *arguments):
+        return self.given_by("by_dask", [sys.executable], task, *arguments)
+
+    def by_mpi(self, task, *arguments):
+        python = ["mpiexec", "-n", "3", sys.executable, "-m", "mpi4py.futures"]
+        return self.given_by("by_mpi", python, task, *arguments)
+
+
+class Year(Engines):
+    @classmethod
+    def setUpClass(cls):
+        cls.year = make_year()
+        cls.alone = crr.settle_hours(*cls.year)
+
+    def test_it_is_a_year(self):
+        self.assertEqual((len(self.alone.hours), len(self.alone.months)), (8760, 12))
+        self.assertEqual(len({hour.sum for hour in self.alone.hours}) > 50, True)
+
+    @unittest.skipIf(NO_DASK, NO_DASK)
     def test_dask(self):
-        self.assertEqual(self.settled_by("by_dask", sys.executable), (2, self.alone))
+        self.assertEqual(self.by_dask(crr.settle_hours, *self.year), (2, self.alone))
 
-    @unittest.skipIf(lacking("mpi4py") or not shutil.which("mpiexec"), "mpi4py or mpiexec is not installed")
+    @unittest.skipIf(NO_MPI, NO_MPI)
     def test_mpi(self):
-        python = ("mpiexec", "-n", "3", sys.executable, "-m", "mpi4py.futures")
-        self.assertEqual(self.settled_by("by_mpi", *python), (2, self.alone))
+        self.assertEqual(self.by_mpi(crr.settle_hours, *self.year), (2, self.alone))
+
+
+class Market(Engines):
+    """More constraints and contracts than a call takes, tested by slices: blocks handed over as bytes, and by
+    their places in a packed case."""
+
+    @classmethod
+    def setUpClass(cls):
+        cls.case = drawn(random.Random(SEED), 40, 900, 1500)
+        cls.alone = sliced(cls.case)
+
+    def packed(self):
+        write_dense(self.case, self.folder / "packed", False)
+        return read_dense(self.folder / "packed")
+
+    def test_it_is_larger(self):
+        self.assertEqual(len(self.alone.flows[1]), 900)
+        self.assertEqual({verdict.passed for verdict in self.alone.verdicts.values()}, {False})
+
+    @unittest.skipIf(NO_DASK, NO_DASK)
+    def test_dask(self):
+        self.assertEqual(self.by_dask(sliced, self.case), (2, self.alone))
+        self.assertEqual(self.by_dask(sliced, self.packed()), (2, self.alone))
+
+    @unittest.skipIf(NO_MPI, NO_MPI)
+    def test_mpi(self):
+        self.assertEqual(self.by_mpi(sliced, self.case), (2, self.alone))
+        self.assertEqual(self.by_mpi(sliced, self.packed()), (2, self.alone))
 
 
 if __name__ == "__main__":

@@ -6,14 +6,11 @@ import io
 import json
 import re
 import unittest
+from collections import Counter
 
+from power_flow import numpy, places, power_flow, table
 from support import IEEE14, ROOT, FolderTest, command
 from crr.matpower import read_case
-
-try:
-    import numpy
-except ImportError:
-    numpy = None
 
 CASES = ROOT / "tests" / "matpower"
 SMALL = """function mpc = small
@@ -32,13 +29,14 @@ mpc.branch = [
 ];
 """
 
-
-def table(path, name):
-    """A table's rows by numpy, with nothing of the package."""
-    text = re.sub("%.*", "", path.read_text())
-    rows = re.search(rf"mpc\.{name} = \[(.*?)\]", text, re.S)[1].split("\n")
-    cells = [re.split(r"[\s,;]+", row.strip(" \t;")) for row in rows if row.strip()]
-    return numpy.array([[float(cell) for cell in row] for row in cells])
+# Magnitude and angle of each bus as MATPOWER prints the power flow of its case 30.
+SOLVED30 = """
+1.000 0.000   1.000 -0.415  0.983 -1.522  0.980 -1.795  0.982 -1.864  0.973 -2.267  0.967 -2.652
+0.961 -2.726  0.981 -2.997  0.984 -3.375  0.981 -2.997  0.985 -1.537  1.000 1.476   0.977 -2.308
+0.980 -2.312  0.977 -2.644  0.977 -3.392  0.968 -3.478  0.965 -3.958  0.969 -3.871  0.993 -3.488
+1.000 -3.393  1.000 -1.589  0.989 -2.631  0.990 -1.690  0.972 -2.139  1.000 -0.828  0.975 -2.266
+0.980 -2.128  0.968 -3.042
+"""
 
 
 def numpy_ptdf(path, slack):
@@ -51,6 +49,68 @@ def numpy_ptdf(path, slack):
     out = numpy.zeros_like(flows)
     out[:, others] = flows[:, others] @ numpy.linalg.inv((incidence.T @ flows)[numpy.ix_(others, others)])
     return out
+
+
+def degrees(volts):
+    return numpy.degrees(numpy.angle(volts))
+
+
+@unittest.skipIf(numpy is None, "numpy is not installed")
+class Figures(unittest.TestCase):
+    """A case's figures, held to the solution of its AC power flow as it is published."""
+
+    def setUp(self):
+        self.tables = [table(CASES / "case30.m", name) for name in ("bus", "gen", "branch")]
+        self.solved = numpy.array(SOLVED30.split(), dtype=float).reshape(30, 2)
+
+    def off(self, volts):
+        return max(abs(abs(volts) - self.solved[:, 0]).max(), abs(degrees(volts) - self.solved[:, 1]).max())
+
+    def test_case30_is_solved_as_published(self):
+        volts, injections = power_flow(*self.tables)
+        self.assertLess(self.off(volts), 0.0005)
+        self.assertEqual(round(injections.real.sum(), 3), 2.444)  # the losses
+        self.assertEqual([round(load, 3) for load in self.tables[0][:, 2:4].sum(0)], [189.2, 107.2])
+
+    def test_a_wrong_reactance_shows(self):
+        """By one in its last digit; but of 9-11, behind which nothing is drawn."""
+        buses, generators, branches = self.tables
+        unseen = []
+        for at, branch in enumerate(branches):
+            other = branches.copy()
+            other[at, 3] += 0.01
+            if self.off(power_flow(buses, generators, other)[0]) < 0.0005:
+                unseen.append(tuple(branch[:2]))
+        self.assertEqual(unseen, [(9, 11)])
+
+    def test_case118_is_solved_as_published(self):
+        """Generation and losses as MATPOWER prints them of its case 118; the archive's own voltages are not
+        quite the solution of its figures."""
+        buses, generators, branches = (table(CASES / "case118.m", name) for name in ("bus", "gen", "branch"))
+        volts, injections = power_flow(buses, generators, branches)
+        start, end = (places(buses, branches[:, at]) for at in (0, 1))
+        taps = numpy.where(branches[:, 8] == 0, 1, branches[:, 8])
+        currents = (volts[start] / taps - volts[end]) / (branches[:, 2] + 1j * branches[:, 3])
+        loads, lost = buses[:, 2:4].sum(0), (abs(currents) ** 2) @ branches[:, 2:4] * 100
+        self.assertEqual([round(figure) for figure in loads], [4242, 1438])
+        self.assertEqual([round(figure, 1) for figure in loads + self.sums(injections)], [4374.9, 795.7])
+        self.assertEqual((round(lost[0], 3), round(lost[1], 2)), (132.863, 783.79))
+        near = buses[:, 0] != 30
+        self.assertLess(abs(abs(volts) - buses[:, 7])[near].max(), 0.0095)
+        self.assertLess(abs(degrees(volts) - buses[:, 8]).max(), 0.31)
+
+    def sums(self, injections):
+        return numpy.array([injections.real.sum(), injections.imag.sum()])
+
+    def test_case118_has_its_branches(self):
+        branches = table(CASES / "case118.m", "branch")
+        pairs = Counter(tuple(map(int, row[:2])) for row in branches)
+        twice = {(42, 49), (49, 54), (49, 66), (56, 59), (77, 80), (89, 90), (89, 92)}
+        self.assertEqual((len(branches), {pair for pair, count in pairs.items() if count > 1}), (186, twice))
+        taps = [(int(row[0]), int(row[1]), row[8]) for row in branches if row[8]]
+        by_tap = {0.985: {(8, 5), (64, 61)}, 0.96: {(26, 25), (30, 17), (63, 59)}}
+        by_tap[0.935] = {(38, 37), (65, 66), (68, 69), (81, 80)}
+        self.assertEqual({tap: {row[:2] for row in taps if row[2] == tap} for _, _, tap in taps}, by_tap)
 
 
 class Cases(FolderTest):
@@ -66,7 +126,8 @@ class Cases(FolderTest):
 
     @unittest.skipIf(numpy is None, "numpy is not installed")
     def test_against_numpy(self):
-        cases = (("case14", "1", (14, 40)), ("case14", "9", (14, 40)), ("case30", "22", (30, 82)))
+        cases = [("case14", "1", (14, 40)), ("case14", "9", (14, 40)), ("case30", "22", (30, 82))]
+        cases += [("case118", slack, (118, 372)) for slack in ("69", "1", "116")]
         for name, slack, counts in cases:
             case = CASES / f"{name}.m"
             self.made(case, "--slack", slack, "--limit", "100")
@@ -92,6 +153,17 @@ class Cases(FolderTest):
         self.assertEqual([limits[name] for name in names], ["90.000", "90.000", "16.000"])
         self.assertNotIn("not monitored", err)
         self.assertTrue(out.endswith(": 30 nodes, 82 constraints\n"), out)
+
+    def test_case118_has_no_ratings(self):
+        """So none is monitored, and that is said; 9,900 MW, as older files of it have, is a limit."""
+        _, _, err = self.made(CASES / "case118.m", status=2)
+        self.assertIn("every branch has rating 0, which is no limit", err)
+        path = self.folder / "case118.m"
+        path.write_text((CASES / "case118.m").read_text().replace("0.0254\t0\t", "0.0254\t9900\t", 1))
+        _, _, err = self.made(path)
+        self.assertIn("185 branches of rating 0, which is none, not monitored", err)
+        limits = (self.folder / "grid" / "constraints.csv").read_text().splitlines()
+        self.assertEqual(limits, ["CONSTRAINT_ID,LIMIT_MW", "1-2,9900.000", "1-2 reverse,9900.000"])
 
     def test_crr_grid_makes_the_same(self):
         """Of the branches that are written, with an outage."""

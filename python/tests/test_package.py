@@ -9,12 +9,13 @@ import os
 import shutil
 import subprocess
 import sys
+import tarfile
 import unittest
 import zipfile
 from hashlib import sha256
 
 from support import IEEE14, ROOT, FolderTest, command
-from crr.library import LIBRARIES, library_name, library_path
+from crr.library import LIBRARIES, library_name, library_path, page_path
 import crr
 
 PACKING = ("pip", "setuptools", "wheel", "venv")
@@ -46,7 +47,7 @@ class Wheel(FolderTest):
             self.skipTest(f"not installed: {', '.join(missing(*PACKING))}")
         ignored = shutil.ignore_patterns("tests", "build", "*.egg-info", "__pycache__")
         shutil.copytree(ROOT / "python", self.folder / "clone" / "python", ignore=ignored)
-        for name in ("crates", "include", "dist", "target"):
+        for name in ("crates", "crates.txt", "include", "js", "dist", "target"):
             os.symlink(ROOT / name, self.folder / "clone" / name)
 
     def pip(self, *arguments, machine=""):
@@ -78,6 +79,21 @@ class Wheel(FolderTest):
         self.assertEqual((lines[0], lines[2]), (f"crr {crr.__version__}", "from    the installed package"))
         package = next(place.parent.rglob("crr/native.py")).parent.resolve()
         self.assertEqual(lines[1], f"library {package / name}")
+        if from_dist:
+            made = run(place / "crr", "page", "-o", self.folder / "page.html", **alone)
+            self.assertEqual(made.returncode, 0, made.stdout.decode())
+            self.assertEqual((self.folder / "page.html").read_bytes(), page_path().read_bytes())
+
+    def test_sources_have_the_page(self):
+        if library_path().parts[-2] == "sharedlib":
+            self.skipTest("dist/ is of other sources")
+        place = self.folder / "clone" / "python"
+        made = run(self.python, "setup.py", "-q", "sdist", "-d", self.folder, cwd=place)
+        self.assertEqual(made.returncode, 0, made.stdout.decode())
+        name = f"crr-{crr.__version__}"
+        with tarfile.open(self.folder / f"{name}.tar.gz") as packed:
+            page = packed.extractfile(f"{name}/src/crr/page.html").read()
+        self.assertEqual(page, page_path().read_bytes())
 
     def test_other_machines(self):
         """Their wheels carry the libraries of dist/, each file where crr/library.py looks for it."""

@@ -24,14 +24,16 @@ use Rattle.book_rules.specs.BookChecks.{bookChecks}
 use Rattle.book_rules.proofs.Accepted.{own-parts}
 use Rattle.test_rules.specs.declared.TestAnswer.{TestAnswer}
 use Rattle.test_rules.specs.declared.TestAnswer.the-variants.{Pass}
-use Rattle.test_rules.specs.TestBook.{TestCall, testCall, testOutcome, TestsBook, testChecks, testChecked, testedGrid, testedProcess, testedContracts, testValues, TestCells, testedCells}
+use Rattle.test_rules.specs.TestBook.{TestCall, testCall, testOutcome, TestsBook, testChecks, testChecked}
+use Rattle.test_rules.specs.TestBook.{testedGrid, testedProcess, testedContracts, testValues, TestCells, testedCells}
 use Rattle.test_rules.proofs.Figures.{same-test, same-cells}
 use Rattle.test_rules.proofs.Judging.{passed-told}
 use Rattle.test_loading.specs.declared.FlowsAnswer.{FlowsAnswer}
 use Rattle.test_loading.specs.FindFlows.{FlowsCall, flowsCall, findFlowsChecks, findFlowsChecked, countedContracts, flowCells, flowsOutcome, FindsFlows}
 use Rattle.hour_rules.specs.declared.SettleAnswer.{SettleAnswer}
 use Rattle.hour_rules.specs.declared.SettleAnswer.the-variants.{Settled}
-use Rattle.hour_rules.specs.SettleHour.{HourCall, hourCall, settleOutcome, SettlesHour, SettlesForC, settleChecks, settleChecked, hourTotal, hourFactors, hourPrices, hourPeriod, sumGiven, exactGiven}
+use Rattle.hour_rules.specs.SettleHour.{HourCall, hourCall, settleOutcome, SettlesHour, SettlesForC, settleChecks}
+use Rattle.hour_rules.specs.SettleHour.{settleChecked, hourTotal, hourFactors, hourPrices, hourPeriod, sumGiven, exactGiven}
 use Rattle.order_calls.specs.ForC.{HourFigures}
 use Rattle.book_calls.specs.Alike.{AlikeBooks, FlowsAlike, RoomFor, AnsweredAlike}
 
@@ -52,7 +54,8 @@ pass-by a b e p = passed-told b (sym e ∙ ap testOutcome p)
 hour-told : (q : HourCall) (sum whole : ℤ) (part : ℕ) (cents : Lent (List ℤ)) (sets : Lent (List ℕ)) → SettlesHour q (Settled sum whole part) cents sets
     → (whole ≡ wholeCents (exactGiven q)) × (part ≡ parts (exactGiven q))
 hour-told q sum whole part cents sets h =
-    let both : sum ∷ whole ∷ pos part ∷ [] ≡ sumGiven q ∷ wholeCents (exactGiven q) ∷ pos (parts (exactGiven q)) ∷ [] = given-told (settleChecked q cents sets) _ _ (h .totals) .1 in
+    let both : sum ∷ whole ∷ pos part ∷ [] ≡ sumGiven q ∷ wholeCents (exactGiven q) ∷ pos (parts (exactGiven q)) ∷ []
+    = given-told (settleChecked q cents sets) _ _ (h .totals) .1 in
     (cc, cc)
 
 figures-told : (q : HourCall) (c : HourFigures) → SettlesForC q 0 (c .cents) (c .sets) (c .sum) (c .whole) (c .part)
@@ -63,9 +66,24 @@ figures-told q c h =
     (figure-is checked ok _ _ _ (h .whole-given), figure-is checked ok _ _ _ (h .parts-given))
 
 -- checks around a book's own that find nothing
-pub around : (xs : List Check) (bs cs ys zs : List Check) → first bs ≡ Passed → first cs ≡ Passed → first ys ≡ first zs → first (xs ++ (bs ++ ys)) ≡ first (xs ++ (cs ++ zs))
+pub around : (xs : List Check) (bs cs ys zs : List Check) → first bs ≡ Passed → first cs ≡ Passed → first ys ≡ first zs
+    → first (xs ++ (bs ++ ys)) ≡ first (xs ++ (cs ++ zs))
 around xs bs cs ys zs b c e =
     first-append xs (bs ++ ys) ∙ ap (decided (first xs) Refused) (append-passes bs ys b ∙ e ∙ sym (append-passes cs zs c)) ∙ sym (first-append xs (cs ++ zs))
+
+-- the checks of an hour, of two books that are accepted and have room alike
+pub settle-around : (n k period : ℕ) (factors : List ℤ) (prices s t : List ℕ) (cents cents₂ : Lent (List ℤ)) (sets sets₂ : Lent (List ℕ))
+    → first (bookChecks n s) ≡ Passed → first (bookChecks n t) ≡ Passed
+    → first (shortTable (length (before cents)) (contractCountIn s) ∷ shortTable (length (before sets)) (contractCountIn s) ∷ [])
+    ≡ first (shortTable (length (before cents₂)) (contractCountIn t) ∷ shortTable (length (before sets₂)) (contractCountIn t) ∷ [])
+    → settleChecked (hourCall n k period factors prices s) cents sets ≡ settleChecked (hourCall n k period factors prices t) cents₂ sets₂
+unfolding settleChecks
+settle-around n k period factors prices s t cents cents₂ sets sets₂ =
+    around
+    (nodeCount n ∷ constraintCount k ∷ periodNumber period ∷ shortTable (length factors) (n * k) ∷ shortTable (length prices) k
+    ∷ factorRange (take (n * k) factors) ∷ priceRange (take k prices) ∷ [])
+    (bookChecks n s) (bookChecks n t) (shortTable (length (before cents)) (contractCountIn s) ∷ shortTable (length (before sets)) (contractCountIn s) ∷ [])
+    (shortTable (length (before cents₂)) (contractCountIn t) ∷ shortTable (length (before sets₂)) (contractCountIn t) ∷ [])
 
 module _ (n : ℕ) (s t : List ℕ) (h : AlikeBooks n s t) where
   own-s : first (bookChecks n s) ≡ Passed
@@ -77,25 +95,27 @@ module _ (n : ℕ) (s t : List ℕ) (h : AlikeBooks n s t) where
   -- ---- the test
 
   module _ (k process period : ℕ) (limits : List ℕ) (factors : List ℤ) where
-    abbrev onS : TestCall
-    onS = testCall n k process period limits factors s
+    abbrev on : List ℕ → TestCall
+    on = testCall n k process period limits factors
 
-    abbrev onT : TestCall
-    onT = testCall n k process period limits factors t
-
-    test-checks : testChecked onS ≡ testChecked onT
+    test-checks : testChecked (on s) ≡ testChecked (on t)
     unfolding testChecks
     test-checks =
         let tables = gridTableChecks n k process period limits factors in
         first-append tables (bookChecks n s) ∙ ap (decided (first tables) Refused) (own-s ∙ sym own-t) ∙ sym (first-append tables (bookChecks n t))
 
-    test-values : testValues (testedGrid onS) (testedProcess onS) (testedContracts onS) ≡ testValues (testedGrid onT) (testedProcess onT) (testedContracts onT)
-    test-values = same-test (testedGrid onS) (testedProcess onS) (testedContracts onS) (testedContracts onT) (h .flows-same (testedGrid onS .factors) (periodOf period)) .figures-same
+    test-values : testValues (testedGrid (on s)) (testedProcess (on s)) (testedContracts (on s)) ≡ testValues (testedGrid (on t)) (testedProcess (on t))
+        (testedContracts (on t))
+    test-values =
+        same-test (testedGrid (on s)) (testedProcess (on s)) (testedContracts (on s)) (testedContracts (on t))
+        (h .flows-same (testedGrid (on s) .factors) (periodOf period)) .figures-same
 
-    test-cells : testedCells onS ≡ testedCells onT
-    test-cells = same-cells (testedGrid onS) (testedProcess onS) (testedContracts onS) (testedContracts onT) (h .flows-same (testedGrid onS .factors) (periodOf period))
+    test-cells : testedCells (on s) ≡ testedCells (on t)
+    test-cells =
+        same-cells (testedGrid (on s)) (testedProcess (on s)) (testedContracts (on s)) (testedContracts (on t))
+        (h .flows-same (testedGrid (on s) .factors) (periodOf period))
 
-    test-same : (a b : TestAnswer) → TestsBook onS a → TestsBook onT b → testOutcome a ≡ testOutcome b
+    test-same : (a b : TestAnswer) → TestsBook (on s) a → TestsBook (on t) b → testOutcome a ≡ testOutcome b
     test-same a b p q = p .figures ∙ (λ i. answered (test-checks i) (test-values i)) ∙ sym (q .figures)
 
   -- ---- flows
@@ -113,12 +133,14 @@ module _ (n : ℕ) (s t : List ℕ) (h : AlikeBooks n s t) where
         around
         (nodeCount n ∷ constraintCount k ∷ periodNumber period ∷ shortTable (length limits) k ∷ shortTable (length factors) (n * k) ∷ limitRange (take k limits)
         ∷ factorRange (take (n * k) factors) ∷ [])
-        (bookChecks n s) (bookChecks n t) (shortTable (length e) k ∷ []) (shortTable (length f) k ∷ []) own-s own-t (ap (λ (l : ℕ). first (shortTable l k ∷ [])) room)
+        (bookChecks n s) (bookChecks n t) (shortTable (length e) k ∷ []) (shortTable (length f) k ∷ []) own-s own-t
+        (ap (λ (l : ℕ). first (shortTable l k ∷ [])) room)
 
     flow-cells : flowCells flowsS ≡ flowCells flowsT
     flow-cells = λ i. listTo k (λ j. h .flows-same (factorsOf n k factors) (periodOf period) j i)
 
-    taken : (q : FlowsCall) (x : List ℤ) → findFlowsChecked q ≡ Passed → x ≡ cellsAfter (findFlowsChecked q) (flowCells q) (q .place) → take (q .constraints) x ≡ flowCells q
+    taken : (q : FlowsCall) (x : List ℤ) → findFlowsChecked q ≡ Passed → x ≡ cellsAfter (findFlowsChecked q) (flowCells q) (q .place)
+        → take (q .constraints) x ≡ flowCells q
     taken q x ok is =
         ap (take (q .constraints)) (is ∙ ap (λ (c : Checked). cellsAfter c (flowCells q) (q .place)) ok)
         ∙ front-is (flowCells q) (q .place) (q .constraints) (length-listTo (q .constraints) _)
@@ -137,36 +159,27 @@ module _ (n : ℕ) (s t : List ℕ) (h : AlikeBooks n s t) where
   -- ---- an hour
 
   module _ (k period : ℕ) (factors : List ℤ) (prices : List ℕ) where
-    abbrev hourS : HourCall
-    hourS = hourCall n k period factors prices s
-
-    abbrev hourT : HourCall
-    hourT = hourCall n k period factors prices t
+    abbrev hour : List ℕ → HourCall
+    hour = hourCall n k period factors prices
 
     roomy : (u : List ℕ) (cents : Lent (List ℤ)) (sets : Lent (List ℕ)) → RoomFor u cents sets
         → first (shortTable (length (before cents)) (contractCountIn u) ∷ shortTable (length (before sets)) (contractCountIn u) ∷ []) ≡ Passed
     roomy u cents sets r =
-        first-passes (shortTable (length (before cents)) (contractCountIn u)) (shortTable (length (before sets)) (contractCountIn u) ∷ []) (le-ltb (length (before cents)) (contractCountIn u) (r .0))
+        first-passes (shortTable (length (before cents)) (contractCountIn u)) (shortTable (length (before sets)) (contractCountIn u) ∷ [])
+        (le-ltb (length (before cents)) (contractCountIn u) (r .0))
         ∙ last-passes (shortTable (length (before sets)) (contractCountIn u)) (le-ltb (length (before sets)) (contractCountIn u) (r .1))
 
     hour-checks : (cents cents₂ : Lent (List ℤ)) (sets sets₂ : Lent (List ℕ)) → RoomFor s cents sets → RoomFor t cents₂ sets₂
-        → settleChecked hourS cents sets ≡ settleChecked hourT cents₂ sets₂
-    unfolding settleChecks
+        → settleChecked (hour s) cents sets ≡ settleChecked (hour t) cents₂ sets₂
     hour-checks cents cents₂ sets sets₂ r r₂ =
-        around
-        (nodeCount n ∷ constraintCount k ∷ periodNumber period ∷ shortTable (length factors) (n * k) ∷ shortTable (length prices) k ∷ factorRange (take (n * k) factors)
-        ∷ priceRange (take k prices) ∷ [])
-        (bookChecks n s) (bookChecks n t)
-        (shortTable (length (before cents)) (contractCountIn s) ∷ shortTable (length (before sets)) (contractCountIn s) ∷ [])
-        (shortTable (length (before cents₂)) (contractCountIn t) ∷ shortTable (length (before sets₂)) (contractCountIn t) ∷ [])
-        own-s own-t (roomy s cents sets r ∙ sym (roomy t cents₂ sets₂ r₂))
+        settle-around n k period factors prices s t cents cents₂ sets sets₂ own-s own-t (roomy s cents sets r ∙ sym (roomy t cents₂ sets₂ r₂))
 
-    exact-same : exactGiven hourS ≡ exactGiven hourT
+    exact-same : exactGiven (hour s) ≡ exactGiven (hour t)
     unfolding hourTotal
-    exact-same = h .totals-same (hourFactors hourS) (hourPrices hourS) (hourPeriod hourS)
+    exact-same = h .totals-same (hourFactors (hour s)) (hourPrices (hour s)) (hourPeriod (hour s))
 
-    by-total : (whole whole₂ : ℤ) (part part₂ : ℕ) → (whole ≡ wholeCents (exactGiven hourS)) × (part ≡ parts (exactGiven hourS))
-        → (whole₂ ≡ wholeCents (exactGiven hourT)) × (part₂ ≡ parts (exactGiven hourT)) → (whole ≡ whole₂) × (part ≡ part₂)
+    by-total : (whole whole₂ : ℤ) (part part₂ : ℕ) → (whole ≡ wholeCents (exactGiven (hour s))) × (part ≡ parts (exactGiven (hour s)))
+        → (whole₂ ≡ wholeCents (exactGiven (hour t))) × (part₂ ≡ parts (exactGiven (hour t))) → (whole ≡ whole₂) × (part ≡ part₂)
     by-total whole whole₂ part part₂ l m = (l .0 ∙ ap wholeCents exact-same ∙ sym (m .0), l .1 ∙ ap parts exact-same ∙ sym (m .1))
 
   pub answered-alike : AnsweredAlike n s t

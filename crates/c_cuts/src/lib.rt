@@ -3,6 +3,7 @@ ghost use Rattle.lists.specs.Lent.{before};
 ghost use Rattle.test_rules.specs.TestBook.{testCall};
 ghost use Rattle.cut_rules.specs.FindCuts.{FindsCutsForC};
 use cut_rules::CutsAnswer;
+use test_terms::Asked;
 
 // Lists each contract of the period whose quantity, lowered alone, makes a failing book pass, with the least such cut, and gives how many there are.
 #[no_mangle]
@@ -20,17 +21,13 @@ pub extern "C" fn crr_find_cuts(
 ) -> u64
     ensures { λ r. ⌜ FindsCutsForC (testCall nodes constraints process period (before limits) (before factors) (before book)) numbers cuts r listed ⌝ }
 {
-    match cut_list::find_cuts(
+    let asked = Asked {
         nodes,
         constraints,
         process,
         period,
-        limits,
-        factors,
-        book,
-        numbers,
-        cuts,
-    ) {
+    };
+    match cut_list::find_cuts(asked, limits, factors, book, numbers, cuts) {
         CutsAnswer::Refused(refusal) => refusal.number(),
         CutsAnswer::Found { listed: rows } => {
             *listed = rows;

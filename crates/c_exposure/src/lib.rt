@@ -3,6 +3,7 @@ ghost use Rattle.lists.specs.Lent.{before};
 ghost use Rattle.test_rules.specs.TestBook.{testCall};
 ghost use Rattle.exposure_bounds.specs.FindExposure.{FindsExposureForC};
 use exposure_bounds::ExposureAnswer;
+use test_terms::Asked;
 
 // Finds the least and the most that a book can cost, each as whole cents and parts, and prices that cost the least, one cell for each constraint.
 #[no_mangle]
@@ -23,16 +24,13 @@ pub extern "C" fn crr_find_exposure(
     ensures { λ r. ⌜ FindsExposureForC (testCall nodes constraints process period (before limits) (before factors) (before book)) r prices
         «least_whole» «least_parts» «most_whole» «most_parts» ⌝ }
 {
-    match exposure_bounds::find_exposure(
+    let asked = Asked {
         nodes,
         constraints,
         process,
         period,
-        limits,
-        factors,
-        book,
-        prices,
-    ) {
+    };
+    match exposure_bounds::find_exposure(asked, limits, factors, book, prices) {
         ExposureAnswer::Refused(refusal) => refusal.number(),
         ExposureAnswer::Found {
             least_whole: low,

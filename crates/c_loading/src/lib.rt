@@ -4,6 +4,7 @@ ghost use Rattle.test_loading.specs.FindFlows.{flowsCall, FindsFlowsForC};
 ghost use Rattle.test_loading.specs.ReleasedPercent.{ReleasesPercentForC};
 use test_loading::FlowsAnswer;
 use test_loading::PercentAnswer;
+use test_terms::AskedFlows;
 
 // Finds the flow on each constraint of a period's contracts as they count, one cell each, and gives how many were counted.
 #[no_mangle]
@@ -19,7 +20,12 @@ pub extern "C" fn crr_find_flows(
 ) -> u64
     ensures { λ r. ⌜ FindsFlowsForC (flowsCall nodes constraints period (before limits) (before factors) (before book) (before flows)) r (after flows) counted ⌝ }
 {
-    match test_loading::find_flows(nodes, constraints, period, limits, factors, book, flows) {
+    let asked = AskedFlows {
+        nodes,
+        constraints,
+        period,
+    };
+    match test_loading::find_flows(asked, limits, factors, book, flows) {
         FlowsAnswer::Refused(refusal) => refusal.number(),
         FlowsAnswer::Found { counted: many } => {
             *counted = many;

@@ -3,6 +3,7 @@ ghost use Rattle.lists.specs.Lent.{before};
 ghost use Rattle.test_rules.specs.TestBook.{testCall};
 ghost use Rattle.exposure_shortfall.specs.FindShortfall.{FindsShortfallForC};
 use exposure_shortfall::ShortfallAnswer;
+use test_terms::Asked;
 
 // Finds net payment, rent and shortfall of a book at a price list, each as whole cents and parts.
 #[no_mangle]
@@ -25,16 +26,13 @@ pub extern "C" fn crr_find_shortfall(
     ensures { λ r. ⌜ FindsShortfallForC (testCall nodes constraints process period (before limits) (before factors) (before book)) (before prices) r
         «payment_whole» «payment_parts» «rent_whole» «rent_parts» «shortfall_whole» «shortfall_parts» ⌝ }
 {
-    match exposure_shortfall::find_shortfall(
+    let asked = Asked {
         nodes,
         constraints,
         process,
         period,
-        limits,
-        factors,
-        prices,
-        book,
-    ) {
+    };
+    match exposure_shortfall::find_shortfall(asked, limits, factors, prices, book) {
         ShortfallAnswer::Refused(refusal) => refusal.number(),
         ShortfallAnswer::Found {
             payment_whole: paid,

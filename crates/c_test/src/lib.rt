@@ -2,6 +2,7 @@
 ghost use Rattle.lists.specs.Lent.{before};
 ghost use Rattle.test_rules.specs.TestBook.{testCall, TestsBookForC};
 use test_rules::TestAnswer;
+use test_terms::Asked;
 
 // Tests a book's bytes against grid tables for a process and a period, and gives the test's figures: on a pass all are 0, and only then is the set.
 #[no_mangle]
@@ -20,7 +21,13 @@ pub extern "C" fn crr_test_book(
 ) -> u64
     ensures { λ r. ⌜ TestsBookForC (testCall nodes constraints process period (before limits) (before factors) (before book)) r set count lowest excess ⌝ }
 {
-    match test_verdict::test_book(nodes, constraints, process, period, limits, factors, book) {
+    let asked = Asked {
+        nodes,
+        constraints,
+        process,
+        period,
+    };
+    match test_verdict::test_book(asked, limits, factors, book) {
         TestAnswer::Refused(refusal) => refusal.number(),
         TestAnswer::Pass => {
             *set = 0;

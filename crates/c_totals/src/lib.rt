@@ -4,6 +4,7 @@ ghost use Rattle.test_totals.specs.AddFlows.{addFlowsCall, AddsFlowsForC};
 ghost use Rattle.test_totals.specs.JudgeFlows.{judgeCall, JudgesFlowsForC};
 use test_loading::FlowsAnswer;
 use test_rules::TestAnswer;
+use test_terms::AskedFlows;
 
 // Adds the flow on each constraint of a period's contracts as they count to the totals in `flows`, and how many to `count`; `counted` is given how many.
 #[no_mangle]
@@ -21,16 +22,12 @@ pub extern "C" fn crr_add_flows(
     ensures { λ r. ⌜ AddsFlowsForC (addFlowsCall nodes constraints period (before limits) (before factors) (before book) flows count)
         r (after flows) (after count) counted ⌝ }
 {
-    match test_totals::add_flows(
+    let asked = AskedFlows {
         nodes,
         constraints,
         period,
-        limits,
-        factors,
-        book,
-        flows,
-        count,
-    ) {
+    };
+    match test_totals::add_flows(asked, limits, factors, book, flows, count) {
         FlowsAnswer::Refused(refusal) => refusal.number(),
         FlowsAnswer::Found { counted: many } => {
             *counted = many;

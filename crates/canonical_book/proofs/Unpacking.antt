@@ -1,6 +1,6 @@
 -- A contract that fits, back from its number; and a contract's bytes from its parts.
-use mathlib.Core.Path.{_≡_, ap₂, _∙_}
-use Prim.Native.Nat.{ℕ, _/_, _%_, _^_}
+use mathlib.Core.Path.{_≡_, refl, ap, ap₂, _∙_}
+use Prim.Native.Nat.{ℕ, _+_, _*_, _/_, _%_, _^_}
 use native.Mathlib.Omega.{arith}
 use Rattle.tariff.specs.declared.contracts.Contract.{Contract}
 use Rattle.layouts.specs.declared.forms.Form.{Form}
@@ -50,3 +50,17 @@ module _ (form : Form) (c : Contract) (fits : ContractFits (endWidth form) c) (v
       let period : v / 2 ^ 54 % 2 ^ 1 ≡ periodBit (c .period) = omega (arith, terms-back, wide .holder-fits) in
       let holder : v / 2 ^ 44 % 2 ^ 10 ≡ c .holder = omega (arith, terms-back, wide .holder-fits) in
       contract-is c kind period holder source-back sink-back quantity-back
+
+-- a row's bytes in either form
+module _ (of : Contract) (v : ℕ) (e : v ≡ rowNumber of) where
+  pub narrow-bytes : ContractFits 8 of → (t s r : ℕ) → t ≡ termsNumber (contractOf 12 v) → s ≡ contractOf 12 v .source → r ≡ v / 2 ^ 0 % 2 ^ 28
+      → contractBytes Narrow (contractOf 12 v) ≡ bitsBytes Narrow ((t * 256 + s) * 268435456 + r)
+  narrow-bytes fits t s r et es er =
+      let small = sink-back Narrow of fits v e in
+      parts-bytes Narrow (contractOf 12 v) t s (contractOf 12 v .sink) (quantity (contractOf 12 v)) _ et es refl refl (omega (arith, er, small, fits .sink-fits))
+
+  pub wide-bytes : ContractFits 12 of → contractBytes Wide (contractOf 12 v) ≡ bitsBytes Wide v
+  unfolding fiveOf
+  wide-bytes fits =
+      ap (contractBytes Wide) (contract-back Wide of fits v e)
+      ∙ parts-bytes Wide of (termsNumber of) (of .source) (of .sink) (quantity of) v refl refl refl refl (omega (arith, e))

@@ -14,10 +14,14 @@ ghost use Rattle.canonical_rules.specs.Inner.{rowNumber, quantityIn, numberAt, 
 ghost use Rattle.canonical_numbers.specs.Inner.{SizedQuantity, Steps, Countable};
 use book_bits::NARROW_END_WIDTH;
 use book_bits::QUANTITIES;
+use book_bits::QUANTITY_WIDTH;
 use book_bits::WIDE_END_WIDTH;
 use layouts::Form;
 use tariff::MAX_QUANTITY;
 use tariff::Quantity;
+
+// One past the largest figure of an end's bits in a row's number.
+const ENDS: u64 = 1u64 << WIDE_END_WIDTH;
 
 // The number of the contract whose bits are the lowest of `v`, its ends of `width` bits: ends of 12 bits, so that it has the canonical order.
 fn number_of(v: u64, width: usize) -> u64
@@ -31,13 +35,23 @@ fn number_of(v: u64, width: usize) -> u64
     book_bits::contract_number(Form::Wide, terms, source, sink, quantity)
 }
 
+// The same with ends of 8 bits: sink and quantity stand side by side as in the number, and are taken as one.
+fn narrow_number_of(v: u64) -> u64
+    ensures { λ r. ⌜ r ≡ rowNumber (contractOf 8 v) ⌝ }
+{
+    let terms = book_bits::terms_in(v, NARROW_END_WIDTH);
+    let source = book_bits::source_in(v, NARROW_END_WIDTH);
+    let rest = bits::part(v, 0, NARROW_END_WIDTH + QUANTITY_WIDTH);
+    (terms * ENDS + source) * (ENDS * QUANTITIES) + rest
+}
+
 // The number of contract i of a book's bytes.
 fn number_at(book: &[u8], form: Form, i: usize) -> u64
     requires { ⌜ (i < 1024) × (bookBytes form i + recordBytes form ≤ length (now book)) ⌝ }
     ensures { λ r. ⌜ r ≡ rowNumber (contractIn form (before book) i) ⌝ }
 {
     match form {
-        Form::Narrow => number_of(book_bits::bits_at(book, Form::Narrow, i), NARROW_END_WIDTH),
+        Form::Narrow => narrow_number_of(book_bits::bits_at(book, Form::Narrow, i)),
         Form::Wide => number_of(book_bits::bits_at(book, Form::Wide, i), WIDE_END_WIDTH),
     }
 }
@@ -133,6 +147,6 @@ pub fn canonical_rows(book: &[u8], form: Form, count: usize, cells: &mut [u64]) 
         return 0;
     }
     fill_numbers(book, form, count, cells);
-    sorting::sort(cells, count);
+    sorting_digits::sort(cells, count);
     walk(cells, count)
 }

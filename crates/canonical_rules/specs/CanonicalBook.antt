@@ -9,16 +9,15 @@ use Rattle.tariff.specs.Checks.{shortTable}
 use Rattle.layouts.specs.declared.WriteAnswer.{WriteAnswer}
 use Rattle.layouts.specs.Writing.{Writes, WritesForC}
 use Rattle.book_rules.specs.BookChecks.{ownChecks}
+use Rattle.view_rules.specs.MarketView.{MarketViewCall, marketViewCall}
 use Rattle.canonical_rules.specs.Canonical.{canonicalFile}
 
--- the node count, the book's bytes, and the place for the canonical book's bytes as it is at entry
-pub record CanonicalBookCall : Type 0 where
-  pub nodes : ℕ
-  pub book : List ℕ
-  pub place : List ℕ
+-- the call is that of the market's view, with the place for the canonical book's bytes
+abbrev pub CanonicalBookCall : Type 0
+CanonicalBookCall = MarketViewCall
 
 abbrev pub canonicalBookCall : ℕ → List ℕ → List ℕ → CanonicalBookCall
-canonicalBookCall n book place = record { nodes = n; book = book; place = place }
+canonicalBookCall = marketViewCall
 
 module _ (q : CanonicalBookCall) where
   -- "Only 9 follows the book's own checks.": for a place shorter than the form

@@ -3,7 +3,7 @@ ghost use mathlib.Core.Path.{_≡_};
 ghost use Prim.Native.Nat.{_≤_};
 ghost use lib.ListN.{length};
 ghost use Rattle.lists.specs.Lent.{before, after, overwrite};
-ghost use Rattle.test_rules.specs.TestBook.{testCall};
+ghost use Rattle.test_terms.specs.Calls.{askedTest};
 ghost use Rattle.cut_rules.specs.FindCuts.{FindsCuts};
 ghost use Rattle.cut_list.specs.Inner.{numbersOf, cutsOf, ListsRows};
 use cut_rules::CutsAnswer;
@@ -12,6 +12,7 @@ use tariff::Checked;
 use tariff::MAX_CONTRACTS;
 use tariff::Refusal;
 use test_excesses::Terms;
+use test_terms::Asked;
 use test_verdict::check_test;
 
 // Takes the first `count` keys apart: the contracts' numbers, and their cuts.
@@ -46,24 +47,21 @@ fn list_rows(keys: &[u64], listed: usize, numbers: &mut [u64], cuts: &mut [u64])
 
 // Lists each contract of the period whose quantity, lowered alone, makes a failing book pass, with the least such cut: by cut, then by contract number.
 pub fn find_cuts(
-    nodes: usize,
-    constraints: usize,
-    process: u64,
-    period: u64,
+    asked: Asked,
     limits: &[u64],
     factors: &[i64],
     book: &[u8],
     numbers: &mut [u64],
     cuts: &mut [u64],
 ) -> CutsAnswer
-    ensures { λ r. ⌜ FindsCuts (testCall nodes constraints process period (before limits) (before factors) (before book)) numbers cuts r ⌝ }
+    ensures { λ r. ⌜ FindsCuts (askedTest asked (before limits) (before factors) (before book)) numbers cuts r ⌝ }
 {
-    let checked = check_test(nodes, constraints, process, period, limits, factors, book);
+    let checked = check_test(asked, limits, factors, book);
     if let Checked::Refused(refusal) = checked {
         return CutsAnswer::Refused(refusal);
     }
     let mut keys = [0u64; MAX_CONTRACTS];
-    let terms = Terms::from_numbers(nodes, constraints, process, period);
+    let terms = Terms::from_asked(asked);
     let listed = cut_keys::row_keys(terms, limits, factors, book, &mut keys);
     list_rows(&keys, listed, numbers, cuts)
 }

@@ -11,7 +11,7 @@ ghost use Rattle.tariff.specs.Refusals.{first};
 ghost use Rattle.layouts.specs.BookFile.{bookIn};
 ghost use Rattle.grid_tables.specs.Inner.{GoodCells, GoodFactors};
 ghost use Rattle.book_rules.specs.BookChecks.{bookChecks};
-ghost use Rattle.test_rules.specs.TestBook.{testCall};
+ghost use Rattle.test_terms.specs.Calls.{askedTest};
 ghost use Rattle.exposure_rules.specs.Exposure.{fewOverloads};
 ghost use Rattle.exposure_prices.specs.Inner.{Excesses, aboveIn, Listed};
 ghost use Rattle.exposure_bounds.specs.FindExposure.{FindsExposure};
@@ -21,6 +21,7 @@ use tariff::Checked;
 use tariff::MAX_CONSTRAINTS;
 use tariff::Refusal;
 use test_excesses::Terms;
+use test_terms::Asked;
 use test_verdict::check_test;
 
 // Of how many overloaded constraints every set is tried.
@@ -150,25 +151,22 @@ fn expose(
 
 // Finds what a book can cost: the least and the most, between which its worst shortfall is, and prices that cost the least, one for each constraint.
 pub fn find_exposure(
-    nodes: usize,
-    constraints: usize,
-    process: u64,
-    period: u64,
+    asked: Asked,
     limits: &[u64],
     factors: &[i64],
     book: &[u8],
     prices: &mut [u64],
 ) -> ExposureAnswer
-    ensures { λ r. ⌜ FindsExposure (testCall nodes constraints process period (before limits) (before factors) (before book)) prices r ⌝ }
+    ensures { λ r. ⌜ FindsExposure (askedTest asked (before limits) (before factors) (before book)) prices r ⌝ }
 {
-    let checked = check_test(nodes, constraints, process, period, limits, factors, book);
+    let checked = check_test(asked, limits, factors, book);
     if let Checked::Refused(refusal) = checked {
         return ExposureAnswer::Refused(refusal);
     }
-    if prices.len() < constraints {
+    if prices.len() < asked.constraints {
         return ExposureAnswer::Refused(Refusal::ShortTable);
     }
-    let terms = Terms::from_numbers(nodes, constraints, process, period);
+    let terms = Terms::from_asked(asked);
     let exposure = expose(terms, limits, factors, book, prices);
     ExposureAnswer::Found {
         least_whole: exposure.least.whole,

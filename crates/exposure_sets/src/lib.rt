@@ -1,4 +1,5 @@
-// What one cent costs on every set of a few constraints: each contract's amounts are made of those of smaller sets, one constraint at a time.
+// What one cent costs on every set of a few constraints. Obligations and the rent add up by constraint; an option counts by the set, and its amounts are made
+// of those of smaller sets, one constraint at a time.
 ghost use mathlib.Core.Path.{_≡_};
 ghost use Prim.Native.Nat.{ℕ, _+_, _*_, _^_, _≤_, _<_};
 ghost use lib.ListN.{length, getD};
@@ -13,7 +14,24 @@ ghost use Rattle.layouts.specs.BookFile.{bookIn};
 ghost use Rattle.grid_tables.specs.Inner.{GoodCells, GoodFactors};
 ghost use Rattle.book_rules.specs.BookChecks.{bookChecks};
 ghost use Rattle.test_rules.specs.Inner.{Ends};
-ghost use Rattle.exposure_sets.specs.Inner.{cellIn, Chosen, maxSum, SmallCells, Grown, Sums, Added, AddedAll, rawIn, dueIn, ownIn, bookOwn, UnitCosts};
+ghost use Rattle.exposure_sets.specs.Inner.{
+  cellIn,
+  Chosen,
+  maxRow,
+  SmallCells,
+  Grown,
+  Sums,
+  Filled,
+  Added,
+  AddedSmall,
+  rawIn,
+  dueIn,
+  fixedIn,
+  optionIn,
+  bookFixed,
+  bookOptions,
+  UnitCosts,
+};
 use tariff::Amount;
 use tariff::Contract;
 use tariff::Flow;
@@ -22,7 +40,9 @@ use tariff::Period;
 use tariff::Process;
 use test_excesses::Terms;
 
-// How many sets ten constraints have.
+// Of how many constraints every set is tried, and how many sets they have.
+const MOST_LISTED: usize = 10;
+
 const MOST_SETS: usize = 1024;
 
 // How many sets so many constraints have.
@@ -35,7 +55,7 @@ pub fn set_count(count: usize) -> usize
 
 // The sums of n sets, and of n more: each has x in addition.
 fn grow(n: usize, x: Flow, sums: &mut [i64])
-    requires { ⌜ (n + n ≤ length (now sums)) × (n ≤ 512) × (natAbs (x .0) ≤ maxReleased) × SmallCells maxSum n (now sums) ⌝ }
+    requires { ⌜ (n + n ≤ length (now sums)) × (n ≤ 512) × (natAbs (x .0) ≤ maxRow) × SmallCells (maxRow * 10) n (now sums) ⌝ }
     ensures { λ r. ⌜ Grown n (x .0) (before sums) (after sums) ⌝ }
 {
     let mut m = 0;
@@ -48,73 +68,88 @@ fn grow(n: usize, x: Flow, sums: &mut [i64])
     }
 }
 
-// A contract's spread × quantity on each set of the listed constraints.
-fn contract_sums(
+// The sum of each set's figures.
+fn set_sums(count: usize, figures: &[i64], sums: &mut [i64])
+    requires { ⌜ (count ≤ 10) × (count ≤ length (now figures)) × SmallCells maxRow count (now figures) × (length (now sums) ≡ 1024) ⌝ }
+    ensures { λ r. ⌜ Sums count (cellIn (before figures)) (after sums) × (length (after sums) ≡ 1024) ⌝ }
+{
+    sums[0] = 0;
+    let mut n = 1;
+    let mut t = 0;
+    while t < count {
+        let x = Flow(figures[t]);
+        grow(n, x, sums);
+        n += n;
+        t += 1;
+    }
+}
+
+// A contract's spread × quantity at each of the listed constraints.
+fn fill_spreads(
     constraints: usize,
     factors: &[i64],
     over: &[usize],
     count: usize,
     c: Contract,
-    sums: &mut [i64],
+    figures: &mut [i64],
 )
-    requires { ⌜ Ends constraints (now factors) c × Chosen constraints count (now over) × (length (now sums) ≡ 1024) ⌝ }
-    ensures { λ r. ⌜ Sums count (λ (s : ℕ). rawIn constraints (before factors) c (getD (before over) s 0)) (after sums) × (length (after sums) ≡ 1024) ⌝ }
+    requires { ⌜ Ends constraints (now factors) c × Chosen constraints count (now over) × (count ≤ length (now figures)) ⌝ }
+    ensures { λ r. ⌜ Filled count (λ (s : ℕ). rawIn constraints (before factors) c (getD (before over) s 0)) (before figures) (after figures) ⌝ }
 {
     let source = c.source * constraints;
     let sink = c.sink * constraints;
     let quantity = c.quantity;
-    sums[0] = 0;
-    let mut n = 1;
     let mut t = 0;
     while t < count {
         let k = over[t];
         let x = quantity.flow(factors[source + k], factors[sink + k]);
-        grow(n, x, sums);
-        n += n;
+        let cell = x.0;
+        figures[t] = cell;
         t += 1;
     }
 }
 
-// The rent at one cent on each set, negative.
-fn rent_sums(
+// The rent at one cent at each of the listed constraints, negative.
+fn fill_rents(
     constraints: usize,
     process: Process,
     limits: &[u64],
     over: &[usize],
     count: usize,
-    sums: &mut [i64],
+    figures: &mut [i64],
 )
-    requires { ⌜ GoodCells maxLimit constraints (now limits) × Chosen constraints count (now over) × (length (now sums) ≡ 1024) × (cellIn (now sums) 0 ≡ pos 0) ⌝ }
-    ensures { λ r. ⌜ Sums count (λ (s : ℕ). dueIn (before limits) process (getD (before over) s 0)) (after sums) × (length (after sums) ≡ 1024) ⌝ }
+    requires { ⌜ GoodCells maxLimit constraints (now limits) × Chosen constraints count (now over) × (count ≤ length (now figures)) ⌝ }
+    ensures { λ r. ⌜ Filled count (λ (s : ℕ). dueIn (before limits) process (getD (before over) s 0)) (before figures) (after figures) ⌝ }
 {
-    let mut n = 1;
     let mut t = 0;
     while t < count {
         let k = over[t];
         let x = Flow(0).minus(process.released(limits[k]));
-        grow(n, x, sums);
-        n += n;
+        let cell = x.0;
+        figures[t] = cell;
         t += 1;
     }
 }
 
-// Each sum, as it counts, added to its set's cost.
-fn add_counted(kind: Kind, n: usize, sums: &[i64], costs: &mut [i64])
-    requires { ⌜ (n ≤ 1024) × (n ≤ length (now sums)) × (n ≤ length (now costs)) × SmallCells maxSum n (now sums) × SmallCells (2 ^ 61) n (now costs) ⌝ }
-    ensures { λ r. ⌜ Added n (λ (m : ℕ). counted kind (cellIn (before sums) m)) (before costs) (after costs) ⌝ }
+// Each figure, as it counts, added to its total.
+fn add_counted(kind: Kind, n: usize, figures: &[i64], totals: &mut [i64])
+    requires { ⌜ (n ≤ 1024) × (n ≤ length (now figures)) × (n ≤ length (now totals)) × SmallCells (maxRow * 10) n (now figures)
+        × SmallCells (2 ^ 61) n (now totals) ⌝ }
+    ensures { λ r. ⌜ Added n (λ (m : ℕ). counted kind (cellIn (before figures) m)) (before totals) (after totals) ⌝ }
 {
     let mut m = 0;
     while m < n {
-        let amount = Amount(sums[m]).counted(kind);
-        let base = Flow(costs[m]);
+        let amount = Amount(figures[m]).counted(kind);
+        let base = Flow(totals[m]);
         let more = base.plus(Flow(amount.0));
         let cell = more.0;
-        costs[m] = cell;
+        totals[m] = cell;
         m += 1;
     }
 }
 
-// What a contract of the period pays at one cent on each set, added to the set's cost. `sums` is a place for what it pays.
+// What a contract of the period pays at one cent: an obligation's added to its constraints' totals, an option's to its sets' costs. `sums` is a place for what
+// an option pays.
 fn add_contract(
     constraints: usize,
     period: Period,
@@ -123,23 +158,35 @@ fn add_contract(
     count: usize,
     n: usize,
     c: Contract,
+    row: &mut [i64],
     sums: &mut [i64],
     costs: &mut [i64],
 )
-    requires { ⌜ Ends constraints (now factors) c × Chosen constraints count (now over) × (n ≡ 2 ^ count) ⌝ }
-    requires { ⌜ (length (now sums) ≡ 1024) × (length (now costs) ≡ 1024) × SmallCells (2 ^ 61) n (now costs) ⌝ }
-    ensures { λ r. ⌜ Added n (ownIn constraints (before factors) (before over) count period c) (before costs) (after costs) × (length (after sums) ≡ 1024) ⌝ }
+    requires { ⌜ Ends constraints (now factors) c × Chosen constraints count (now over) × (n ≡ 2 ^ count) × (count ≤ length (now row)) ⌝ }
+    requires { ⌜ (length (now sums) ≡ 1024) × (length (now costs) ≡ 1024) × SmallCells (2 ^ 61) count (now row) × SmallCells (2 ^ 61) n (now costs) ⌝ }
+    ensures { λ r. ⌜ AddedSmall maxReleased count (fixedIn constraints (before factors) (before over) period c) (before row) (after row)
+        × AddedSmall (maxReleased * 10) n (optionIn constraints (before factors) (before over) count period c) (before costs) (after costs)
+        × (length (after sums) ≡ 1024) ⌝ }
 {
     let own = c.period;
     if own.same(period) {
-        contract_sums(constraints, factors, over, count, c, sums);
+        let mut figures = [0i64; MOST_LISTED];
+        fill_spreads(constraints, factors, over, count, c, &mut figures);
         let kind = c.kind;
-        add_counted(kind, n, sums, costs);
+        match kind {
+            Kind::Obligation => {
+                add_counted(Kind::Obligation, count, &figures, row);
+            }
+            Kind::Option => {
+                set_sums(count, &figures, sums);
+                add_counted(Kind::Option, n, sums, costs);
+            }
+        }
         return;
     }
 }
 
-// What the book's contracts of the period pay at one cent on each set, added to the set's cost.
+// What the book's contracts of the period pay at one cent: obligations to the totals of constraints, options to the costs of sets.
 fn add_book(
     nodes: usize,
     constraints: usize,
@@ -149,20 +196,35 @@ fn add_book(
     over: &[usize],
     count: usize,
     n: usize,
+    row: &mut [i64],
     sums: &mut [i64],
     costs: &mut [i64],
 )
     requires { ⌜ GoodFactors nodes constraints (now factors) × (first (bookChecks nodes (now book)) ≡ Passed) ⌝ }
-    requires { ⌜ Chosen constraints count (now over) × (n ≡ 2 ^ count) ⌝ }
-    requires { ⌜ (length (now sums) ≡ 1024) × (length (now costs) ≡ 1024) × SmallCells maxSum n (now costs) ⌝ }
-    ensures { λ r. ⌜ AddedAll n (bookOwn constraints (before factors) (before over) count period (before book)) (before costs) (after costs) ⌝ }
+    requires { ⌜ Chosen constraints count (now over) × (n ≡ 2 ^ count) × (count ≤ length (now row)) ⌝ }
+    requires { ⌜ (length (now sums) ≡ 1024) × (length (now costs) ≡ 1024) × SmallCells maxReleased count (now row) × SmallCells (maxReleased * 10) n (now costs) ⌝ }
+    ensures { λ r. ⌜ Added count (bookFixed constraints (before factors) (before over) period (before book)) (before row) (after row)
+        × SmallCells maxRow count (after row) ⌝ }
+    ensures { λ r. ⌜ Added n (bookOptions constraints (before factors) (before over) count period (before book)) (before costs) (after costs)
+        × SmallCells (maxRow * 10) n (after costs) × (length (after sums) ≡ 1024) ⌝ }
 {
     let contracts = book_bits::contract_count(book);
     let form = book_bits::book_form(book);
     let mut i = 0;
     while i < contracts {
         let c = book_bits::contract_at(book, form, i);
-        add_contract(constraints, period, factors, over, count, n, c, sums, costs);
+        add_contract(
+            constraints,
+            period,
+            factors,
+            over,
+            count,
+            n,
+            c,
+            row,
+            sums,
+            costs,
+        );
         i += 1;
     }
 }
@@ -188,9 +250,9 @@ pub fn set_costs(
     let process = terms.process;
     let period = terms.period;
     let n = set_count(count);
+    let mut row = [0i64; MOST_LISTED];
     let mut sums = [0i64; MOST_SETS];
-    rent_sums(constraints, process, limits, over, count, &mut sums);
-    add_counted(Kind::Obligation, n, &sums, costs);
+    fill_rents(constraints, process, limits, over, count, &mut row);
     add_book(
         nodes,
         constraints,
@@ -200,7 +262,10 @@ pub fn set_costs(
         over,
         count,
         n,
+        &mut row,
         &mut sums,
         costs,
     );
+    set_sums(count, &row, &mut sums);
+    add_counted(Kind::Obligation, n, &sums, costs);
 }

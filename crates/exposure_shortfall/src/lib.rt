@@ -10,7 +10,7 @@ ghost use Rattle.tariff.specs.Refusals.{first};
 ghost use Rattle.layouts.specs.BookFile.{bookIn};
 ghost use Rattle.grid_tables.specs.Inner.{GoodCells, Hour};
 ghost use Rattle.book_rules.specs.BookChecks.{bookChecks};
-ghost use Rattle.test_rules.specs.TestBook.{testCall};
+ghost use Rattle.test_terms.specs.Calls.{askedTest};
 ghost use Rattle.exposure_shortfall.specs.FindShortfall.{FindsShortfall};
 ghost use Rattle.exposure_shortfall.specs.Inner.{cellChecks, tableChecks, Costs};
 use exposure_figures::Exact;
@@ -21,6 +21,7 @@ use tariff::MAX_LIMIT;
 use tariff::MAX_PRICE;
 use tariff::Refusal;
 use test_excesses::Terms;
+use test_terms::Asked;
 
 // What finding the shortfall gives: net payment, rent and shortfall, each as whole cents rounded down and parts.
 pub enum ShortfallAnswer {
@@ -118,54 +119,44 @@ fn check_cells(
 }
 
 // The checks of the tables: 2, 3, 16, 17, those of the cells.
-fn check_tables(
-    nodes: usize,
-    constraints: usize,
-    process: u64,
-    period: u64,
-    limits: &[u64],
-    factors: &[i64],
-    prices: &[u64],
-) -> Checked
-    ensures { λ r. ⌜ r ≡ first (tableChecks nodes constraints process period (before limits) (before factors) (before prices)) ⌝ }
+fn check_tables(asked: Asked, limits: &[u64], factors: &[i64], prices: &[u64]) -> Checked
+    ensures { λ r. ⌜ r ≡ first (tableChecks (asked .nodes) (asked .constraints) (asked .process) (asked .period)
+        (before limits) (before factors) (before prices)) ⌝ }
 {
-    if tariff::nodes_bad(nodes) {
+    if tariff::nodes_bad(asked.nodes) {
         return Checked::Refused(Refusal::NodeCount);
     }
-    if MAX_CONSTRAINTS < constraints {
+    if MAX_CONSTRAINTS < asked.constraints {
         return Checked::Refused(Refusal::ConstraintCount);
     }
-    if 2 < process {
+    if 2 < asked.process {
         return Checked::Refused(Refusal::ProcessNumber);
     }
-    if 1 < period {
+    if 1 < asked.period {
         return Checked::Refused(Refusal::PeriodOrKind);
     }
-    check_cells(nodes, constraints, limits, factors, prices)
+    check_cells(asked.nodes, asked.constraints, limits, factors, prices)
 }
 
 // Finds what a book costs at a price list: net payment, rent and shortfall.
 pub fn find_shortfall(
-    nodes: usize,
-    constraints: usize,
-    process: u64,
-    period: u64,
+    asked: Asked,
     limits: &[u64],
     factors: &[i64],
     prices: &[u64],
     book: &[u8],
 ) -> ShortfallAnswer
-    ensures { λ r. ⌜ FindsShortfall (testCall nodes constraints process period (before limits) (before factors) (before book)) (before prices) r ⌝ }
+    ensures { λ r. ⌜ FindsShortfall (askedTest asked (before limits) (before factors) (before book)) (before prices) r ⌝ }
 {
-    let tables = check_tables(nodes, constraints, process, period, limits, factors, prices);
+    let tables = check_tables(asked, limits, factors, prices);
     if let Checked::Refused(refusal) = tables {
         return ShortfallAnswer::Refused(refusal);
     }
-    let own = book_checks::check_book(nodes, book);
+    let own = book_checks::check_book(asked.nodes, book);
     if let Checked::Refused(refusal) = own {
         return ShortfallAnswer::Refused(refusal);
     }
-    let terms = Terms::from_numbers(nodes, constraints, process, period);
+    let terms = Terms::from_asked(asked);
     let found = shortfall_at(terms, limits, factors, prices, book);
     ShortfallAnswer::Found {
         payment_whole: found.payment.whole,

@@ -12,7 +12,7 @@ ghost use Rattle.book_rules.specs.BookChecks.{bookChecks};
 ghost use Rattle.grid_tables.specs.Inner.{Hour};
 ghost use Rattle.hour_mcc.specs.Inner.{MccTable};
 ghost use Rattle.hour_rules.specs.Inner.{hourFactorsIn, hourPricesIn, PricedBy, SettlesFirst, Settles};
-use hour_amounts::add_amount;
+use hour_amounts::add_settled;
 use hour_amounts::hour_amount;
 use hour_mcc::all_mccs;
 use hour_priced::posted_set;
@@ -52,10 +52,10 @@ fn settle_contracts(
         let sink = c.sink;
         let source = c.source;
         let settled = hour_amount(hour, factors, prices, c, mccs[sink], mccs[source]);
-        let amount = settled.amount;
-        cents[i] = amount.cents();
+        let rounded = settled.cents;
+        cents[i] = rounded;
         sets[i] = settled.priced;
-        totals = add_amount(totals, amount);
+        totals = add_settled(totals, settled);
         i += 1;
     }
     totals

@@ -1,7 +1,7 @@
 // Which constraints priced a contract (02, paper 8): those whose price isn't 0 and on which source and sink have different factors.
-// A set is made from its highest bit down, four bits at once.
+// A set is made from its highest bit down, eight bits at once.
 ghost use mathlib.Core.Path.{_≡_};
-ghost use Prim.Native.Nat.{ℕ, _+_, _-_, _*_, _/_, _≤_, _<_};
+ghost use Prim.Native.Nat.{ℕ, _+_, _-_, _*_, _/_, _^_, _≤_, _<_};
 ghost use lib.ListN.{length, take};
 ghost use Rattle.lists.specs.Sets.{setOf};
 ghost use Rattle.lists.specs.Lent.{before};
@@ -21,33 +21,41 @@ fn differ(factors: &[i64], a: usize, b: usize) -> u64
     (factors[a] != factors[b]) as u64
 }
 
-fn two_differ(factors: &[i64], a: usize, b: usize) -> u64
-    requires { ⌜ FactorRow (now factors) a 2 × FactorRow (now factors) b 2 ⌝ }
-    ensures { λ r. ⌜ (r ≡ setOf 2 (differAt (before factors) a b)) × (r < 4) ⌝ }
+// The same of two cells, four and eight, behind the bits of a set.
+fn two_more(factors: &[i64], a: usize, b: usize, set: u64) -> u64
+    requires { ⌜ FactorRow (now factors) a 2 × FactorRow (now factors) b 2 × (set < 2 ^ 62) ⌝ }
+    ensures { λ r. ⌜ (r ≡ set * 4 + setOf 2 (differAt (before factors) a b)) × (r < (set + 1) * 4) ⌝ }
 {
     let high = differ(factors, a + 1, b + 1);
     let low = differ(factors, a, b);
-    high * 2 + low
+    (set * 2 + high) * 2 + low
 }
 
-fn four_differ(factors: &[i64], a: usize, b: usize) -> u64
-    requires { ⌜ FactorRow (now factors) a 4 × FactorRow (now factors) b 4 ⌝ }
-    ensures { λ r. ⌜ (r ≡ setOf 4 (differAt (before factors) a b)) × (r < 16) ⌝ }
+fn four_more(factors: &[i64], a: usize, b: usize, set: u64) -> u64
+    requires { ⌜ FactorRow (now factors) a 4 × FactorRow (now factors) b 4 × (set < 2 ^ 60) ⌝ }
+    ensures { λ r. ⌜ (r ≡ set * 16 + setOf 4 (differAt (before factors) a b)) × (r < (set + 1) * 16) ⌝ }
 {
-    let high = two_differ(factors, a + 2, b + 2);
-    let low = two_differ(factors, a, b);
-    high * 4 + low
+    let high = two_more(factors, a + 2, b + 2, set);
+    two_more(factors, a, b, high)
 }
 
-// The constraints behind the last whole four.
+fn eight_more(factors: &[i64], a: usize, b: usize, set: u64) -> u64
+    requires { ⌜ FactorRow (now factors) a 8 × FactorRow (now factors) b 8 × (set < 2 ^ 56) ⌝ }
+    ensures { λ r. ⌜ r ≡ set * 256 + setOf 8 (differAt (before factors) a b) ⌝ }
+{
+    let high = four_more(factors, a + 4, b + 4, set);
+    four_more(factors, a, b, high)
+}
+
+// The constraints behind the last whole eight.
 fn rest_differ(constraints: usize, factors: &[i64], source: usize, sink: usize) -> u64
     requires { ⌜ (constraints ≤ maxConstraints) × FactorRow (now factors) source constraints × FactorRow (now factors) sink constraints ⌝ }
-    ensures { λ r. ⌜ r ≡ setOf (constraints - constraints / 4 * 4) (λ (j : ℕ). differAt (before factors) source sink (constraints / 4 * 4 + j)) ⌝ }
+    ensures { λ r. ⌜ r ≡ setOf (constraints - constraints / 8 * 8) (λ (j : ℕ). differAt (before factors) source sink (constraints / 8 * 8 + j)) ⌝ }
 {
-    let fours = constraints / 4 * 4;
+    let eights = constraints / 8 * 8;
     let mut set = 0u64;
     let mut k = constraints;
-    while fours < k {
+    while eights < k {
         k -= 1;
         let bit = differ(factors, source + k, sink + k);
         set = set * 2 + bit;
@@ -61,12 +69,11 @@ fn differ_set(constraints: usize, factors: &[i64], source: usize, sink: usize) -
     ensures { λ r. ⌜ r ≡ setOf constraints (differAt (before factors) source sink) ⌝ }
 {
     let mut set = rest_differ(constraints, factors, source, sink);
-    let mut four = constraints / 4;
-    while 0 < four {
-        four -= 1;
-        let k = four * 4;
-        let bits = four_differ(factors, source + k, sink + k);
-        set = set * 16 + bits;
+    let mut eight = constraints / 8;
+    while 0 < eight {
+        eight -= 1;
+        let k = eight * 8;
+        set = eight_more(factors, source + k, sink + k, set);
     }
     set
 }

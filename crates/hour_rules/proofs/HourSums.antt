@@ -14,7 +14,7 @@ use Rattle.integers.specs.Sums.{sumTo, sumOver}
 use Rattle.integers.proofs.Linear.{⊖of, ⊖s}
 use Rattle.integers.proofs.Sizes.{natAbs-add}
 use Rattle.integers.proofs.Machine.{back, op-fits, op-is}
-use Rattle.integers.proofs.Division.{floor-split, floor-unique}
+use Rattle.integers.proofs.Division.{floor-unique}
 use Rattle.lists.specs.Lists.{listTo}
 use Rattle.lists.specs.Lent.{overwrite}
 use Rattle.lists.proofs.Lists.{listTo-cong, map-listTo}
@@ -61,9 +61,9 @@ carry : (W : ℤ) (x : ℕ) → perCent ≤ x → (W +ℤ pos 1) *ℤ pos perCen
 carry W x h = rw (⊖of W) (simp ⊖s (omega arith))
 
 -- the whole cents w and the parts p of an amount a, added to W and P
-module _ (W w : ℤ) (P p : ℕ) (a : ℤ) (whole : w ≡ wholeCents a) (part : p ≡ parts a) where
+module _ (W w : ℤ) (P p : ℕ) (a : ℤ) (exact : w *ℤ pos perCent +ℤ pos p ≡ a) where
   pub exact-more : (W +ℤ w) *ℤ pos perCent +ℤ pos (P + p) ≡ W *ℤ pos perCent +ℤ pos P +ℤ a
-  exact-more = split-more W w P p a (rw (whole, part) (floor-split a perCent (omega arith)))
+  exact-more = split-more W w P p a exact
 
   pub exact-carry : perCent ≤ P + p → (W +ℤ w +ℤ pos 1) *ℤ pos perCent +ℤ pos (P + p - perCent) ≡ W *ℤ pos perCent +ℤ pos P +ℤ a
   exact-carry h = carry (W +ℤ w) (P + p) h ∙ exact-more

@@ -6,12 +6,12 @@ use Prim.Native.Nat.{ℕ, _≤_, _<_}
 use borrow.Author.Tests.{lt-ltb, le-ltb, le-leb, lt-leb}
 use Rattle.lists.specs.Lists.{anyOf}
 use Rattle.tariff.specs.declared.refusals.Refusal.{Refusal}
-use Rattle.tariff.specs.declared.refusals.Refusal.the-variants.{PeriodOrKind, HolderRange, NodeNumber, QuantityRange}
+use Rattle.tariff.specs.declared.refusals.Refusal.the-variants.{PeriodOrKind, HolderRange, NodeNumber}
 use Rattle.tariff.specs.declared.refusals.Checked.the-variants.{Passed, Refused}
 use Rattle.tariff.specs.Refusals.{Check, first}
 use Rattle.tariff.specs.Checks.{kindAndPeriod, quantityRange, listedNodes}
 use Rattle.tariff.specs.Units.{maxHolder}
-use Rattle.tariff.proofs.Checks.{first-passes, first-refuses, last-passes, append-refuses, append-passes}
+use Rattle.tariff.proofs.Checks.{first-passes, first-refuses, append-refuses, append-passes}
 use Rattle.layouts.specs.Forms.{endsBelow}
 use Rattle.layouts.specs.BookFile.{bookFormIn}
 use Rattle.book_rules.specs.BookChecks.{ownChecks}
@@ -51,15 +51,9 @@ module _ (below : ℕ) (t : Terms) (ns : List ℕ) (q : ℕ) where
               sym (first-passes _ _ both ∙ first-passes _ _ (le-ltb maxHolder (t .holder) held) ∙ first-passes _ _ listed ∙ first-refuses _ _ (rw (le-leb below (t .sink) h)))
 
           module _ (sunk : t .sink < below) where
-            ends-good : first (termChecks below t ns q) ≡ first (quantityRange q ∷ [])
+            pub ends-good : first (termChecks below t ns q) ≡ first (quantityRange q ∷ [])
             unfolding termChecks anyOf
             ends-good = first-passes _ _ both ∙ first-passes _ _ (le-ltb maxHolder (t .holder) held) ∙ first-passes _ _ listed ∙ first-passes _ _ (rw (lt-leb below (t .sink) sunk))
-
-            pub quantity-refused : quantityRange q .fails ≡ true → Refused QuantityRange ≡ first (termChecks below t ns q)
-            quantity-refused h = sym (ends-good ∙ first-refuses _ _ h)
-
-            pub terms-pass : quantityRange q .fails ≡ false → Passed ≡ first (termChecks below t ns q)
-            terms-pass h = sym (ends-good ∙ last-passes _ h)
 
 -- ---- all that does not ask how many contracts are made
 

@@ -1,7 +1,7 @@
 -- Laws of floor division and of rounding by a positive number.
-use mathlib.Core.Path.{_≡_, refl, ap, _∙_, sym}
-use Prim.Native.Nat.{ℕ, suc, _+_, _-_, _*_, _/_, _<_}
-use native.Mathlib.Nat.{mod-lt, div-add-mod', mul-div-mul-left, mul-add}
+use mathlib.Core.Path.{_≡_, refl, ap, _∙_}
+use Prim.Native.Nat.{ℕ, suc, _+_, _-_, _*_, _<_}
+use native.Mathlib.Nat.{mod-lt, div-add-mod'}
 use native.Mathlib.Omega.{arith}
 use lib.Arith.{digits-div, digits-mod, comp-comp}
 use lib.IntN.{ℤ, pos, negsuc, natAbs, _+ℤ_, _*ℤ_}
@@ -32,10 +32,6 @@ floor-unique (negsuc a) r d h =
     )
 
 -- ---- rounding to the nearest, a half away from zero
-
--- by an even number, half of it is added first
-pub roundUp-even : (n h : ℕ) → roundUp n (2 * h) ≡ (n + h) / (2 * h)
-roundUp-even n h = ap (λ (x : ℕ). x / (2 * (2 * h))) {x = 2 * n + 2 * h} (sym (mul-add 2 n h)) ∙ mul-div-mul-left {m = 2} (n + h) (2 * h) (omega arith)
 
 pub natAbs-roundAway : (z : ℤ) (d : ℕ) → natAbs (roundAway z d) ≡ roundUp (natAbs z) d
 natAbs-roundAway (pos n) d = refl

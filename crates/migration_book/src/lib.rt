@@ -54,12 +54,13 @@ fn grown_count(
     requires { ⌜ Readable form count (now book) × MigrationReady square (now loads) ⌝ }
     ensures { λ r. ⌜ r ≡ count + length (newTo form (before book) period square (before loads) count) ⌝ }
 {
+    let losers = migration_pairs::losers_of(square, loads.len());
     let mut grown = count;
     let mut i = 0;
     while i < count {
         let base = book_bits::contract_at(book, form, i);
-        let row = square[migration_transfers::row_of(base.holder)];
-        grown += migration_pairs::new_count(base, period, row, loads);
+        let place = migration_transfers::row_of(base.holder);
+        grown += migration_pairs::new_count(base, period, square[place], losers[place], loads);
         i += 1;
     }
     grown

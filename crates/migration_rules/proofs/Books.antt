@@ -9,6 +9,7 @@ use borrow.Author.Tests.{eqb-true, eqb-false, ltb-true, leb-true}
 use lib.Dec.{eqb, ltb, leb}
 use lib.ListN.{length, take}
 use lib.Seq.{take-at}
+use Rattle.largest_remainders.specs.Ranks.{addTo}
 use Rattle.lists.specs.Lists.{Each}
 use Rattle.lists.proofs.Lists.{each-append}
 use Rattle.lists.proofs.Search.{both}
@@ -138,7 +139,7 @@ module _ (t : Period) (lost : ℕ → ℕ → ℕ) (loads : List ℕ) where
 
     -- of gainers 1 to m together
     together : (m : ℕ) → sharesTo lost loads c m * load loads (c .holder) ≤ c .quantity .0 * lossesTo lost (c .holder) m
-    unfolding lossesTo sharesTo
+    unfolding lossesTo sharesTo addTo
     together zero = omega arith
     together (suc m) =
         omega (
@@ -150,7 +151,7 @@ module _ (t : Period) (lost : ℕ → ℕ → ℕ) (loads : List ℕ) where
         )
 
     none-lost : (m : ℕ) → lossesTo lost (c .holder) m ≡ 0 → sharesTo lost loads c m ≡ 0
-    unfolding lossesTo sharesTo
+    unfolding lossesTo sharesTo addTo
     none-lost zero e = refl
     none-lost (suc m) e = rw (none-lost m (omega arith), no-share (suc m) (omega arith))
 

@@ -8,6 +8,8 @@ use mathlib.Core.Logic.{⊎-elim}
 use lib.Dec.{leb→le}
 use lib.IntN.{ℤ, pos, negsuc, negℤ, natAbs, _+ℤ_, _-ℤ_}
 use lib.Signed.{_≤ℤ_}
+use Rattle.largest_remainders.specs.Ranks.{addTo}
+use Rattle.largest_remainders.proofs.Counting.{addTo-cong, addTo-none}
 use Rattle.integers.specs.Sums.{max0, sumOver}
 use Rattle.integers.proofs.Linear.{⊖of, ⊖s}
 use Rattle.tariff.proofs.Periods.{sumOver-more}
@@ -35,16 +37,25 @@ pub net-more : (rows : List MigrationRow) (r : MigrationRow) (i j : ℕ) → net
 unfolding net
 net-more rows r i j = sumOver-more rows r (λ r. pos (moved r i j) -ℤ pos (moved r j i))
 
+-- to no gainer, and to one more
+pub losses-none : (lost : ℕ → ℕ → ℕ) (i : ℕ) → lossesTo lost i 0 ≡ 0
+unfolding lossesTo
+losses-none lost i = addTo-none (λ j. lost i (suc j))
+
+pub losses-more : (lost : ℕ → ℕ → ℕ) (i m : ℕ) → lossesTo lost i (suc m) ≡ lossesTo lost i m + lost i (suc m)
+unfolding lossesTo addTo
+losses-more lost i m = refl
+
 -- one gainer's part of the losses
 pub loss-within : (lost : ℕ → ℕ → ℕ) (i m j : ℕ) → 0 < j → j ≤ m → lost i j ≤ lossesTo lost i m
-unfolding lossesTo
+unfolding lossesTo addTo
 loss-within lost i zero j some most = absurd (omega arith)
-loss-within lost i (suc m) j some most = ⊎-elim (λ e. rw e (omega arith)) (λ h. le-trans (loss-within lost i m j some (omega arith)) (omega arith)) (eq-or-lt-of-le most)
+loss-within lost i (suc m) j some most = ⊎-elim (λ e. rw e (omega arith)) (λ h. le-trans (loss-within lost i m j some (omega arith)) (omega arith))
+    (eq-or-lt-of-le most)
 
 pub losses-cong : (lost other : ℕ → ℕ → ℕ) (i m : ℕ) → ((j : ℕ) → 0 < j → j ≤ m → lost i j ≡ other i j) → lossesTo lost i m ≡ lossesTo other i m
 unfolding lossesTo
-losses-cong lost other i zero same = refl
-losses-cong lost other i (suc m) same = rw (losses-cong lost other i m (λ j s h. same j s (omega arith)), same (suc m) (omega arith) (omega arith))
+losses-cong lost other i m same = addTo-cong m (λ j b. same (suc j) (omega arith) (omega arith))
 
 -- a net that is not above 0 is no loss
 pub no-loss : (rows : List MigrationRow) (i j : ℕ) → net rows i j ≤ℤ pos 0 → loss rows i j ≡ 0

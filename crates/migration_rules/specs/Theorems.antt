@@ -1,8 +1,9 @@
 -- What paper 5 says of net transfers and of the book that follows them, as predicates: proved of every list of rows, every list of loads and every book.
 use mathlib.Core.Path.{_≡_}
 use mathlib.Core.List.{List, [], _∷_, map}
-use Prim.Native.Nat.{ℕ, zero, suc, _+_}
+use Prim.Native.Nat.{ℕ, suc}
 use lib.IntN.{ℤ, pos, negℤ, _+ℤ_}
+use Rattle.largest_remainders.specs.Ranks.{addTo}
 use Rattle.tariff.specs.declared.contracts.Contract.{Contract}
 use Rattle.tariff.specs.declared.contracts.Period.{Period}
 use Rattle.tariff.specs.declared.processes.Process.{Process}
@@ -44,5 +45,4 @@ pub record MigrationKept (old new : List Contract) : Type 0 where
 
 -- what gainers 1 to m receive of one base contract
 unfoldable pub sharesTo : (ℕ → ℕ → ℕ) → List ℕ → Contract → ℕ → ℕ
-sharesTo lost loads c zero = 0
-sharesTo lost loads c (suc m) = sharesTo lost loads c m + gainerShare lost loads c (suc m)
+sharesTo lost loads c m = addTo m (λ j. gainerShare lost loads c (suc j))

@@ -2,12 +2,13 @@
 -- are. Definitions only.
 use mathlib.Core.Bool.{Bool, cond, not, _||_, _&&_}
 use mathlib.Core.List.{List, [], _∷_, _++_}
-use Prim.Native.Nat.{ℕ, zero, suc, _+_, _-_, _*_}
+use Prim.Native.Nat.{ℕ, suc, _-_, _*_}
 use lib.Dec.{ltb, eqb}
 use lib.ListN.{length, getD}
 use lib.IntN.{ℤ, pos, natAbs, _-ℤ_}
 use Rattle.lists.specs.Lent.{Lent, before}
 use Rattle.lists.specs.Lists.{listTo, anyOf, above}
+use Rattle.largest_remainders.specs.Ranks.{addTo}
 use Rattle.integers.specs.Sums.{max0, sumOver}
 use Rattle.tariff.specs.declared.refusals.Refusal.the-variants.{MigrationRange, LoadExceeded}
 use Rattle.tariff.specs.Refusals.{Check}
@@ -58,8 +59,7 @@ loss rows i j = natAbs (max0 (net rows i j))
 
 -- "its losses to all gainers", 1 to m, where lost i j is what i loses to j
 unfoldable pub lossesTo : (ℕ → ℕ → ℕ) → ℕ → ℕ → ℕ
-lossesTo lost i zero = 0
-lossesTo lost i (suc m) = lossesTo lost i m + lost i (suc m)
+lossesTo lost i m = addTo m (λ j. lost i (suc j))
 
 -- LSE i's current load
 abbrev pub load : List ℕ → ℕ → ℕ

@@ -18,6 +18,7 @@ use Rattle.integers.proofs.Sizes.{natAbs-sub, natAbs-sumOver}
 use Rattle.integers.proofs.Linear.{⊖of, ⊖s}
 use Rattle.tariff.specs.declared.units.Transfer.{Transfer}
 use Rattle.tariff.specs.Units.{maxEntities, maxRows, maxCustomers, maxRate}
+use Rattle.largest_remainders.proofs.Counting.{addTo-cong}
 use Rattle.migration_rules.specs.Transfers.{MigrationRow, moved, net, lossesTo}
 use Rattle.migration_transfers.specs.Squares.{noTransfer, cellIn, rowLosses, lostIn}
 use Rattle.migration_transfers.specs.Inner.{maxNet, stored, transferred, Shaped, SizedRow, SizedSquare, RowIn}
@@ -144,7 +145,4 @@ row-sized square size i h = record { sized = λ j b. size .sized i j h b }
 
 pub losses-by : (square : List (List Transfer)) (i m : ℕ) → lossesTo (rowLosses (getD square i [])) (suc i) m ≡ lossesTo (lostIn square) (suc i) m
 unfolding lossesTo
-losses-by square i zero = refl
-losses-by square i (suc m) =
-    let a : suc i - 1 ≡ i = omega arith in
-    rw (losses-by square i m, a)
+losses-by square i m = let a : suc i - 1 ≡ i = omega arith in addTo-cong m (λ j b. rw a)

@@ -36,12 +36,13 @@ use Rattle.slice_rules.specs.Slices.{Block}
 use Rattle.slice_rules.specs.Totals.{Totals, BlockPasses}
 use Rattle.slice_calls.specs.Calls.{Judged, IsPass, Names, IsFail}
 
-not-over : (a b : ℤ) → (ltZ a b ≡ false) ↔ (b ≤ℤ a)
-not-over a b = (λ e. ltZ-no (rw e tt), λ h. by (ltZ a b) refl h)
+-- a flow within its released limit is not over it
+within-not-over : (a b : ℤ) → b ≤ℤ a → ltZ a b ≡ false
+within-not-over a b h = by (ltZ a b) refl
   where
-    by : (x : Bool) → ltZ a b ≡ x → b ≤ℤ a → x ≡ false
-    by true e h = clashℤ {a = a} {b = b} (ltZ-yes (rw e tt)) h
-    by false e h = refl
+    by : (x : Bool) → ltZ a b ≡ x → x ≡ false
+    by true e = clashℤ {a = a} {b = b} (ltZ-yes (rw e tt)) h
+    by false e = refl
 
 less : (a b : ℤ) → a <ℤ b → pos 0 <ℤ (b -ℤ a)
 less a b = rw (⊖of a, ⊖of b) (simp ⊖s (omega arith))
@@ -75,14 +76,14 @@ module _ (g : Grid) (b : Block) (limits : List ℕ) (own : (j : ℕ) → j < b .
       record {
         within = λ j h.
             rw (← totals .flows-are j h, ← released-same j h)
-            (not-over (pos (released limits process j)) (getD flows j (pos 0)) .0 (set-empty k f .0 z j h));
+            (ltZ-no {a = pos (released limits process j)} {b = getD flows j (pos 0)} (rw (set-empty k f .0 z j h) tt));
       }
 
   passes→empty : BlockPasses g process cs b → setOf k f ≡ 0
   unfolding overAt
   passes→empty p =
       set-empty k f .1
-      (λ j h. not-over (pos (released limits process j)) (getD flows j (pos 0)) .1 (rw (totals .flows-are j h, released-same j h) (p .within j h)))
+      (λ j h. within-not-over (pos (released limits process j)) (getD flows j (pos 0)) (rw (totals .flows-are j h, released-same j h) (p .within j h)))
 
   -- else its lowest is named
   module _ (ne : setOf k f ≡ 0 → ⊥) where

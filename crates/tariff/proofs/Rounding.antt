@@ -1,4 +1,4 @@
--- A figure's sign and size, what an amount's size says of its cents, and division rounded down.
+-- A figure's sign and size, and division rounded down.
 use mathlib.Core.Path.{_≡_, refl, ap, _∙_}
 use mathlib.Core.Bool.{true, false}
 use Prim.Native.Nat.{ℕ, zero, suc, _+_, _-_, _*_, _/_, _%_, _^_, _≤_, _<_}
@@ -9,10 +9,9 @@ use lib.IntN.{ℤ, pos, negsuc, negℤ, natAbs, _-ℤ_, +ℤ-idl}
 use lib.Signed.{ltZ}
 use mir.Syntax.{w64}
 use mir.Val.{SFits, toZ, ofZ}
-use Rattle.integers.specs.Division.{floorDiv, floorMod, roundUp}
+use Rattle.integers.specs.Division.{floorDiv, floorMod}
 use Rattle.integers.proofs.Sizes.{natAbs-sub}
 use Rattle.integers.proofs.Machine.{back, cast-back, op-fits, op-is}
-use Rattle.tariff.specs.Settlement.{cents}
 
 -- ---- a machine negation
 
@@ -43,23 +42,6 @@ negative-size (negsuc n) e = refl
 pub positive-size : (z : ℤ) → ltZ z (pos 0) ≡ false → z ≡ pos (natAbs z)
 positive-size (pos n) e = refl
 positive-size (negsuc n) e = cc
-
--- ---- cents: the size r in cents, with the sign put back
-
-module _ (z : ℤ) (r : ℕ) (e : r ≡ roundUp (natAbs z) 100000000) where
-  pub negative-cents : ltZ z (pos 0) ≡ true → negℤ (pos r) ≡ cents z
-  negative-cents h = rw e (by z h)
-    where
-      by : (z : ℤ) → ltZ z (pos 0) ≡ true → negℤ (pos (roundUp (natAbs z) 100000000)) ≡ cents z
-      by (pos n) h = absurd (not-below n h)
-      by (negsuc n) h = refl
-
-  pub positive-cents : ltZ z (pos 0) ≡ false → pos r ≡ cents z
-  positive-cents h = rw e (by z h)
-    where
-      by : (z : ℤ) → ltZ z (pos 0) ≡ false → pos (roundUp (natAbs z) 100000000) ≡ cents z
-      by (pos n) h = refl
-      by (negsuc n) h = cc
 
 -- ---- division rounded down, by d. Below zero it goes by -1 - z, which is not negative.
 

@@ -6,13 +6,11 @@ ghost use lib.Dec.{eqb, ltb};
 ghost use lib.IntN.{pos, natAbs, negℤ, _+ℤ_, _-ℤ_, _*ℤ_};
 ghost use lib.Signed.{ltZ};
 ghost use Rattle.integers.specs.Sums.{max0};
-ghost use Rattle.integers.specs.Division.{floorDiv, floorMod, roundUp};
-ghost use Rattle.tariff.specs.Units.{maxFactor, maxQuantity, maxPrice, maxCustomers, maxRate, maxLoad, hubWeight, perCent};
+ghost use Rattle.integers.specs.Division.{floorDiv, floorMod};
+ghost use Rattle.tariff.specs.Units.{maxFactor, maxQuantity, maxPrice, maxCustomers, maxRate, maxLoad, hubWeight};
 ghost use Rattle.tariff.specs.Contracts.{counted as countedAs};
-ghost use Rattle.tariff.specs.Settlement.{cents as centsOf, wholeCents, parts as partsOf};
-ghost use Rattle.tariff.specs.Inner.{maxMcc, maxSpread, maxWeighted, maxAmount, maxCents};
+ghost use Rattle.tariff.specs.Inner.{maxMcc, maxSpread, maxWeighted};
 use crate::HUB_WEIGHT;
-use crate::PER_CENT;
 use crate::contracts::Kind;
 use crate::floors;
 
@@ -298,54 +296,5 @@ impl Amount {
             Kind::Obligation => self,
             Kind::Option => { if self.0 < 0 { Amount(0) } else { self } }
         }
-    }
-
-    // Its size, whatever its sign.
-    fn size(self) -> u64
-        requires { ⌜ natAbs (self .0) < 2 ^ 63 ⌝ }
-        ensures { λ r. ⌜ r ≡ natAbs (self .0) ⌝ }
-    {
-        if self.0 < 0 {
-            (-self.0) as u64
-        } else {
-            self.0 as u64
-        }
-    }
-
-    // Its size in cents: to the nearest, a half upwards.
-    fn rounded(self) -> u64
-        requires { ⌜ natAbs (self .0) ≤ maxAmount ⌝ }
-        ensures { λ r. ⌜ (r ≡ roundUp (natAbs (self .0)) perCent) × (r ≤ maxCents) ⌝ }
-    {
-        (self.size() + PER_CENT / 2) / PER_CENT
-    }
-
-    // In cents: to the nearest, a half away from zero.
-    pub fn cents(self) -> i64
-        requires { ⌜ natAbs (self .0) ≤ maxAmount ⌝ }
-        ensures { λ r. ⌜ (r ≡ centsOf (self .0)) × (natAbs r ≤ maxCents) ⌝ }
-    {
-        let rounded = self.rounded();
-        if self.0 < 0 {
-            -(rounded as i64)
-        } else {
-            rounded as i64
-        }
-    }
-
-    // The whole cents, rounded down.
-    pub fn whole(self) -> i64
-        requires { ⌜ natAbs (self .0) ≤ maxAmount ⌝ }
-        ensures { λ r. ⌜ (r ≡ wholeCents (self .0)) × (natAbs r ≤ maxCents) ⌝ }
-    {
-        floors::floor_quotient(self.0, PER_CENT)
-    }
-
-    // What is left above the whole cents.
-    pub fn parts(self) -> u64
-        requires { ⌜ natAbs (self .0) ≤ maxAmount ⌝ }
-        ensures { λ r. ⌜ (r ≡ partsOf (self .0)) × (r < perCent) ⌝ }
-    {
-        floors::floor_remainder(self.0, PER_CENT)
     }
 }

@@ -10,8 +10,9 @@ use tariff::Flow;
 use tariff::Period;
 use tariff::Process;
 use test_rules::Flows;
+use test_terms::Asked;
 
-// The terms of a test: how many nodes and constraints its tables have, the process and the period.
+// The terms of a test, checked: how many nodes and constraints its tables have, the process and the period.
 pub struct Terms {
     pub nodes: usize,
     pub constraints: usize,
@@ -20,15 +21,15 @@ pub struct Terms {
 }
 
 impl Terms {
-    pub fn from_numbers(nodes: usize, constraints: usize, process: u64, period: u64) -> Terms
-        requires { ⌜ process ≤ 2 ⌝ }
-        ensures { λ r. ⌜ r ≡ termsOf nodes constraints process period ⌝ }
+    pub fn from_asked(asked: Asked) -> Terms
+        requires { ⌜ asked .process ≤ 2 ⌝ }
+        ensures { λ r. ⌜ r ≡ termsOf asked ⌝ }
     {
         Terms {
-            nodes,
-            constraints,
-            process: Process::from_number(process),
-            period: Period::from_number(period),
+            nodes: asked.nodes,
+            constraints: asked.constraints,
+            process: Process::from_number(asked.process),
+            period: Period::from_number(asked.period),
         }
     }
 }

@@ -15,6 +15,7 @@ use Rattle.tariff.specs.Checks.{nodeCount, constraintCount, periodNumber, short
 use Rattle.tariff.specs.Feasibility.{totalFlow}
 use Rattle.layouts.specs.BookFile.{bookIn}
 use Rattle.book_rules.specs.BookChecks.{bookChecks}
+use Rattle.test_terms.specs.declared.AskedFlows.{AskedFlows}
 use Rattle.test_loading.specs.declared.FlowsAnswer.{FlowsAnswer}
 use Rattle.test_loading.specs.declared.FlowsAnswer.the-variants.{Found, Refused}
 
@@ -31,6 +32,10 @@ pub record FlowsCall : Type 0 where
 abbrev pub flowsCall : ℕ → ℕ → ℕ → List ℕ → List ℤ → List ℕ → List ℤ → FlowsCall
 flowsCall n k period limits factors book place =
     record { nodes = n; constraints = k; period = period; limits = limits; factors = factors; book = book; place = place }
+
+-- by what is asked
+abbrev pub askedFlows : AskedFlows → List ℕ → List ℤ → List ℕ → List ℤ → FlowsCall
+askedFlows a = flowsCall (a .nodes) (a .constraints) (a .period)
 
 -- beside the cells, how many contracts were counted
 abbrev pub flowsOutcome : FlowsAnswer → Outcome

@@ -6,13 +6,15 @@ ghost use lib.IntN.{pos, natAbs};
 ghost use Rattle.lists.specs.Lists.{listTo};
 ghost use Rattle.lists.specs.Lent.{before, after, overwrite};
 ghost use Rattle.tariff.specs.Units.{maxConstraints};
-ghost use Rattle.test_loading.specs.FindFlows.{flowsCall, findFlowsChecked, FindsFlows};
+ghost use Rattle.test_loading.specs.FindFlows.{askedFlows, findFlowsChecked, FindsFlows};
 ghost use Rattle.test_loading.specs.ReleasedPercent.{ReleasesPercent};
 use tariff::Checked;
 use tariff::Period;
 use tariff::Process;
 use tariff::Refusal;
 use test_rules::Flows;
+use test_terms::Asked;
+use test_terms::AskedFlows;
 
 // What finding the flows gives beside the cells: how many contracts were counted.
 pub enum FlowsAnswer {
@@ -42,22 +44,26 @@ pub fn fill_flows(constraints: usize, carried: Flows, out: &mut [i64])
 
 // The checks of finding the flows, with `cells` cells for them: the test's, then 9.
 pub fn check_flows(
-    nodes: usize,
-    constraints: usize,
-    period: u64,
+    asked: AskedFlows,
     limits: &[u64],
     factors: &[i64],
     book: &[u8],
     place: &[i64],
 ) -> Checked
-    ensures { λ r. ⌜ r ≡ findFlowsChecked (flowsCall nodes constraints period (before limits) (before factors) (before book) (before place)) ⌝ }
+    ensures { λ r. ⌜ r ≡ findFlowsChecked (askedFlows asked (before limits) (before factors) (before book) (before place)) ⌝ }
 {
     // No process is asked for: 0 is always one.
-    let tested = test_verdict::check_test(nodes, constraints, 0, period, limits, factors, book);
+    let as_test = Asked {
+        nodes: asked.nodes,
+        constraints: asked.constraints,
+        process: 0,
+        period: asked.period,
+    };
+    let tested = test_verdict::check_test(as_test, limits, factors, book);
     if let Checked::Refused(refusal) = tested {
         return Checked::Refused(refusal);
     }
-    if place.len() < constraints {
+    if place.len() < asked.constraints {
         return Checked::Refused(Refusal::ShortTable);
     }
     Checked::Passed
@@ -65,28 +71,21 @@ pub fn check_flows(
 
 // Finds the flow on each constraint of a period's contracts as they count, one cell each, and how many were counted.
 pub fn find_flows(
-    nodes: usize,
-    constraints: usize,
-    period: u64,
+    asked: AskedFlows,
     limits: &[u64],
     factors: &[i64],
     book: &[u8],
     flows: &mut [i64],
 ) -> FlowsAnswer
-    ensures { λ r. ⌜ FindsFlows (flowsCall nodes constraints period (before limits) (before factors) (before book) (before flows)) r (after flows) ⌝ }
+    ensures { λ r. ⌜ FindsFlows (askedFlows asked (before limits) (before factors) (before book) (before flows)) r (after flows) ⌝ }
 {
-    let checked = check_flows(nodes, constraints, period, limits, factors, book, flows);
+    let checked = check_flows(asked, limits, factors, book, flows);
     if let Checked::Refused(refusal) = checked {
         return FlowsAnswer::Refused(refusal);
     }
-    let carried = test_flows::carry(
-        nodes,
-        constraints,
-        factors,
-        Period::from_number(period),
-        book,
-    );
-    fill_flows(constraints, carried, flows);
+    let period = Period::from_number(asked.period);
+    let carried = test_flows::carry(asked.nodes, asked.constraints, factors, period, book);
+    fill_flows(asked.constraints, carried, flows);
     FlowsAnswer::Found {
         counted: carried.count,
     }

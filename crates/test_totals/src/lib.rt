@@ -17,6 +17,7 @@ use tariff::Refusal;
 use test_loading::FlowsAnswer;
 use test_rules::Flows;
 use test_rules::TestAnswer;
+use test_terms::AskedFlows;
 
 // Totals are of at most so many contracts, so that no sum leaves 64 bits.
 pub const MAX_SUMMED: usize = 20000000;
@@ -57,45 +58,31 @@ fn add_cells(constraints: usize, carried: Flows, out: &mut [i64])
 
 // Adds the flow on each constraint of a period's contracts as they count to the totals in `flows`, and how many were counted to `count`.
 pub fn add_flows(
-    nodes: usize,
-    constraints: usize,
-    period: u64,
+    asked: AskedFlows,
     limits: &[u64],
     factors: &[i64],
     book: &[u8],
     flows: &mut [i64],
     count: &mut usize,
 ) -> FlowsAnswer
-    ensures { λ r. ⌜ AddsFlows (addFlowsCall nodes constraints period (before limits) (before factors) (before book) flows count) r (after flows) (after count) ⌝ }
+    ensures { λ r. ⌜ AddsFlows (addFlowsCall (asked .nodes) (asked .constraints) (asked .period) (before limits) (before factors) (before book) flows count)
+        r (after flows) (after count) ⌝ }
 {
-    let checked = test_loading::check_flows(
-        nodes,
-        constraints,
-        period,
-        limits,
-        factors,
-        book,
-        flows,
-    );
+    let checked = test_loading::check_flows(asked, limits, factors, book, flows);
     if let Checked::Refused(refusal) = checked {
         return FlowsAnswer::Refused(refusal);
     }
     let total = *count;
-    if no_totals(constraints, total, flows) {
+    if no_totals(asked.constraints, total, flows) {
         return FlowsAnswer::Refused(Refusal::ContractCount);
     }
-    let carried = test_flows::carry(
-        nodes,
-        constraints,
-        factors,
-        Period::from_number(period),
-        book,
-    );
+    let period = Period::from_number(asked.period);
+    let carried = test_flows::carry(asked.nodes, asked.constraints, factors, period, book);
     let counted = carried.count;
     if MAX_SUMMED - total < counted {
         return FlowsAnswer::Refused(Refusal::ContractCount);
     }
-    add_cells(constraints, carried, flows);
+    add_cells(asked.constraints, carried, flows);
     *count = total + counted;
     FlowsAnswer::Found { counted }
 }

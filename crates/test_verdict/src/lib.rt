@@ -8,8 +8,9 @@ ghost use Rattle.lists.specs.Sets.{setOf};
 ghost use Rattle.lists.specs.Lent.{before};
 ghost use Rattle.tariff.specs.Processes.{percent};
 ghost use Rattle.tariff.specs.Refusals.{given};
-ghost use Rattle.test_rules.specs.TestBook.{testCall, testChecked, testOutcome, TestsBook};
+ghost use Rattle.test_rules.specs.TestBook.{testChecked, testOutcome, TestsBook};
 ghost use Rattle.test_rules.specs.Inner.{Judgeable};
+ghost use Rattle.test_terms.specs.Calls.{askedTest};
 ghost use Rattle.test_verdict.specs.Judged.{judgedValues};
 use tariff::Checked;
 use tariff::Flow;
@@ -17,6 +18,7 @@ use tariff::Period;
 use tariff::Process;
 use test_rules::Flows;
 use test_rules::TestAnswer;
+use test_terms::Asked;
 
 // The set of overloaded constraints, from its highest bit down: bit k is set where the flow on constraint k exceeds its released limit.
 pub fn overload_set(constraints: usize, process: Process, limits: &[u64], flows: Flows) -> u64
@@ -60,46 +62,26 @@ pub fn verdict(constraints: usize, process: Process, limits: &[u64], flows: Flow
 }
 
 // The test's checks: those of the tables, then the book's own.
-pub fn check_test(
-    nodes: usize,
-    constraints: usize,
-    process: u64,
-    period: u64,
-    limits: &[u64],
-    factors: &[i64],
-    book: &[u8],
-) -> Checked
-    ensures { λ r. ⌜ r ≡ testChecked (testCall nodes constraints process period (before limits) (before factors) (before book)) ⌝ }
+pub fn check_test(asked: Asked, limits: &[u64], factors: &[i64], book: &[u8]) -> Checked
+    ensures { λ r. ⌜ r ≡ testChecked (askedTest asked (before limits) (before factors) (before book)) ⌝ }
 {
-    let grid = grid_tables::check_grid_tables(nodes, constraints, process, period, limits, factors);
+    let grid = test_terms::check_tables(asked, limits, factors);
     if let Checked::Refused(refusal) = grid {
         return Checked::Refused(refusal);
     }
-    book_checks::check_book(nodes, book)
+    book_checks::check_book(asked.nodes, book)
 }
 
 // Tests a book's bytes against grid tables: whether the contracts of one period are simultaneously feasible in a process.
-pub fn test_book(
-    nodes: usize,
-    constraints: usize,
-    process: u64,
-    period: u64,
-    limits: &[u64],
-    factors: &[i64],
-    book: &[u8],
-) -> TestAnswer
-    ensures { λ r. ⌜ TestsBook (testCall nodes constraints process period (before limits) (before factors) (before book)) r ⌝ }
+pub fn test_book(asked: Asked, limits: &[u64], factors: &[i64], book: &[u8]) -> TestAnswer
+    ensures { λ r. ⌜ TestsBook (askedTest asked (before limits) (before factors) (before book)) r ⌝ }
 {
-    let checked = check_test(nodes, constraints, process, period, limits, factors, book);
+    let checked = check_test(asked, limits, factors, book);
     if let Checked::Refused(refusal) = checked {
         return TestAnswer::Refused(refusal);
     }
-    let flows = test_flows::carry(
-        nodes,
-        constraints,
-        factors,
-        Period::from_number(period),
-        book,
-    );
-    verdict(constraints, Process::from_number(process), limits, flows)
+    let period = Period::from_number(asked.period);
+    let flows = test_flows::carry(asked.nodes, asked.constraints, factors, period, book);
+    let process = Process::from_number(asked.process);
+    verdict(asked.constraints, process, limits, flows)
 }

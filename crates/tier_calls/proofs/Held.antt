@@ -31,33 +31,30 @@ use Rattle.book_rules.specs.WriteBook.{WriteBookCall, writeBookCall, writeBookC
 use Rattle.book_rules.proofs.Passing.{writable, rows-made, length-written}
 use Rattle.test_rules.specs.declared.TestAnswer.{TestAnswer}
 use Rattle.test_rules.specs.declared.TestAnswer.the-variants.{Pass}
-use Rattle.test_rules.specs.TestBook.{testChecks, testChecked, testedGrid, testedProcess, testedContracts, testValues, TestCells, passCells, failCells, testCells, TestsBook, TestsBookForC}
+use Rattle.test_rules.specs.TestBook.{testChecks, testChecked, testedGrid, testedProcess, testedContracts, testValues}
+use Rattle.test_rules.specs.TestBook.{TestCells, passCells, failCells, testCells, TestsBook, TestsBookForC}
 use Rattle.test_rules.proofs.Judging.{passed-told}
 use Rattle.test_loading.specs.FindFlows.{FlowsCall, findFlowsChecks, findFlowsChecked, countedContracts, flowCells}
 use Rattle.test_loading.proofs.Passing.{flow-is}
 use Rattle.tier_rules.specs.Tiers.{Tiers}
-use Rattle.tier_rules.specs.Cells.{awardsCells, stateNumbers, stateFlows, heldIn, countedIn, StateCells}
+use Rattle.tier_rules.specs.Cells.{heldIn, countedIn, StateCells}
 use Rattle.tier_rules.specs.Checks.{runningChecks}
 use Rattle.tier_rules.specs.Theorems.{EndsFit}
 use Rattle.tier_rules.proofs.Books.{wide-ends}
 use Rattle.tier_running_rules.specs.OpenRunning.{OpenRunningCall, openRunningChecks, openRunningChecked}
 use Rattle.tier_calls.specs.Runs.{RunningIn}
 use Rattle.tier_calls.specs.Held.{writeHeld, testByOpening, flowsByOpening, HeldBooks}
+use Rattle.tier_calls.proofs.Room.{countsAsked, rangesKept, opening-parts}
 use Rattle.tier_calls.proofs.Runs.{every-run}
 use Rattle.tier_calls.proofs.Rows.{rows-held, rows-taken}
 
 -- an opening's checks are the test's of the tables, with the buffers'
-tables-pass : (q : OpenRunningCall) → openRunningChecked q ≡ Passed → first (gridTableChecks (q .nodes) (q .constraints) (q .process) (q .period) (q .limits) (q .factors)) ≡ Passed
-unfolding openRunningChecks runningChecks gridTableChecks
+tables-pass : (q : OpenRunningCall) → openRunningChecked q ≡ Passed
+    → first (gridTableChecks (q .nodes) (q .constraints) (q .process) (q .period) (q .limits) (q .factors)) ≡ Passed
+unfolding gridTableChecks
 tables-pass q ok =
-    let n = q .nodes in
-    let k = q .constraints in
-    let counts =
-    nodeCount n ∷ constraintCount k ∷ processNumber (q .process) ∷ periodNumber (q .period) ∷ shortTable (length (q .limits)) k ∷ shortTable (length (q .factors)) (n * k) ∷ [] in
-    let buffers = shortTable (length (q .awards)) awardsCells ∷ shortTable (length (q .numbers)) stateNumbers ∷ shortTable (length (q .flows)) stateFlows ∷ [] in
-    let ranges = limitRange (take k (q .limits)) ∷ factorRange (take (n * k) (q .factors)) ∷ [] in
-    let p = passed-append counts (buffers ++ ranges) ok in
-    append-passes counts ranges (p .0) ∙ passed-append buffers ranges (p .1) .1
+    let p = opening-parts q ok in
+    append-passes (countsAsked q) (rangesKept q) (p .0) ∙ p .2
 
 nodes-pass : (q : OpenRunningCall) → openRunningChecked q ≡ Passed → nodeCount (q .nodes) .fails ≡ false
 unfolding openRunningChecks runningChecks
@@ -106,9 +103,11 @@ module _ (q : OpenRunningCall) (s : Tiers) (cells : StateCells) (h : RunningIn q
         (tables-pass q (h .opened))
         ∙ own-accepted
 
-    no-figures : testValues (testedGrid (testByOpening q (take m x))) (testedProcess (testByOpening q (take m x))) (testedContracts (testByOpening q (take m x))) ≡ []
+    no-figures : testValues (testedGrid (testByOpening q (take m x))) (testedProcess (testByOpening q (take m x)))
+        (testedContracts (testByOpening q (take m x))) ≡ []
     no-figures =
-        ap (λ (cs : List Contract). testValues (testedGrid (testByOpening q (take m x))) (testedProcess (testByOpening q (take m x))) (ofPeriod (periodOf (q .period)) cs)) reads
+        ap (λ (cs : List Contract). testValues (testedGrid (testByOpening q (take m x))) (testedProcess (testByOpening q (take m x)))
+        (ofPeriod (periodOf (q .period)) cs)) reads
         ∙ h .running .passes
 
     pass : (b : TestAnswer) → TestsBook (testByOpening q (take m x)) b → b ≡ Pass
@@ -154,17 +153,20 @@ module _ (q : OpenRunningCall) (s : Tiers) (cells : StateCells) (h : RunningIn q
           ∙ sym (rw zero-add at (h .running .holds .block .flows-are k b))
 
 -- 0 answered: a length was given
-given-c : (q : OpenRunningCall) (cells : StateCells) (form : ℕ) (place x : List ℕ) (bytes : Lent ℕ) → WritesBookForC (writeHeld q cells (formOf form) place) 0 x bytes
+given-c : (q : OpenRunningCall) (cells : StateCells) (form : ℕ) (place x : List ℕ) (bytes : Lent ℕ)
+    → WritesBookForC (writeHeld q cells (formOf form) place) 0 x bytes
     → WritesBook (writeHeld q cells (formOf form) place) (Written (after bytes)) x
 given-c q cells form place x bytes w =
-    written-by (writeBookChecked (writeHeld q cells (formOf form) place)) (bookWritten (writeHeld q cells (formOf form) place)) place (before bytes) x (after bytes) w
+    written-by (writeBookChecked (writeHeld q cells (formOf form) place)) (bookWritten (writeHeld q cells (formOf form) place)) place (before bytes) x
+    (after bytes) w
 
 pub held-books : HeldBooks
 held-books =
     record {
       held-written = λ q s cells r f ends place room a x w.
           let h = every-run .every-run-runs q s cells r in
-          writes-passed (writeBookChecked (writeHeld q cells f place)) (bookWritten (writeHeld q cells f place)) place a x (taken q s cells h f place ends room) w .length-is
+          writes-passed (writeBookChecked (writeHeld q cells f place)) (bookWritten (writeHeld q cells f place)) place a x
+          (taken q s cells h f place ends room) w .length-is
           ∙ ap Written (size q s cells h f place ends room);
       wide-ends-fit = λ q s cells r. wide-ends (q .nodes) (s .awards) (every-run .every-run-runs q s cells r .running .reached .each);
       held-passes = λ q s cells r f place. pass q s cells (every-run .every-run-runs q s cells r) f place;

@@ -17,7 +17,7 @@ use Rattle.tariff.specs.declared.refusals.Checked.the-variants.{Passed, Refused
 use Rattle.tariff.specs.Units.{Factors}
 use Rattle.tariff.specs.Checks.{nodeCount, constraintCount, processNumber, periodNumber, shortTable, limitRange, factorRange}
 use Rattle.tariff.proofs.Checks.{passed-cons, passed-append}
-use Rattle.tariff.specs.Refusals.{cellAfter}
+use Rattle.tariff.specs.Refusals.{Check, first, cellAfter}
 use Rattle.layouts.specs.BookTable.{cellsOf}
 use Rattle.tier_rules.specs.Checks.{maxTier, runningChecks, returnChecks}
 use Rattle.tier_rules.specs.Cells.{awardsCells, stateNumbers, stateFlows, stateCells, flowWith, withAwardRow, withAwardNumbers, withAwardFlows}
@@ -76,16 +76,29 @@ tier-told q ok =
     let tier = passed-cons _ _ (passed-cons _ _ (passed-cons _ _ ok .1) .1) .0 in
     ltb-false maxTier (q .tier) (neither (eqb (q .tier) 0) (ltb maxTier (q .tier)) tier .1)
 
+-- an opening's checks: counts and lengths, the buffers, then what is in the tables
+module _ (q : OpenRunningCall) where
+  abbrev pub countsAsked : List Check
+  countsAsked =
+      nodeCount (q .nodes) ∷ constraintCount (q .constraints) ∷ processNumber (q .process) ∷ periodNumber (q .period)
+      ∷ shortTable (length (q .limits)) (q .constraints) ∷ shortTable (length (q .factors)) (q .nodes * q .constraints) ∷ []
+
+  abbrev buffersLent : List Check
+  buffersLent = shortTable (length (q .awards)) awardsCells ∷ shortTable (length (q .numbers)) stateNumbers ∷ shortTable (length (q .flows)) stateFlows ∷ []
+
+  abbrev pub rangesKept : List Check
+  rangesKept = limitRange (take (q .constraints) (q .limits)) ∷ factorRange (take (q .nodes * q .constraints) (q .factors)) ∷ []
+
+  pub opening-parts : openRunningChecked q ≡ Passed → (first countsAsked ≡ Passed) × (first buffersLent ≡ Passed) × (first rangesKept ≡ Passed)
+  unfolding openRunningChecks runningChecks
+  opening-parts ok =
+      let p = passed-append countsAsked (buffersLent ++ rangesKept) ok in
+      let b = passed-append buffersLent rangesKept (p .1) in
+      (p .0, b .0, b .1)
+
 pub opening-long : (q : OpenRunningCall) → openRunningChecked q ≡ Passed → LongEnough (stateCells (q .awards) (q .numbers) (q .flows))
-unfolding openRunningChecks runningChecks
 opening-long q ok =
-    let n = q .nodes in
-    let k = q .constraints in
-    let counts =
-    nodeCount n ∷ constraintCount k ∷ processNumber (q .process) ∷ periodNumber (q .period) ∷ shortTable (length (q .limits)) k ∷ shortTable (length (q .factors)) (n * k) ∷ [] in
-    let buffers = shortTable (length (q .awards)) awardsCells ∷ shortTable (length (q .numbers)) stateNumbers ∷ shortTable (length (q .flows)) stateFlows ∷ [] in
-    let ranges = limitRange (take k (q .limits)) ∷ factorRange (take (n * k) (q .factors)) ∷ [] in
-    let one = passed-cons _ _ (passed-append buffers ranges (passed-append counts (buffers ++ ranges) ok .1) .0) in
+    let one = passed-cons _ _ (opening-parts q ok .1) in
     let two = passed-cons _ _ (one .1) in
     record {
       awards-long = ltb-false (length (q .awards)) awardsCells (one .0);

@@ -13,6 +13,7 @@ use tariff::Checked;
 use tariff::MAX_CONSTRAINTS;
 use tariff::MAX_CONTRACTS;
 use tariff::Refusal;
+use test_terms::Asked;
 use tier_rules::AWARDS_CELLS;
 use tier_rules::FLOWS;
 use tier_rules::NUMBERS;
@@ -21,13 +22,13 @@ use tier_rules::NUMBERS;
 const MAX_AWARDS: u64 = MAX_CONTRACTS as u64;
 
 // 2, 3, 16 or 17.
-fn counts_bad(nodes: usize, constraints: usize, process: u64, period: u64) -> bool
-    ensures { λ r. ⌜ r ≡ countsBad nodes constraints process period ⌝ }
+fn counts_bad(asked: Asked) -> bool
+    ensures { λ r. ⌜ r ≡ countsBad (asked .nodes) (asked .constraints) (asked .process) (asked .period) ⌝ }
 {
-    let nodes_bad = tariff::nodes_bad(nodes);
-    let constraints_bad = MAX_CONSTRAINTS < constraints;
-    let process_bad = 2 < process;
-    let period_bad = 1 < period;
+    let nodes_bad = tariff::nodes_bad(asked.nodes);
+    let constraints_bad = MAX_CONSTRAINTS < asked.constraints;
+    let process_bad = 2 < asked.process;
+    let period_bad = 1 < asked.period;
     nodes_bad | (constraints_bad | (process_bad | period_bad))
 }
 
@@ -42,32 +43,22 @@ pub fn state_short(awards: usize, numbers: usize, flows: usize) -> bool
 }
 
 // 2, 3, 16, 17, 9, 6, 7, where `short` says whether some buffer is too short.
-pub fn check_tables(
-    nodes: usize,
-    constraints: usize,
-    process: u64,
-    period: u64,
-    limits: &[u64],
-    factors: &[i64],
-    short: bool,
-) -> Checked
-    ensures { λ r. ⌜ r ≡ first (runningChecks nodes constraints process period (before limits) (before factors) (shortIf short ∷ [])) ⌝ }
+pub fn check_tables(asked: Asked, limits: &[u64], factors: &[i64], short: bool) -> Checked
+    ensures { λ r. ⌜ r ≡ first (runningChecks (asked .nodes) (asked .constraints) (asked .process) (asked .period)
+        (before limits) (before factors) (shortIf short ∷ [])) ⌝ }
 {
-    if counts_bad(nodes, constraints, process, period) {
-        return grid_tables::check_grid_tables(nodes, constraints, process, period, limits, factors);
+    if counts_bad(asked) {
+        return test_terms::check_tables(asked, limits, factors);
     }
     if short {
         return Checked::Refused(Refusal::ShortTable);
     }
-    grid_tables::check_grid_tables(nodes, constraints, process, period, limits, factors)
+    test_terms::check_tables(asked, limits, factors)
 }
 
 // The checks of an award before 21.
 pub fn check_award(
-    nodes: usize,
-    constraints: usize,
-    process: u64,
-    period: u64,
+    asked: Asked,
     limits: &[u64],
     factors: &[i64],
     award: &[u64],
@@ -75,16 +66,17 @@ pub fn check_award(
     numbers: &[u64],
     flows: &[i64],
 ) -> Checked
-    ensures { λ r. ⌜ r ≡ first (upTo13 (addAwardCall nodes constraints process period limits factors award awards numbers flows) (heldIn (before numbers))) ⌝ }
+    ensures { λ r. ⌜ r ≡ first (upTo13
+        (addAwardCall (asked .nodes) (asked .constraints) (asked .process) (asked .period) limits factors award awards numbers flows) (heldIn (before numbers))) ⌝ }
 {
     let award_short = award.len() < CONTRACT_CELLS;
     let short = award_short | state_short(awards.len(), numbers.len(), flows.len());
-    let checked = check_tables(nodes, constraints, process, period, limits, factors, short);
+    let checked = check_tables(asked, limits, factors, short);
     if let Checked::Refused(refusal) = checked {
         return Checked::Refused(refusal);
     }
     if MAX_AWARDS <= numbers[0] {
         return Checked::Refused(Refusal::ContractCount);
     }
-    book_rows::check_row(nodes, award, 0)
+    book_rows::check_row(asked.nodes, award, 0)
 }

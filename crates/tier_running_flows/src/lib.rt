@@ -1,35 +1,17 @@
 // The flows of a running test with an award's: they are tried, and held where none exceeds its released limit.
 ghost use mathlib.Core.Path.{_≡_};
-ghost use Prim.Native.Nat.{_*_, _≤_, _<_};
-ghost use lib.Dec.{ltb};
+ghost use Prim.Native.Nat.{_≤_, _<_};
 ghost use lib.ListN.{length};
-ghost use lib.IntN.{natAbs};
 ghost use Rattle.lists.specs.Lent.{before, after};
-ghost use Rattle.tariff.specs.Units.{factorsOf, maxConstraints, maxContracts, maxFlow};
+ghost use Rattle.tariff.specs.Units.{factorsOf, maxContracts};
 ghost use Rattle.tariff.specs.Contracts.{InRange};
 ghost use Rattle.grid_tables.specs.Inner.{GoodFactors};
 ghost use Rattle.tier_rules.specs.Cells.{stateNumbers, heldIn};
 ghost use Rattle.tier_running_rules.specs.AddAward.{noState};
-ghost use Rattle.tier_running_rules.specs.Inner.{Addable, StateLike, FlowsInCells, FlowsWith, AddsFlows};
+ghost use Rattle.tier_running_rules.specs.Inner.{Addable, StateLike, FlowsWith, AddsFlows};
 use tariff::Contract;
-use tariff::MAX_CONSTRAINTS;
 use tariff::Process;
 use test_rules::Flows;
-
-// The largest flow of one award: both factors at their largest, and the quantity.
-const MAX_FLOW: u64 = 200000000000;
-
-// Whether a flow is larger than so many awards can make.
-fn flow_beyond(flow: i64, counted: u64) -> bool
-    requires { ⌜ counted ≤ maxContracts ⌝ }
-    ensures { λ r. ⌜ r ≡ ltb (maxFlow * counted) (natAbs flow) ⌝ }
-{
-    let most = (MAX_FLOW * counted) as i64;
-    if flow < -most {
-        return true;
-    }
-    most < flow
-}
 
 // Whether the cells are no state's: more counted than held, or a flow beyond what they can make.
 fn no_state(constraints: usize, numbers: &[u64], flows: &[i64]) -> bool
@@ -42,29 +24,12 @@ fn no_state(constraints: usize, numbers: &[u64], flows: &[i64]) -> bool
     }
     let mut k = 0;
     while k < constraints {
-        if flow_beyond(flows[k], counted) {
+        if test_held::flow_beyond(flows[k], counted as usize) {
             return true;
         }
         k += 1;
     }
     false
-}
-
-// The flows held, to be tried with an award's.
-fn held_flows(constraints: usize, flows: &[i64]) -> Flows
-    requires { ⌜ (constraints ≤ maxConstraints) × (constraints ≤ length (now flows)) ⌝ }
-    ensures { λ r. ⌜ FlowsInCells constraints (before flows) r ⌝ }
-{
-    let mut cells = [0i64; MAX_CONSTRAINTS];
-    let mut k = 0;
-    while k < constraints {
-        cells[k] = tier_rules::same_flow(flows[k]);
-        k += 1;
-    }
-    Flows {
-        flows: cells,
-        count: 0,
-    }
 }
 
 // The flows with an award's.
@@ -79,7 +44,7 @@ fn flows_with(
     requires { ⌜ GoodFactors nodes constraints (now factors) × InRange nodes c × StateLike constraints (now numbers) (now flows) ⌝ }
     ensures { λ r. ⌜ FlowsWith (factorsOf nodes constraints (before factors)) c (before flows) r ⌝ }
 {
-    let mut tried = held_flows(constraints, flows);
+    let mut tried = test_held::held_flows(constraints, flows);
     test_flows::add_flow(&mut tried.flows, c, constraints, factors);
     tried
 }

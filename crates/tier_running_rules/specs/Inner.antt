@@ -9,7 +9,7 @@ use lib.IntN.{ℤ, pos}
 use Rattle.tariff.specs.declared.contracts.Contract.{Contract}
 use Rattle.tariff.specs.declared.processes.Process.{Process}
 use Rattle.tariff.specs.declared.refusals.Refusal.the-variants.{ShortTable}
-use Rattle.tariff.specs.Units.{Factors, maxConstraints, maxLimit, maxContracts}
+use Rattle.tariff.specs.Units.{Factors, maxLimit, maxContracts}
 use Rattle.tariff.specs.Contracts.{InRange}
 use Rattle.tariff.specs.Refusals.{Check}
 use Rattle.tariff.specs.Checks.{nodeCount, constraintCount, processNumber, periodNumber, shortTable, contractCount}
@@ -43,11 +43,6 @@ pub record StateLike (k : ℕ) (numbers : List ℕ) (flows : List ℤ) : Type 0 
   pub long : k ≤ length flows
   pub room : heldIn numbers < maxContracts
   pub told : noState k numbers flows ≡ false
-
--- the flows of cells
-pub record FlowsInCells (k : ℕ) (flows : List ℤ) (held : Flows) : Type 0 where
-  pub all : length (held .flows) ≡ maxConstraints
-  pub flows-are : (j : ℕ) → j < k → getD (held .flows) j (pos 0) ≡ getD flows j (pos 0)
 
 -- flows with an award's
 pub record FlowsWith (f : Factors) (c : Contract) (flows : List ℤ) (tried : Flows) : Type 0 where

@@ -15,6 +15,7 @@ use tariff::Contract;
 use tariff::Period;
 use tariff::Process;
 use tariff::Refusal;
+use test_terms::Asked;
 use tier_rules::RunningAnswer;
 
 // Stores an award behind those held.
@@ -25,14 +26,6 @@ fn store_award(c: Contract, awards: &mut [u64], numbers: &mut [u64])
 {
     book_rows::store_row(awards, CONTRACT_CELLS * (numbers[0] as usize), c);
     numbers[0] = numbers[0] + 1;
-}
-
-// What is asked beside tables, award and buffers, by number.
-struct Asked {
-    nodes: usize,
-    constraints: usize,
-    process: u64,
-    period: u64,
 }
 
 // Tries the flows of an award: those of one of the period are added, unless 21 comes instead, which it says.
@@ -63,8 +56,8 @@ fn try_flows(
     )
 }
 
-// Adds an award: its checks before 21, its flows, then its row.
-fn add_asked(
+// Adds an award to a running test, unless some flow would exceed its released limit: its checks before 21, its flows, then its row.
+pub fn add_award(
     asked: Asked,
     limits: &[u64],
     factors: &[i64],
@@ -77,10 +70,7 @@ fn add_asked(
         (leftIn awards numbers flows) ⌝ }
 {
     let checked = tier_running_checks::check_award(
-        asked.nodes,
-        asked.constraints,
-        asked.process,
-        asked.period,
+        asked,
         limits,
         factors,
         award,
@@ -98,28 +88,4 @@ fn add_asked(
     }
     store_award(c, awards, numbers);
     RunningAnswer::Held
-}
-
-// Adds an award to a running test, unless some flow would exceed its released limit.
-pub fn add_award(
-    nodes: usize,
-    constraints: usize,
-    process: u64,
-    period: u64,
-    limits: &[u64],
-    factors: &[i64],
-    award: &[u64],
-    awards: &mut [u64],
-    numbers: &mut [u64],
-    flows: &mut [i64],
-) -> RunningAnswer
-    ensures { λ r. ⌜ AddsAward (addAwardCall nodes constraints process period limits factors award awards numbers flows) r (leftIn awards numbers flows) ⌝ }
-{
-    let asked = Asked {
-        nodes,
-        constraints,
-        process,
-        period,
-    };
-    add_asked(asked, limits, factors, award, awards, numbers, flows)
 }

@@ -6,6 +6,7 @@ ghost use Rattle.lists.specs.Lent.{before, after};
 ghost use Rattle.tier_rules.specs.Cells.{stateNumbers, stateFlows, openedNumbers, openedFlows};
 ghost use Rattle.tier_running_rules.specs.OpenRunning.{openRunningCall, OpensRunning};
 use tariff::Checked;
+use test_terms::Asked;
 use tier_rules::FLOWS;
 use tier_rules::NUMBERS;
 use tier_rules::RunningAnswer;
@@ -36,28 +37,18 @@ fn clear_flows(flows: &mut [i64])
 
 // Opens a running test of a grid, a process and a period in three lent buffers.
 pub fn open_running(
-    nodes: usize,
-    constraints: usize,
-    process: u64,
-    period: u64,
+    asked: Asked,
     limits: &[u64],
     factors: &[i64],
     awards: &[u64],
     numbers: &mut [u64],
     flows: &mut [i64],
 ) -> RunningAnswer
-    ensures { λ r. ⌜ OpensRunning (openRunningCall nodes constraints process period limits factors awards numbers flows) r (after numbers) (after flows) ⌝ }
+    ensures { λ r. ⌜ OpensRunning (openRunningCall (asked .nodes) (asked .constraints) (asked .process) (asked .period) limits factors awards numbers flows) r
+        (after numbers) (after flows) ⌝ }
 {
     let short = tier_running_checks::state_short(awards.len(), numbers.len(), flows.len());
-    match tier_running_checks::check_tables(
-        nodes,
-        constraints,
-        process,
-        period,
-        limits,
-        factors,
-        short,
-    ) {
+    match tier_running_checks::check_tables(asked, limits, factors, short) {
         Checked::Refused(refusal) => RunningAnswer::Refused(refusal),
         Checked::Passed => {
             clear_numbers(numbers);

@@ -33,14 +33,20 @@ row-stored f s i v e =
     row-bytes f i (contractIn f s i) (contract-in-fits f s i) ∙ ap (λ (l : List ℕ). digits 8 2 i ++ l) (ap (contractBytes f) e ∙ bits-bytes f v)
 
 -- a block of cells behind another
-pub two-blocks : (xs ys l t u : List ℕ) (at a b : ℕ) → length xs ≡ a → at + a ≤ length l → t ≡ take at l ++ xs ++ drop (at + a) l → u ≡ take (at + a) t ++ ys ++ drop (at + a + b) t
-    → u ≡ take at l ++ (xs ++ ys) ++ drop (at + (a + b)) l
+two-blocks : (xs ys l t u : List ℕ) (at a b : ℕ) → length xs ≡ a → at + a ≤ length l → t ≡ take at l ++ xs ++ drop (at + a) l
+    → u ≡ take (at + a) t ++ ys ++ drop (at + a + b) t → u ≡ take at l ++ (xs ++ ys) ++ drop (at + (a + b)) l
 two-blocks xs ys l t u at a b size room first second =
     let front : length (take at l ++ xs) ≡ at + a = length-append (take at l) xs ∙ omega (arith, length-take-le at l (omega arith), size) in
     second
     ∙ rw (ap (take (at + a)) first ∙ take-at (take at l ++ xs) (drop (at + a) l) (at + a) front, ← add-assoc at a b)
-    (ap (λ (r : List ℕ). take at l ++ xs ++ ys ++ r) (drop-later t l (at + a) (at + a + b) (omega arith) (ap (drop (at + a)) first ∙ drop-at (take at l ++ xs) (drop (at + a) l) (at + a) front))
+    (ap (λ (r : List ℕ). take at l ++ xs ++ ys ++ r) (drop-later t l (at + a) (at + a + b) (omega arith)
+    (ap (drop (at + a)) first ∙ drop-at (take at l ++ xs) (drop (at + a) l) (at + a) front))
     ∙ simp append-assoc)
+
+-- a contract's number in two bytes, and its own bits in so many
+pub number-and-bits : (m i v at : ℕ) (l t u : List ℕ) → at + 2 ≤ length l → t ≡ take at l ++ digits 8 2 i ++ drop (at + 2) l
+    → u ≡ take (at + 2) t ++ digits 8 m v ++ drop (at + 2 + m) t → u ≡ take at l ++ (digits 8 2 i ++ digits 8 m v) ++ drop (at + (2 + m)) l
+number-and-bits m i v at l t u = two-blocks (digits 8 2 i) (digits 8 m v) l t u at 2 m (length-digits 8 2 i)
 
 pub nothing-put : (l rows : List ℕ) (at : ℕ) → rows ≡ [] → l ≡ take at l ++ rows ++ drop at l
 nothing-put l rows at none =
@@ -77,7 +83,8 @@ module _ (f : Form) (h : ℕ) (s : List ℕ) where
   rows-rise m (suc n) b =
       ⊎-elim
       (λ q. rw q (omega arith))
-      (λ q. let more : length (rowsTo f h s (n + 1)) ≡ length (rowsTo f h s n) + length (rowsAt f h s n) = ap length (rows-more n) ∙ length-append (rowsTo f h s n) (rowsAt f h s n) in
+      (λ q. let more : length (rowsTo f h s (n + 1)) ≡ length (rowsTo f h s n) + length (rowsAt f h s n) = ap length (rows-more n)
+      ∙ length-append (rowsTo f h s n) (rowsAt f h s n) in
       omega (arith, rows-rise m n (omega arith), rw add-one at more))
       (eq-or-lt-of-le b)
 

@@ -216,6 +216,7 @@ Taken = Callable[[Path], Case]
 def _taken(reading: Reading, memory: int, jobs: int, folders: Sequence[Path]) -> Taken:
     """How a folder is opened to be tested, at any size. Processes share folders or, of one folder, slices."""
     shared = jobs if len(folders) == 1 else 1
+    memory = 0 if shared > 1 else memory  # processes read the factors from a file, each what it needs
     return partial(
         opened, reading=reading, any_size=True, prices=False, terms=True, memory=memory, jobs=shared
     )

@@ -1,5 +1,5 @@
-"""Where the shared library is, and which one this processor takes. One that was made from other sources than
-the clone's is never taken."""
+"""Where the shared library is, and which one this processor takes, and where the page for browsers is. What
+was made from other sources than the clone's is never taken."""
 
 from __future__ import annotations
 
@@ -15,6 +15,7 @@ _HERE = Path(__file__).resolve().parent
 _CLONE = (_HERE / ".." / ".." / "..").resolve()
 _DIST, _BUILT = _CLONE / "dist", _CLONE / "target" / "sharedlib"
 _BUILT_LIBRARY = _BUILT / "libcrr.so"
+_PAGE = "page.html"
 
 # The libraries of each machine, the best first: by their names in its folder of dist/, and in the package.
 # The first of x86-64 Linux stands where glibc looks for it too.
@@ -72,6 +73,21 @@ def library_path() -> Path:
     raise FileNotFoundError(f"no shared library of these sources: {advice} ({'; '.join(reasons)})")
 
 
+def page_path() -> Path:
+    """The installed package's own page for browsers, else that of dist/, which holds crr.wasm: it is taken
+    where all of dist/ is of the clone's sources."""
+    packed, shipped = _HERE / _PAGE, _DIST / _PAGE
+    if packed.is_file():
+        return packed
+    lists: List[Listing] = [(_DIST / "SHA256SUMS", _DIST, (_PAGE,)), (_DIST / "MADE-FROM", _CLONE, _ALL)]
+    unlike = next(filter(None, (_unlike(*one) for one in lists)), None)
+    if not (_CLONE / "crates.txt").is_file():
+        raise FileNotFoundError("this package has no page: it was packed where sources had changed")
+    if unlike:
+        raise FileNotFoundError(f"no page of these sources: {unlike}; ./library --dist makes it anew")
+    return shipped
+
+
 def _first(folder: Path) -> Optional[Path]:
     """The best library of a folder for this processor; a package of changed sources has one for any."""
     names = (folder / name for name in (library_name(), *LIBRARIES.get(this_machine(), [])[-1:]))
@@ -99,12 +115,15 @@ def library_origin(library: Path) -> str:
     return "./library, built from this clone's sources" if place == _BUILT_LIBRARY else "CRR_LIBRARY"
 
 
-# A list of hashes, the folder in which its names begin, and the one that is asked for, if it is one alone.
-Listing = Tuple[Path, Path, str]
+# A list of hashes, the folder in which its names begin, and how those begin that are asked for.
+Listing = Tuple[Path, Path, Tuple[str, ...]]
+_OF_LIBRARY = ("crates/", "include/")  # sources of MADE-FROM; the page has js/ besides
+_ALL = ("",)
 
 
 def _shipped(machine: str, name: str) -> List[Listing]:
-    return [(_DIST / "MADE-FROM", _CLONE, ""), (_DIST / "SHA256SUMS", _DIST, f"{machine}/{name}")]
+    sums = (_DIST / "SHA256SUMS", _DIST, (f"{machine}/{name}",))
+    return [(_DIST / "MADE-FROM", _CLONE, _OF_LIBRARY), sums]
 
 
 def _places(machine: str) -> List[Tuple[Path, List[Listing]]]:
@@ -112,7 +131,7 @@ def _places(machine: str) -> List[Tuple[Path, List[Listing]]]:
     shipped = _first(_DIST / machine) or _DIST / machine / library_name()
     return [
         (shipped, _shipped(machine, shipped.relative_to(_DIST / machine).as_posix())),
-        (_BUILT_LIBRARY, [(_BUILT / "MADE-FROM", _CLONE, "")]),
+        (_BUILT_LIBRARY, [(_BUILT / "MADE-FROM", _CLONE, _ALL)]),
     ]
 
 
@@ -120,14 +139,14 @@ def _lines(listing: Path) -> List[str]:
     return listing.read_text(encoding="utf-8").splitlines()
 
 
-def _unlike(listing: Path, folder: Path, asked: str) -> Optional[str]:
-    """The first file, or the one asked for, that differs from a list of hashes as sha256sum writes it."""
+def _unlike(listing: Path, folder: Path, asked: Tuple[str, ...]) -> Optional[str]:
+    """The first file of those asked for that differs from a list of hashes as sha256sum writes it."""
     if not listing.is_file():
         return f"there is no {listing.name} beside it"
     hashes = (line.partition("  ") for line in _lines(listing) if not line.startswith("#"))
-    held = [(folder / name, name, hashed) for hashed, _, name in hashes if asked in ("", name)]
+    held = [(folder / name, name, hashed) for hashed, _, name in hashes if name.startswith(asked)]
     if not held:
-        return f"{asked} is not in {listing.name}"
+        return f"{asked[0]} is not in {listing.name}"
     for file, name, hashed in held:
         if not file.is_file() or sha256(file.read_bytes()).hexdigest() != hashed:
             return f"{name} is not the file of {listing.name}"

@@ -47,19 +47,24 @@ def cut(book: Sequence[Contract]) -> List[Slice]:
     taken: List[int] = []
     nodes: Dict[int, int] = {}
     for i in sorted(range(len(book)), key=lambda i: (book[i].source, book[i].sink)):
-        fresh = {book[i].source, book[i].sink} - nodes.keys()
+        ends = {book[i].source, book[i].sink}
+        fresh = {node for node in ends if node not in nodes}  # less all of nodes would go through them
         if len(taken) == MAX_CONTRACTS or len(nodes) + len(fresh) > MAX_NODES:
             slices.append(_slice(book, taken, nodes))
-            taken, nodes, fresh = [], {}, {book[i].source, book[i].sink}
+            taken, nodes, fresh = [], {}, ends
         taken.append(i)
-        nodes.update({node: len(nodes) + place for place, node in enumerate(sorted(fresh))})
+        if fresh:
+            nodes.update({node: len(nodes) + place for place, node in enumerate(sorted(fresh))})
     return slices + ([_slice(book, taken, nodes)] if taken else [])
 
 
 def _slice(book: Sequence[Contract], taken: List[int], nodes: Dict[int, int]) -> Slice:
     # The holder is 0 for all: it plays no part in settling, and a larger book may have more holders than the
     # file has numbers.
-    rows = [book[i]._replace(holder=0, source=nodes[book[i].source], sink=nodes[book[i].sink]) for i in taken]
+    rows = [
+        Contract(kind, period, 0, nodes[source], nodes[sink], quantity)
+        for kind, period, _, source, sink, quantity in map(book.__getitem__, taken)
+    ]
     return Slice(taken, list(nodes), write_book(len(nodes), rows, book_form(rows)))
 
 

@@ -14,37 +14,32 @@ returns-2 c =
     let a = e .before .before .args in
     many-contracts (a .nodes) (a .file .now) (e .if1 .left) _ (c .before .contract-count .ensures .0) (c .if2 .taken)
 
+-- where the spare bits are compared: the moments that led there, past the test of the length and past that of the count
+abbrev few : tie.After-spare-pattern → tie.Else2
+few p = p .before .before .before
+
+abbrev long : tie.After-spare-pattern → tie.Else1
+long p = few p .before .before
+
 returns-3 : tie.Need-returns-3
 returns-3 c =
     let p = c .before in
-    let g = p .before .before in
-    let f = g .before in
-    let e = f .before .before in
-    let a = e .before .before .args in
-    spare-other (a .nodes) (a .file .now) (e .if1 .left) _ (f .before .contract-count .ensures .0) (f .if2 .left) _ (g .book-form .ensures)
+    spare-other _ _ (long p .if1 .left) _ (few p .before .contract-count .ensures .0) (few p .if2 .left) _ (p .before .before .book-form .ensures)
     _ (p .before .spare-bits .ensures) _ (p .spare-pattern .ensures .0) (c .if3 .taken)
 
 returns-4 : tie.Need-returns-4
 returns-4 c =
     let h = c .before .before in
     let p = h .before in
-    let g = p .before .before in
-    let f = g .before in
-    let e = f .before .before in
-    let a = e .before .before .args in
-    wrong-length (a .nodes) (a .file .now) (e .if1 .left) _ (f .before .contract-count .ensures .0) (f .if2 .left) _ (g .book-form .ensures)
+    wrong-length _ _ (long p .if1 .left) _ (few p .before .contract-count .ensures .0) (few p .if2 .left) _ (p .before .before .book-form .ensures)
     _ (p .before .spare-bits .ensures) _ (p .spare-pattern .ensures .0) (h .if3 .left) _ (c .before .book-bytes .ensures) (c .if4 .taken)
 
 returns-5 : tie.Need-returns-5
 returns-5 c =
     let h = c .before .before .before in
     let p = h .before in
-    let g = p .before .before in
-    let f = g .before in
-    let e = f .before .before in
-    let a = e .before .before .args in
     c .check-contracts .ensures
-    ∙ right-header (a .nodes) (a .file .now) (e .if1 .left) _ (f .before .contract-count .ensures .0) (f .if2 .left) _ (g .book-form .ensures)
+    ∙ right-header _ _ (long p .if1 .left) _ (few p .before .contract-count .ensures .0) (few p .if2 .left) _ (p .before .before .book-form .ensures)
     _ (p .before .spare-bits .ensures) _ (p .spare-pattern .ensures .0) (h .if3 .left) _ (c .before .before .book-bytes .ensures) (c .before .if4 .left)
 
 pub check-book-spec : {M : Type 1} → statement M

@@ -14,7 +14,8 @@ use Rattle.c_cuts.proofs.crr_find_cuts.Tie as tie
 abbrev call : tie.Start → CutsCall
 call c =
     record {
-      test = testCall (c .args .nodes) (c .args .constraints) (c .args .process) (c .args .period) (c .args .limits .now) (c .args .factors .now) (c .args .book .now);
+      test =
+          testCall (c .args .nodes) (c .args .constraints) (c .args .process) (c .args .period) (c .args .limits .now) (c .args .factors .now) (c .args .book .now);
       numbers = c .args .numbers .now;
       cuts = c .args .cuts .now;
     }
@@ -48,10 +49,11 @@ returns-2 c =
       numbers-listed = f .numbers-listed;
       cuts-listed = f .cuts-listed;
       least-cuts = λ passed.
-          subst (λ (n : ℕ). HoldLeastCuts q n (found .last .1 .1 .1 .1 .1 .1 .1 .0) (found .last .1 .1 .1 .1 .1 .1 .1 .1 .0)) (sym many) (f .least-cuts passed);
+          subst (λ (n : ℕ). HoldLeastCuts q n (found .last .1 .1 .1 .1 .0) (found .last .1 .1 .1 .1 .1 .0)) (sym many) (f .least-cuts passed);
     }
 
 pub crr-find-cuts-spec : {M : Type 1} → statement M
 crr-find-cuts-spec =
     tie.close (tie.spec
-    (λ c κs. search needs) (λ c. search needs) (λ c κs. search needs) (λ c. search needs) (λ c. search needs) (λ c. search needs) returns (λ c. search needs) (λ c. search needs) returns-2)
+    (λ c κs. search needs) (λ c. search needs) (λ c κs. search needs) (λ c. search needs) (λ c. search needs) (λ c. search needs)
+    returns (λ c. search needs) (λ c. search needs) returns-2)

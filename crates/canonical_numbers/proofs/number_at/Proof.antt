@@ -12,10 +12,10 @@ bits-at-requires-2 : tie.Need-bits-at-requires-2
 bits-at-requires-2 c κs = let s = c .before .before .before in (s .pre .0, rw (c .enum-told2 .given .1) at (s .pre .1))
 
 returns : tie.Need-returns
-returns c = rw (c .before .before .enum-told .given .1) (c .number-of .ensures ∙ ap rowNumber (sym (c .before .bits-at .ensures)))
+returns c = rw (c .before .before .enum-told .given .1) (c .narrow-number-of .ensures ∙ ap rowNumber (sym (c .before .bits-at .ensures)))
 
 returns-2 : tie.Need-returns-2
-returns-2 c = rw (c .before .before .enum-told2 .given .1) (c .number-of2 .ensures ∙ ap rowNumber (sym (c .before .bits-at2 .ensures)))
+returns-2 c = rw (c .before .before .enum-told2 .given .1) (c .number-of .ensures ∙ ap rowNumber (sym (c .before .bits-at2 .ensures)))
 
 pub number-at-spec : {M : Type 1} → statement M
 number-at-spec =

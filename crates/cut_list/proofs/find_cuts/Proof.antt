@@ -12,9 +12,10 @@ use Rattle.layouts.specs.BookFile.{bookIn}
 use Rattle.grid_tables.specs.Inner.{GoodCells, GoodFactors}
 use Rattle.book_rules.specs.BookChecks.{bookChecks}
 use Rattle.book_rules.proofs.Accepted.{book-accepted}
-use Rattle.test_rules.specs.TestBook.{TestCall, testCall}
+use Rattle.test_rules.specs.TestBook.{TestCall}
 use Rattle.test_excesses.specs.declared.Terms.{Terms}
 use Rattle.test_rules.proofs.Checking.{Tested, tested}
+use Rattle.test_terms.specs.Calls.{askedTest}
 use Rattle.cut_rules.specs.Cuts.{leastCuts}
 use Rattle.cut_rules.specs.Inner.{rowKey}
 use Rattle.cut_rules.proofs.Keys.{Few}
@@ -25,7 +26,7 @@ use Rattle.cut_list.proofs.find_cuts.Statement.{statement}
 use Rattle.cut_list.proofs.find_cuts.Tie as tie
 
 abbrev test : tie.Start → TestCall
-test s = testCall (s .args .nodes) (s .args .constraints) (s .args .process) (s .args .period) (s .args .limits .now) (s .args .factors .now) (s .args .book .now)
+test s = askedTest (s .args .asked) (s .args .limits .now) (s .args .factors .now) (s .args .book .now)
 
 abbrev call : tie.Start → CutsCall
 call s = record { test = test s; numbers = s .args .numbers .now; cuts = s .args .cuts .now }
@@ -40,8 +41,8 @@ returns c =
 ok : (c : tie.After-enum-told) → Tested (test (c .before .before .before .before .before .before .before))
 ok c = tested (test (c .before .before .before .before .before .before .before)) (sym (c .before .before .check-test .ensures) ∙ c .enum-told .given .1)
 
-from-numbers-requires : tie.Need-from-numbers-requires
-from-numbers-requires c κs = ok c .tables .process-number
+from-asked-requires : tie.Need-from-asked-requires
+from-asked-requires c κs = ok c .tables .process-number
 
 row-keys-requires : tie.Need-row-keys-requires
 row-keys-requires c κs =
@@ -50,7 +51,7 @@ row-keys-requires c κs =
       subst
           (λ (x : Terms). GoodCells maxLimit (x .constraints) (a .limits .now) × GoodFactors (x .nodes) (x .constraints) (a .factors .now)
           × (first (bookChecks (x .nodes) (a .book .now)) ≡ Passed))
-          (sym (c .before .from-numbers .ensures)) (o .tables .good-limits, o .tables .good-factors, o .book),
+          (sym (c .before .from-asked .ensures)) (o .tables .good-limits, o .tables .good-factors, o .book),
       refl,
     )
 
@@ -70,13 +71,13 @@ module _ (x : tie.After-row-keys) where
       x .row-keys .ensures .1
       ∙ ap (λ (t : Terms). map rowKey (leastCuts (gridOf (t .nodes) (t .constraints) (q .test .limits) (q .test .factors)) (t .process) (t .period)
       (bookIn (q .test .book))))
-      (x .before .before .from-numbers .ensures)
+      (x .before .before .from-asked .ensures)
 
   room : x .row-keys .result ≤ length (x .row-keys .last .1 .1 .1 .1 .0)
   room = let h = x .row-keys .ensures .0 in omega (arith, h .0, h .1)
 
   few : Few (listedRows q)
-  few = few-listed q (book-accepted (s .args .nodes) (s .args .book .now) (ok e .book) .few)
+  few = few-listed q (book-accepted (s .args .asked .nodes) (s .args .book .now) (ok e .book) .few)
 
   many : x .row-keys .result ≡ length (listedRows q)
   many = how-many (listedRows q) few _ (x .row-keys .result) room keys
@@ -93,5 +94,5 @@ returns-2 c =
 pub find-cuts-spec : {M : Type 1} → statement M
 find-cuts-spec =
     tie.close (tie.spec
-    (λ c κs. search needs) (λ c. search needs) returns (λ c. search needs) from-numbers-requires (λ c. search needs)
+    (λ c κs. search needs) (λ c. search needs) returns (λ c. search needs) from-asked-requires (λ c. search needs)
     row-keys-requires (λ c. search needs) (λ c κs. search needs) (λ c. search needs) (λ c. search needs) returns-2)

@@ -1,6 +1,6 @@
 -- `period_at`: the hour, then the day.
 use mathlib.Core.Path.{_≡_, sym, _∙_}
-use mathlib.Core.Bool.{true, false}
+use mathlib.Core.Bool.{Bool, true, false, cond}
 use native.Mathlib.Omega.{arith}
 use borrow.Author.Needs.{needs}
 use borrow.Author.Tests.{not-true, not-false}
@@ -23,25 +23,18 @@ on-peak-day-requires c κs =
     let i = date-in (d .year) (d .month) (d .day) (s .pre) in
     (omega (arith, i .month-there), i .month-there .year-high, i .month-there .month-high, i .day-low, i .day-high)
 
-returns-2 : tie.Need-returns-2
+-- the hour is a peak hour: the period is the day's
+by-day : (c : tie.After-on-peak-day) (b : Bool) → c .on-peak-day .result ≡ b → let s = c .before .before .before in
+    cond b 1 0 ≡ periodIs (s .args .date) (s .args .hour)
 unfolding periodIs
-returns-2 c =
-    let i = c .before .before in
+by-day c b told =
+    let i = c .before in
     let s = i .before .before in
     let d = s .args .date in
-    let day = sym (on-peak-by-days (d .year) (d .month) (d .day) (s .pre)) ∙ sym (c .before .on-peak-day .ensures) ∙ c .if2 .taken in
-    let hour : peakHour (s .args .hour) ≡ true = sym (i .before .is-within .ensures) ∙ not-false _ (i .if1 .left) in
-    rw (hour, day)
-
-returns-3 : tie.Need-returns-3
-unfolding periodIs
-returns-3 c =
-    let i = c .before .before in
-    let s = i .before .before in
-    let d = s .args .date in
-    let day = sym (on-peak-by-days (d .year) (d .month) (d .day) (s .pre)) ∙ sym (c .before .on-peak-day .ensures) ∙ c .if2 .left in
+    let day = sym (on-peak-by-days (d .year) (d .month) (d .day) (s .pre)) ∙ sym (c .on-peak-day .ensures) ∙ told in
     let hour : peakHour (s .args .hour) ≡ true = sym (i .before .is-within .ensures) ∙ not-false _ (i .if1 .left) in
     rw (hour, day)
 
 pub period-at-spec : {M : Type 1} → statement M
-period-at-spec = tie.close (tie.spec (λ c κs. search needs) returns on-peak-day-requires returns-2 returns-3)
+period-at-spec = tie.close (tie.spec (λ c κs. search needs) returns on-peak-day-requires
+    (λ c. by-day (c .before) true (c .if2 .taken)) (λ c. by-day (c .before) false (c .if2 .left)))

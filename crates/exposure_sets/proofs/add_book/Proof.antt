@@ -1,30 +1,38 @@
 -- `add_book`: the contracts below i are added.
-use mathlib.Core.Path.{_≡_, sym, ap, _∙_, subst}
-use Prim.Native.Nat.{ℕ, _+_, _-_, _*_, _≤_, _<_}
+use mathlib.Core.Path.{_≡_, ap, _∙_, subst}
+use Prim.Native.Nat.{ℕ, _-_, _*_, _≤_, _<_}
 use native.Mathlib.Omega.{arith}
+use mathlib.Core.List.{List}
 use lib.ListN.{length}
-use lib.IntN.{ℤ, _+ℤ_}
+use lib.IntN.{ℤ}
 use borrow.Author.Needs.{needs}
-use Rattle.integers.specs.Sums.{sumTo}
 use Rattle.tariff.specs.declared.contracts.Contract.{Contract}
+use Rattle.tariff.specs.declared.contracts.Period.{Period}
 use Rattle.tariff.specs.Contracts.{InRange}
+use Rattle.tariff.specs.Inner.{maxReleased}
 use Rattle.layouts.specs.declared.forms.Form.{Form}
 use Rattle.layouts.specs.BookFile.{contractCountIn, contractIn, contractAt}
 use Rattle.book_rules.proofs.Accepted.{Accepted, book-accepted, accepted-room}
 use Rattle.test_rules.proofs.Checking.{ends-of}
-use Rattle.exposure_sets.specs.Inner.{cellIn, maxSum, SmallCells, Added, ownIn}
-use Rattle.exposure_sets.proofs.Laws.{book-start, book-each, book-sized}
+use Rattle.exposure_sets.specs.Inner.{AddedSmall, fixedIn, optionIn}
+use Rattle.exposure_sets.proofs.Laws.{Upto, upto-start, upto-next, upto-end}
 use Rattle.exposure_sets.proofs.add_book.Statement.{statement}
 use Rattle.exposure_sets.proofs.add_book.Tie as tie
 
+-- what each contract adds
+abbrev fixed : ℕ → List ℤ → List ℕ → Period → List ℕ → ℕ → ℕ → ℤ
+fixed k fs over t book i s = fixedIn k fs over t (contractAt book i) s
+
+abbrev options : ℕ → List ℤ → List ℕ → ℕ → Period → List ℕ → ℕ → ℕ → ℤ
+options k fs over count t book i m = optionIn k fs over count t (contractAt book i) m
+
 abbrev Inv-loop : tie.InvT-loop
-Inv-loop nodes constraints period factors book over count n sums₀ costs₀ contracts form i₀ sums costs i =
-    (i ≤ contracts) × (length sums ≡ 1024) × (length costs ≡ 1024)
-    × ((m : ℕ) → m < n → cellIn costs m ≡ cellIn costs₀ m +ℤ sumTo i (λ (j : ℕ). ownIn constraints factors over count period (contractAt book j) m))
-    × SmallCells (maxSum * (i + 1)) n costs
+Inv-loop nodes constraints period factors book over count n row₀ sums₀ costs₀ contracts form i₀ row sums costs i =
+    (i ≤ contracts) × (length sums ≡ 1024) × Upto maxReleased count (fixed constraints factors over period book) row₀ row i
+    × Upto (maxReleased * 10) n (options constraints factors over count period book) costs₀ costs i
 
 abbrev μ-loop : tie.MeasureT-loop
-μ-loop nodes constraints period factors book over count n sums₀ costs₀ contracts form i₀ sums costs i = contracts - i
+μ-loop nodes constraints period factors book over count n row₀ sums₀ costs₀ contracts form i₀ row sums costs i = contracts - i
 
 ok : (s : tie.Start Inv-loop μ-loop) → Accepted (s .args .nodes) (s .args .book .now)
 ok s = book-accepted (s .args .nodes) (s .args .book .now) (s .pre .0 .1)
@@ -38,7 +46,7 @@ book-form-requires c κs = omega (arith, ok (c .before .before .before) .size)
 loop-holds : tie.Need-loop-holds Inv-loop μ-loop
 loop-holds c =
     let s = c .before .before .before .before in
-    (omega arith, s .pre .1 .1 .0, s .pre .1 .1 .1, book-start (s .args .n) _ (s .args .costs .now), λ m h. omega (arith, s .pre .1 .1 .2 m h))
+    (omega arith, s .pre .1 .1 .0, upto-start maxReleased _ _ _ (s .pre .1 .1 .2), upto-start (maxReleased * 10) _ _ _ (s .pre .1 .1 .3))
 
 contract-at-requires : tie.Need-contract-at-requires Inv-loop μ-loop
 contract-at-requires c κs =
@@ -61,34 +69,42 @@ own c = rw (read c) (ok (c .before .before .before .before .before .before .befo
 
 add-contract-requires : tie.Need-add-contract-requires Inv-loop μ-loop
 add-contract-requires c κs =
-    let s = c .before .before .before .before .before .before .before .before .before in
+    let s = c .before .before .before .before .before .before .before .before .before .before in
     let a = s .args in
-    let l = c .before .before .before .before .loop in
-    let x = c .before .before in
+    let l = c .before .before .before .before .before .loop in
+    let x = c .before .before .before in
     let small = ok s .few in (
-      (ends-of (a .nodes) (a .constraints) (a .factors .now) _ (s .pre .0 .0) (own x), s .pre .1 .0 .0, s .pre .1 .0 .1),
-      (l .inv .1, l .inv .2, λ m h. omega (arith, l .inv .4 m h, below x, small)),
+      (
+        ends-of (a .nodes) (a .constraints) (a .factors .now) _ (s .pre .0 .0) (own x),
+        s .pre .1 .0 .0,
+        s .pre .1 .0 .1,
+        omega (arith, s .pre .1 .0 .2, l .inv .2 .length-kept),
+      ),
+      (
+        l .inv .1,
+        l .inv .3 .length-kept ∙ s .pre .1 .1 .1,
+        λ m h. omega (arith, l .inv .2 .sized m h, below x, small),
+        λ m h. omega (arith, l .inv .3 .sized m h, below x, small),
+      ),
     )
 
 loop-again : tie.Need-loop-again Inv-loop μ-loop
 loop-again c =
-    let s = c .before .before .before .before .before .before .before .before .before .before .before .before in
+    let s = c .before .before .before .before .before .before .before .before .before .before .before .before .before .before in
     let a = s .args in
-    let l = c .before .before .before .before .before .before .before .loop in
-    let x = c .before .before .before .before .before in
-    let e = c .before .before .add-contract .ensures in
-    let f : ℕ → ℕ → ℤ = λ j m. ownIn (a .constraints) (a .factors .now) (a .over .now) (a .count) (a .period) (contractAt (a .book .now) j) m in
-    let added = subst (λ (d : Contract). Added (a .n) (ownIn (a .constraints) (a .factors .now) (a .over .now) (a .count) (a .period) d) (l .costs)
-    (c .before .before .add-contract .last .1 .1 .1 .1 .1 .1 .1 .1 .0)) (read x) (e .0) in (
+    let l = c .before .before .before .before .before .before .before .before .before .loop in
+    let x = c .before .before .before .before .before .before .before in
+    let e = c .before .before .before .add-contract .ensures in
+    let fixed-part = subst (λ (d : Contract). AddedSmall maxReleased (a .count) (fixedIn (a .constraints) (a .factors .now) (a .over .now) (a .period) d) (l .row)
+    (c .before .before .before .add-contract .last .1 .1 .1 .1 .1 .1 .1 .0)) (read x) (e .0) in
+    let option-part = subst (λ (d : Contract). AddedSmall (maxReleased * 10) (a .n)
+    (optionIn (a .constraints) (a .factors .now) (a .over .now) (a .count) (a .period) d)
+    (l .costs) (c .before .before .before .add-contract .last .1 .1 .1 .1 .1 .1 .1 .1 .1 .0)) (read x) (e .1) in (
       omega arith,
-      e .1,
-      added .length-kept ∙ l .inv .2,
-      book-each (a .n) (l .i) f (a .costs .now) (l .costs) _ added (l .inv .3),
-      book-sized (a .n) (l .i) f (a .costs .now) (l .costs) _ added (l .inv .4),
+      e .2,
+      upto-next maxReleased (a .count) _ (a .row .now) (l .i) (l .row) _ (l .inv .2) fixed-part,
+      upto-next (maxReleased * 10) (a .n) _ (a .costs .now) (l .i) (l .costs) _ (l .inv .3) option-part,
     )
-
-same-length : tie.Need-same-length Inv-loop μ-loop
-same-length c = search needs
 
 returns : tie.Need-returns Inv-loop μ-loop
 returns c =
@@ -96,17 +112,16 @@ returns c =
     let a = s .args in
     let l = c .before .loop in
     let last : l .i ≡ contractCountIn (a .book .now) = omega (arith, c .before .before .before .contract-count .ensures .0) in
-    let small = ok s .few in
-    record {
-      length-kept = l .inv .2 ∙ sym (s .pre .1 .1 .1);
-      each = λ m h. subst (λ (x : ℕ). cellIn (l .costs) m ≡ cellIn (a .costs .now) m +ℤ sumTo x
-          (λ (j : ℕ). ownIn (a .constraints) (a .factors .now) (a .over .now) (a .count) (a .period) (contractAt (a .book .now) j) m))
-          last (l .inv .3 m h);
-      sized = λ m h. omega (arith, l .inv .4 m h, last, small);
-    }
+    let few = ok s .few in
+    let f = upto-end maxReleased (a .count) (fixed (a .constraints) (a .factors .now) (a .over .now) (a .period) (a .book .now)) (a .row .now) (l .i) _ (l .row) last
+    few (l .inv .2) in
+    let o = upto-end (maxReleased * 10) (a .n)
+    (options (a .constraints) (a .factors .now) (a .over .now) (a .count) (a .period) (a .book .now)) (a .costs .now) (l .i) _
+    (l .costs) last few (l .inv .3) in
+    (f, (o .0, o .1, l .inv .1))
 
 pub add-book-spec : {M : Type 1} → statement M
 add-book-spec =
     tie.close (tie.spec
     Inv-loop μ-loop contract-count-requires book-form-requires loop-holds contract-at-requires add-contract-requires (λ c. search needs)
-    (λ c. search needs) loop-again same-length (λ c. search needs) returns)
+    (λ c. search needs) loop-again (λ c. search needs) (λ c. search needs) (λ c. search needs) returns)

@@ -1,13 +1,13 @@
 -- `grow`: the new cells passed have x in addition, the old are as they were.
 use mathlib.Core.Path.{_≡_, refl, ap, _∙_}
-use Prim.Native.Nat.{ℕ, _+_, _-_, _≤_, _<_}
+use Prim.Native.Nat.{ℕ, _+_, _-_, _*_, _≤_, _<_}
 use native.Mathlib.Omega.{arith}
 use lib.Dec.{lit<}
 use lib.ListN.{length, length-set}
 use lib.IntN.{ℤ, natAbs, _+ℤ_}
 use borrow.Author.Needs.{needs}
 use Rattle.test_rules.proofs.Flowing.{kept-sized}
-use Rattle.exposure_sets.specs.Inner.{cellIn, maxSum}
+use Rattle.exposure_sets.specs.Inner.{cellIn, maxRow}
 use Rattle.exposure_sets.proofs.Laws.{grow-low, grow-high, kept-sum}
 use Rattle.exposure_sets.proofs.grow.Statement.{statement}
 use Rattle.exposure_sets.proofs.grow.Tie as tie
@@ -26,14 +26,14 @@ slice-copy-out-t11 : tie.Need-slice-copy-out-t11 Inv-loop μ-loop
 slice-copy-out-t11 c = omega (arith, c .before .before .pre .0, c .before .loop .inv .1)
 
 -- the old cell is as it was
-old : (c : tie.After-t11 Inv-loop μ-loop) → natAbs (cellIn (c .before .before .loop .sums) (c .before .before .loop .m)) ≤ maxSum
+old : (c : tie.After-t11 Inv-loop μ-loop) → natAbs (cellIn (c .before .before .loop .sums) (c .before .before .loop .m)) ≤ maxRow * 10
 old c = let l = c .before .before .loop in rw (l .inv .2 (l .m) (omega arith)) (c .before .before .before .pre .3 (l .m) (omega arith))
 
 plus-requires : tie.Need-plus-requires Inv-loop μ-loop
 plus-requires c κs = omega (
   arith,
   c .before .before .before .pre .2,
-  kept-sized (cellIn (c .before .before .loop .sums) (c .before .before .loop .m)) maxSum
+  kept-sized (cellIn (c .before .before .loop .sums) (c .before .before .loop .m)) (maxRow * 10)
       (lit< tt) (old c),
 )
 

@@ -11,7 +11,8 @@ use Rattle.tariff.specs.Refusals.{first}
 use Rattle.layouts.specs.BookFile.{bookIn}
 use Rattle.grid_tables.specs.Inner.{GoodCells, Hour}
 use Rattle.book_rules.specs.BookChecks.{bookChecks}
-use Rattle.test_rules.specs.TestBook.{TestCall, testCall}
+use Rattle.test_rules.specs.TestBook.{TestCall}
+use Rattle.test_terms.specs.Calls.{askedTest}
 use Rattle.test_excesses.specs.declared.Terms.{Terms}
 use Rattle.exposure_shortfall.specs.FindShortfall.{shortfallChecked}
 use Rattle.exposure_shortfall.specs.Inner.{Costs}
@@ -21,7 +22,7 @@ use Rattle.exposure_shortfall.proofs.find_shortfall.Statement.{statemen
 use Rattle.exposure_shortfall.proofs.find_shortfall.Tie as tie
 
 abbrev call : tie.Start → TestCall
-call c = testCall (c .args .nodes) (c .args .constraints) (c .args .process) (c .args .period) (c .args .limits .now) (c .args .factors .now) (c .args .book .now)
+call c = askedTest (c .args .asked) (c .args .limits .now) (c .args .factors .now) (c .args .book .now)
 
 -- the tables were checked; and then the book
 abbrev start : tie.After-check-tables → tie.Start
@@ -56,8 +57,8 @@ passed e =
 ok : (e : tie.After-enum-told2) → let s = start (asking e) in Asked (call s) (s .args .prices .now)
 ok e = let s = start (asking e) in asked (call s) (s .args .prices .now) (sym (passed e))
 
-from-numbers-requires : tie.Need-from-numbers-requires
-from-numbers-requires c κs = ok c .as-tested .tables .process-number
+from-asked-requires : tie.Need-from-asked-requires
+from-asked-requires c κs = ok c .as-tested .tables .process-number
 
 shortfall-at-requires : tie.Need-shortfall-at-requires
 shortfall-at-requires c κs =
@@ -67,7 +68,7 @@ shortfall-at-requires c κs =
     subst
     (λ (x : Terms). (GoodCells maxLimit (x .constraints) (a .limits .now) × Hour (x .nodes) (x .constraints) (a .factors .now) (a .prices .now))
     × (first (bookChecks (x .nodes) (a .book .now)) ≡ Passed))
-    (sym (c .from-numbers .ensures))
+    (sym (c .from-asked .ensures))
     ((t .tables .good-limits, record { good-factors = t .tables .good-factors; good-prices = o .good-prices }), t .book)
 
 returns-3 : tie.Need-returns-3
@@ -79,7 +80,7 @@ returns-3 c =
     let r = c .before .shortfall-at .result in
     let costs = subst (λ (t : Terms). Costs (gridOf (t .nodes) (t .constraints) (q .limits) (q .factors)) (t .process) (ofPeriod (t .period) (bookIn (q .book)))
     (take (t .constraints) prices) r)
-    (c .before .before .from-numbers .ensures) (c .before .shortfall-at .ensures) in
+    (c .before .before .from-asked .ensures) (c .before .shortfall-at .ensures) in
     finds q prices _ (passed e) refl r costs _ _ _
     (back (r .payment .whole) (omega (arith, costs .payment .whole-sized))) (back (r .rent .whole) (omega (arith, costs .rent-is .whole-sized)))
     (back (r .shortfall .whole) (omega (arith, costs .shortfall-is .whole-sized)))
@@ -88,4 +89,4 @@ pub find-shortfall-spec : {M : Type 1} → statement M
 find-shortfall-spec =
     tie.close (tie.spec
     (λ c κs. search needs) (λ c. search needs) returns (λ c. search needs) (λ c κs. search needs) (λ c. search needs) returns-2 (λ c. search needs)
-    from-numbers-requires shortfall-at-requires returns-3)
+    from-asked-requires shortfall-at-requires returns-3)

@@ -4,14 +4,13 @@ use Prim.Native.Nat.{ℕ, _-_, _≤_, _<_}
 use native.Mathlib.Omega.{arith}
 use lib.ListN.{length, take, drop, length-set}
 use lib.IntN.{ℤ, pos}
-use mir.Syntax.{w64}
-use mir.Facts.{toZ-ofZ}
 use Rattle.lists.specs.Lists.{listTo}
 use Rattle.lists.proofs.Fill.{fill-turn, rest-turn, fill-front}
 use Rattle.lists.proofs.Lists.{length-listTo, getD-listTo}
 use borrow.Author.Needs.{needs}
 use mathlib.Core.List.{List}
 use Rattle.integers.specs.Sums.{sumTo}
+use Rattle.integers.proofs.Machine.{back}
 use Rattle.tariff.specs.Units.{maxNodes, maxContracts}
 use Rattle.tariff.specs.Contracts.{InRange}
 use Rattle.tariff.specs.Settlement.{cents as centsOf}
@@ -93,47 +92,49 @@ hour-amount-requires c κs =
     (s .pre .0 .0, r, record { sink-is = each (x .sink) (r .sink-below); source-is = each (x .source) (r .source-below) })
 
 -- both places have a cell i
-cents-inside : (c : tie.After-cents Inv-loop μ-loop)
-    → c .before .before .before .before .before .before .before .loop .i < length (c .before .before .before .before .before .before .before .loop .cents)
+cents-inside : (c : tie.After-hour-amount Inv-loop μ-loop)
+    → c .before .before .before .before .before .loop .i < length (c .before .before .before .before .before .loop .cents)
 cents-inside c =
-    let s = c .before .before .before .before .before .before .before .before .before .before .before in
-    omega (arith, c .before .before .before .before .before .before .before .loop .inv .1, s .pre .1 .1 .2)
+    let s = c .before .before .before .before .before .before .before .before .before in
+    omega (arith, c .before .before .before .before .before .loop .inv .1, s .pre .1 .1 .2)
 
-sets-inside : (c : tie.After-cents Inv-loop μ-loop)
-    → c .before .before .before .before .before .before .before .loop .i < length (c .before .before .before .before .before .before .before .loop .sets)
+sets-inside : (c : tie.After-hour-amount Inv-loop μ-loop)
+    → c .before .before .before .before .before .loop .i < length (c .before .before .before .before .before .loop .sets)
 sets-inside c =
-    let s = c .before .before .before .before .before .before .before .before .before .before .before in
-    omega (arith, c .before .before .before .before .before .before .before .loop .inv .4, s .pre .1 .1 .3)
+    let s = c .before .before .before .before .before .before .before .before .before in
+    omega (arith, c .before .before .before .before .before .loop .inv .4, s .pre .1 .1 .3)
 
-small : (c : tie.After-cents Inv-loop μ-loop) → c .before .before .before .before .before .before .before .loop .i < 1000
-small c = omega (arith, c .before .before .before .before .before .before .before .before .before .before .before .pre .1 .1 .0)
+small : (c : tie.After-hour-amount Inv-loop μ-loop) → c .before .before .before .before .before .loop .i < 1000
+small c = omega (arith, c .before .before .before .before .before .before .before .before .before .pre .1 .1 .0)
 
-add-amount-requires : tie.Need-add-amount-requires Inv-loop μ-loop
-add-amount-requires c κs =
-    let l = c .before .before .before .before .before .before .before .loop in
-    (c .before .before .hour-amount .ensures .amount-sized, bounded-most (l .i) maxContracts (l .totals) (omega (arith, small c)) (l .inv .9))
+add-settled-requires : tie.Need-add-settled-requires Inv-loop μ-loop
+add-settled-requires c κs =
+    let l = c .before .before .before .before .before .before .loop in
+    (c .before .hour-amount .ensures .amount-is .sized, bounded-most (l .i) maxContracts (l .totals) (omega (arith, small (c .before))) (l .inv .9))
 
 loop-again : tie.Need-loop-again Inv-loop μ-loop
 loop-again c =
-    let s = c .before .before .before .before .before .before .before .before .before .before .before .before in
+    let s = c .before .before .before .before .before .before .before .before .before .before .before in
     let a = s .args in
-    let l = c .before .before .before .before .before .before .before .before .loop in
-    let p = c .add-amount .ensures in
+    let l = c .before .before .before .before .before .before .before .loop in
     let A = amountAt (a .hour) (a .factors .now) (a .prices .now) (a .form) (a .book .now) in
     let F = centsAt (a .hour) (a .factors .now) (a .prices .now) (a .form) (a .book .now) in
     let G = setAt (a .hour) (a .factors .now) (a .prices .now) (a .form) (a .book .now) in
-    let h : l .i < a .count = c .before .before .before .before .before .before .before .loop-test .taken in
-    let o = c .before .before .before .hour-amount .ensures in
-    let is = contract-is (c .before .before .before .before .before .before) in
-    let amount = o .amount-is ∙ ap (hourAmount (hourFactorsIn (a .hour) (a .factors .now)) (hourPricesIn (a .hour) (a .prices .now)) (a .hour .period)) is in
-    let set = o .priced-is ∙ ap (pricedOf (hourFactorsIn (a .hour) (a .factors .now)) (hourPricesIn (a .hour) (a .prices .now)) (a .hour .period)) is ∙ sym (getD-listTo (a .count) G (l .i) 0 h) in
-    let v = toZ-ofZ {w = w64} (record { sfits = c .before .cents .ok }) ∙ c .before .cents .ensures .0 ∙ ap centsOf amount ∙ sym (getD-listTo (a .count) F (l .i) (pos 0) h) in (
+    let h : l .i < a .count = c .before .before .before .before .before .before .loop-test .taken in
+    let r = c .before .before .hour-amount in
+    let o = r .ensures .amount-is in
+    let p = c .add-settled .ensures _ o in
+    let is = contract-is (c .before .before .before .before .before) in
+    let amount = ap (hourAmount (hourFactorsIn (a .hour) (a .factors .now)) (hourPricesIn (a .hour) (a .prices .now)) (a .hour .period)) is in
+    let set = r .ensures .priced-is ∙ ap (pricedOf (hourFactorsIn (a .hour) (a .factors .now)) (hourPricesIn (a .hour) (a .prices .now)) (a .hour .period)) is
+    ∙ sym (getD-listTo (a .count) G (l .i) 0 h) in
+    let v = back (r .result .cents) (omega (arith, o .sized .cents-sized)) ∙ o .cents-is ∙ ap centsOf amount ∙ sym (getD-listTo (a .count) F (l .i) (pos 0) h) in (
       omega arith,
       simp length-set (l .inv .1),
-      fill-turn (listTo (a .count) F) (l .cents) (l .i) (l .inv .2) _ (pos 0) (cents-inside (c .before)) (rw (length-listTo (a .count) F) h) v,
+      fill-turn (listTo (a .count) F) (l .cents) (l .i) (l .inv .2) _ (pos 0) (cents-inside (c .before .before)) (rw (length-listTo (a .count) F) h) v,
       rest-turn (l .cents) (a .cents .now) (l .i) _ (l .inv .3),
       simp length-set (l .inv .4),
-      fill-turn (listTo (a .count) G) (l .sets) (l .i) (l .inv .5) _ 0 (sets-inside (c .before)) (rw (length-listTo (a .count) G) h) set,
+      fill-turn (listTo (a .count) G) (l .sets) (l .i) (l .inv .5) _ 0 (sets-inside (c .before .before)) (rw (length-listTo (a .count) G) h) set,
       rest-turn (l .sets) (a .sets .now) (l .i) _ (l .inv .6),
       sum-more (l .i) F (l .inv .7) (ap centsOf amount) (p .sum),
       sum-more (l .i) A (l .inv .8) amount (p .exact),
@@ -159,5 +160,5 @@ pub settle-contracts-spec : {M : Type 1} → statement M
 settle-contracts-spec =
     tie.close (tie.spec
     Inv-loop μ-loop loop-holds contract-at-requires mul-hour-amount sink-inside mul-hour-amount-2 (λ c. source-inside (c .before)) hour-amount-requires
-    (λ c κs. c .before .hour-amount .ensures .amount-sized) (λ c. omega (arith, small c)) cents-inside (λ c. omega (arith, small c)) sets-inside add-amount-requires
-    (λ c. omega (arith, small (c .before))) (λ c. omega arith) loop-again (λ c. search needs) (λ c. search needs) returns)
+    (λ c. omega (arith, small (c .before))) (λ c. cents-inside (c .before)) (λ c. omega (arith, small (c .before))) (λ c. sets-inside (c .before))
+    add-settled-requires (λ c. omega (arith, small (c .before .before))) (λ c. omega arith) loop-again (λ c. search needs) (λ c. search needs) returns)

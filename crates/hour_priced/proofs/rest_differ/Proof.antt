@@ -11,11 +11,11 @@ use Rattle.hour_priced.proofs.rest_differ.Statement.{statement}
 use Rattle.hour_priced.proofs.rest_differ.Tie as tie
 
 abbrev Inv-loop : tie.InvT-loop
-Inv-loop constraints factors source sink fours set₀ k₀ set k =
-    (fours ≤ k) × (k ≤ constraints) × (set ≡ setOf (constraints - k) (λ (j : ℕ). differAt factors source sink (k + j)))
+Inv-loop constraints factors source sink eights set₀ k₀ set k =
+    (eights ≤ k) × (k ≤ constraints) × (set ≡ setOf (constraints - k) (λ (j : ℕ). differAt factors source sink (k + j)))
 
 abbrev μ-loop : tie.MeasureT-loop
-μ-loop constraints factors source sink fours set₀ k₀ set k = k
+μ-loop constraints factors source sink eights set₀ k₀ set k = k
 
 loop-holds : tie.Need-loop-holds Inv-loop μ-loop
 loop-holds c = let a = c .args in (omega arith, omega arith, set-start (a .constraints) (differAt (a .factors .now) (a .source) (a .sink)))
@@ -59,7 +59,7 @@ returns : tie.Need-returns Inv-loop μ-loop
 returns c =
     let a = c .before .before .args in
     let l = c .before .loop in
-    let last : l .k ≡ a .constraints / 4 * 4 = omega arith in
+    let last : l .k ≡ a .constraints / 8 * 8 = omega arith in
     l .inv .2 ∙ ap (λ (k : ℕ). setOf (a .constraints - k) (λ (j : ℕ). differAt (a .factors .now) (a .source) (a .sink) (k + j))) last
 
 pub rest-differ-spec : {M : Type 1} → statement M

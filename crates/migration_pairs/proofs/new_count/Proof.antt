@@ -13,16 +13,16 @@ use Rattle.migration_pairs.proofs.new_count.Tie as tie
 told : (c : tie.Then1) → let a = c .before .before .before .args in migrates (a .period) (length (a .loads .now)) (a .c) ≡ true
 told c = sym (c .before .migrates .ensures) ∙ c .if1 .taken
 
-pair-count-requires : tie.Need-pair-count-requires
-pair-count-requires c κs =
+base-count-requires : tie.Need-base-count-requires
+base-count-requires c κs =
     let s = c .before .before .before in
-    (s .pre .0, base-held (rowLosses (s .args .row)) (s .args .loads .now) (s .args .period) (s .args .c) (told c) (s .pre .1))
+    (s .pre .0, base-held (rowLosses (s .args .row)) (s .args .loads .now) (s .args .period) (s .args .c) (told c) (s .pre .1), s .pre .2)
 
 returns : tie.Need-returns
 returns c =
     let b = c .before in
     let a = b .before .before .before .args in
-    (c .pair-count .ensures .0 ∙ sym (ap length (new-some (rowLosses (a .row)) (a .loads .now) (a .period) (a .c) (told b))), c .pair-count .ensures .1)
+    (c .base-count .ensures .0 ∙ sym (ap length (new-some (rowLosses (a .row)) (a .loads .now) (a .period) (a .c) (told b))), c .base-count .ensures .1)
 
 returns-2 : tie.Need-returns-2
 returns-2 c =
@@ -30,4 +30,4 @@ returns-2 c =
     (sym (ap length (new-none (rowLosses (a .row)) (a .loads .now) (a .period) (a .c) (sym (c .before .migrates .ensures) ∙ c .if1 .left))), omega arith)
 
 pub new-count-spec : {M : Type 1} → statement M
-new-count-spec = tie.close (tie.spec (λ c κs. search needs) pair-count-requires returns returns-2)
+new-count-spec = tie.close (tie.spec (λ c κs. search needs) base-count-requires returns returns-2)

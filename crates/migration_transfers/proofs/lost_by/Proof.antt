@@ -1,5 +1,5 @@
 -- `lost_by`: what is lost to the first j.
-use mathlib.Core.Path.{_≡_, refl, ap, _∙_}
+use mathlib.Core.Path.{_≡_, sym, ap, _∙_}
 use Prim.Native.Nat.{ℕ, suc, _-_, _*_, _≤_}
 use native.Mathlib.Numerals.{add-one}
 use native.Mathlib.Omega.{arith}
@@ -8,6 +8,7 @@ use lib.ListN.{getD}
 use lib.IntN.{ℤ, natAbs}
 use Rattle.integers.proofs.Sizes.{natAbs-max0}
 use Rattle.migration_rules.specs.Transfers.{lossesTo}
+use Rattle.migration_rules.proofs.Nets.{losses-none, losses-more}
 use Rattle.migration_transfers.specs.Squares.{noTransfer, rowLosses}
 use Rattle.migration_transfers.specs.Inner.{maxNet}
 use Rattle.migration_transfers.proofs.lost_by.Statement.{statement}
@@ -21,8 +22,7 @@ abbrev μ-loop : tie.MeasureT-loop
 μ-loop entities row lost₀ j₀ lost j = entities - j
 
 loop-holds : tie.Need-loop-holds Inv-loop μ-loop
-unfolding lossesTo
-loop-holds c = (omega arith, (λ i. refl), omega arith)
+loop-holds c = (omega arith, (λ i. sym (losses-none (rowLosses (c .args .t1)) i)), omega arith)
 
 -- the net in cell j, and that it is small
 abbrev z : (c : tie.In-loop Inv-loop μ-loop) → ℤ
@@ -43,14 +43,13 @@ plus-requires c κs =
     omega (arith, l .before .before .pre .0, l .before .loop .inv .2, c .lost .ensures, natAbs-max0 (z l), small l)
 
 loop-again : tie.Need-loop-again Inv-loop μ-loop
-unfolding lossesTo
 loop-again c =
     let i = c .before .before .before in
     let l = i .before .loop in
     let lost = c .before .lost .ensures in
     let place : suc (l .j) - 1 ≡ l .j = omega arith in (
       omega arith,
-      (λ k. rw (add-one (l .j), ← l .inv .1 k, place, ← lost) (c .plus .ensures)),
+      (λ k. rw (add-one (l .j), losses-more (rowLosses (i .before .before .args .t1)) k (l .j), ← l .inv .1 k, place, ← lost) (c .plus .ensures)),
       omega (arith, l .inv .2, lost, natAbs-max0 (z i), small i, c .plus .ensures),
     )
 
@@ -63,4 +62,5 @@ returns c =
 
 pub lost-by-spec : {M : Type 1} → statement M
 lost-by-spec =
-    tie.close (tie.spec Inv-loop μ-loop loop-holds (λ c. search needs) array-copy-out-lost lost-requires plus-requires (λ c. search needs) (λ c. search needs) loop-again returns)
+    tie.close (tie.spec Inv-loop μ-loop loop-holds (λ c. search needs) array-copy-out-lost lost-requires plus-requires (λ c. search needs)
+    (λ c. search needs) loop-again returns)

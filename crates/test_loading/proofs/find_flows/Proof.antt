@@ -12,14 +12,14 @@ use Rattle.tariff.proofs.Answers.{answer-refused, cells-refused, answer-passed,
 use Rattle.layouts.specs.BookFile.{bookIn}
 use Rattle.test_rules.specs.Carried.{Carries}
 use Rattle.test_rules.proofs.Flowing.{carried-judgeable}
-use Rattle.test_loading.specs.FindFlows.{FlowsCall, flowsCall, findFlowsChecked, countedContracts, flowCells}
+use Rattle.test_loading.specs.FindFlows.{FlowsCall, askedFlows, findFlowsChecked, countedContracts, flowCells}
 use Rattle.test_loading.proofs.Passing.{Ready, ready, cells-are}
 use borrow.Author.Needs.{needs}
 use Rattle.test_loading.proofs.find_flows.Statement.{statement}
 use Rattle.test_loading.proofs.find_flows.Tie as tie
 
 abbrev call : tie.Start → FlowsCall
-call c = flowsCall (c .args .nodes) (c .args .constraints) (c .args .period) (c .args .limits .now) (c .args .factors .now) (c .args .book .now) (c .args .flows .now)
+call c = askedFlows (c .args .asked) (c .args .limits .now) (c .args .factors .now) (c .args .book .now) (c .args .flows .now)
 
 returns : tie.Need-returns
 returns c =
@@ -50,7 +50,8 @@ fill-flows-requires c κs =
     let q = call (c .before .before .before .before .before .before .before .before .before) in
     let o = ok (c .before .before .before) in
     let t = o .as-tested .tables in
-    let j = carried-judgeable (q .nodes) (q .constraints) (q .limits) (q .factors) (periodOf (q .period)) (q .book) (t .good-limits) (t .good-factors) (o .as-tested .book) _ (carried (c .before)) in
+    let j = carried-judgeable (q .nodes) (q .constraints) (q .limits) (q .factors) (periodOf (q .period)) (q .book) (t .good-limits) (t .good-factors)
+    (o .as-tested .book) _ (carried (c .before)) in
     ((j .few, o .room-enough), j .flows-sized)
 
 returns-2 : tie.Need-returns-2
@@ -60,7 +61,8 @@ returns-2 c =
     let k = e .before .before .check-flows in
     let told = e .enum-told .given .1 in
     let h = carried (c .before .before .before) in
-    let cells = c .before .fill-flows .ensures ∙ ap (λ (values : List ℤ). overwrite values (q .place)) (cells-are (factorsOf (q .nodes) (q .constraints) (q .factors)) (countedContracts q) _ h) in
+    let cells = c .before .fill-flows .ensures ∙ ap (λ (values : List ℤ). overwrite values (q .place))
+    (cells-are (factorsOf (q .nodes) (q .constraints) (q .factors)) (countedContracts q) _ h) in
     record {
       counted-given = ap (λ (n : ℕ). given (pos n ∷ [])) (h .count-is) ∙ answer-passed (k .result) (findFlowsChecked q) (k .ensures) told _;
       flows-found = cells-passed (k .result) (findFlowsChecked q) (k .ensures) told (flowCells q) (q .place) _ cells;
@@ -69,4 +71,5 @@ returns-2 c =
 pub find-flows-spec : {M : Type 1} → statement M
 find-flows-spec =
     tie.close (tie.spec
-    (λ c κs. search needs) (λ c. search needs) (λ c. search needs) returns (λ c. search needs) (λ c κs. search needs) carry-requires fill-flows-requires (λ c. search needs) returns-2)
+    (λ c κs. search needs) (λ c. search needs) (λ c. search needs) returns (λ c. search needs)
+    (λ c κs. search needs) carry-requires fill-flows-requires (λ c. search needs) returns-2)

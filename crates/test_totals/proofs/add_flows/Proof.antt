@@ -8,7 +8,7 @@ use Rattle.tariff.specs.declared.contracts.Period.{Period}
 use Rattle.tariff.specs.Contracts.{ofPeriod}
 use Rattle.layouts.specs.BookFile.{bookIn}
 use Rattle.test_rules.specs.Carried.{Carries}
-use Rattle.test_loading.specs.FindFlows.{flowsCall, countedContracts}
+use Rattle.test_loading.specs.FindFlows.{askedFlows, countedContracts}
 use Rattle.test_loading.proofs.Passing.{Ready, ready}
 use Rattle.test_totals.specs.Totals.{maxSummed, noTotals}
 use Rattle.test_totals.specs.AddFlows.{AddFlowsCall, addedFactors}
@@ -22,8 +22,7 @@ abbrev call : tie.Start → AddFlowsCall
 call c =
     record {
       asked =
-          flowsCall (c .args .nodes) (c .args .constraints) (c .args .period) (c .args .limits .now) (c .args .factors .now) (c .args .book .now)
-          (c .args .flows .now);
+          askedFlows (c .args .asked) (c .args .limits .now) (c .args .factors .now) (c .args .book .now) (c .args .flows .now);
       count = c .args .count .now;
     }
 

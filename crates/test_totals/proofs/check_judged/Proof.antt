@@ -1,8 +1,13 @@
 -- `check_judged`: each return by the tests that led there.
-use mathlib.Core.Path.{sym, _∙_}
+use mathlib.Core.Path.{_≡_, sym, _∙_}
+use mathlib.Core.List.{[], _∷_}
 use borrow.Author.Tests.{lt-ltb, le-ltb}
+use lib.ListN.{take}
+use Rattle.tariff.specs.Refusals.{first}
+use Rattle.tariff.specs.Checks.{limitRange}
 use Rattle.tariff.proofs.Checks.{first-passes, first-refuses, last-passes}
-use Rattle.test_totals.specs.JudgeFlows.{judgeChecks}
+use Rattle.test_totals.specs.JudgeFlows.{judgeCall, judgeChecks, judgeChecked}
+use Rattle.test_totals.specs.Totals.{totalsRange}
 use borrow.Author.Needs.{needs}
 use Rattle.test_totals.proofs.check_judged.Statement.{statement}
 use Rattle.test_totals.proofs.check_judged.Tie as tie
@@ -27,31 +32,31 @@ returns-4 c =
     sym (first-passes _ _ (le-ltb _ _ (c .before .before .before .if1 .left)) ∙ first-passes _ _ (le-ltb _ _ (c .before .before .if2 .left))
     ∙ first-passes _ _ (le-ltb _ _ (c .before .if3 .left)) ∙ first-refuses _ _ (lt-ltb _ _ (c .if4 .taken)))
 
-returns-5 : tie.Need-returns-5
+-- past the counts and the lengths, the cells are left
+cells-left : (c : tie.Else4)
+    → let a = c .before .before .before .before .before .args in
+    judgeChecked (judgeCall (a .constraints) (a .process) (a .limits .now) (a .flows .now) (a .count))
+    ≡ first (limitRange (take (a .constraints) (a .limits .now)) ∷ totalsRange (a .constraints) (a .count) (a .flows .now) ∷ [])
 unfolding judgeChecks
-returns-5 c =
-    let e = c .before .before in
-    sym (first-passes _ _ (le-ltb _ _ (e .before .before .before .if1 .left)) ∙ first-passes _ _ (le-ltb _ _ (e .before .before .if2 .left))
-    ∙ first-passes _ _ (le-ltb _ _ (e .before .if3 .left)) ∙ first-passes _ _ (le-ltb _ _ (e .if4 .left))
-    ∙ first-refuses _ _ (sym (c .before .cell-above .ensures) ∙ c .if5 .taken))
+cells-left c =
+    first-passes _ _ (le-ltb _ _ (c .before .before .before .if1 .left)) ∙ first-passes _ _ (le-ltb _ _ (c .before .before .if2 .left))
+    ∙ first-passes _ _ (le-ltb _ _ (c .before .if3 .left)) ∙ first-passes _ _ (le-ltb _ _ (c .if4 .left))
+
+-- past the limits, the totals
+totals-left : (c : tie.Else5)
+    → let a = c .before .before .before .before .before .before .before .args in
+    judgeChecked (judgeCall (a .constraints) (a .process) (a .limits .now) (a .flows .now) (a .count))
+    ≡ first (totalsRange (a .constraints) (a .count) (a .flows .now) ∷ [])
+totals-left c = cells-left (c .before .before) ∙ first-passes _ _ (sym (c .before .cell-above .ensures) ∙ c .if5 .left)
+
+returns-5 : tie.Need-returns-5
+returns-5 c = sym (cells-left (c .before .before) ∙ first-refuses _ _ (sym (c .before .cell-above .ensures) ∙ c .if5 .taken))
 
 returns-6 : tie.Need-returns-6
-unfolding judgeChecks
-returns-6 c =
-    let d = c .before .before in
-    let e = d .before .before in
-    sym (first-passes _ _ (le-ltb _ _ (e .before .before .before .if1 .left)) ∙ first-passes _ _ (le-ltb _ _ (e .before .before .if2 .left))
-    ∙ first-passes _ _ (le-ltb _ _ (e .before .if3 .left)) ∙ first-passes _ _ (le-ltb _ _ (e .if4 .left))
-    ∙ first-passes _ _ (sym (d .before .cell-above .ensures) ∙ d .if5 .left) ∙ first-refuses _ _ (sym (c .before .no-totals .ensures) ∙ c .if6 .taken))
+returns-6 c = sym (totals-left (c .before .before) ∙ first-refuses _ _ (sym (c .before .no-totals .ensures) ∙ c .if6 .taken))
 
 returns-7 : tie.Need-returns-7
-unfolding judgeChecks
-returns-7 c =
-    let d = c .before .before in
-    let e = d .before .before in
-    sym (first-passes _ _ (le-ltb _ _ (e .before .before .before .if1 .left)) ∙ first-passes _ _ (le-ltb _ _ (e .before .before .if2 .left))
-    ∙ first-passes _ _ (le-ltb _ _ (e .before .if3 .left)) ∙ first-passes _ _ (le-ltb _ _ (e .if4 .left))
-    ∙ first-passes _ _ (sym (d .before .cell-above .ensures) ∙ d .if5 .left) ∙ last-passes _ (sym (c .before .no-totals .ensures) ∙ c .if6 .left))
+returns-7 c = sym (totals-left (c .before .before) ∙ last-passes _ (sym (c .before .no-totals .ensures) ∙ c .if6 .left))
 
 pub check-judged-spec : {M : Type 1} → statement M
 check-judged-spec = tie.close (tie.spec returns returns-2 returns-3 returns-4 (λ c κs. search needs) returns-5 (λ c κs. search needs) returns-6 returns-7)

@@ -17,8 +17,8 @@ use Rattle.tier_running_checks.proofs.check_award.Tie as tie
 
 abbrev call : tie.Start → AddAwardCall
 call c =
-    addAwardOn (c .args .nodes) (c .args .constraints) (c .args .process) (c .args .period) (c .args .limits .now) (c .args .factors .now) (c .args .award .now) (c .args .awards .now)
-    (c .args .numbers .now) (c .args .flows .now)
+    addAwardOn (c .args .asked .nodes) (c .args .asked .constraints) (c .args .asked .process) (c .args .asked .period) (c .args .limits .now)
+    (c .args .factors .now) (c .args .award .now) (c .args .awards .now) (c .args .numbers .now) (c .args .flows .now)
 
 abbrev start : tie.After-check-tables → tie.Start
 start k = k .before .before .before .before .before .before
@@ -28,7 +28,8 @@ found : (k : tie.After-check-tables) → let q = call (start k) in
 found k =
     let q = call (start k) in
     k .check-tables .ensures
-    ∙ ap (λ (b : Bool). first (runningChecks (q .nodes) (q .constraints) (q .process) (q .period) (q .limits) (q .factors) (shortIf (ltb (length (q .award)) contractCells || b) ∷ [])))
+    ∙ ap (λ (b : Bool). first (runningChecks (q .nodes) (q .constraints) (q .process) (q .period) (q .limits) (q .factors)
+    (shortIf (ltb (length (q .award)) contractCells || b) ∷ [])))
     (k .before .state-short .ensures)
 
 returns : tie.Need-returns
@@ -55,4 +56,5 @@ returns-3 c =
 pub check-award-spec : {M : Type 1} → statement M
 check-award-spec =
     tie.close (tie.spec
-    (λ c κs. search needs) (λ c κs. search needs) (λ c. search needs) returns (λ c. search needs) (λ c. omega (arith, ok (c .before) .numbers-long)) returns-2 check-row-requires returns-3)
+    (λ c κs. search needs) (λ c κs. search needs) (λ c. search needs) returns (λ c. search needs)
+    (λ c. omega (arith, ok (c .before) .numbers-long)) returns-2 check-row-requires returns-3)

@@ -12,28 +12,36 @@ use Rattle.tier_running_checks.proofs.check_tables.Statement.{statement
 use Rattle.tier_running_checks.proofs.check_tables.Tie as tie
 
 abbrev under : tie.Start → Bool → Checked
-under s b = first (runningChecks (s .args .nodes) (s .args .constraints) (s .args .process) (s .args .period) (s .args .limits .now) (s .args .factors .now) (shortIf b ∷ []))
+under s b =
+    let a = s .args in
+    let t = a .asked in
+    first (runningChecks (t .nodes) (t .constraints) (t .process) (t .period) (a .limits .now) (a .factors .now) (shortIf b ∷ []))
 
 returns : tie.Need-returns
 returns c =
     let k = c .before .before in
     let a = k .before .before .args in
-    c .check-grid-tables .ensures
-    ∙ counts-first (a .nodes) (a .constraints) (a .process) (a .period) (a .limits .now) (a .factors .now) (sym (k .counts-bad .ensures) ∙ c .before .if1 .taken) (a .short)
+    let t = a .asked in
+    c .check-tables .ensures
+    ∙ counts-first (t .nodes) (t .constraints) (t .process) (t .period) (a .limits .now) (a .factors .now)
+    (sym (k .counts-bad .ensures) ∙ c .before .if1 .taken) (a .short)
 
 returns-2 : tie.Need-returns-2
 returns-2 c =
     let k = c .before .before in
     let s = k .before .before in
     let a = s .args in
-    buffers-short (a .nodes) (a .constraints) (a .process) (a .period) (a .limits .now) (a .factors .now) (sym (k .counts-bad .ensures) ∙ c .before .if1 .left) ∙ ap (under s) (sym (c .if2 .taken))
+    let t = a .asked in
+    buffers-short (t .nodes) (t .constraints) (t .process) (t .period) (a .limits .now) (a .factors .now) (sym (k .counts-bad .ensures) ∙ c .before .if1 .left)
+    ∙ ap (under s) (sym (c .if2 .taken))
 
 returns-3 : tie.Need-returns-3
 returns-3 c =
     let s = c .before .before .before .before .before in
     let a = s .args in
-    c .check-grid-tables2 .ensures
-    ∙ buffers-long (a .nodes) (a .constraints) (a .process) (a .period) (a .limits .now) (a .factors .now) ∙ ap (under s) (sym (c .before .if2 .left))
+    let t = a .asked in
+    c .check-tables2 .ensures
+    ∙ buffers-long (t .nodes) (t .constraints) (t .process) (t .period) (a .limits .now) (a .factors .now) ∙ ap (under s) (sym (c .before .if2 .left))
 
 pub check-tables-spec : {M : Type 1} → statement M
 check-tables-spec = tie.close (tie.spec (λ c κs. search needs) (λ c κs. search needs) returns returns-2 (λ c κs. search needs) returns-3)

@@ -65,9 +65,6 @@ loop-again c =
       row-appended (a .form) 0 g _ (l .file) _ (l .i) (l .i) (l .i + 1) refl (l .inv .2) (rw bytes (stored .ensures)),
     )
 
-same-length : tie.Need-same-length Inv-loop μ-loop
-same-length c = c .before .loop .inv .1 ∙ c .before .before .before .before .store-header .kept .0
-
 returns : tie.Need-returns Inv-loop μ-loop
 returns c =
     let l = c .before .loop in
@@ -80,4 +77,5 @@ pub write-anonymous-spec : {M : Type 1} → statement M
 write-anonymous-spec =
     tie.close (tie.spec
     Inv-loop μ-loop (λ c κs. search needs) loop-holds bits-at-requires (λ c κs. search needs) store-bits-requires (λ c. search needs)
-    (λ c. search needs) loop-again same-length returns)
+    (λ c. search needs) loop-again
+    (λ c. c .before .loop .inv .1 ∙ c .before .before .before .before .store-header .kept .0) returns)

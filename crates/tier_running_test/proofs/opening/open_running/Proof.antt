@@ -16,8 +16,9 @@ use Rattle.tier_running_test.proofs.opening.open_running.Tie as tie
 
 abbrev call : tie.Start → OpenRunningCall
 call c =
-    openRunningOn (c .args .nodes) (c .args .constraints) (c .args .process) (c .args .period) (c .args .limits .now) (c .args .factors .now) (c .args .awards .now) (c .args .numbers .now)
-    (c .args .flows .now)
+    let a = c .args in
+    let t = a .asked in
+    openRunningOn (t .nodes) (t .constraints) (t .process) (t .period) (a .limits .now) (a .factors .now) (a .awards .now) (a .numbers .now) (a .flows .now)
 
 abbrev start : tie.After-check-tables → tie.Start
 start k = k .before .before .before .before .before
@@ -27,7 +28,8 @@ found k =
     let q = call (start k) in
     open-is q (k .check-tables .result)
     (k .check-tables .ensures
-    ∙ ap (λ (b : Bool). first (runningChecks (q .nodes) (q .constraints) (q .process) (q .period) (q .limits) (q .factors) (shortIf b ∷ []))) (k .before .state-short .ensures))
+    ∙ ap (λ (b : Bool). first (runningChecks (q .nodes) (q .constraints) (q .process) (q .period) (q .limits) (q .factors) (shortIf b ∷ [])))
+    (k .before .state-short .ensures))
 
 ok : (e : tie.After-enum-told) → Openable (call (start (e .before .before)))
 ok e = openable (call (start (e .before .before))) (sym (found (e .before .before)) ∙ e .enum-told .given .1)
@@ -51,5 +53,6 @@ returns-2 c =
 pub open-running-spec : {M : Type 1} → statement M
 open-running-spec =
     tie.close (tie.spec
-    (λ c κs. search needs) (λ c κs. search needs) (λ c. search needs) (λ c. search needs) (λ c κs. ok (c .before) .numbers-long) (λ c κs. ok (c .before .before .before .before .before) .flows-long)
+    (λ c κs. search needs) (λ c κs. search needs) (λ c. search needs) (λ c. search needs) (λ c κs. ok (c .before) .numbers-long)
+    (λ c κs. ok (c .before .before .before .before .before) .flows-long)
     returns (λ c. search needs) (λ c. search needs) returns-2)
