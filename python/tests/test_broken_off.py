@@ -189,6 +189,7 @@ class Interrupted(FolderTest):
             "man": "",
             "grid": "branches -o out",
             "from-matpower": "case.m -o out",
+            "page": "case -o out",
         }
         self.assertGreaterEqual(len(COMMANDS), 18)
         for name, one in COMMANDS.items():

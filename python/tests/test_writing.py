@@ -176,7 +176,7 @@ class Spared(FolderTest):
 
         writing = {name for name, one in COMMANDS.items() if "-o" in names(one)}
         expected = "pack unpack settle exposure report grid remap in-force market holder canonical hub-add"
-        self.assertEqual(writing, {*expected.split(), "from-matpower", "tiers", "migrate"})
+        self.assertEqual(writing, {*expected.split(), "from-matpower", "tiers", "migrate", "page"})
         self.assertEqual({name for name, one in COMMANDS.items() if "--force" in names(one)}, writing)
 
     def test_remap_onto_itself(self):
