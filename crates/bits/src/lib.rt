@@ -16,7 +16,7 @@ fn wide(b: u8) -> u64
 // One byte more: `acc` is the number of `i` bytes from `first` on, and the result that of `i + 1`.
 fn more(s: &[u8], first: usize, i: usize, acc: u64) -> u64
     requires { (first + i < length s.now) × (i ≤ 6) × (acc ≡ number 8 (take i (drop first s.now))) }
-    ensures { result ≡ number 8 (take (i + 1) (drop first (before s))) }
+    ensures { result ≡ number 8 (take (i + 1) (drop first s.now)) }
 {
     let b = wide(s[first + i]);
     acc * 256 + b
@@ -26,7 +26,7 @@ fn more(s: &[u8], first: usize, i: usize, acc: u64) -> u64
 pub fn window(s: &[u8], first: usize, count: usize) -> u64
     requires count_in_bounds { first + count ≤ length s.now }
     requires count_bound { count ≤ 7 }
-    ensures { result ≡ number 8 (take count (drop first (before s))) }
+    ensures { result ≡ number 8 (take count (drop first s.now)) }
 {
     let mut acc: u64 = 0;
     let mut i = 0;
@@ -40,7 +40,7 @@ pub fn window(s: &[u8], first: usize, count: usize) -> u64
 // Four bytes from `first` on. The sum is written out flat, so that the compiler makes one load of it.
 fn window4(s: &[u8], first: usize) -> u64
     requires { first + 4 ≤ length s.now }
-    ensures { result ≡ number 8 (take 4 (drop first (before s))) }
+    ensures { result ≡ number 8 (take 4 (drop first s.now)) }
 {
     let a = wide(s[first]);
     let b = wide(s[first + 1]);
@@ -52,7 +52,7 @@ fn window4(s: &[u8], first: usize) -> u64
 // Five bytes from `first` on, with no loop: a field of 32 bits lies in five bytes.
 pub fn window5(s: &[u8], first: usize) -> u64
     requires { first + 5 ≤ length s.now }
-    ensures { result ≡ number 8 (take 5 (drop first (before s))) }
+    ensures { result ≡ number 8 (take 5 (drop first s.now)) }
 {
     more(s, first, 4, window4(s, first))
 }
@@ -68,7 +68,7 @@ pub fn part(v: u64, low: usize, width: usize) -> u64
 // Eight bytes from `first` on as one number, the first the lowest. In this order the compiler makes one load of the sum before it sees what is taken from it.
 fn load8_le(s: &[u8], first: usize) -> u64
     requires { first + 8 ≤ length s.now }
-    ensures { result ≡ number_up 8 (take 8 (drop first (before s))) }
+    ensures { result ≡ number_up 8 (take 8 (drop first s.now)) }
 {
     let a = wide(s[first]);
     let b = wide(s[first + 1]);
@@ -101,7 +101,7 @@ fn swap_bytes(v: u64) -> u64
 // Eight bytes from `first` on as one number: one load.
 pub fn window8(s: &[u8], first: usize) -> u64
     requires { first + 8 ≤ length s.now }
-    ensures { result ≡ number 8 (take 8 (drop first (before s))) }
+    ensures { result ≡ number 8 (take 8 (drop first s.now)) }
 {
     swap_bytes(load8_le(s, first))
 }
@@ -110,7 +110,7 @@ pub fn window8(s: &[u8], first: usize) -> u64
 fn cut(s: &[u8], offset: usize, width: usize, count: usize, acc: u64) -> u64
     requires width_bound { (offset % 8 + width ≤ 8 * count) × (offset / 8 + count ≤ length s.now) × (count ≤ 5) × (width ≤ 32) }
     requires acc_value { acc ≡ number 8 (take count (drop (offset / 8) s.now)) }
-    ensures { (result ≡ field_of (before s) offset width) × (result < 2 ^ width) }
+    ensures { (result ≡ field_of s.now offset width) × (result < 2 ^ width) }
 {
     part(acc, 8 * count - offset % 8 - width, width)
 }
@@ -119,7 +119,7 @@ fn cut(s: &[u8], offset: usize, width: usize, count: usize, acc: u64) -> u64
 pub fn field(s: &[u8], offset: usize, width: usize) -> u64
     requires width_bound { offset + width ≤ 8 * length s.now }
     requires width_bound_2 { width ≤ 32 }
-    ensures { (result ≡ field_of (before s) offset width) × (result < 2 ^ width) }
+    ensures { (result ≡ field_of s.now offset width) × (result < 2 ^ width) }
 {
     let first = offset / 8;
     let left = s.len() - first;
@@ -136,7 +136,7 @@ pub fn field(s: &[u8], offset: usize, width: usize) -> u64
 pub fn load_field(s: &[u8], offset: usize, width: usize) -> u64
     requires bound { (57 ≤ offset + width) × (offset + width ≤ 8 * length s.now) }
     requires offset_bound { (offset < 2 ^ 32) × (1 ≤ width) × (width ≤ 32) }
-    ensures { (result ≡ field_of (before s) offset width) × (result < 2 ^ width) }
+    ensures { (result ≡ field_of s.now offset width) × (result < 2 ^ width) }
 {
     let last = offset + width - 1;
     part(window8(s, last / 8 - 7), 7 - last % 8, width)

@@ -56,7 +56,7 @@ pub const QUANTITIES: u64 = 1u64 << QUANTITY_WIDTH;
 // How many contracts a book's header says.
 pub fn contract_count(file: &[u8]) -> usize
     requires { 2 ≤ length file.now }
-    ensures { (result ≡ contract_count_in (before file)) × (result < 1024) }
+    ensures { (result ≡ contract_count_in file.now) × (result < 1024) }
 {
     bits::field(file, 0, COUNT_WIDTH) as usize
 }
@@ -64,7 +64,7 @@ pub fn contract_count(file: &[u8]) -> usize
 // The header's spare bits.
 pub fn spare_bits(file: &[u8]) -> u64
     requires { 2 ≤ length file.now }
-    ensures { result ≡ book_spare_in (before file) }
+    ensures { result ≡ book_spare_in file.now }
 {
     bits::field(file, COUNT_WIDTH, SPARE_WIDTH)
 }
@@ -72,7 +72,7 @@ pub fn spare_bits(file: &[u8]) -> u64
 // The form of a book's bytes: wide where all six spare bits are set.
 pub fn book_form(file: &[u8]) -> Form
     requires { 2 ≤ length file.now }
-    ensures { result ≡ book_form_in (before file) }
+    ensures { result ≡ book_form_in file.now }
 {
     if spare_bits(file) == 63 {
         Form::Wide
@@ -155,7 +155,7 @@ fn contract_of(v: u64, width: usize) -> Contract
 // The eight bytes that end with contract i of a book's bytes, as one number: the header's two bytes stand before the first contract, so they are there.
 pub fn bits_at(file: &[u8], form: Form, i: usize) -> u64
     requires { (i < 1024) × (book_bytes_of form i + record_bytes form ≤ length file.now) }
-    ensures { contract_in form (before file) i ≡ contract_for (end_width form) result }
+    ensures { contract_in form file.now i ≡ contract_for (end_width form) result }
 {
     match form {
         Form::Narrow => bits::window8(file, CONTRACT_BYTES * i),
@@ -166,7 +166,7 @@ pub fn bits_at(file: &[u8], form: Form, i: usize) -> u64
 // Contract i of a book's bytes in a form.
 pub fn contract_at(file: &[u8], form: Form, i: usize) -> Contract
     requires { (i < 1024) × (book_bytes_of form i + record_bytes form ≤ length file.now) }
-    ensures { result ≡ contract_in form (before file) i }
+    ensures { result ≡ contract_in form file.now i }
 {
     match form {
         Form::Narrow => contract_of(bits_at(file, Form::Narrow, i), NARROW_END_WIDTH),

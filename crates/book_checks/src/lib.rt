@@ -49,7 +49,7 @@ fn check_bits(nodes: usize, v: u64, width: usize) -> Checked
 // The checks of contract i of a book's bytes.
 fn check_at(nodes: usize, file: &[u8], form: Form, i: usize) -> Checked
     requires { (i < 1024) × (book_bytes_of form i + record_bytes form ≤ length file.now) }
-    ensures { result ≡ first (contract_checks nodes (contract_in form (before file) i)) }
+    ensures { result ≡ first (contract_checks nodes (contract_in form file.now i)) }
 {
     match form {
         Form::Narrow => check_bits(
@@ -68,7 +68,7 @@ fn check_at(nodes: usize, file: &[u8], form: Form, i: usize) -> Checked
 // The checks of a book's contracts, one after the other.
 fn check_contracts(nodes: usize, file: &[u8], form: Form, count: usize) -> Checked
     requires { (count ≤ max_contracts) × (book_bytes_of form count ≤ length file.now) }
-    ensures { result ≡ first (checks_to count (λ i. contract_checks nodes (contract_in form (before file) i))) }
+    ensures { result ≡ first (checks_to count (λ i. contract_checks nodes (contract_in form file.now i))) }
 {
     let mut i = 0;
     while i < count {
@@ -83,7 +83,7 @@ fn check_contracts(nodes: usize, file: &[u8], form: Form, count: usize) -> Check
 
 // The book's own checks: 1, 10, 4, 5, then contract by contract 11, 13.
 pub fn check_book(nodes: usize, file: &[u8]) -> Checked
-    ensures { result ≡ first (book_checks nodes (before file)) }
+    ensures { result ≡ first (book_checks nodes file.now) }
 {
     if file.len() < BOOK_HEADER_BYTES {
         return Checked::Refused(Refusal::ShortFile);
@@ -104,7 +104,7 @@ pub fn check_book(nodes: usize, file: &[u8]) -> Checked
 
 // The own checks of a book that is handed in for a grid of `nodes` nodes: 2, then the book's.
 pub fn check_own(nodes: usize, file: &[u8]) -> Checked
-    ensures { result ≡ first (own_checks nodes (before file)) }
+    ensures { result ≡ first (own_checks nodes file.now) }
 {
     if tariff::nodes_bad(nodes) {
         return Checked::Refused(Refusal::NodeCount);

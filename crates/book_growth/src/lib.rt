@@ -13,7 +13,7 @@ use tariff::{Checked, MAX_CONTRACTS, Refusal};
 // Copies a book's bytes.
 fn copy_book(book: &[u8], file: &mut [u8])
     requires { length book.now ≤ length file.old }
-    ensures { after file ≡ overwrite (before book) (before file) }
+    ensures { after file ≡ overwrite book.now (before file) }
 {
     let mut i = 0;
     while i < book.len() {
@@ -25,7 +25,7 @@ fn copy_book(book: &[u8], file: &mut [u8])
 // Begins a book of `grown` contracts with those of a book: its bytes under a new header.
 pub fn keep_contracts(book: &[u8], form: Form, grown: usize, file: &mut [u8])
     requires { Whole form book.now × (grown ≤ max_contracts) × (length book.now ≤ length file.old) }
-    ensures { after file ≡ overwrite (book_front form grown (book_in (before book))) (before file) }
+    ensures { after file ≡ overwrite (book_front form grown (book_in book.now)) (before file) }
 {
     copy_book(book, file);
     book_bits::store_header(file, form, grown);

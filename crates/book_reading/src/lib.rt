@@ -14,7 +14,7 @@ use tariff::{Checked, Refusal};
 
 // The reader's checks, for a table of so many cells: 2, the book's own, 9.
 fn check_read(nodes: usize, file: &[u8], cells: usize) -> Checked
-    ensures { (table : List ℕ) → length table ≡ cells → result ≡ read_book_checked (read_book_call nodes (before file) table) }
+    ensures { (table : List ℕ) → length table ≡ cells → result ≡ read_book_checked (read_book_call nodes file.now table) }
 {
     if let Checked::Refused(refusal) = book_checks::check_own(nodes, file) {
         return Checked::Refused(refusal);
@@ -28,7 +28,7 @@ fn check_read(nodes: usize, file: &[u8], cells: usize) -> Checked
 // Stores the contracts of a file in a form into the first cells.
 fn read_contracts(file: &[u8], form: Form, contracts: usize, book: &mut [u64])
     requires { (contracts ≤ max_contracts) × (book_bytes_of form contracts ≤ length file.now) × (contract_cells * contracts ≤ length book.old) }
-    ensures { after book ≡ overwrite (flat_map cells_of (list_to contracts (contract_in form (before file)))) (before book) }
+    ensures { after book ≡ overwrite (flat_map cells_of (list_to contracts (contract_in form file.now))) (before book) }
 {
     let mut i = 0;
     while i < contracts {
@@ -43,7 +43,7 @@ fn read_contracts(file: &[u8], form: Form, contracts: usize, book: &mut [u64])
 
 // Reads a book, in whichever form it is, for a grid of `nodes` nodes into a table of six cells a contract.
 pub fn read_book(nodes: usize, file: &[u8], book: &mut [u64]) -> BookAnswer
-    ensures { ReadsBook (read_book_call nodes (before file) (before book)) result (after book) }
+    ensures { ReadsBook (read_book_call nodes file.now (before book)) result (after book) }
 {
     match check_read(nodes, file, book.len()) {
         Checked::Refused(refusal) => BookAnswer::Refused(refusal),

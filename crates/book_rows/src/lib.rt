@@ -30,7 +30,7 @@ pub fn store_row(book: &mut [u64], at: usize, c: Contract)
 // The contract of the six cells from `at` on.
 pub fn contract_from(cells: &[u64], at: usize) -> Contract
     requires { at + contract_cells ≤ length cells.now }
-    ensures { result ≡ row_from (before cells) at }
+    ensures { result ≡ row_from cells.now at }
 {
     Contract {
         kind: Kind::from_number(cells[at]),
@@ -45,7 +45,7 @@ pub fn contract_from(cells: &[u64], at: usize) -> Contract
 // A row's checks, its ends held to be below a number: 17, 18, 11, 13.
 pub fn check_row(below: usize, cells: &[u64], i: usize) -> Checked
     requires { (i < max_contracts) × (contract_cells * i + contract_cells ≤ length cells.now) }
-    ensures { result ≡ first (row_checks below (before cells) i) }
+    ensures { result ≡ first (row_checks below cells.now i) }
 {
     let at = CONTRACT_CELLS * i;
     if 1 < cells[at] {
@@ -69,7 +69,7 @@ pub fn check_row(below: usize, cells: &[u64], i: usize) -> Checked
 pub fn row_number(form: Form, cells: &[u64], at: usize) -> u64
     requires contract_cells_in_bounds { at + contract_cells ≤ length cells.now }
     requires row_fits { RowFits form cells.now at }
-    ensures { contract_bytes form (row_from (before cells) at) ≡ bits_bytes form result }
+    ensures { contract_bytes form (row_from cells.now at) ≡ bits_bytes form result }
 {
     let terms = (cells[at] * 2 + cells[at + 1]) * HOLDERS + cells[at + 2];
     book_bits::contract_number(form, terms, cells[at + 3], cells[at + 4], cells[at + 5])

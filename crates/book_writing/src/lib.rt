@@ -15,7 +15,7 @@ use tariff::{Checked, MAX_CONTRACTS, Refusal};
 // The checks of the first `contracts` rows, one after the other.
 fn check_rows(below: usize, contracts: usize, cells: &[u64]) -> Checked
     requires { (contracts ≤ max_contracts) × (contract_cells * contracts ≤ length cells.now) }
-    ensures { result ≡ first (checks_to contracts (row_checks below (before cells))) }
+    ensures { result ≡ first (checks_to contracts (row_checks below cells.now)) }
 {
     let mut i = 0;
     while i < contracts {
@@ -30,7 +30,7 @@ fn check_rows(below: usize, contracts: usize, cells: &[u64]) -> Checked
 
 // The writer's checks, with `bytes` lent bytes for the file: 2, 10, 9, row by row, 9.
 fn check_write(form: Form, nodes: usize, contracts: usize, book: &[u64], bytes: usize) -> Checked
-    ensures { (place : List ℕ) → length place ≡ bytes → result ≡ write_book_checked (write_book_call form nodes contracts (before book) place) }
+    ensures { (place : List ℕ) → length place ≡ bytes → result ≡ write_book_checked (write_book_call form nodes contracts book.now place) }
 {
     if tariff::nodes_bad(nodes) {
         return Checked::Refused(Refusal::NodeCount);
@@ -54,7 +54,7 @@ fn check_write(form: Form, nodes: usize, contracts: usize, book: &[u64], bytes: 
 fn write_contracts(form: Form, cells: &[u64], contracts: usize, file: &mut [u8])
     requires contracts_le_max_contracts { (contracts ≤ max_contracts) × (contract_cells * contracts ≤ length cells.now) × (book_bytes_of form contracts ≤ length file.old) }
     requires by_index { (i : ℕ) → i < contracts → RowFits form cells.now (contract_cells * i) }
-    ensures { after file ≡ overwrite (book_file form (rows_in contracts (before cells))) (before file) }
+    ensures { after file ≡ overwrite (book_file form (rows_in contracts cells.now)) (before file) }
 {
     book_bits::store_header(file, form, contracts);
     let mut i = 0;
@@ -77,7 +77,7 @@ pub fn write_book(
     book: &[u64],
     file: &mut [u8],
 ) -> WriteAnswer
-    ensures { WritesBook (write_book_call form nodes contracts (before book) (before file)) result (after file) }
+    ensures { WritesBook (write_book_call form nodes contracts book.now (before file)) result (after file) }
 {
     match check_write(form, nodes, contracts, book, file.len()) {
         Checked::Refused(refusal) => WriteAnswer::Refused(refusal),

@@ -16,7 +16,7 @@ pub extern "C" fn crr_read_book(
     contracts: &mut usize,
     form: &mut u64,
 ) -> u64
-    ensures { ReadsBookForC (read_book_call nodes (before file) (before book)) result (after book) contracts form }
+    ensures { ReadsBookForC (read_book_call nodes file.now (before book)) result (after book) contracts form }
 {
     match book_reading::read_book(nodes, file, book) {
         BookAnswer::Refused(refusal) => refusal.number(),
@@ -41,7 +41,7 @@ pub extern "C" fn crr_write_book(
     file: &mut [u8],
     bytes: &mut usize,
 ) -> u64
-    ensures { WritesBookForC (write_book_call (form_of form) nodes contracts (before book) (before file)) result (after file) bytes }
+    ensures { WritesBookForC (write_book_call (form_of form) nodes contracts book.now (before file)) result (after file) bytes }
 {
     let told = Form::from_number(form);
     let answer = book_writing::write_book(told, nodes, contracts, book, file);

@@ -10,7 +10,7 @@ pub extern "C" fn crr_write_canonical_book(
     file: &mut [u8],
     bytes: &mut usize,
 ) -> u64
-    ensures { WritesCanonicalBookForC (canonical_book_call nodes (before book) (before file)) result (after file) bytes }
+    ensures { WritesCanonicalBookForC (canonical_book_call nodes book.now (before file)) result (after file) bytes }
 {
     let answer = canonical_book::write_canonical_book(nodes, book, file);
     answer.into_cell(bytes)

@@ -20,7 +20,7 @@ pub extern "C" fn crr_find_cuts(
     cuts: &mut [u64],
     listed: &mut usize,
 ) -> u64
-    ensures { FindsCutsForC (test_call nodes constraints process period (before limits) (before factors) (before book)) numbers cuts result listed }
+    ensures { FindsCutsForC (test_call nodes constraints process period limits.now factors.now book.now) numbers cuts result listed }
 {
     let asked = Asked {
         nodes,

@@ -22,7 +22,7 @@ pub extern "C" fn crr_find_exposure(
     most_whole: &mut i64,
     most_parts: &mut u64,
 ) -> u64
-    ensures { FindsExposureForC (test_call nodes constraints process period (before limits) (before factors) (before book)) result prices
+    ensures { FindsExposureForC (test_call nodes constraints process period limits.now factors.now book.now) result prices
         least_whole least_parts most_whole most_parts }
 {
     let asked = Asked {

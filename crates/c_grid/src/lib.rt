@@ -17,7 +17,7 @@ pub extern "C" fn crr_read_grid(
     constraints: &mut usize,
     form: &mut u64,
 ) -> u64
-    ensures { ReadsGridForC (read_grid_call (before file) (before limits) (before factors)) result (after limits) (after factors) nodes constraints form }
+    ensures { ReadsGridForC (read_grid_call file.now (before limits) (before factors)) result (after limits) (after factors) nodes constraints form }
 {
     match grid_reading::read_grid(file, limits, factors) {
         GridAnswer::Refused(refusal) => refusal.number(),
@@ -45,7 +45,7 @@ pub extern "C" fn crr_write_grid(
     file: &mut [u8],
     bytes: &mut usize,
 ) -> u64
-    ensures { WritesGridForC (write_grid_call (form_of form) nodes constraints (before limits) (before factors) (before file)) result (after file) bytes }
+    ensures { WritesGridForC (write_grid_call (form_of form) nodes constraints limits.now factors.now (before file)) result (after file) bytes }
 {
     let told = Form::from_number(form);
     let answer = grid_writing::write_grid(told, nodes, constraints, limits, factors, file);

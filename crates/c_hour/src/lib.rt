@@ -15,7 +15,7 @@ pub extern "C" fn crr_find_mcc(
     prices: &[u64],
     mcc: &mut [i64],
 ) -> u64
-    ensures { FindsMccForC (find_mcc_call nodes constraints (before factors) (before prices) (before mcc)) result (after mcc) }
+    ensures { FindsMccForC (find_mcc_call nodes constraints factors.now prices.now (before mcc)) result (after mcc) }
 {
     match hour_mcc::find_mcc(nodes, constraints, factors, prices, mcc) {
         MccAnswer::Refused(refusal) => refusal.number(),
@@ -39,7 +39,7 @@ pub extern "C" fn crr_settle_hour(
     whole: &mut i64,
     part: &mut u64,
 ) -> u64
-    ensures { SettlesForC (hour_call nodes constraints period (before factors) (before prices) (before book)) result cents priced sum whole part }
+    ensures { SettlesForC (hour_call nodes constraints period factors.now prices.now book.now) result cents priced sum whole part }
 {
     match hour_settlement::settle_hour(
         nodes,

@@ -17,7 +17,7 @@ pub extern "C" fn crr_add_hub_contract(
     file: &mut [u8],
     bytes: &mut usize,
 ) -> u64
-    ensures { AddsHubForC (hub_call nodes (before book) kind period holder (before hub) (before weights) sink quantity (before file)) result (after file) bytes }
+    ensures { AddsHubForC (hub_call nodes book.now kind period holder hub.now weights.now sink quantity (before file)) result (after file) bytes }
 {
     let answer = hub_book::add_hub_contract(
         nodes, book, kind, period, holder, hub, weights, sink, quantity, file,

@@ -16,7 +16,7 @@ pub extern "C" fn crr_find_hub_mcc(
     quotient: &mut i64,
     remainder: &mut u64,
 ) -> u64
-    ensures { FindsHubMccForC (find_hub_mcc_call nodes constraints (before factors) (before prices) (before hub) (before weights)) result quotient remainder }
+    ensures { FindsHubMccForC (find_hub_mcc_call nodes constraints factors.now prices.now hub.now weights.now) result quotient remainder }
 {
     match hub_mcc::find_hub_mcc(nodes, constraints, factors, prices, hub, weights) {
         HubMccAnswer::Refused(refusal) => refusal.number(),

@@ -18,7 +18,7 @@ pub extern "C" fn crr_find_flows(
     flows: &mut [i64],
     counted: &mut usize,
 ) -> u64
-    ensures { FindsFlowsForC (flows_call nodes constraints period (before limits) (before factors) (before book) (before flows)) result (after flows) counted }
+    ensures { FindsFlowsForC (flows_call nodes constraints period limits.now factors.now book.now (before flows)) result (after flows) counted }
 {
     let asked = AskedFlows {
         nodes,

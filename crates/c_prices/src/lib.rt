@@ -13,7 +13,7 @@ pub extern "C" fn crr_read_prices(
     prices: &mut [u64],
     period: &mut u64,
 ) -> u64
-    ensures { ReadsPricesForC (read_prices_call constraints (before file) (before prices)) result (after prices) period }
+    ensures { ReadsPricesForC (read_prices_call constraints file.now (before prices)) result (after prices) period }
 {
     match price_reading::read_prices(constraints, file, prices) {
         PriceAnswer::Refused(refusal) => refusal.number(),
@@ -33,7 +33,7 @@ pub extern "C" fn crr_write_prices(
     file: &mut [u8],
     bytes: &mut usize,
 ) -> u64
-    ensures { WritesPricesForC (write_prices_call period constraints (before prices) (before file)) result (after file) bytes }
+    ensures { WritesPricesForC (write_prices_call period constraints prices.now (before file)) result (after file) bytes }
 {
     let answer = price_writing::write_prices(period, constraints, prices, file);
     answer.into_cell(bytes)

@@ -12,7 +12,7 @@ pub extern "C" fn crr_remap_book(
     file: &mut [u8],
     bytes: &mut usize,
 ) -> u64
-    ensures { RemapsBookForC (remap_book_call nodes (before book) (before old) (before new) (before file)) result (after file) bytes }
+    ensures { RemapsBookForC (remap_book_call nodes book.now old.now new.now (before file)) result (after file) bytes }
 {
     let answer = remap_book::remap_book(nodes, book, old, new, file);
     answer.into_cell(bytes)

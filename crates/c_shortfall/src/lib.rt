@@ -24,7 +24,7 @@ pub extern "C" fn crr_find_shortfall(
     shortfall_whole: &mut i64,
     shortfall_parts: &mut u64,
 ) -> u64
-    ensures { FindsShortfallForC (test_call nodes constraints process period (before limits) (before factors) (before book)) (before prices) result
+    ensures { FindsShortfallForC (test_call nodes constraints process period limits.now factors.now book.now) prices.now result
         payment_whole payment_parts rent_whole rent_parts shortfall_whole shortfall_parts }
 {
     let asked = Asked {

@@ -20,7 +20,7 @@ pub extern "C" fn crr_test_book(
     lowest: &mut usize,
     excess: &mut i64,
 ) -> u64
-    ensures { TestsBookForC (test_call nodes constraints process period (before limits) (before factors) (before book)) result set count lowest excess }
+    ensures { TestsBookForC (test_call nodes constraints process period limits.now factors.now book.now) result set count lowest excess }
 {
     let asked = Asked {
         nodes,

@@ -11,7 +11,7 @@ pub extern "C" fn crr_write_report(
     text: &mut [u8],
     bytes: &mut usize,
 ) -> u64
-    ensures { WritesReportForC (report_call (before grid_file) (before book_file) (before text)) result (after text) bytes }
+    ensures { WritesReportForC (report_call grid_file.now book_file.now (before text)) result (after text) bytes }
 {
     let answer = text_report::write_report(grid_file, book_file, text);
     answer.into_cell(bytes)
@@ -26,7 +26,7 @@ pub extern "C" fn crr_write_statement(
     text: &mut [u8],
     bytes: &mut usize,
 ) -> u64
-    ensures { WritesStatementForC (statement_call (before grid_file) (before book_file) (before price_file) (before text)) result (after text) bytes }
+    ensures { WritesStatementForC (statement_call grid_file.now book_file.now price_file.now (before text)) result (after text) bytes }
 {
     let answer = text_statement::write_statement(grid_file, book_file, price_file, text);
     answer.into_cell(bytes)

@@ -20,7 +20,7 @@ pub extern "C" fn crr_add_flows(
     count: &mut usize,
     counted: &mut usize,
 ) -> u64
-    ensures { AddsFlowsForC (add_flows_call nodes constraints period (before limits) (before factors) (before book) flows count)
+    ensures { AddsFlowsForC (add_flows_call nodes constraints period limits.now factors.now book.now flows count)
         result (after flows) (after count) counted }
 {
     let asked = AskedFlows {
@@ -50,7 +50,7 @@ pub extern "C" fn crr_judge_flows(
     lowest: &mut usize,
     excess: &mut i64,
 ) -> u64
-    ensures { JudgesFlowsForC (judge_call constraints process (before limits) (before flows) summed) result set count lowest excess }
+    ensures { JudgesFlowsForC (judge_call constraints process limits.now flows.now summed) result set count lowest excess }
 {
     match test_totals::judge_flows(constraints, process, limits, flows, summed) {
         TestAnswer::Refused(refusal) => refusal.number(),

@@ -11,7 +11,7 @@ pub extern "C" fn crr_write_market_view(
     file: &mut [u8],
     bytes: &mut usize,
 ) -> u64
-    ensures { WritesMarketViewForC (market_view_call nodes (before book) (before file)) result (after file) bytes }
+    ensures { WritesMarketViewForC (market_view_call nodes book.now (before file)) result (after file) bytes }
 {
     let answer = view_market::write_market_view(nodes, book, file);
     answer.into_cell(bytes)
@@ -26,7 +26,7 @@ pub extern "C" fn crr_write_holder_view(
     view: &mut [u8],
     bytes: &mut usize,
 ) -> u64
-    ensures { WritesHolderViewForC (holder_view_call nodes (before book) holder (before view)) result (after view) bytes }
+    ensures { WritesHolderViewForC (holder_view_call nodes book.now holder (before view)) result (after view) bytes }
 {
     let answer = view_holder::write_holder_view(nodes, book, holder, view);
     answer.into_cell(bytes)

@@ -45,7 +45,7 @@ fn store_row(file: &mut [u8], form: Form, i: usize, v: u64)
 fn write_rows(form: Form, cells: &[u64], rows: usize, file: &mut [u8])
     requires rows_le_max_contracts { (rows ≤ max_contracts) × (rows ≤ length cells.now) × (book_bytes_of form rows ≤ length file.old) }
     requires by_index { (i : ℕ) → i < rows → RowOf form (get_or cells.now i 0) }
-    ensures { after file ≡ overwrite (book_file form (list_to rows (λ i. contract_for 12 (get_or (before cells) i 0)))) (before file) }
+    ensures { after file ≡ overwrite (book_file form (list_to rows (λ i. contract_for 12 (get_or cells.now i 0)))) (before file) }
 {
     book_bits::store_header(file, form, rows);
     let mut i = 0;
@@ -57,7 +57,7 @@ fn write_rows(form: Form, cells: &[u64], rows: usize, file: &mut [u8])
 
 // Writes the canonical form of a book for a grid of `nodes` nodes. Takes 21,000 bytes of stack.
 pub fn write_canonical_book(nodes: usize, book: &[u8], file: &mut [u8]) -> WriteAnswer
-    ensures { WritesCanonicalBook (canonical_book_call nodes (before book) (before file)) result (after file) }
+    ensures { WritesCanonicalBook (canonical_book_call nodes book.now (before file)) result (after file) }
 {
     if let Checked::Refused(refusal) = book_checks::check_own(nodes, book) {
         return WriteAnswer::Refused(refusal);

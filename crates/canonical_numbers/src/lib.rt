@@ -42,7 +42,7 @@ fn narrow_number_of(v: u64) -> u64
 // The number of contract i of a book's bytes.
 fn number_at(book: &[u8], form: Form, i: usize) -> u64
     requires { (i < 1024) × (book_bytes_of form i + record_bytes form ≤ length book.now) }
-    ensures { result ≡ row_number (contract_in form (before book) i) }
+    ensures { result ≡ row_number (contract_in form book.now i) }
 {
     match form {
         Form::Narrow => narrow_number_of(book_bits::bits_at(book, Form::Narrow, i)),
@@ -53,7 +53,7 @@ fn number_at(book: &[u8], form: Form, i: usize) -> u64
 // Puts the numbers of the first `count` contracts into the first cells.
 fn fill_numbers(book: &[u8], form: Form, count: usize, cells: &mut [u64])
     requires { (count ≤ max_contracts) × (book_bytes_of form count ≤ length book.now) × (count ≤ length cells.old) }
-    ensures { take count (after cells) ≡ list_to count (λ i. row_number (contract_in form (before book) i)) }
+    ensures { take count (after cells) ≡ list_to count (λ i. row_number (contract_in form book.now i)) }
 {
     let mut i = 0;
     while i < count {
@@ -136,7 +136,7 @@ fn walk(cells: &mut [u64], count: usize) -> usize
 // The canonical rows of the first `count` contracts of a book's bytes, as numbers in the first cells. Gives how many there are.
 pub fn canonical_rows(book: &[u8], form: Form, count: usize, cells: &mut [u64]) -> usize
     requires { Countable form book.now count × (count ≤ length cells.old) }
-    ensures { (take result (after cells) ≡ map row_number (canonical (list_to count (contract_in form (before book))))) × (result ≤ count) }
+    ensures { (take result (after cells) ≡ map row_number (canonical (list_to count (contract_in form book.now)))) × (result ≤ count) }
 {
     if count == 0 {
         return 0;

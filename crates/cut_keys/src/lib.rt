@@ -33,8 +33,8 @@ fn add_key(
     requires ends { Ends constraints factors.now c × Excesses constraints excesses.now × Overloads constraints from upto excesses.now }
     requires number_bound { (number < 1024) × (count < length keys.old) }
     ensures upper_bound { (result ≤ count + 1) × (length (after keys) ≡ length (before keys)) }
-    ensures keys_value { take result (after keys) ≡ take count (before keys) ++ cond (ltb 0 (period_cut constraints (before factors) (before excesses) period c))
-        (cut_key (period_cut constraints (before factors) (before excesses) period c) number ∷ []) [] }
+    ensures keys_value { take result (after keys) ≡ take count (before keys) ++ cond (ltb 0 (period_cut constraints factors.now excesses.now period c))
+        (cut_key (period_cut constraints (factors.now) (excesses.now) period c) number ∷ []) [] }
 {
     let own = c.period;
     if own.same(period) {
@@ -64,7 +64,7 @@ fn collect_keys(
     requires excesses { Excesses constraints excesses.now × Overloads constraints from upto excesses.now × (length keys.old ≡ max_contracts) }
     ensures upper_bound { (result ≤ max_contracts) × (length (after keys) ≡ max_contracts) }
     ensures keys_value { take result (after keys)
-        ≡ keys_to (λ (i : ℕ). period_cut constraints (before factors) (before excesses) period (contract_at (before book) i)) (contract_count_in (before book)) }
+        ≡ keys_to (λ (i : ℕ). period_cut constraints (factors.now) (excesses.now) period (contract_at (book.now) i)) (contract_count_in (book.now)) }
 {
     let many = book_bits::contract_count(book);
     let form = book_bits::book_form(book);
@@ -102,8 +102,8 @@ pub fn row_keys(
     requires keys_len { length keys.old ≡ max_contracts }
     ensures upper_bound { (result ≤ max_contracts) × (length (after keys) ≡ max_contracts) }
     ensures keys_value { take result (after keys)
-        ≡ map row_key (least_cuts (grid_of terms.nodes terms.constraints (before limits) (before factors)) terms.process terms.period
-        (book_in (before book))) }
+        ≡ map row_key (least_cuts (grid_of terms.nodes terms.constraints (limits.now) (factors.now)) terms.process terms.period
+        (book_in (book.now))) }
 {
     let nodes = terms.nodes;
     let constraints = terms.constraints;

@@ -14,8 +14,8 @@ use test_verdict::check_test;
 // Takes the first `count` keys apart: the contracts' numbers, and their cuts.
 fn store_rows(keys: &[u64], count: usize, numbers: &mut [u64], cuts: &mut [u64])
     requires { (count ≤ length keys.now) × (count ≤ length numbers.old) × (count ≤ length cuts.old) }
-    ensures numbers_value { after numbers ≡ overwrite (numbers_of (before keys) count) (before numbers) }
-    ensures cuts_value { after cuts ≡ overwrite (cuts_of (before keys) count) (before cuts) }
+    ensures numbers_value { after numbers ≡ overwrite (numbers_of keys.now count) (before numbers) }
+    ensures cuts_value { after cuts ≡ overwrite (cuts_of keys.now count) (before cuts) }
 {
     let mut i = 0;
     while i < count {
@@ -29,7 +29,7 @@ fn store_rows(keys: &[u64], count: usize, numbers: &mut [u64], cuts: &mut [u64])
 // Stores the rows of the first `listed` keys, where either table has room for them.
 fn list_rows(keys: &[u64], listed: usize, numbers: &mut [u64], cuts: &mut [u64]) -> CutsAnswer
     requires { listed ≤ length keys.now }
-    ensures { ListsRows (before keys) listed (before numbers) (before cuts) result (after numbers) (after cuts) }
+    ensures { ListsRows keys.now listed (before numbers) (before cuts) result (after numbers) (after cuts) }
 {
     if numbers.len() < listed {
         return CutsAnswer::Refused(Refusal::ShortTable);
@@ -50,7 +50,7 @@ pub fn find_cuts(
     numbers: &mut [u64],
     cuts: &mut [u64],
 ) -> CutsAnswer
-    ensures { FindsCuts (asked_test asked (before limits) (before factors) (before book)) numbers cuts result }
+    ensures { FindsCuts (asked_test asked limits.now factors.now book.now) numbers cuts result }
 {
     let checked = check_test(asked, limits, factors, book);
     if let Checked::Refused(refusal) = checked {

@@ -60,8 +60,8 @@ fn least_need(
     upto: usize,
 ) -> Quantity
     requires { Ends constraints factors.now c × Excesses constraints excesses.now × Overloads constraints from upto excesses.now }
-    ensures { (result.0 ≤ c.quantity.0) × (cut_in constraints (before factors) (before excesses) c
-        ≡ cond (enough constraints (cell_at (before excesses)) (slope_in constraints (before factors) c) result.0) result.0 0) }
+    ensures { (result.0 ≤ c.quantity.0) × (cut_in constraints factors.now excesses.now c
+        ≡ cond (enough constraints (cell_at (excesses.now)) (slope_in constraints (factors.now) c) result.0) result.0 0) }
 {
     let source = c.source * constraints;
     let sink = c.sink * constraints;
@@ -92,7 +92,7 @@ fn least_need(
 // Whether a cut of a contract is enough at every constraint: its counter-flow is taken away too.
 fn clears(c: Contract, constraints: usize, factors: &[i64], excesses: &[i64], cut: Quantity) -> bool
     requires { Ends constraints factors.now c × Excesses constraints excesses.now × (cut.0 ≤ max_quantity) }
-    ensures { result ≡ enough constraints (cell_at (before excesses)) (slope_in constraints (before factors) c) cut.0 }
+    ensures { result ≡ enough constraints (cell_at excesses.now) (slope_in constraints factors.now c) cut.0 }
 {
     let source = c.source * constraints;
     let sink = c.sink * constraints;
@@ -112,7 +112,7 @@ fn clears(c: Contract, constraints: usize, factors: &[i64], excesses: &[i64], cu
 // The lowest overloaded constraint: none stands before it.
 pub fn first_overload(constraints: usize, excesses: &[i64]) -> usize
     requires { Excesses constraints excesses.now }
-    ensures { (result ≤ constraints) × ((j : ℕ) → j < result → cell_at (before excesses) j ≤ℤ pos 0) }
+    ensures { (result ≤ constraints) × ((j : ℕ) → j < result → cell_at excesses.now j ≤ℤ pos 0) }
 {
     let mut k = 0;
     while k < constraints {
@@ -128,7 +128,7 @@ pub fn first_overload(constraints: usize, excesses: &[i64]) -> usize
 // Where the overloaded constraints end: none stands from there on.
 pub fn overloads_end(constraints: usize, excesses: &[i64]) -> usize
     requires { Excesses constraints excesses.now }
-    ensures { (result ≤ constraints) × ((j : ℕ) → result ≤ j → j < constraints → cell_at (before excesses) j ≤ℤ pos 0) }
+    ensures { (result ≤ constraints) × ((j : ℕ) → result ≤ j → j < constraints → cell_at excesses.now j ≤ℤ pos 0) }
 {
     let mut k = constraints;
     while 0 < k {
@@ -151,7 +151,7 @@ pub fn least_cut(
     upto: usize,
 ) -> Quantity
     requires { Ends constraints factors.now c × Excesses constraints excesses.now × Overloads constraints from upto excesses.now }
-    ensures { (result.0 ≡ cut_in constraints (before factors) (before excesses) c) × (result.0 ≤ max_quantity) }
+    ensures { (result.0 ≡ cut_in constraints factors.now excesses.now c) × (result.0 ≤ max_quantity) }
 {
     let need = least_need(c, constraints, factors, excesses, from, upto);
     if need.is_zero() {

@@ -64,8 +64,8 @@ fn worst_prices(
     requires listed { Listed terms.constraints (above_in excesses.now) over.now × (length over.now ≡ 64) }
     requires are_excesses { AreExcesses (grid_of terms.nodes terms.constraints limits.now factors.now) terms.process
         (of_period terms.period (book_in book.now)) excesses.now }
-    ensures { WorstPrices (grid_of terms.nodes terms.constraints (before limits) (before factors)) terms.process
-        (of_period terms.period (book_in (before book))) (before prices) (after prices) result }
+    ensures { WorstPrices (grid_of terms.nodes terms.constraints limits.now factors.now) terms.process
+        (of_period terms.period (book_in (book.now))) (before prices) (after prices) result }
 {
     let mut costs = [0i64; MOST_SETS];
     exposure_sets::set_costs(terms, limits, factors, book, over, count, &mut costs);
@@ -89,8 +89,8 @@ fn better_prices(
     requires book_value { (first (book_checks terms.nodes book.now) ≡ Passed) × (terms.constraints ≤ length prices.old) }
     requires are_excesses { AreExcesses (grid_of terms.nodes terms.constraints limits.now factors.now) terms.process
         (of_period terms.period (book_in book.now)) excesses.now }
-    ensures { BetterPrices (grid_of terms.nodes terms.constraints (before limits) (before factors)) terms.process
-        (of_period terms.period (book_in (before book))) (before prices) (after prices) result }
+    ensures { BetterPrices (grid_of terms.nodes terms.constraints limits.now factors.now) terms.process
+        (of_period terms.period (book_in (book.now))) (before prices) (after prices) result }
 {
     let constraints = terms.constraints;
     let largest = exposure_prices::largest_cell(constraints, excesses);
@@ -115,8 +115,8 @@ fn expose(
 ) -> Exposure
     requires good_cells { GoodCells max_limit terms.constraints limits.now × GoodFactors terms.nodes terms.constraints factors.now }
     requires book_value { (first (book_checks terms.nodes book.now) ≡ Passed) × (terms.constraints ≤ length prices.old) }
-    ensures { Exposed (grid_of terms.nodes terms.constraints (before limits) (before factors)) terms.process
-        (of_period terms.period (book_in (before book))) (before prices) (after prices) result }
+    ensures { Exposed (grid_of terms.nodes terms.constraints limits.now factors.now) terms.process
+        (of_period terms.period (book_in (book.now))) (before prices) (after prices) result }
 {
     let nodes = terms.nodes;
     let constraints = terms.constraints;
@@ -149,7 +149,7 @@ pub fn find_exposure(
     book: &[u8],
     prices: &mut [u64],
 ) -> ExposureAnswer
-    ensures { FindsExposure (asked_test asked (before limits) (before factors) (before book)) prices result }
+    ensures { FindsExposure (asked_test asked limits.now factors.now book.now) prices result }
 {
     let checked = check_test(asked, limits, factors, book);
     if let Checked::Refused(refusal) = checked {

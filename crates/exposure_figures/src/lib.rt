@@ -100,7 +100,7 @@ fn rent_at(process: Process, limit: u64, price: u64) -> u64
 // The rent of all constraints.
 pub fn rent(constraints: usize, process: Process, limits: &[u64], prices: &[u64]) -> Owed
     requires { (constraints ≤ max_constraints) × GoodCells max_limit constraints limits.now × GoodCells max_price constraints prices.now }
-    ensures { (pos (rent_of result) ≡ sum_to constraints (λ (j : ℕ). pos (rent_in (before limits) process (before prices) j))) × RentBounded 64 result }
+    ensures { (pos (rent_of result) ≡ sum_to constraints (λ (j : ℕ). pos (rent_in limits.now process prices.now j))) × RentBounded 64 result }
 {
     let mut total = Owed { whole: 0, parts: 0 };
     let mut k = 0;

@@ -45,7 +45,7 @@ fn above_zero(excess: i64) -> u64
 // All excesses above 0, added.
 pub fn total_above(constraints: usize, excesses: &[i64]) -> u64
     requires { Excesses constraints excesses.now }
-    ensures { (pos result ≡ sum_to constraints (λ (j : ℕ). max0 (cell_at (before excesses) j))) × (result ≤ max_excess * 64) }
+    ensures { (pos result ≡ sum_to constraints (λ (j : ℕ). max0 (cell_at excesses.now j))) × (result ≤ max_excess * 64) }
 {
     let mut total = 0u64;
     let mut k = 0;
@@ -61,7 +61,7 @@ pub fn total_above(constraints: usize, excesses: &[i64]) -> u64
 fn larger(cells: &[i64], low: usize, high: usize) -> usize
     requires low_in_bounds { (low < length cells.now) × (high < length cells.now) × (high < 1024) × (low < 1024) }
     requires low_bound { (nat_abs (cell_at cells.now low) < 2 ^ 62) × (nat_abs (cell_at cells.now high) < 2 ^ 62) }
-    ensures { result ≡ cond (lt_z (cell_at (before cells) low) (cell_at (before cells) high)) high low }
+    ensures { result ≡ cond (lt_z (cell_at cells.now low) (cell_at cells.now high)) high low }
 {
     let first = cells[low];
     let second = cells[high];
@@ -71,7 +71,7 @@ fn larger(cells: &[i64], low: usize, high: usize) -> usize
 // Where a figure is largest, the lowest such place.
 pub fn largest_cell(count: usize, cells: &[i64]) -> usize
     requires { Figures count cells.now }
-    ensures { result ≡ largest_of count (cell_at (before cells)) }
+    ensures { result ≡ largest_of count (cell_at cells.now) }
 {
     let mut largest = 0;
     let mut k = 0;
@@ -106,7 +106,7 @@ pub fn fill_prices(
     prices: &mut [u64],
 )
     requires { Excesses constraints excesses.now × (constraints ≤ length prices.old) }
-    ensures { after prices ≡ overwrite (highest_where constraints (chosen_in (before excesses) from upto)) (before prices) }
+    ensures { after prices ≡ overwrite (highest_where constraints (chosen_in excesses.now from upto)) (before prices) }
 {
     let mut k = 0;
     while k < constraints {
@@ -119,7 +119,7 @@ pub fn fill_prices(
 // What the highest price costs on the constraint of the largest excess alone: nothing where there is none above 0.
 pub fn alone_shortfall(constraints: usize, excesses: &[i64], largest: usize) -> Exact
     requires { Excesses constraints excesses.now }
-    ensures { Exactly (top_in constraints (before excesses) largest *ℤ pos max_price) result }
+    ensures { Exactly (top_in constraints excesses.now largest *ℤ pos max_price) result }
 {
     if largest < constraints {
         let excess = excesses[largest];
@@ -155,7 +155,7 @@ fn set_left(excess: i64, left: u64) -> u64
 // The prices of all constraints, into the first cells of `prices`: the highest on a set of overloaded ones.
 pub fn fill_set(constraints: usize, excesses: &[i64], set: u64, prices: &mut [u64])
     requires { Excesses constraints excesses.now × (constraints ≤ length prices.old) }
-    ensures { after prices ≡ overwrite (highest_where constraints (set_in (before excesses) set)) (before prices) }
+    ensures { after prices ≡ overwrite (highest_where constraints (set_in excesses.now set)) (before prices) }
 {
     let mut left = set;
     let mut k = 0;
@@ -182,7 +182,7 @@ fn note_over(excess: i64, k: usize, count: usize, over: &mut [usize]) -> usize
 // The overloaded constraints, into the first cells of `over`. Gives how many there are.
 pub fn fill_over(constraints: usize, excesses: &[i64], over: &mut [usize]) -> usize
     requires { Excesses constraints excesses.now × (length over.old ≡ 64) }
-    ensures { (result ≡ count_of constraints (above_in (before excesses))) × Listed constraints (above_in (before excesses)) (after over)
+    ensures { (result ≡ count_of constraints (above_in excesses.now)) × Listed constraints (above_in excesses.now) (after over)
         × (length (after over) ≡ 64) }
 {
     let mut count = 0;
@@ -209,7 +209,7 @@ fn cost_at(cost: i64) -> Exact
 // Of so many costs at one cent the largest, the first such, at the highest price.
 pub fn best_of(sets: usize, costs: &[i64]) -> Best
     requires { Figures sets costs.now × (0 < sets) }
-    ensures { (result.set ≡ largest_of sets (cell_at (before costs))) × Exactly (max0 (cell_at (before costs) result.set) *ℤ pos max_price) result.cost }
+    ensures { (result.set ≡ largest_of sets (cell_at costs.now)) × Exactly (max0 (cell_at costs.now result.set) *ℤ pos max_price) result.cost }
 {
     let set = largest_cell(sets, costs);
     let cost = costs[set];

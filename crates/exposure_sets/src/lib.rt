@@ -64,7 +64,7 @@ fn grow(n: usize, x: Flow, sums: &mut [i64])
 // The sum of each set's figures.
 fn set_sums(count: usize, figures: &[i64], sums: &mut [i64])
     requires { (count ≤ 10) × (count ≤ length figures.now) × SmallCells max_row count figures.now × (length sums.old ≡ 1024) }
-    ensures { Sums count (cell_in_of (before figures)) (after sums) × (length (after sums) ≡ 1024) }
+    ensures { Sums count (cell_in_of figures.now) (after sums) × (length (after sums) ≡ 1024) }
 {
     sums[0] = 0;
     let mut n = 1;
@@ -87,7 +87,7 @@ fn fill_spreads(
     figures: &mut [i64],
 )
     requires { Ends constraints factors.now c × Chosen constraints count over.now × (count ≤ length figures.old) }
-    ensures { Filled count (λ (s : ℕ). raw_in constraints (before factors) c (get_or (before over) s 0)) (before figures) (after figures) }
+    ensures { Filled count (λ (s : ℕ). raw_in constraints factors.now c (get_or over.now s 0)) (before figures) (after figures) }
 {
     let source = c.source * constraints;
     let sink = c.sink * constraints;
@@ -112,7 +112,7 @@ fn fill_rents(
     figures: &mut [i64],
 )
     requires { GoodCells max_limit constraints limits.now × Chosen constraints count over.now × (count ≤ length figures.old) }
-    ensures { Filled count (λ (s : ℕ). due_in (before limits) process (get_or (before over) s 0)) (before figures) (after figures) }
+    ensures { Filled count (λ (s : ℕ). due_in limits.now process (get_or over.now s 0)) (before figures) (after figures) }
 {
     let mut t = 0;
     while t < count {
@@ -128,7 +128,7 @@ fn fill_rents(
 fn add_counted(kind: Kind, n: usize, figures: &[i64], totals: &mut [i64])
     requires { (n ≤ 1024) × (n ≤ length figures.now) × (n ≤ length totals.old) × SmallCells (max_row * 10) n figures.now
         × SmallCells (2 ^ 61) n totals.old }
-    ensures { Added n (λ (m : ℕ). counted kind (cell_in_of (before figures) m)) (before totals) (after totals) }
+    ensures { Added n (λ (m : ℕ). counted kind (cell_in_of figures.now m)) (before totals) (after totals) }
 {
     let mut m = 0;
     while m < n {
@@ -157,8 +157,8 @@ fn add_contract(
 )
     requires ends { Ends constraints factors.now c × Chosen constraints count over.now × (n ≡ 2 ^ count) × (count ≤ length row.old) }
     requires sums_len { (length sums.old ≡ 1024) × (length costs.old ≡ 1024) × SmallCells (2 ^ 61) count row.old × SmallCells (2 ^ 61) n costs.old }
-    ensures { AddedSmall max_released count (fixed_in constraints (before factors) (before over) period c) (before row) (after row)
-        × AddedSmall (max_released * 10) n (option_in constraints (before factors) (before over) count period c) (before costs) (after costs)
+    ensures { AddedSmall max_released count (fixed_in constraints factors.now over.now period c) (before row) (after row)
+        × AddedSmall (max_released * 10) n (option_in constraints (factors.now) (over.now) count period c) (before costs) (after costs)
         × (length (after sums) ≡ 1024) }
 {
     let own = c.period;
@@ -196,9 +196,9 @@ fn add_book(
     requires good_factors { GoodFactors nodes constraints factors.now × (first (book_checks nodes book.now) ≡ Passed) }
     requires chosen { Chosen constraints count over.now × (n ≡ 2 ^ count) × (count ≤ length row.old) }
     requires sums_len { (length sums.old ≡ 1024) × (length costs.old ≡ 1024) × SmallCells max_released count row.old × SmallCells (max_released * 10) n costs.old }
-    ensures added { Added count (book_fixed constraints (before factors) (before over) period (before book)) (before row) (after row)
+    ensures added { Added count (book_fixed constraints factors.now over.now period book.now) (before row) (after row)
         × SmallCells max_row count (after row) }
-    ensures added_2 { Added n (book_options constraints (before factors) (before over) count period (before book)) (before costs) (after costs)
+    ensures added_2 { Added n (book_options constraints factors.now over.now count period book.now) (before costs) (after costs)
         × SmallCells (max_row * 10) n (after costs) × (length (after sums) ≡ 1024) }
 {
     let contracts = book_bits::contract_count(book);
@@ -235,8 +235,8 @@ pub fn set_costs(
     requires good_cells { GoodCells max_limit terms.constraints limits.now × GoodFactors terms.nodes terms.constraints factors.now
         × (first (book_checks terms.nodes book.now) ≡ Passed) }
     requires chosen { Chosen terms.constraints count over.now × (length costs.old ≡ 1024) × ((m : ℕ) → m < 1024 → cell_in_of costs.old m ≡ pos 0) }
-    ensures { UnitCosts (grid_of terms.nodes terms.constraints (before limits) (before factors)) terms.process
-        (of_period terms.period (book_in (before book))) (before over) count (after costs) }
+    ensures { UnitCosts (grid_of terms.nodes terms.constraints limits.now factors.now) terms.process
+        (of_period terms.period (book_in (book.now))) (over.now) count (after costs) }
 {
     let nodes = terms.nodes;
     let constraints = terms.constraints;

@@ -49,8 +49,8 @@ pub fn shortfall_at(
 ) -> Shortfall
     requires good_cells { GoodCells max_limit terms.constraints limits.now × Hour terms.nodes terms.constraints factors.now prices.now }
     requires book_value { first (book_checks terms.nodes book.now) ≡ Passed }
-    ensures { Costs (grid_of terms.nodes terms.constraints (before limits) (before factors)) terms.process
-        (of_period terms.period (book_in (before book))) (take terms.constraints (before prices)) result }
+    ensures { Costs (grid_of terms.nodes terms.constraints limits.now factors.now) terms.process
+        (of_period terms.period (book_in (book.now))) (take terms.constraints (prices.now)) result }
 {
     let nodes = terms.nodes;
     let constraints = terms.constraints;
@@ -90,7 +90,7 @@ fn check_cells(
     prices: &[u64],
 ) -> Checked
     requires { (nodes ≤ max_nodes) × (constraints ≤ max_constraints) }
-    ensures { result ≡ first (cell_checks nodes constraints (before limits) (before factors) (before prices)) }
+    ensures { result ≡ first (cell_checks nodes constraints limits.now factors.now prices.now) }
 {
     let cells = nodes * constraints;
     if limits.len() < constraints {
@@ -117,7 +117,7 @@ fn check_cells(
 // The checks of the tables: 2, 3, 16, 17, those of the cells.
 fn check_tables(asked: Asked, limits: &[u64], factors: &[i64], prices: &[u64]) -> Checked
     ensures { result ≡ first (table_checks asked.nodes asked.constraints asked.process asked.period
-        (before limits) (before factors) (before prices)) }
+        (limits.now) (factors.now) (prices.now)) }
 {
     if tariff::nodes_bad(asked.nodes) {
         return Checked::Refused(Refusal::NodeCount);
@@ -142,7 +142,7 @@ pub fn find_shortfall(
     prices: &[u64],
     book: &[u8],
 ) -> ShortfallAnswer
-    ensures { FindsShortfall (asked_test asked (before limits) (before factors) (before book)) (before prices) result }
+    ensures { FindsShortfall (asked_test asked limits.now factors.now book.now) prices.now result }
 {
     let tables = check_tables(asked, limits, factors, prices);
     if let Checked::Refused(refusal) = tables {

@@ -17,7 +17,7 @@ const FORM_BYTES: usize = 2;
 
 pub fn form_in(file: &[u8]) -> Form
     requires { 2 ≤ length file.now }
-    ensures { result ≡ grid_form_in (before file) }
+    ensures { result ≡ grid_form_in file.now }
 {
     if bits::field(file, 0, 8) != 0 {
         return Form::Narrow;
@@ -30,7 +30,7 @@ pub fn form_in(file: &[u8]) -> Form
 
 pub fn nodes_in(file: &[u8], form: Form) -> usize
     requires { grid_header_bytes_of form ≤ length file.now }
-    ensures { result ≡ nodes_of form (before file) }
+    ensures { result ≡ nodes_of form file.now }
 {
     match form {
         Form::Narrow => bits::field(file, 0, 8) as usize,
@@ -40,14 +40,14 @@ pub fn nodes_in(file: &[u8], form: Form) -> usize
 
 pub fn constraints_in(file: &[u8]) -> usize
     requires { 2 ≤ length file.now }
-    ensures { result ≡ constraints_in_of (before file) }
+    ensures { result ≡ constraints_in_of file.now }
 {
     bits::field(file, 8, 7) as usize
 }
 
 // The file's checks up to its length: 1 to 5.
 pub fn check_size(file: &[u8]) -> Checked
-    ensures { result ≡ first (grid_size_checks (before file)) }
+    ensures { result ≡ first (grid_size_checks file.now) }
 {
     if file.len() < FORM_BYTES {
         return Checked::Refused(Refusal::ShortFile);

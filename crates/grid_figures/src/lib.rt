@@ -30,7 +30,7 @@ fn bits_bad(bits: u64) -> bool
 // Whether a factor of the file is out of range: node by node and, within a node, constraint by constraint, up to the first that is.
 fn factor_bad_in(file: &[u8], header: usize, nodes: usize, constraints: usize) -> bool
     requires { Counted file.now header nodes constraints }
-    ensures { result ≡ any_of factor_bad_of (factors_in (before file)) }
+    ensures { result ≡ any_of factor_bad_of (factors_in file.now) }
 {
     let mut found = false;
     let mut at = header + LIMIT_WIDTH * constraints;
@@ -60,7 +60,7 @@ pub fn check_figures(
     factors: &[i64],
 ) -> Checked
     requires { Counted file.now header nodes constraints }
-    ensures { result ≡ first (figure_checks (before file) (before limits) (before factors)) }
+    ensures { result ≡ first (figure_checks file.now limits.now factors.now) }
 {
     let used = grid_checks::used_bits(header, nodes, constraints);
     if runs::field_above(file, header, LIMIT_WIDTH, constraints, MAX_LIMIT) {

@@ -10,7 +10,7 @@ use layouts::{FACTOR_WIDTH, LIMIT_WIDTH};
 use tariff::Checked;
 
 fn check_read(file: &[u8], limits: &[u64], factors: &[i64]) -> Checked
-    ensures { result ≡ read_grid_checked (read_grid_call (before file) (before limits) (before factors)) }
+    ensures { result ≡ read_grid_checked (read_grid_call file.now limits.now factors.now) }
 {
     match grid_checks::check_size(file) {
         Checked::Refused(refusal) => Checked::Refused(refusal),
@@ -28,7 +28,7 @@ fn check_read(file: &[u8], limits: &[u64], factors: &[i64]) -> Checked
 fn read_factors(file: &[u8], offset: usize, count: usize, out: &mut [i64])
     requires count_bound { offset + factor_width * count ≤ 8 * length file.now }
     requires file_len_bound { (length file.now ≤ most_bytes) × (count ≤ length out.old) × ((i : ℕ) → i < count → 39 ≤ offset) }
-    ensures { after out ≡ overwrite (factors_at (before file) offset count) (before out) }
+    ensures { after out ≡ overwrite (factors_at file.now offset count) (before out) }
 {
     let mut at = offset;
     let mut i = 0;
@@ -50,8 +50,8 @@ fn read_tables(
 )
     requires counted { Counted file.now header nodes constraints }
     requires constraints_in_bounds { (constraints ≤ length limits.old) × (nodes * constraints ≤ length factors.old) }
-    ensures limits_value { after limits ≡ overwrite (limits_in (before file)) (before limits) }
-    ensures factors_value { after factors ≡ overwrite (factors_in (before file)) (before factors) }
+    ensures limits_value { after limits ≡ overwrite (limits_in file.now) (before limits) }
+    ensures factors_value { after factors ≡ overwrite (factors_in file.now) (before factors) }
 {
     let count = grid_checks::factor_count(nodes, constraints);
     runs::read_run(file, header, LIMIT_WIDTH, constraints, limits);
@@ -60,7 +60,7 @@ fn read_tables(
 
 // Reads a grid's file: its counts, its form, and its limits and factors into the first cells of the tables.
 pub fn read_grid(file: &[u8], limits: &mut [u64], factors: &mut [i64]) -> GridAnswer
-    ensures { ReadsGrid (read_grid_call (before file) (before limits) (before factors)) result (after limits) (after factors) }
+    ensures { ReadsGrid (read_grid_call file.now (before limits) (before factors)) result (after limits) (after factors) }
 {
     match check_read(file, limits, factors) {
         Checked::Refused(refusal) => GridAnswer::Refused(refusal),

@@ -8,7 +8,7 @@ use tariff::{Checked, Refusal};
 
 // Reads a grid's file as `read_grid` does; one of more than `most` bytes is refused by its length, where no earlier check refuses it.
 pub fn read_within(most: usize, file: &[u8], limits: &mut [u64], factors: &mut [i64]) -> GridAnswer
-    ensures { ReadsWithin most (read_grid_call (before file) (before limits) (before factors)) result (after limits) (after factors) }
+    ensures { ReadsWithin most (read_grid_call file.now (before limits) (before factors)) result (after limits) (after factors) }
 {
     match grid_checks::check_size(file) {
         Checked::Refused(refusal) => GridAnswer::Refused(refusal),

@@ -13,7 +13,7 @@ use tariff::{Checked, MAX_CONSTRAINTS, MAX_FACTOR, MAX_LIMIT, MAX_PRICE, Refusal
 // Whether one of the first `count` cells is above `most`.
 pub fn cell_above(cells: &[u64], count: usize, most: u64) -> bool
     requires { count ≤ length cells.now }
-    ensures { result ≡ any_of (above most) (take count (before cells)) }
+    ensures { result ≡ any_of (above most) (take count cells.now) }
 {
     let mut i = 0;
     while i < count {
@@ -28,7 +28,7 @@ pub fn cell_above(cells: &[u64], count: usize, most: u64) -> bool
 // Whether a listed number is not below `bound`.
 pub fn listed_outside(bound: usize, list: &[u64]) -> bool
     requires { 0 < bound }
-    ensures { result ≡ any_of (leb bound) (before list) }
+    ensures { result ≡ any_of (leb bound) list.now }
 {
     cell_above(list, list.len(), (bound - 1) as u64)
 }
@@ -49,7 +49,7 @@ fn factor_bad(factor: i64) -> bool
 // Whether one of the four factors from `i` on is out of range: all four are looked at, so that there is one branch for them.
 fn four_bad(factors: &[i64], i: usize) -> bool
     requires { i + 4 ≤ length factors.now }
-    ensures { result ≡ four_bad_of (before factors) i }
+    ensures { result ≡ four_bad_of factors.now i }
 {
     let a = factor_bad(factors[i]);
     let b = factor_bad(factors[i + 1]);
@@ -61,7 +61,7 @@ fn four_bad(factors: &[i64], i: usize) -> bool
 // The same of the first `count`, of which the first `start` are good.
 fn rest_bad(factors: &[i64], start: usize, count: usize) -> bool
     requires { (start ≤ count) × (count ≤ length factors.now) × (any_of factor_bad_of (take start (take count factors.now)) ≡ false) }
-    ensures { result ≡ any_of factor_bad_of (take count (before factors)) }
+    ensures { result ≡ any_of factor_bad_of (take count factors.now) }
 {
     let mut i = start;
     while i < count {
@@ -76,7 +76,7 @@ fn rest_bad(factors: &[i64], start: usize, count: usize) -> bool
 // Whether one of the first `count` factors is out of range.
 pub fn factor_out_of_range(factors: &[i64], count: usize) -> bool
     requires { count ≤ length factors.now }
-    ensures { result ≡ any_of factor_bad_of (take count (before factors)) }
+    ensures { result ≡ any_of factor_bad_of (take count factors.now) }
 {
     let mut i = 0;
     while 4 <= count - i {
@@ -92,8 +92,8 @@ pub fn factor_out_of_range(factors: &[i64], count: usize) -> bool
 fn check_grid_cells(nodes: usize, constraints: usize, limits: &[u64], factors: &[i64]) -> Checked
     requires { (nodes ≤ max_nodes) × (constraints ≤ max_constraints) }
     ensures { result ≡ first (
-        short_table (length (before limits)) constraints ∷ short_table (length (before factors)) (nodes * constraints)
-        ∷ limit_range (take constraints (before limits)) ∷ factor_range (take (nodes * constraints) (before factors)) ∷ []) }
+        short_table (length (limits.now)) constraints ∷ short_table (length (factors.now)) (nodes * constraints)
+        ∷ limit_range (take constraints (limits.now)) ∷ factor_range (take (nodes * constraints) (factors.now)) ∷ []) }
 {
     let cells = nodes * constraints;
     if limits.len() < constraints {
@@ -120,7 +120,7 @@ pub fn check_grid_tables(
     limits: &[u64],
     factors: &[i64],
 ) -> Checked
-    ensures { result ≡ first (grid_table_checks nodes constraints process period (before limits) (before factors)) }
+    ensures { result ≡ first (grid_table_checks nodes constraints process period limits.now factors.now) }
 {
     if tariff::nodes_bad(nodes) {
         return Checked::Refused(Refusal::NodeCount);
@@ -147,8 +147,8 @@ fn check_hour_cells(
 ) -> Checked
     requires { (nodes ≤ max_nodes) × (constraints ≤ max_constraints) }
     ensures { result ≡ first (
-        short_table (length (before factors)) (nodes * constraints) ∷ short_table (length (before prices)) constraints ∷ short_table place nodes
-        ∷ factor_range (take (nodes * constraints) (before factors)) ∷ price_range (take constraints (before prices)) ∷ []) }
+        short_table (length (factors.now)) (nodes * constraints) ∷ short_table (length (prices.now)) constraints ∷ short_table place nodes
+        ∷ factor_range (take (nodes * constraints) (factors.now)) ∷ price_range (take constraints (prices.now)) ∷ []) }
 {
     let cells = nodes * constraints;
     if factors.len() < cells {
@@ -178,7 +178,7 @@ pub fn check_hour_tables(
     prices: &[u64],
     place: usize,
 ) -> Checked
-    ensures { result ≡ first (hour_table_checks nodes constraints period (before factors) (before prices) place) }
+    ensures { result ≡ first (hour_table_checks nodes constraints period factors.now prices.now place) }
 {
     if tariff::nodes_bad(nodes) {
         return Checked::Refused(Refusal::NodeCount);

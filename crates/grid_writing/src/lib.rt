@@ -23,7 +23,7 @@ fn check_write(
     factors: &[i64],
     file: &[u8],
 ) -> Checked
-    ensures { result ≡ write_grid_checked (write_grid_call form nodes constraints (before limits) (before factors) (before file)) }
+    ensures { result ≡ write_grid_checked (write_grid_call form nodes constraints limits.now factors.now file.now) }
 {
     if tariff::nodes_outside(form.most_nodes(), nodes) {
         return Checked::Refused(Refusal::NodeCount);
@@ -44,7 +44,7 @@ fn write_factors(buf: &mut [u8], from: BitWriter, factors: &[i64], count: usize)
     requires writer_ready { WriterReady from }
     requires count_in_bounds { (count ≤ length factors.now) × ((k : ℕ) → k < count → nat_abs (get_or factors.now k (pos 0)) ≤ max_factor) }
     requires count_bound { bits_written from + factor_width * count ≤ 8 * length buf.old }
-    ensures result_value { written (after buf) result ≡ written (before buf) from * 2 ^ (factor_width * count) + number factor_width (coded count (before factors)) }
+    ensures result_value { written (after buf) result ≡ written (before buf) from * 2 ^ (factor_width * count) + number factor_width (coded count factors.now) }
     ensures result_value_2 { (bits_written result ≡ bits_written from + factor_width * count) × WriterReady result }
     ensures writes_on { WritesOn (before buf) from (after buf) result }
 {
@@ -97,8 +97,8 @@ fn fill(
     file: &mut [u8],
 ) -> usize
     requires { Writable form nodes constraints limits.now factors.now file.old }
-    ensures value { result ≡ length (grid_file form (grid_of nodes constraints (before limits) (before factors))) }
-    ensures file_value { after file ≡ overwrite (grid_file form (grid_of nodes constraints (before limits) (before factors))) (before file) }
+    ensures value { result ≡ length (grid_file form (grid_of nodes constraints limits.now factors.now)) }
+    ensures file_value { after file ≡ overwrite (grid_file form (grid_of nodes constraints limits.now factors.now)) (before file) }
 {
     let header = form.grid_header_bits();
     let used = grid_checks::used_bits(header, nodes, constraints);
@@ -120,7 +120,7 @@ pub fn write_grid(
     factors: &[i64],
     file: &mut [u8],
 ) -> WriteAnswer
-    ensures { WritesGrid (write_grid_call form nodes constraints (before limits) (before factors) (before file)) result (after file) }
+    ensures { WritesGrid (write_grid_call form nodes constraints limits.now factors.now (before file)) result (after file) }
 {
     match check_write(form, nodes, constraints, limits, factors, file) {
         Checked::Refused(refusal) => WriteAnswer::Refused(refusal),

@@ -41,7 +41,7 @@ fn amount_of(
     source: Mcc,
 ) -> PricedAmount
     requires { PricedBy hour factors.now prices.now × InRange hour.nodes c × EndMccs hour factors.now prices.now c sink source }
-    ensures { AmountOf (hour_factors_in hour (before factors)) (hour_prices_in hour (before prices)) c result }
+    ensures { AmountOf (hour_factors_in hour factors.now) (hour_prices_in hour prices.now) c result }
 {
     let quantity = c.quantity;
     let kind = c.kind;
@@ -117,7 +117,7 @@ pub fn hour_amount(
     source: Mcc,
 ) -> SettledAmount
     requires { PricedBy hour factors.now prices.now × InRange hour.nodes c × EndMccs hour factors.now prices.now c sink source }
-    ensures { HourSettled (hour_factors_in hour (before factors)) (hour_prices_in hour (before prices)) hour.period c result }
+    ensures { HourSettled (hour_factors_in hour factors.now) (hour_prices_in hour prices.now) hour.period c result }
 {
     let own = c.period;
     let period = hour.period;

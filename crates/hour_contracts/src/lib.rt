@@ -33,7 +33,7 @@ fn settle_contracts(
     requires priced_by { PricedBy hour factors.now prices.now × MccTable hour.nodes hour.constraints factors.now prices.now mccs }
     requires by_index { (i : ℕ) → i < count → InRange hour.nodes (contract_in form book.now i) }
     requires count_le_max_contracts { (count ≤ max_contracts) × (book_bytes_of form count ≤ length book.now) × (count ≤ length cents.old) × (count ≤ length sets.old) }
-    ensures { SettlesFirst (hour_factors_in hour (before factors)) (hour_prices_in hour (before prices)) hour.period count (contract_in form (before book))
+    ensures { SettlesFirst (hour_factors_in hour factors.now) (hour_prices_in hour prices.now) hour.period count (contract_in form book.now)
         (before cents) (after cents) (before sets) (after sets) result }
 {
     let mut totals = Totals {
@@ -69,7 +69,7 @@ pub fn settle(
 ) -> Totals
     requires hour { Hour nodes constraints factors.now prices.now × (first (book_checks nodes book.now) ≡ Passed) }
     requires book_in_bounds { (contract_count_in book.now ≤ length cents.old) × (contract_count_in book.now ≤ length sets.old) }
-    ensures { Settles nodes constraints period (before factors) (before prices) (before book)
+    ensures { Settles nodes constraints period factors.now prices.now book.now
         (before cents) (after cents) (before sets) (after sets) result }
 {
     let mccs = all_mccs(nodes, constraints, factors, prices);

@@ -31,7 +31,7 @@ fn add_product(
     requires hour { Hour nodes constraints factors.now prices.now }
     requires sum_value { sum.0 ≡ congestion (factors_of nodes constraints factors.now) (take constraints prices.now) node k }
     requires node_lt_nodes { (node < nodes) × (k < constraints) }
-    ensures result_value { result.0 ≡ congestion (factors_of nodes constraints (before factors)) (take constraints (before prices)) node (k + 1) }
+    ensures result_value { result.0 ≡ congestion (factors_of nodes constraints factors.now) (take constraints prices.now) node (k + 1) }
     ensures result_bound { nat_abs result.0 ≤ max_factor * max_price * (k + 1) }
 {
     let product = Price(prices[k]).times(factors[node * constraints + k]);
@@ -48,7 +48,7 @@ pub fn node_mcc(
 ) -> Mcc
     requires hour { Hour nodes constraints factors.now prices.now }
     requires node_lt_nodes { node < nodes }
-    ensures { (result.0 ≡ mcc_in nodes constraints (before factors) (before prices) node) × (nat_abs result.0 ≤ max_mcc) }
+    ensures { (result.0 ≡ mcc_in nodes constraints factors.now prices.now node) × (nat_abs result.0 ≤ max_mcc) }
 {
     let mut sum = Mcc(0);
     let mut k = 0;
@@ -63,7 +63,7 @@ pub fn node_mcc(
 pub fn fill_mcc(nodes: usize, constraints: usize, factors: &[i64], prices: &[u64], out: &mut [i64])
     requires hour { Hour nodes constraints factors.now prices.now }
     requires nodes_in_bounds { nodes ≤ length out.old }
-    ensures { after out ≡ overwrite (list_to nodes (mcc_in nodes constraints (before factors) (before prices))) (before out) }
+    ensures { after out ≡ overwrite (list_to nodes (mcc_in nodes constraints factors.now prices.now)) (before out) }
 {
     let mut node = 0;
     while node < nodes {
@@ -80,7 +80,7 @@ pub fn all_mccs(
     prices: &[u64],
 ) -> [Mcc; MAX_NODES]
     requires { Hour nodes constraints factors.now prices.now }
-    ensures { MccTable nodes constraints (before factors) (before prices) result }
+    ensures { MccTable nodes constraints factors.now prices.now result }
 {
     let mut mccs = [Mcc(0); MAX_NODES];
     let mut node = 0;
@@ -99,7 +99,7 @@ pub fn find_mcc(
     prices: &[u64],
     mcc: &mut [i64],
 ) -> MccAnswer
-    ensures { FindsMcc (find_mcc_call nodes constraints (before factors) (before prices) (before mcc)) result (after mcc) }
+    ensures { FindsMcc (find_mcc_call nodes constraints factors.now prices.now (before mcc)) result (after mcc) }
 {
     // No period is asked for: 0 is always one.
     match grid_tables::check_hour_tables(nodes, constraints, 0, factors, prices, mcc.len()) {

@@ -14,7 +14,7 @@ use tariff::{Contract, Price};
 // Whether the factors in two cells differ, as a bit.
 fn differ(factors: &[i64], a: usize, b: usize) -> u64
     requires { FactorRow factors.now a 1 × FactorRow factors.now b 1 }
-    ensures { (result ≡ set_of 1 (differ_at (before factors) a b)) × (result < 2) }
+    ensures { (result ≡ set_of 1 (differ_at factors.now a b)) × (result < 2) }
 {
     (factors[a] != factors[b]) as u64
 }
@@ -22,7 +22,7 @@ fn differ(factors: &[i64], a: usize, b: usize) -> u64
 // The same of two cells, four and eight, behind the bits of a set.
 fn two_more(factors: &[i64], a: usize, b: usize, set: u64) -> u64
     requires { FactorRow factors.now a 2 × FactorRow factors.now b 2 × (set < 2 ^ 62) }
-    ensures { (result ≡ set * 4 + set_of 2 (differ_at (before factors) a b)) × (result < (set + 1) * 4) }
+    ensures { (result ≡ set * 4 + set_of 2 (differ_at factors.now a b)) × (result < (set + 1) * 4) }
 {
     let high = differ(factors, a + 1, b + 1);
     let low = differ(factors, a, b);
@@ -31,7 +31,7 @@ fn two_more(factors: &[i64], a: usize, b: usize, set: u64) -> u64
 
 fn four_more(factors: &[i64], a: usize, b: usize, set: u64) -> u64
     requires { FactorRow factors.now a 4 × FactorRow factors.now b 4 × (set < 2 ^ 60) }
-    ensures { (result ≡ set * 16 + set_of 4 (differ_at (before factors) a b)) × (result < (set + 1) * 16) }
+    ensures { (result ≡ set * 16 + set_of 4 (differ_at factors.now a b)) × (result < (set + 1) * 16) }
 {
     let high = two_more(factors, a + 2, b + 2, set);
     two_more(factors, a, b, high)
@@ -39,7 +39,7 @@ fn four_more(factors: &[i64], a: usize, b: usize, set: u64) -> u64
 
 fn eight_more(factors: &[i64], a: usize, b: usize, set: u64) -> u64
     requires { FactorRow factors.now a 8 × FactorRow factors.now b 8 × (set < 2 ^ 56) }
-    ensures { result ≡ set * 256 + set_of 8 (differ_at (before factors) a b) }
+    ensures { result ≡ set * 256 + set_of 8 (differ_at factors.now a b) }
 {
     let high = four_more(factors, a + 4, b + 4, set);
     four_more(factors, a, b, high)
@@ -48,7 +48,7 @@ fn eight_more(factors: &[i64], a: usize, b: usize, set: u64) -> u64
 // The constraints behind the last whole eight.
 fn rest_differ(constraints: usize, factors: &[i64], source: usize, sink: usize) -> u64
     requires { (constraints ≤ max_constraints) × FactorRow factors.now source constraints × FactorRow factors.now sink constraints }
-    ensures { result ≡ set_of (constraints - constraints / 8 * 8) (λ (j : ℕ). differ_at (before factors) source sink (constraints / 8 * 8 + j)) }
+    ensures { result ≡ set_of (constraints - constraints / 8 * 8) (λ (j : ℕ). differ_at factors.now source sink (constraints / 8 * 8 + j)) }
 {
     let eights = constraints / 8 * 8;
     let mut set = 0u64;
@@ -64,7 +64,7 @@ fn rest_differ(constraints: usize, factors: &[i64], source: usize, sink: usize) 
 // The constraints on which the factors from `source` on differ from those from `sink` on.
 fn differ_set(constraints: usize, factors: &[i64], source: usize, sink: usize) -> u64
     requires { (constraints ≤ max_constraints) × FactorRow factors.now source constraints × FactorRow factors.now sink constraints }
-    ensures { result ≡ set_of constraints (differ_at (before factors) source sink) }
+    ensures { result ≡ set_of constraints (differ_at factors.now source sink) }
 {
     let mut set = rest_differ(constraints, factors, source, sink);
     let mut eight = constraints / 8;
@@ -79,7 +79,7 @@ fn differ_set(constraints: usize, factors: &[i64], source: usize, sink: usize) -
 // The constraints whose price isn't 0.
 pub fn posted_set(constraints: usize, prices: &[u64]) -> u64
     requires { (constraints ≤ max_constraints) × (constraints ≤ length prices.now) }
-    ensures { result ≡ posted_in constraints (before prices) }
+    ensures { result ≡ posted_in constraints prices.now }
 {
     let mut set = 0u64;
     let mut k = constraints;
@@ -101,7 +101,7 @@ pub fn priced_set(
     c: Contract,
 ) -> u64
     requires { Hour nodes constraints factors.now prices.now × InRange nodes c × (posted ≡ posted_in constraints prices.now) }
-    ensures { result ≡ priced_set_of (factors_of nodes constraints (before factors)) (take constraints (before prices)) c }
+    ensures { result ≡ priced_set_of (factors_of nodes constraints factors.now) (take constraints prices.now) c }
 {
     let source = c.source * constraints;
     let sink = c.sink * constraints;

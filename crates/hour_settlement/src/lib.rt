@@ -19,7 +19,7 @@ fn check_settle(
     cells: usize,
     sets: usize,
 ) -> Checked
-    ensures { result ≡ first (settle_checks (hour_call nodes constraints period (before factors) (before prices) (before book)) cells sets) }
+    ensures { result ≡ first (settle_checks (hour_call nodes constraints period factors.now prices.now book.now) cells sets) }
 {
     // No answer of a cell a node is given: as many cells as nodes suffice.
     let hour = grid_tables::check_hour_tables(nodes, constraints, period, factors, prices, nodes);
@@ -51,7 +51,7 @@ pub fn settle_hour(
     cents: &mut [i64],
     sets: &mut [u64],
 ) -> SettleAnswer
-    ensures { SettlesHour (hour_call nodes constraints period (before factors) (before prices) (before book)) result cents sets }
+    ensures { SettlesHour (hour_call nodes constraints period factors.now prices.now book.now) result cents sets }
 {
     match check_settle(
         nodes,

@@ -23,7 +23,7 @@ struct Terms {
 // 17, 18, 11 for the hub's nodes, 11 for the sink, 13; ends are held to be below a number.
 fn check_terms(below: usize, terms: Terms, hub: &[u64], quantity: u64) -> Checked
     requires { 0 < below }
-    ensures { result ≡ first (term_checks below terms (before hub) quantity) }
+    ensures { result ≡ first (term_checks below terms hub.now quantity) }
 {
     if 1 < terms.kind {
         return Checked::Refused(Refusal::PeriodOrKind);
@@ -56,7 +56,7 @@ fn check_given(
     weights: &[u64],
     quantity: u64,
 ) -> Checked
-    ensures { result ≡ first (given_checks nodes (before book) terms (before hub) (before weights) quantity) }
+    ensures { result ≡ first (given_checks nodes book.now terms hub.now weights.now quantity) }
 {
     if let Checked::Refused(refusal) = book_checks::check_own(nodes, book) {
         return Checked::Refused(refusal);
@@ -72,7 +72,7 @@ fn check_given(
 // The contract of row i.
 fn row_at(terms: Terms, sources: &[u64], quantities: &[u64], i: usize) -> Contract
     requires { (i < length sources.now) × (i < length quantities.now) }
-    ensures { result ≡ row_contract terms (before sources) (before quantities) i }
+    ensures { result ≡ row_contract terms sources.now quantities.now i }
 {
     let kind = Kind::from_number(terms.kind);
     let period = Period::from_number(terms.period);
@@ -101,7 +101,7 @@ fn write_grown(
     file: &mut [u8],
 )
     requires { Whole form book.now × (contract_count_in book.now ≡ count) × HubRoom form count terms made sources.now quantities.now file.old }
-    ensures { after file ≡ overwrite (grown_front form count terms made (before sources) (before quantities) (before book)) (before file) }
+    ensures { after file ≡ overwrite (grown_front form count terms made sources.now quantities.now book.now) (before file) }
 {
     book_growth::keep_contracts(book, form, count + made, file);
     let mut i = 0;
@@ -123,7 +123,7 @@ fn add_made(
     file: &mut [u8],
 ) -> WriteAnswer
     requires { first (given_checks nodes book.now terms hub.now weights.now quantity) ≡ Passed }
-    ensures { AddsHub (terms_call nodes (before book) terms (before hub) (before weights) quantity (before file)) result (after file) }
+    ensures { AddsHub (terms_call nodes book.now terms hub.now weights.now quantity (before file)) result (after file) }
 {
     let mut sources = [0u64; MAX_HUB_NODES];
     let mut quantities = [0u64; MAX_HUB_NODES];
@@ -159,7 +159,7 @@ pub fn add_hub_contract(
     quantity: u64,
     file: &mut [u8],
 ) -> WriteAnswer
-    ensures { AddsHub (hub_call nodes (before book) kind period holder (before hub) (before weights) sink quantity (before file)) result (after file) }
+    ensures { AddsHub (hub_call nodes book.now kind period holder hub.now weights.now sink quantity (before file)) result (after file) }
 {
     let terms = Terms {
         kind,

@@ -18,7 +18,7 @@ fn weight_bad(weight: u64) -> bool
 
 // Whether one of the weights is not.
 fn weights_bad(weights: &[u64]) -> bool
-    ensures { result ≡ any_of weight_bad_of (before weights) }
+    ensures { result ≡ any_of weight_bad_of weights.now }
 {
     let mut i = 0;
     while i < weights.len() {
@@ -33,7 +33,7 @@ fn weights_bad(weights: &[u64]) -> bool
 // The weights together. Any 64-bit numbers may be listed: they are added once each is known to be in range.
 fn total_weight(weights: &[u64]) -> u64
     requires { (length weights.now ≤ max_hub_nodes) × (any_of weight_bad_of weights.now ≡ false) }
-    ensures { result ≡ sum_by_of (λ w. w) (before weights) }
+    ensures { result ≡ sum_by_of (λ w. w) weights.now }
 {
     let mut sum = 0;
     let mut i = 0;
@@ -46,7 +46,7 @@ fn total_weight(weights: &[u64]) -> u64
 
 // 24: not 1 to 32 nodes, unequal lists, or weights that leave their range or do not total 100,000.
 fn shape_bad(nodes: &[u64], weights: &[u64]) -> bool
-    ensures { result ≡ shape_bad_of (before nodes) (before weights) }
+    ensures { result ≡ shape_bad_of nodes.now weights.now }
 {
     if nodes.len() == 0 {
         return true;
@@ -65,7 +65,7 @@ fn shape_bad(nodes: &[u64], weights: &[u64]) -> bool
 
 // Whether a node is listed from place `from` on.
 fn listed_from(nodes: &[u64], from: usize, node: u64) -> bool
-    ensures { result ≡ listed (drop from (before nodes)) node }
+    ensures { result ≡ listed (drop from nodes.now) node }
 {
     let mut j = from;
     while j < nodes.len() {
@@ -79,7 +79,7 @@ fn listed_from(nodes: &[u64], from: usize, node: u64) -> bool
 
 // 25: whether a node is listed again further on.
 fn listed_twice(nodes: &[u64]) -> bool
-    ensures { result ≡ twice (before nodes) }
+    ensures { result ≡ twice nodes.now }
 {
     let mut i = 0;
     while i < nodes.len() {
@@ -93,7 +93,7 @@ fn listed_twice(nodes: &[u64]) -> bool
 
 // 24, 25.
 pub fn check_shape(nodes: &[u64], weights: &[u64]) -> Checked
-    ensures { result ≡ first (hub_shape (before nodes) (before weights) ∷ hub_twice (before nodes) ∷ []) }
+    ensures { result ≡ first (hub_shape nodes.now weights.now ∷ hub_twice nodes.now ∷ []) }
 {
     if shape_bad(nodes, weights) {
         return Checked::Refused(Refusal::HubShape);
@@ -107,7 +107,7 @@ pub fn check_shape(nodes: &[u64], weights: &[u64]) -> Checked
 // 11, 24, 25, of a hub of nodes below `bound`.
 pub fn check_hub(bound: usize, nodes: &[u64], weights: &[u64]) -> Checked
     requires { 0 < bound }
-    ensures { result ≡ first (listed_nodes bound (before nodes) ∷ hub_shape (before nodes) (before weights) ∷ hub_twice (before nodes) ∷ []) }
+    ensures { result ≡ first (listed_nodes bound nodes.now ∷ hub_shape nodes.now weights.now ∷ hub_twice nodes.now ∷ []) }
 {
     if grid_tables::listed_outside(bound, nodes) {
         return Checked::Refused(Refusal::NodeNumber);

@@ -26,7 +26,7 @@ fn check_hub_mcc(
     hub: &[u64],
     weights: &[u64],
 ) -> Checked
-    ensures { result ≡ find_hub_mcc_checked (find_hub_mcc_call nodes constraints (before factors) (before prices) (before hub) (before weights)) }
+    ensures { result ≡ find_hub_mcc_checked (find_hub_mcc_call nodes constraints factors.now prices.now hub.now weights.now) }
 {
     // No period is asked for, and no place is lent: 0 is always a period, and as many cells as nodes suffice.
     match grid_tables::check_hour_tables(nodes, constraints, 0, factors, prices, nodes) {
@@ -45,7 +45,7 @@ fn weighted_sum(
     weights: &[u64],
 ) -> WeightedMcc
     requires { Hour nodes constraints factors.now prices.now × IsHub nodes hub.now weights.now }
-    ensures result_value { result.0 ≡ hub_sum (factors_of nodes constraints (before factors)) (take constraints (before prices)) (before hub) (before weights) }
+    ensures result_value { result.0 ≡ hub_sum (factors_of nodes constraints factors.now) (take constraints prices.now) hub.now weights.now }
     ensures result_bound { nat_abs result.0 ≤ max_weighted }
 {
     let mut sum = WeightedMcc(0);
@@ -68,7 +68,7 @@ pub fn find_hub_mcc(
     hub: &[u64],
     weights: &[u64],
 ) -> HubMccAnswer
-    ensures { FindsHubMcc (find_hub_mcc_call nodes constraints (before factors) (before prices) (before hub) (before weights)) result }
+    ensures { FindsHubMcc (find_hub_mcc_call nodes constraints factors.now prices.now hub.now weights.now) result }
 {
     match check_hub_mcc(nodes, constraints, factors, prices, hub, weights) {
         Checked::Refused(refusal) => HubMccAnswer::Refused(refusal),

@@ -13,7 +13,7 @@ const SPREAD_TURNS: u64 = 6;
 // How many of the first `count` keys are `least` or above: with `lift` added, those and no others have bit 63. One addition and one shift a key, and no branch.
 fn keys_from(keys: &[u64], count: usize, least: u64) -> u64
     requires { (count ≤ length keys.now) × (least ≤ key_limit) × ((i : ℕ) → i < count → key_at keys.now i < key_limit) }
-    ensures { result ≡ keys_from_of count (key_at (before keys)) least }
+    ensures { result ≡ keys_from_of count (key_at keys.now) least }
 {
     let lift = KEY_LIMIT - least;
     let mut many = 0;
@@ -44,7 +44,7 @@ fn between(low: u64, high: u64, enough: u64, fewer: u64, wanted: u64, turn: u64)
 // A number such that exactly `wanted` of the first `count` keys are that or above: the first that is met.
 pub fn threshold(keys: &[u64], count: usize, top: u64, wanted: u64) -> u64
     requires { Searchable keys.now count top wanted }
-    ensures { keys_from_of count (key_at (before keys)) result ≡ wanted }
+    ensures { keys_from_of count (key_at keys.now) result ≡ wanted }
 {
     if wanted == 0 {
         return top;

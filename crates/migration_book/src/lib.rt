@@ -27,7 +27,7 @@ fn check_input(
     news: &[u64],
     loads: &[u64],
 ) -> Checked
-    ensures { result ≡ first (input_checks nodes period (before book) (row_lists classes customers rates olds news) (before loads)) }
+    ensures { result ≡ first (input_checks nodes period book.now (row_lists classes customers rates olds news) loads.now) }
 {
     if 1 < period {
         return Checked::Refused(Refusal::PeriodOrKind);
@@ -48,7 +48,7 @@ fn grown_count(
     loads: &[u64],
 ) -> usize
     requires { Readable form count book.now × MigrationReady square loads.now }
-    ensures { result ≡ count + length (new_to form (before book) period square (before loads) count) }
+    ensures { result ≡ count + length (new_to form book.now period square loads.now count) }
 {
     let losers = migration_pairs::losers_of(square, loads.len());
     let mut grown = count;
@@ -74,7 +74,7 @@ fn store_grown(
 ) -> usize
     requires readable { Readable form count book.now × MigrationReady square loads.now }
     requires roomy { Roomy form (contracts_to form book.now count) (new_to form book.now period square loads.now count) file.old }
-    ensures { Appended form count (new_to form (before book) period square (before loads) count) (before file) (after file) result }
+    ensures { Appended form count (new_to form book.now period square loads.now count) (before file) (after file) result }
 {
     let mut place = count;
     let mut i = 0;
@@ -101,7 +101,7 @@ fn write_grown(
     requires readable { Readable form count book.now × MigrationReady square loads.now }
     requires grown_value { grown ≡ length (contracts_to form book.now count) + length (new_to form book.now period square loads.now count) }
     requires roomy { Roomy form (contracts_to form book.now count) (new_to form book.now period square loads.now count) file.old }
-    ensures { after file ≡ overwrite (book_file form (grown_to form (before book) period square (before loads) count)) (before file) }
+    ensures { after file ≡ overwrite (book_file form (grown_to form book.now period square loads.now count)) (before file) }
 {
     book_growth::keep_contracts(book, form, grown, file);
     store_grown(file, form, book, count, period, square, loads);
@@ -116,7 +116,7 @@ fn migrate_by(
     file: &mut [u8],
 ) -> WriteAnswer
     requires { Readable (book_form_in book.now) (contract_count_in book.now) book.now × MigrationReady square loads.now }
-    ensures { Grows (before book) (new_book (lost_in square) (before loads) period (book_in (before book))) (before file) result (after file) }
+    ensures { Grows book.now (new_book (lost_in square) loads.now period (book_in book.now)) (before file) result (after file) }
 {
     let form = book_bits::book_form(book);
     let count = book_bits::contract_count(book);

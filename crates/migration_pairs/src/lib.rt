@@ -20,7 +20,7 @@ use tariff::{Contract, Kind, MAX_ENTITIES, Period, Quantity, Transfer};
 // How many contracts follow a base contract, share by share.
 fn pair_count(c: Contract, row: Row, loads: &[u64]) -> usize
     requires { RowReady row loads.now c × Held loads.now c }
-    ensures { (result ≡ length (pairs_to (row_losses row) (before loads) c (length (before loads)))) × (result ≤ 32) }
+    ensures { (result ≡ length (pairs_to (row_losses row) loads.now c (length loads.now))) × (result ≤ 32) }
 {
     let mut count = 0;
     let mut j = 0;
@@ -100,7 +100,7 @@ pub fn losers_of(square: Square, entities: usize) -> Losers
 // How many contracts follow a base contract: where the least share is not nought, a pair for each gainer.
 fn base_count(c: Contract, row: Row, gainers: Gainers, loads: &[u64]) -> usize
     requires { RowReady row loads.now c × Held loads.now c × GainersOf row (length loads.now) gainers }
-    ensures { (result ≡ length (pairs_to (row_losses row) (before loads) c (length (before loads)))) × (result ≤ 32) }
+    ensures { (result ≡ length (pairs_to (row_losses row) loads.now c (length loads.now))) × (result ≤ 32) }
 {
     let net = gainers.least;
     let least = migration_shares::share_of(c, net, loads);
@@ -113,7 +113,7 @@ fn base_count(c: Contract, row: Row, gainers: Gainers, loads: &[u64]) -> usize
 // How many follow any contract: none where it is no base contract.
 pub fn new_count(c: Contract, period: Period, row: Row, gainers: Gainers, loads: &[u64]) -> usize
     requires { RowReady row loads.now c × (c.quantity.0 ≤ max_quantity) × GainersOf row (length loads.now) gainers }
-    ensures { (result ≡ length (new_from (row_losses row) (before loads) period c)) × (result ≤ 32) }
+    ensures { (result ≡ length (new_from (row_losses row) loads.now period c)) × (result ≤ 32) }
 {
     if migration_shares::migrates(c, period, loads.len()) {
         return base_count(c, row, gainers, loads);
@@ -186,7 +186,7 @@ fn store_pairs(
 ) -> usize
     requires row_ready { RowReady row loads.now c × Held loads.now c }
     requires basis { Basis form (pairs_to (row_losses row) loads.now c (length loads.now)) at c file.old }
-    ensures { Appended form at (pairs_to (row_losses row) (before loads) c (length (before loads))) (before file) (after file) result }
+    ensures { Appended form at (pairs_to (row_losses row) loads.now c (length loads.now)) (before file) (after file) result }
 {
     let mut place = at;
     let mut j = 0;
@@ -209,7 +209,7 @@ pub fn store_new(
     loads: &[u64],
 ) -> usize
     requires { RowReady row loads.now c × Basis form (new_from (row_losses row) loads.now period c) at c file.old }
-    ensures { Appended form at (new_from (row_losses row) (before loads) period c) (before file) (after file) result }
+    ensures { Appended form at (new_from (row_losses row) loads.now period c) (before file) (after file) result }
 {
     if migration_shares::migrates(c, period, loads.len()) {
         return store_pairs(file, form, at, c, row, loads);

@@ -44,7 +44,7 @@ pub fn migrates(c: Contract, period: Period, entities: usize) -> bool
 // What a gainer receives of a base contract: its proportion by the loser's load, rounded down. The net is the loser's to it.
 pub fn share_of(c: Contract, net: Transfer, loads: &[u64]) -> Quantity
     requires { Held loads.now c × NetReady net.0 loads.now c }
-    ensures { (result.0 ≡ gainer_share (of_net net.0) (before loads) c 1) × (result.0 ≤ c.quantity.0) }
+    ensures { (result.0 ≡ gainer_share (of_net net.0) loads.now c 1) × (result.0 ≤ c.quantity.0) }
 {
     let lost = net.lost();
     if lost.is_zero() {

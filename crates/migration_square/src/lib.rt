@@ -27,7 +27,7 @@ fn check_nets(
     news: &[u64],
     place: &[i64],
 ) -> Checked
-    ensures { result ≡ net_transfers_checked (net_transfers_call entities (row_lists classes customers rates olds news) (before place)) }
+    ensures { result ≡ net_transfers_checked (net_transfers_call entities (row_lists classes customers rates olds news) place.now) }
 {
     let checked = migration_transfers::check_rows(entities, classes, customers, rates, olds, news);
     if let Checked::Refused(refusal) = checked {

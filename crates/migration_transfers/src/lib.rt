@@ -58,7 +58,7 @@ fn row_bad(entities: usize, customers: u64, rate: u64, old: u64, new: u64) -> bo
 // One of the rows.
 fn rows_bad(entities: usize, customers: &[u64], rates: &[u64], olds: &[u64], news: &[u64]) -> bool
     requires { (length rates.now ≡ length customers.now) × (length olds.now ≡ length customers.now) × (length news.now ≡ length customers.now) }
-    ensures { result ≡ any_of (row_bad_of entities) (rows_of (before customers) (before rates) (before olds) (before news)) }
+    ensures { result ≡ any_of (row_bad_of entities) (rows_of customers.now rates.now olds.now news.now) }
 {
     let mut i = 0;
     while i < customers.len() {
@@ -127,7 +127,7 @@ pub fn check_figures(
     news: &[u64],
     loads: &[u64],
 ) -> Checked
-    ensures { result ≡ first (range_checks (row_lists classes customers rates olds news) (before loads)) }
+    ensures { result ≡ first (range_checks (row_lists classes customers rates olds news) loads.now) }
 {
     let checked = check_rows(loads.len(), classes, customers, rates, olds, news);
     if let Checked::Refused(refusal) = checked {
@@ -159,7 +159,7 @@ fn net_rows(
 ) -> Square
     requires rows_in { RowsIn customers.now rates.now olds.now news.now × (from ≤ upto) × (upto ≤ length customers.now) }
     requires net_square { NetSquare (migration_rows_to from customers.now rates.now olds.now news.now) square }
-    ensures { NetSquare (migration_rows_to upto (before customers) (before rates) (before olds) (before news)) result }
+    ensures { NetSquare (migration_rows_to upto customers.now rates.now olds.now news.now) result }
 {
     let mut netted = square;
     let mut i = from;
@@ -188,7 +188,7 @@ fn step_end(i: usize, count: usize) -> usize
 // The square of rows that are all in range.
 pub fn net_square(customers: &[u64], rates: &[u64], olds: &[u64], news: &[u64]) -> Square
     requires { RowsIn customers.now rates.now olds.now news.now }
-    ensures { NetSquare (rows_of (before customers) (before rates) (before olds) (before news)) result }
+    ensures { NetSquare (rows_of customers.now rates.now olds.now news.now) result }
 {
     let mut square = no_transfers();
     let mut i = 0;
@@ -231,7 +231,7 @@ fn lost_by(row: Row, entities: usize) -> Quantity
 // 23: a loser whose load is less than that, as a load of 0 is.
 pub fn loads_exceeded(square: Square, loads: &[u64]) -> bool
     requires { (length loads.now ≤ max_entities) × SizedSquare square }
-    ensures { result ≡ loads_exceeded_of (lost_in square) (before loads) }
+    ensures { result ≡ loads_exceeded_of (lost_in square) loads.now }
 {
     let mut i = 0;
     while i < loads.len() {

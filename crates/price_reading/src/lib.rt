@@ -16,7 +16,7 @@ use tariff::{Checked, MAX_CONSTRAINTS, MAX_PRICE, Refusal};
 fn check_figures(constraints: usize, file: &[u8], cells: usize) -> Checked
     requires { (constraints ≤ max_constraints) × (length file.now ≡ price_bytes constraints) }
     ensures { result ≡ first (
-        price_range (prices_in constraints (before file)) ∷ padding (price_pad_in constraints (before file)) ∷ short_table cells constraints ∷ []) }
+        price_range (prices_in constraints (file.now)) ∷ padding (price_pad_in constraints (file.now)) ∷ short_table cells constraints ∷ []) }
 {
     let used = PRICE_HEADER_BITS + PRICE_WIDTH * constraints;
     let size = (used + 7) / 8;
@@ -34,7 +34,7 @@ fn check_figures(constraints: usize, file: &[u8], cells: usize) -> Checked
 
 // The reader's checks, for a table of so many cells.
 fn check_read(constraints: usize, file: &[u8], cells: usize) -> Checked
-    ensures { (table : List ℕ) → length table ≡ cells → result ≡ read_prices_checked (read_prices_call constraints (before file) table) }
+    ensures { (table : List ℕ) → length table ≡ cells → result ≡ read_prices_checked (read_prices_call constraints file.now table) }
 {
     if MAX_CONSTRAINTS < constraints {
         return Checked::Refused(Refusal::ConstraintCount);
@@ -53,7 +53,7 @@ fn check_read(constraints: usize, file: &[u8], cells: usize) -> Checked
 
 // Reads the prices of `constraints` constraints into the first cells of `prices`.
 pub fn read_prices(constraints: usize, file: &[u8], prices: &mut [u64]) -> PriceAnswer
-    ensures { ReadsPrices (read_prices_call constraints (before file) (before prices)) result (after prices) }
+    ensures { ReadsPrices (read_prices_call constraints file.now (before prices)) result (after prices) }
 {
     match check_read(constraints, file, prices.len()) {
         Checked::Refused(refusal) => PriceAnswer::Refused(refusal),

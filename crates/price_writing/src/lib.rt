@@ -12,7 +12,7 @@ use tariff::{Checked, MAX_CONSTRAINTS, MAX_PRICE, Refusal};
 
 // The writer's checks, with `bytes` lent bytes for the file.
 fn check_write(period: u64, constraints: usize, prices: &[u64], bytes: usize) -> Checked
-    ensures { (place : List ℕ) → length place ≡ bytes → result ≡ write_prices_checked (write_prices_call period constraints (before prices) place) }
+    ensures { (place : List ℕ) → length place ≡ bytes → result ≡ write_prices_checked (write_prices_call period constraints prices.now place) }
 {
     if 1 < period {
         return Checked::Refused(Refusal::PeriodOrKind);
@@ -35,8 +35,8 @@ fn check_write(period: u64, constraints: usize, prices: &[u64], bytes: usize) ->
 // Writes the file into the first bytes of `file`, and gives its length.
 fn fill(period: u64, constraints: usize, prices: &[u64], file: &mut [u8]) -> usize
     requires { (period ≤ 1) × (constraints ≤ max_constraints) × GoodCells max_price constraints prices.now × (price_bytes constraints ≤ length file.old) }
-    ensures value { result ≡ length (price_file period constraints (take constraints (before prices))) }
-    ensures file_value { after file ≡ overwrite (price_file period constraints (take constraints (before prices))) (before file) }
+    ensures value { result ≡ length (price_file period constraints (take constraints prices.now)) }
+    ensures file_value { after file ≡ overwrite (price_file period constraints (take constraints prices.now)) (before file) }
 {
     let used = PRICE_HEADER_BITS + PRICE_WIDTH * constraints;
     let size = (used + 7) / 8;
@@ -54,7 +54,7 @@ fn fill(period: u64, constraints: usize, prices: &[u64], file: &mut [u8]) -> usi
 
 // Writes the first `constraints` prices as a file.
 pub fn write_prices(period: u64, constraints: usize, prices: &[u64], file: &mut [u8]) -> WriteAnswer
-    ensures { WritesPrices (write_prices_call period constraints (before prices) (before file)) result (after file) }
+    ensures { WritesPrices (write_prices_call period constraints prices.now (before file)) result (after file) }
 {
     match check_write(period, constraints, prices, file.len()) {
         Checked::Refused(refusal) => WriteAnswer::Refused(refusal),

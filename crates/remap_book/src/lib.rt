@@ -14,7 +14,7 @@ use tariff::{Checked, Contract};
 // Where a node goes.
 fn end_at(ends: &[u16], node: usize) -> usize
     requires { node < length ends.now }
-    ensures { result ≡ get_or (before ends) node 0 }
+    ensures { result ≡ get_or ends.now node 0 }
 {
     ends[node] as usize
 }
@@ -23,7 +23,7 @@ fn end_at(ends: &[u16], node: usize) -> usize
 fn moved_contract(book: &[u8], form: Form, i: usize, ends: &[u16]) -> Contract
     requires i_bound { (i < 1024) × (book_bytes_of form i + record_bytes form ≤ length book.now) }
     requires movable { Movable form ends.now (contract_in form book.now i) }
-    ensures { result ≡ moved_by (before ends) (contract_in form (before book) i) }
+    ensures { result ≡ moved_by ends.now (contract_in form book.now i) }
 {
     let c = book_bits::contract_at(book, form, i);
     let kind = c.kind;
@@ -45,7 +45,7 @@ fn moved_contract(book: &[u8], form: Form, i: usize, ends: &[u16]) -> Contract
 fn write_moved(book: &[u8], form: Form, count: usize, ends: &[u16], file: &mut [u8])
     requires count_le_max_contracts { (count ≤ max_contracts) × (book_bytes_of form count ≤ length book.now) × (book_bytes_of form count ≤ length file.old) }
     requires by_index { (i : ℕ) → i < count → Movable form ends.now (contract_in form book.now i) }
-    ensures { after file ≡ overwrite (book_file form (list_to count (λ i. moved_by (before ends) (contract_in form (before book) i)))) (before file) }
+    ensures { after file ≡ overwrite (book_file form (list_to count (λ i. moved_by ends.now (contract_in form book.now i)))) (before file) }
 {
     book_bits::store_header(file, form, count);
     let mut i = 0;
@@ -63,7 +63,7 @@ pub fn remap_book(
     new: &[u64],
     file: &mut [u8],
 ) -> WriteAnswer
-    ensures { RemapsBook (remap_book_call nodes (before book) (before old) (before new) (before file)) result (after file) }
+    ensures { RemapsBook (remap_book_call nodes book.now old.now new.now (before file)) result (after file) }
 {
     match remap_checks::check_remap(nodes, book, old, new, file.len()) {
         Checked::Refused(refusal) => WriteAnswer::Refused(refusal),

@@ -11,7 +11,7 @@ use tariff::{Checked, Refusal};
 // The lists' checks: 11 for the old numbers, 11 for the new ones, which a book of this form must have room for, 9 where there are not as many of each.
 fn check_lists(form: Form, nodes: usize, old: &[u64], new: &[u64]) -> Checked
     requires { 0 < nodes }
-    ensures { result ≡ first (list_checks form nodes (before old) (before new)) }
+    ensures { result ≡ first (list_checks form nodes old.now new.now) }
 {
     if grid_tables::listed_outside(nodes, old) {
         return Checked::Refused(Refusal::NodeNumber);
@@ -27,7 +27,7 @@ fn check_lists(form: Form, nodes: usize, old: &[u64], new: &[u64]) -> Checked
 
 // All checks, with `bytes` lent bytes for the new book: 2, the book's own, the lists', 9.
 pub fn check_remap(nodes: usize, book: &[u8], old: &[u64], new: &[u64], bytes: usize) -> Checked
-    ensures { (place : List ℕ) → length place ≡ bytes → result ≡ remap_book_checked (remap_book_call nodes (before book) (before old) (before new) place) }
+    ensures { (place : List ℕ) → length place ≡ bytes → result ≡ remap_book_checked (remap_book_call nodes book.now old.now new.now place) }
 {
     if let Checked::Refused(refusal) = book_checks::check_own(nodes, book) {
         return Checked::Refused(refusal);

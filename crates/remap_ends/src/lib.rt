@@ -23,7 +23,7 @@ fn every_node(nodes: usize) -> [u16; MAX_NODES]
 // Where each node goes. The last pair comes first: the old node of a pair goes where the pairs behind it send the new one.
 pub fn moved_ends(nodes: usize, old: &[u64], new: &[u64]) -> [u16; MAX_NODES]
     requires { Listed nodes old.now new.now }
-    ensures { Moves nodes (before old) (before new) result }
+    ensures { Moves nodes old.now new.now result }
 {
     let mut ends = every_node(nodes);
     let mut i = old.len();

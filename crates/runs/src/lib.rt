@@ -12,7 +12,7 @@ use bits::BitWriter;
 pub fn field_above(s: &[u8], offset: usize, width: usize, count: usize, most: u64) -> bool
     requires count_bound { offset + width * count ≤ 8 * length s.now }
     requires width_bound { (width ≤ 32) × (length s.now ≤ max_file_bytes) }
-    ensures { result ≡ any_of (above most) (fields (before s) offset width count) }
+    ensures { result ≡ any_of (above most) (fields s.now offset width count) }
 {
     let mut at = offset;
     let mut i = 0;
@@ -31,7 +31,7 @@ pub fn read_run(s: &[u8], offset: usize, width: usize, count: usize, out: &mut [
     requires count_bound { offset + width * count ≤ 8 * length s.now }
     requires width_bound { (width ≤ 32) × (length s.now ≤ max_file_bytes) }
     requires count_in_bounds { count ≤ length out.old }
-    ensures { after out ≡ overwrite (fields (before s) offset width count) (before out) }
+    ensures { after out ≡ overwrite (fields s.now offset width count) (before out) }
 {
     let mut at = offset;
     let mut i = 0;
@@ -53,7 +53,7 @@ pub fn write_run(
     requires writer_ready { WriterReady from }
     requires width_bound { (width ≤ 32) × (count ≤ length cells.now) × ((k : ℕ) → k < count → get_or cells.now k 0 < 2 ^ width) }
     requires count_bound { bits_written from + width * count ≤ 8 * length buf.old }
-    ensures result_value { written (after buf) result ≡ written (before buf) from * 2 ^ (width * count) + number width (take count (before cells)) }
+    ensures result_value { written (after buf) result ≡ written (before buf) from * 2 ^ (width * count) + number width (take count cells.now) }
     ensures result_value_2 { (bits_written result ≡ bits_written from + width * count) × WriterReady result }
     ensures writes_on { WritesOn (before buf) from (after buf) result }
 {

@@ -38,8 +38,8 @@ fn signed_like(balance: i64, cents: u64) -> i64
 fn fill_wholes(size: u64, sum: u64, demands: &[u64], wholes: &mut [u64], keys: &mut [u64]) -> u64
     requires weighed { Weighed size sum demands.now }
     requires demands_in_bounds { (length demands.now ≤ length wholes.old) × (length demands.now ≤ length keys.old) }
-    ensures value { result ≡ add_to (length (before demands)) (whole (length (before demands)) (demand_of (before demands)) size) }
-    ensures rounded_cents { RoundedCents size (before demands) (after wholes) (after keys) }
+    ensures value { result ≡ add_to (length demands.now) (whole (length demands.now) (demand_of demands.now) size) }
+    ensures rounded_cents { RoundedCents size demands.now (after wholes) (after keys) }
 {
     let mut given = 0;
     let mut i = 0;
@@ -64,7 +64,7 @@ fn share_at(
     i: usize,
 ) -> i64
     requires { Cut balance least demands.now wholes.now keys.now × (i < length demands.now) }
-    ensures { (result ≡ balance_share balance (before demands) i) × (nat_abs result ≤ max_demand_total) }
+    ensures { (result ≡ balance_share balance demands.now i) × (nat_abs result ≤ max_demand_total) }
 {
     if least <= keys[i] {
         signed_like(balance, wholes[i] + 1)
@@ -83,7 +83,7 @@ fn fill_shares(
     shares: &mut [i64],
 )
     requires { Cut balance least demands.now wholes.now keys.now × (length demands.now ≤ length shares.old) }
-    ensures { after shares ≡ overwrite (shares_of balance (before demands)) (before shares) }
+    ensures { after shares ≡ overwrite (shares_of balance demands.now) (before shares) }
 {
     let mut i = 0;
     while i < demands.len() {
@@ -94,7 +94,7 @@ fn fill_shares(
 
 // Shares the balance among the coordinators by their demands, one cell each.
 pub fn share_balance(balance: i64, demands: &[u64], shares: &mut [i64]) -> ShareAnswer
-    ensures { SharesBalance (share_call balance (before demands) (before shares)) result (after shares) }
+    ensures { SharesBalance (share_call balance demands.now (before shares)) result (after shares) }
 {
     let checked = share_checks::check_share(balance, demands, shares);
     if let Checked::Refused(refusal) = checked {

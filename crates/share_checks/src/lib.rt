@@ -30,7 +30,7 @@ fn balance_bad(balance: i64) -> bool
 // The total of the demands.
 pub fn total_of(demands: &[u64]) -> u64
     requires { DemandsIn demands.now }
-    ensures { (result ≡ total_demand (before demands)) × (result ≤ max_demand_total) }
+    ensures { (result ≡ total_demand demands.now) × (result ≤ max_demand_total) }
 {
     let mut sum = 0;
     let mut i = 0;
@@ -43,7 +43,7 @@ pub fn total_of(demands: &[u64]) -> u64
 
 // The checks: 26, 27, 9.
 pub fn check_share(balance: i64, demands: &[u64], place: &[i64]) -> Checked
-    ensures { result ≡ share_checked (share_call balance (before demands) (before place)) }
+    ensures { result ≡ share_checked (share_call balance demands.now place.now) }
 {
     if count_bad(demands.len()) {
         return Checked::Refused(Refusal::ShareRange);

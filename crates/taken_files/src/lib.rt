@@ -9,7 +9,7 @@ use tariff::{Checked, MAX_CONSTRAINTS};
 
 // The node count of a grid's file, and 0, which is no grid's, where the file is refused.
 pub fn nodes_taken(file: &[u8]) -> usize
-    ensures { result ≡ nodes_taken_of (before file) }
+    ensures { result ≡ nodes_taken_of file.now }
 {
     let mut limits = [0u64; MAX_CONSTRAINTS];
     let mut factors = [0i64; PROGRAM_FACTORS];
@@ -25,7 +25,7 @@ pub fn nodes_taken(file: &[u8]) -> usize
 
 // Whether a book's file is taken, for a grid of so many nodes.
 pub fn book_taken(nodes: usize, file: &[u8]) -> bool
-    ensures { result ≡ book_taken_of nodes (before file) }
+    ensures { result ≡ book_taken_of nodes file.now }
 {
     match book_checks::check_book(nodes, file) {
         Checked::Refused(_) => false,

@@ -41,7 +41,7 @@ pub fn fill_excess(
     out: &mut [i64],
 )
     requires { Judgeable constraints limits.now carried × (constraints ≤ length out.old) }
-    ensures { after out ≡ overwrite (list_to constraints (excess_in (before limits) process carried.flows)) (before out) }
+    ensures { after out ≡ overwrite (list_to constraints (excess_in limits.now process carried.flows)) (before out) }
 {
     let flows = carried.flows;
     let mut k = 0;

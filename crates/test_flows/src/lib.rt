@@ -46,7 +46,7 @@ fn step(
     requires good_factors { GoodFactors nodes constraints factors.now × (first (book_checks nodes book.now) ≡ Passed) }
     requires form_value { (form ≡ book_form_in book.now) × (from ≤ upto) × (upto ≤ contract_count_in book.now) }
     requires carries { Carries (factors_of nodes constraints factors.now) (of_period period (list_to from (contract_at book.now))) flows }
-    ensures { Carries (factors_of nodes constraints (before factors)) (of_period period (list_to upto (contract_at (before book)))) result }
+    ensures { Carries (factors_of nodes constraints factors.now) (of_period period (list_to upto (contract_at book.now))) result }
 {
     let mut carried = flows;
     let mut i = from;
@@ -70,7 +70,7 @@ pub fn add_flow(
     factors: &[i64],
 )
     requires { Ends constraints factors.now c × FlowRoom constraints flows.old }
-    ensures { Adds constraints (before factors) c (before flows) (after flows) }
+    ensures { Adds constraints factors.now c (before flows) (after flows) }
 {
     let source = c.source * constraints;
     let sink = c.sink * constraints;
@@ -104,7 +104,7 @@ pub fn carry(
     book: &[u8],
 ) -> Flows
     requires { GoodFactors nodes constraints factors.now × (first (book_checks nodes book.now) ≡ Passed) }
-    ensures { Carries (factors_of nodes constraints (before factors)) (of_period period (book_in (before book))) result }
+    ensures { Carries (factors_of nodes constraints factors.now) (of_period period (book_in book.now)) result }
 {
     let count = book_bits::contract_count(book);
     let form = book_bits::book_form(book);

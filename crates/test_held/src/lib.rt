@@ -32,7 +32,7 @@ fn same_flow(flow: i64) -> i64
 // The first cells in an array, to be judged.
 pub fn held_flows(constraints: usize, flows: &[i64]) -> Flows
     requires { (constraints ≤ max_constraints) × (constraints ≤ length flows.now) }
-    ensures { SameFlows constraints (before flows) result }
+    ensures { SameFlows constraints flows.now result }
 {
     let mut cells = [0i64; MAX_CONSTRAINTS];
     let mut k = 0;

@@ -46,7 +46,7 @@ pub fn check_flows(
     book: &[u8],
     place: &[i64],
 ) -> Checked
-    ensures { result ≡ find_flows_checked (asked_flows asked (before limits) (before factors) (before book) (before place)) }
+    ensures { result ≡ find_flows_checked (asked_flows asked limits.now factors.now book.now place.now) }
 {
     // No process is asked for: 0 is always one.
     let as_test = Asked {
@@ -73,7 +73,7 @@ pub fn find_flows(
     book: &[u8],
     flows: &mut [i64],
 ) -> FlowsAnswer
-    ensures { FindsFlows (asked_flows asked (before limits) (before factors) (before book) (before flows)) result (after flows) }
+    ensures { FindsFlows (asked_flows asked limits.now factors.now book.now (before flows)) result (after flows) }
 {
     let checked = check_flows(asked, limits, factors, book, flows);
     if let Checked::Refused(refusal) = checked {

@@ -25,7 +25,7 @@ pub struct AskedFlows {
 
 // The test's checks up to 7, of what is asked and its tables.
 pub fn check_tables(asked: Asked, limits: &[u64], factors: &[i64]) -> Checked
-    ensures { result ≡ first (grid_table_checks asked.nodes asked.constraints asked.process asked.period (before limits) (before factors)) }
+    ensures { result ≡ first (grid_table_checks asked.nodes asked.constraints asked.process asked.period limits.now factors.now) }
 {
     grid_tables::check_grid_tables(
         asked.nodes,

@@ -17,7 +17,7 @@ pub const MAX_SUMMED: usize = 20000000;
 // Whether cells are no totals of so many contracts.
 fn no_totals(constraints: usize, count: usize, flows: &[i64]) -> bool
     requires { constraints ≤ length flows.now }
-    ensures { result ≡ no_totals_of constraints count (before flows) }
+    ensures { result ≡ no_totals_of constraints count flows.now }
 {
     if MAX_SUMMED < count {
         return true;
@@ -57,7 +57,7 @@ pub fn add_flows(
     flows: &mut [i64],
     count: &mut usize,
 ) -> FlowsAnswer
-    ensures { AddsFlows (add_flows_call asked.nodes asked.constraints asked.period (before limits) (before factors) (before book) flows count)
+    ensures { AddsFlows (add_flows_call asked.nodes asked.constraints asked.period limits.now factors.now book.now flows count)
         result (after flows) (after count) }
 {
     let checked = test_loading::check_flows(asked, limits, factors, book, flows);
@@ -87,7 +87,7 @@ fn check_judged(
     flows: &[i64],
     count: usize,
 ) -> Checked
-    ensures { result ≡ judge_checked (judge_call constraints process (before limits) (before flows) count) }
+    ensures { result ≡ judge_checked (judge_call constraints process limits.now flows.now count) }
 {
     if MAX_CONSTRAINTS < constraints {
         return Checked::Refused(Refusal::ConstraintCount);
@@ -118,7 +118,7 @@ pub fn judge_flows(
     flows: &[i64],
     count: usize,
 ) -> TestAnswer
-    ensures { JudgesFlows (judge_call constraints process (before limits) (before flows) count) result }
+    ensures { JudgesFlows (judge_call constraints process limits.now flows.now count) result }
 {
     let checked = check_judged(constraints, process, limits, flows, count);
     if let Checked::Refused(refusal) = checked {

@@ -17,7 +17,7 @@ use test_terms::Asked;
 // The set of overloaded constraints, from its highest bit down: bit k is set where the flow on constraint k exceeds its released limit.
 pub fn overload_set(constraints: usize, process: Process, limits: &[u64], flows: Flows) -> u64
     requires { Judgeable constraints limits.now flows }
-    ensures { result ≡ set_of constraints (λ (k : ℕ). lt_z (pos (get_or (before limits) k 0 * percent process * 1000)) (get_or flows.flows k (pos 0))) }
+    ensures { result ≡ set_of constraints (λ (k : ℕ). lt_z (pos (get_or limits.now k 0 * percent process * 1000)) (get_or flows.flows k (pos 0))) }
 {
     let cells = flows.flows;
     let mut set = 0u64;
@@ -35,7 +35,7 @@ pub fn overload_set(constraints: usize, process: Process, limits: &[u64], flows:
 // The answer: pass where the set is empty, else the set, its count of ones, its trailing zeros and the excess there.
 pub fn verdict(constraints: usize, process: Process, limits: &[u64], flows: Flows) -> TestAnswer
     requires { Judgeable constraints limits.now flows }
-    ensures { test_outcome result ≡ given (judged_values (before limits) process flows.flows constraints) }
+    ensures { test_outcome result ≡ given (judged_values limits.now process flows.flows constraints) }
 {
     let set = overload_set(constraints, process, limits, flows);
     if set == 0 {
@@ -57,7 +57,7 @@ pub fn verdict(constraints: usize, process: Process, limits: &[u64], flows: Flow
 
 // The test's checks: those of the tables, then the book's own.
 pub fn check_test(asked: Asked, limits: &[u64], factors: &[i64], book: &[u8]) -> Checked
-    ensures { result ≡ test_checked (asked_test asked (before limits) (before factors) (before book)) }
+    ensures { result ≡ test_checked (asked_test asked limits.now factors.now book.now) }
 {
     let grid = test_terms::check_tables(asked, limits, factors);
     if let Checked::Refused(refusal) = grid {
@@ -68,7 +68,7 @@ pub fn check_test(asked: Asked, limits: &[u64], factors: &[i64], book: &[u8]) ->
 
 // Tests a book's bytes against grid tables: whether the contracts of one period are simultaneously feasible in a process.
 pub fn test_book(asked: Asked, limits: &[u64], factors: &[i64], book: &[u8]) -> TestAnswer
-    ensures { TestsBook (asked_test asked (before limits) (before factors) (before book)) result }
+    ensures { TestsBook (asked_test asked limits.now factors.now book.now) result }
 {
     let checked = check_test(asked, limits, factors, book);
     if let Checked::Refused(refusal) = checked {

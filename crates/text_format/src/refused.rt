@@ -11,7 +11,7 @@ use tariff::Refusal;
 // Puts the line of a refused file at the front.
 pub fn put_refused(buf: &mut [u8], file: &[u8], refusal: Refusal) -> usize
     requires { 12 + length file.now ≤ length buf.old }
-    ensures { Put (before buf) 0 (refused_line_of (before file) refusal) (after buf) result }
+    ensures { Put (before buf) 0 (refused_line_of file.now refusal) (after buf) result }
 {
     let first = put_text(buf, 0, b"refused,");
     let second = put_text(buf, first, file);

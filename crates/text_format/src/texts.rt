@@ -5,7 +5,7 @@ ghost use Rattle.text_format.specs.Inner.{Put};
 
 pub fn put_text(buf: &mut [u8], at: usize, s: &[u8]) -> usize
     requires { at + length s.now ≤ length buf.old }
-    ensures { Put (before buf) at (before s) (after buf) result }
+    ensures { Put (before buf) at s.now (after buf) result }
 {
     let mut i = 0;
     while i < s.len() {

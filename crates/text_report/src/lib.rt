@@ -28,7 +28,7 @@ fn put_tested(
 ) -> usize
     requires report_room_in_bounds { report_room ≤ length buf.old }
     requires good_cells { GoodCells max_limit constraints limits.now × GoodFactors nodes constraints factors.now }
-    ensures { Put (before buf) 0 (with_book nodes (before book) (report_lines (grid_of nodes constraints (before limits) (before factors)))) (after buf) result }
+    ensures { Put (before buf) 0 (with_book nodes book.now (report_lines (grid_of nodes constraints limits.now factors.now))) (after buf) result }
 {
     match book_checks::check_book(nodes, book) {
         Checked::Refused(refusal) => text_format::put_refused(buf, b"book", refusal),
@@ -39,7 +39,7 @@ fn put_tested(
 // The report on two files.
 fn put_report(grid_file: &[u8], book_file: &[u8], buf: &mut [u8]) -> usize
     requires { report_room ≤ length buf.old }
-    ensures { Put (before buf) 0 (report (before grid_file) (before book_file)) (after buf) result }
+    ensures { Put (before buf) 0 (report grid_file.now book_file.now) (after buf) result }
 {
     let mut limits = [0u64; MAX_CONSTRAINTS];
     let mut factors = [0i64; PROGRAM_FACTORS];
@@ -55,7 +55,7 @@ fn put_report(grid_file: &[u8], book_file: &[u8], buf: &mut [u8]) -> usize
 
 // Writes the feasibility report of a grid's file and a book's file into the first bytes of `text`.
 pub fn write_report(grid_file: &[u8], book_file: &[u8], text: &mut [u8]) -> WriteAnswer
-    ensures { WritesReport (report_call (before grid_file) (before book_file) (before text)) result (after text) }
+    ensures { WritesReport (report_call grid_file.now book_file.now (before text)) result (after text) }
 {
     if text.len() < REPORT_ROOM {
         return WriteAnswer::Refused(Refusal::ShortTable);

@@ -70,7 +70,7 @@ fn put_period_lines(
 ) -> usize
     requires period_lines_room_in_bounds { at + period_lines_room ≤ length buf.old }
     requires reportable { Reportable nodes constraints limits.now factors.now book.now }
-    ensures put { Put (before buf) at (period_lines (grid_of nodes constraints (before limits) (before factors)) (book_in (before book)) period) (after buf) result }
+    ensures put { Put (before buf) at (period_lines (grid_of nodes constraints limits.now factors.now) (book_in book.now) period) (after buf) result }
     ensures upper_bound { result ≤ at + period_lines_room }
 {
     let flows = test_flows::carry(nodes, constraints, factors, period, book);
@@ -93,7 +93,7 @@ pub fn put_lines(
 ) -> usize
     requires report_room_in_bounds { report_room ≤ length buf.old }
     requires reportable { Reportable nodes constraints limits.now factors.now book.now }
-    ensures { Put (before buf) 0 (report_lines (grid_of nodes constraints (before limits) (before factors)) (book_in (before book))) (after buf) result }
+    ensures { Put (before buf) 0 (report_lines (grid_of nodes constraints limits.now factors.now) (book_in book.now)) (after buf) result }
 {
     let heading = text_format::put_text(
         buf,

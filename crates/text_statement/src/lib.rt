@@ -33,7 +33,7 @@ fn put_settled(
     requires longest_statement_in_bounds { longest_statement ≤ length buf.old }
     requires hour { Hour nodes constraints factors.now prices.now × (first (book_checks nodes book.now) ≡ Passed) }
     ensures { Put (before buf) 0
-        (lines (factors_of nodes constraints (before factors)) (take constraints (before prices)) period (book_in (before book))) (after buf) result }
+        (lines (factors_of nodes constraints (factors.now)) (take constraints (prices.now)) period (book_in (book.now))) (after buf) result }
 {
     let mut cents = [0i64; MAX_CONTRACTS];
     let mut priced = [0u64; MAX_CONTRACTS];
@@ -63,7 +63,7 @@ fn put_priced(
     requires longest_statement_in_bounds { longest_statement ≤ length buf.old }
     requires good_factors { GoodFactors nodes constraints factors.now × (first (book_checks nodes book.now) ≡ Passed) }
     ensures { Put (before buf) 0
-        (priced_text (factors_of nodes constraints (before factors)) (book_in (before book)) (before price_file)) (after buf) result }
+        (priced_text (factors_of nodes constraints (factors.now)) (book_in (book.now)) (price_file.now)) (after buf) result }
 {
     let mut prices = [0u64; MAX_CONSTRAINTS];
     match price_reading::read_prices(constraints, price_file, &mut prices) {
@@ -85,7 +85,7 @@ fn put_booked(
     price_file: &[u8],
 ) -> usize
     requires { (longest_statement ≤ length buf.old) × GoodFactors nodes constraints factors.now }
-    ensures { Put (before buf) 0 (booked_text (factors_of nodes constraints (before factors)) (before book) (before price_file)) (after buf) result }
+    ensures { Put (before buf) 0 (booked_text (factors_of nodes constraints factors.now) book.now price_file.now) (after buf) result }
 {
     match book_checks::check_book(nodes, book) {
         Checked::Refused(refusal) => text_format::put_refused(buf, b"book", refusal),
@@ -96,7 +96,7 @@ fn put_booked(
 // The statement of three files.
 fn put_statement(grid_file: &[u8], book_file: &[u8], price_file: &[u8], buf: &mut [u8]) -> usize
     requires { longest_statement ≤ length buf.old }
-    ensures { Put (before buf) 0 (statement (before grid_file) (before book_file) (before price_file)) (after buf) result }
+    ensures { Put (before buf) 0 (statement grid_file.now book_file.now price_file.now) (after buf) result }
 {
     let mut limits = [0u64; MAX_CONSTRAINTS];
     let mut factors = [0i64; PROGRAM_FACTORS];
@@ -117,7 +117,7 @@ pub fn write_statement(
     price_file: &[u8],
     text: &mut [u8],
 ) -> WriteAnswer
-    ensures { WritesStatement (statement_call (before grid_file) (before book_file) (before price_file) (before text)) result (after text) }
+    ensures { WritesStatement (statement_call grid_file.now book_file.now price_file.now (before text)) result (after text) }
 {
     if text.len() < LONGEST_STATEMENT {
         return WriteAnswer::Refused(Refusal::ShortTable);

@@ -10,7 +10,7 @@ use tier_rules::{BLOCK, FLOWS, MAX_TIER, NUMBERS, RunningAnswer};
 
 // 9 for the buffers, and 20 for a number that is no tier's.
 fn check_tier(tier: u64, numbers: &[u64], flows: &[i64]) -> Checked
-    ensures { result ≡ mark_tier_checked (mark_tier_call tier (before numbers) (before flows)) }
+    ensures { result ≡ mark_tier_checked (mark_tier_call tier numbers.now flows.now) }
 {
     if numbers.len() < NUMBERS {
         return Checked::Refused(Refusal::ShortTable);
@@ -44,7 +44,7 @@ pub fn mark_tier(tier: u64, numbers: &mut [u64], flows: &mut [i64]) -> RunningAn
 
 // The checks of returning: those of marking, then 20 for a mark that is not set.
 fn check_return(tier: u64, numbers: &[u64], flows: &[i64]) -> Checked
-    ensures { result ≡ return_to_tier_checked (return_to_tier_call tier (before numbers) (before flows)) }
+    ensures { result ≡ return_to_tier_checked (return_to_tier_call tier numbers.now flows.now) }
 {
     if let Checked::Refused(refusal) = check_tier(tier, numbers, flows) {
         return Checked::Refused(refusal);

@@ -39,7 +39,7 @@ pub fn state_short(awards: usize, numbers: usize, flows: usize) -> bool
 // 2, 3, 16, 17, 9, 6, 7, where `short` says whether some buffer is too short.
 pub fn check_tables(asked: Asked, limits: &[u64], factors: &[i64], short: bool) -> Checked
     ensures { result ≡ first (running_checks asked.nodes asked.constraints asked.process asked.period
-        (before limits) (before factors) (short_if short ∷ [])) }
+        (limits.now) (factors.now) (short_if short ∷ [])) }
 {
     if counts_bad(asked) {
         return test_terms::check_tables(asked, limits, factors);
@@ -61,7 +61,7 @@ pub fn check_award(
     flows: &[i64],
 ) -> Checked
     ensures { result ≡ first (up_to13
-        (add_award_call asked.nodes asked.constraints asked.process asked.period limits factors award awards numbers flows) (held_in (before numbers))) }
+        (add_award_call asked.nodes asked.constraints asked.process asked.period limits factors award awards numbers flows) (held_in (numbers.now))) }
 {
     let award_short = award.len() < CONTRACT_CELLS;
     let short = award_short | state_short(awards.len(), numbers.len(), flows.len());

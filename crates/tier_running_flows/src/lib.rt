@@ -14,7 +14,7 @@ use test_rules::Flows;
 // Whether the cells are no state's: more counted than held, or a flow beyond what they can make.
 fn no_state(constraints: usize, numbers: &[u64], flows: &[i64]) -> bool
     requires { (state_numbers ≤ length numbers.now) × (constraints ≤ length flows.now) × (held_in numbers.now < max_contracts) }
-    ensures { result ≡ no_state_of constraints (before numbers) (before flows) }
+    ensures { result ≡ no_state_of constraints numbers.now flows.now }
 {
     let counted = numbers[1];
     if numbers[0] < counted {
@@ -40,7 +40,7 @@ fn flows_with(
     flows: &[i64],
 ) -> Flows
     requires { GoodFactors nodes constraints factors.now × InRange nodes c × StateLike constraints numbers.now flows.now }
-    ensures { FlowsWith (factors_of nodes constraints (before factors)) c (before flows) result }
+    ensures { FlowsWith (factors_of nodes constraints factors.now) c flows.now result }
 {
     let mut tried = test_held::held_flows(constraints, flows);
     test_flows::add_flow(&mut tried.flows, c, constraints, factors);
@@ -60,7 +60,7 @@ pub fn add_flows(
     flows: &mut [i64],
 ) -> bool
     requires { Addable nodes constraints limits.now factors.now c numbers.old flows.old }
-    ensures { AddsFlows own (before limits) process (factors_of nodes constraints (before factors)) c (before numbers) (before flows)
+    ensures { AddsFlows own limits.now process (factors_of nodes constraints factors.now) c (before numbers) (before flows)
         result (after numbers) (after flows) }
 {
     if !own {

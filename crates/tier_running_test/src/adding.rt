@@ -33,8 +33,8 @@ fn try_flows(
     flows: &mut [i64],
 ) -> bool
     requires { (asked.process ≤ 2) × Addable asked.nodes asked.constraints limits.now factors.now c numbers.old flows.old }
-    ensures { AddsFlows (same_period c.period (period_of asked.period)) (before limits) (process_of asked.process)
-        (factors_of asked.nodes asked.constraints (before factors)) c (before numbers) (before flows) result (after numbers) (after flows) }
+    ensures { AddsFlows (same_period c.period (period_of asked.period)) limits.now (process_of asked.process)
+        (factors_of asked.nodes asked.constraints (factors.now)) c (before numbers) (before flows) result (after numbers) (after flows) }
 {
     let own = c.period;
     let is_own = own.same(Period::from_number(asked.period));

@@ -36,7 +36,7 @@ fn row_bytes(form: Form) -> usize
 // 1 where the holder has contract i, else 0.
 fn held_at(book: &[u8], form: Form, holder: u64, i: usize) -> usize
     requires { (i < 1024) × (book_bytes_of form i + record_bytes form ≤ length book.now) }
-    ensures { (result ≡ length (held_at holder i (contract_in form (before book) i))) × (result ≤ 1) }
+    ensures { (result ≡ length (held_at holder i (contract_in form book.now i))) × (result ≤ 1) }
 {
     if holder_of(form, book_bits::bits_at(book, form, i)) == holder {
         1
@@ -48,7 +48,7 @@ fn held_at(book: &[u8], form: Form, holder: u64, i: usize) -> usize
 // How many of the first `count` contracts the holder has.
 fn held_count(book: &[u8], form: Form, count: usize, holder: u64) -> usize
     requires { (count ≤ max_contracts) × (book_bytes_of form count ≤ length book.now) }
-    ensures { (result ≡ length (held_to holder (contract_in form (before book)) count)) × (result ≤ max_contracts) }
+    ensures { (result ≡ length (held_to holder (contract_in form book.now) count)) × (result ≤ max_contracts) }
 {
     let mut held = 0;
     let mut i = 0;
@@ -62,7 +62,7 @@ fn held_count(book: &[u8], form: Form, count: usize, holder: u64) -> usize
 // Whether `bytes` bytes are too few for the holder's rows. Where there is room for a row of every contract, none is counted.
 fn room_short(book: &[u8], form: Form, count: usize, holder: u64, bytes: usize) -> bool
     requires { (count ≤ max_contracts) × (book_bytes_of form count ≤ length book.now) }
-    ensures { result ≡ ltb bytes (length (rows_to form holder (before book) count)) }
+    ensures { result ≡ ltb bytes (length (rows_to form holder book.now count)) }
 {
     let row = row_bytes(form);
     if row * count <= bytes {
@@ -73,7 +73,7 @@ fn room_short(book: &[u8], form: Form, count: usize, holder: u64, bytes: usize) 
 
 // All checks, with `bytes` lent bytes for the view: the book's own, 18, 9.
 fn check_holder_view(nodes: usize, book: &[u8], holder: u64, bytes: usize) -> Checked
-    ensures { (place : List ℕ) → length place ≡ bytes → result ≡ holder_view_checked (holder_view_call nodes (before book) holder place) }
+    ensures { (place : List ℕ) → length place ≡ bytes → result ≡ holder_view_checked (holder_view_call nodes book.now holder place) }
 {
     if let Checked::Refused(refusal) = book_checks::check_own(nodes, book) {
         return Checked::Refused(refusal);
@@ -104,8 +104,8 @@ fn store_row(view: &mut [u8], form: Form, at: usize, i: usize, v: u64)
 fn put_held(book: &[u8], form: Form, holder: u64, i: usize, view: &mut [u8], at: usize) -> usize
     requires i_bound { (i < 1024) × (book_bytes_of form i + record_bytes form ≤ length book.now) }
     requires i_in_bounds { at + length (rows_at form holder book.now i) ≤ length view.old }
-    ensures view_value { after view ≡ take at (before view) ++ rows_at form holder (before book) i ++ drop result (before view) }
-    ensures value { result ≡ at + length (rows_at form holder (before book) i) }
+    ensures view_value { after view ≡ take at (before view) ++ rows_at form holder book.now i ++ drop result (before view) }
+    ensures value { result ≡ at + length (rows_at form holder book.now i) }
 {
     let own = book_bits::bits_at(book, form, i);
     if holder_of(form, own) != holder {
@@ -119,8 +119,8 @@ fn put_held(book: &[u8], form: Form, holder: u64, i: usize, view: &mut [u8], at:
 fn write_held(book: &[u8], form: Form, count: usize, holder: u64, view: &mut [u8]) -> usize
     requires count_le_max_contracts { (count ≤ max_contracts) × (book_bytes_of form count ≤ length book.now) }
     requires count_in_bounds { length (rows_to form holder book.now count) ≤ length view.old }
-    ensures view_value { after view ≡ overwrite (rows_to form holder (before book) count) (before view) }
-    ensures value { result ≡ length (rows_to form holder (before book) count) }
+    ensures view_value { after view ≡ overwrite (rows_to form holder book.now count) (before view) }
+    ensures value { result ≡ length (rows_to form holder book.now count) }
 {
     let mut at = 0;
     let mut i = 0;
@@ -133,7 +133,7 @@ fn write_held(book: &[u8], form: Form, count: usize, holder: u64, view: &mut [u8
 
 // Writes a holder's view of a book for a grid of `nodes` nodes.
 pub fn write_holder_view(nodes: usize, book: &[u8], holder: u64, view: &mut [u8]) -> WriteAnswer
-    ensures { WritesHolderView (holder_view_call nodes (before book) holder (before view)) result (after view) }
+    ensures { WritesHolderView (holder_view_call nodes book.now holder (before view)) result (after view) }
 {
     match check_holder_view(nodes, book, holder, view.len()) {
         Checked::Refused(refusal) => WriteAnswer::Refused(refusal),

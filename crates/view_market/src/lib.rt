@@ -32,7 +32,7 @@ fn cleared(form: Form, v: u64) -> u64
 // Writes the book of the first `count` contracts in its form, without their holders.
 fn write_anonymous(book: &[u8], form: Form, count: usize, file: &mut [u8])
     requires { (count ≤ max_contracts) × (book_bytes_of form count ≤ length book.now) × (book_bytes_of form count ≤ length file.old) }
-    ensures { after file ≡ overwrite (book_file form (list_to count (λ i. anonymous (contract_in form (before book) i)))) (before file) }
+    ensures { after file ≡ overwrite (book_file form (list_to count (λ i. anonymous (contract_in form book.now i)))) (before file) }
 {
     book_bits::store_header(file, form, count);
     let mut i = 0;
@@ -45,7 +45,7 @@ fn write_anonymous(book: &[u8], form: Form, count: usize, file: &mut [u8])
 
 // All checks, with `bytes` lent bytes for the view: the book's own, 9.
 fn check_market_view(nodes: usize, book: &[u8], bytes: usize) -> Checked
-    ensures { (place : List ℕ) → length place ≡ bytes → result ≡ market_view_checked (market_view_call nodes (before book) place) }
+    ensures { (place : List ℕ) → length place ≡ bytes → result ≡ market_view_checked (market_view_call nodes book.now place) }
 {
     if let Checked::Refused(refusal) = book_checks::check_own(nodes, book) {
         return Checked::Refused(refusal);
@@ -58,7 +58,7 @@ fn check_market_view(nodes: usize, book: &[u8], bytes: usize) -> Checked
 
 // Writes the market's view of a book for a grid of `nodes` nodes.
 pub fn write_market_view(nodes: usize, book: &[u8], file: &mut [u8]) -> WriteAnswer
-    ensures { WritesMarketView (market_view_call nodes (before book) (before file)) result (after file) }
+    ensures { WritesMarketView (market_view_call nodes book.now (before file)) result (after file) }
 {
     match check_market_view(nodes, book, file.len()) {
         Checked::Refused(refusal) => WriteAnswer::Refused(refusal),
