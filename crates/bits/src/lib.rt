@@ -143,7 +143,7 @@ pub fn load_field(s: &[u8], offset: usize, width: usize) -> u64
 }
 
 // Where a writer stands: `at` whole bytes are written, and `held` bits more wait, the lowest of `bits`.
-#[derive(Drop)]
+#[derive(Clone, Copy)]
 pub struct BitWriter {
     pub at: usize,
     pub held: usize,

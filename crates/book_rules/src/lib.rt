@@ -3,7 +3,7 @@ use layouts::Form;
 use tariff::Refusal;
 
 // What reading a book gives: how many contracts were read, and in which form, or the refusal.
-#[derive(Drop)]
+#[derive(Clone, Copy)]
 pub enum BookAnswer {
     Read { contracts: usize, form: Form },
     Refused(Refusal),

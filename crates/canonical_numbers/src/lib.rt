@@ -63,7 +63,7 @@ fn fill_numbers(book: &[u8], form: Form, count: usize, cells: &mut [u64])
 }
 
 // A step of the walk: how many rows go out, 0 or 1, which one would, and what is pending then.
-#[derive(Drop)]
+#[derive(Clone, Copy)]
 struct Step {
     goes: usize,
     out: u64,

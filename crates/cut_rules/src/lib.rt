@@ -5,7 +5,7 @@ use tariff::Refusal;
 pub const KEY_BASE: u64 = 1024;
 
 // What listing the cuts gives beside the cells: how many rows there are.
-#[derive(Drop)]
+#[derive(Clone, Copy)]
 pub enum CutsAnswer {
     Found { listed: usize },
     Refused(Refusal),

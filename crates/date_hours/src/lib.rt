@@ -4,7 +4,7 @@ ghost use Rattle.date_hours.specs.MonthHours.{TellsHours};
 use dates::FIRST_YEAR;
 use tariff::Refusal;
 
-#[derive(Drop)]
+#[derive(Clone, Copy)]
 pub enum HoursAnswer {
     Found(u64),
     Refused(Refusal),

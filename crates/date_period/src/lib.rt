@@ -7,7 +7,7 @@ use dates::Date;
 use tariff::Refusal;
 
 // 0 off-peak, 1 on-peak.
-#[derive(Drop)]
+#[derive(Clone, Copy)]
 pub enum PeriodAnswer {
     Found(u64),
     Refused(Refusal),

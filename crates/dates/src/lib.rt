@@ -11,7 +11,7 @@ pub const FIRST_YEAR: u64 = 2010;
 pub const LAST_YEAR: u64 = 2037;
 
 // Any numbers: whether there is such a date is asked of each date that is given.
-#[derive(Drop)]
+#[derive(Clone, Copy)]
 pub struct Date {
     pub year: u64,
     pub month: u64,
@@ -19,13 +19,13 @@ pub struct Date {
 }
 
 // 1, Monday, to 7.
-#[derive(Drop)]
+#[derive(Clone, Copy)]
 pub enum WeekdayAnswer {
     Found(u64),
     Refused(Refusal),
 }
 
-#[derive(Drop)]
+#[derive(Clone, Copy)]
 pub enum DateAnswer {
     Reached(Date),
     Refused(Refusal),

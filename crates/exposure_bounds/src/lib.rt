@@ -28,7 +28,7 @@ const FEW_OVERLOADS: usize = 10;
 const MOST_SETS: usize = 1024;
 
 // What finding the exposure gives beside the prices: the least and the most that the book can cost, as whole cents rounded down and parts.
-#[derive(Drop)]
+#[derive(Clone, Copy)]
 pub enum ExposureAnswer {
     Found {
         least_whole: i64,
@@ -40,7 +40,7 @@ pub enum ExposureAnswer {
 }
 
 // The least and the most that a book can cost.
-#[derive(Drop)]
+#[derive(Clone, Copy)]
 pub struct Exposure {
     pub least: Exact,
     pub most: Exact,

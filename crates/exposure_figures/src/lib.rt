@@ -11,14 +11,14 @@ ghost use Rattle.exposure_figures.specs.Inner.{exact_of, Exactly, rent_in, rent_
 use tariff::{PER_CENT, Process};
 
 // A figure in 10^-8 cents that may exceed 64 bits: whole cents rounded down, and parts.
-#[derive(Drop)]
+#[derive(Clone, Copy)]
 pub struct Exact {
     pub whole: i64,
     pub parts: u64,
 }
 
 // A rent, which is never below 0.
-#[derive(Drop)]
+#[derive(Clone, Copy)]
 pub struct Owed {
     pub whole: u64,
     pub parts: u64,

@@ -14,7 +14,7 @@ use exposure_figures::Exact;
 use tariff::{MAX_PRICE, PER_CENT};
 
 // Of the sets of overloaded constraints tried so far the one that costs the most, the lowest such, and what it costs.
-#[derive(Drop)]
+#[derive(Clone, Copy)]
 pub struct Best {
     pub set: u64,
     pub cost: Exact,

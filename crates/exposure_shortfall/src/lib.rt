@@ -18,7 +18,7 @@ use test_excesses::Terms;
 use test_terms::Asked;
 
 // What finding the shortfall gives: net payment, rent and shortfall, each as whole cents rounded down and parts.
-#[derive(Drop)]
+#[derive(Clone, Copy)]
 pub enum ShortfallAnswer {
     Found {
         payment_whole: i64,
@@ -32,7 +32,7 @@ pub enum ShortfallAnswer {
 }
 
 // What a book costs at a price list.
-#[derive(Drop)]
+#[derive(Clone, Copy)]
 pub struct Shortfall {
     pub payment: Exact,
     pub rent: Exact,

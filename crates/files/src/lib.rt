@@ -4,7 +4,7 @@ ghost use Rattle.io.specs.Counts.{IsPrefixLen};
 use libc::{ENOENT, STDOUT_FILENO};
 
 // What a file gave: how many bytes, and whether it could be read at all. Of one that could not no byte is given.
-#[derive(Drop)]
+#[derive(Clone, Copy)]
 pub struct Found {
     pub bytes: usize,
     pub readable: bool,

@@ -3,7 +3,7 @@ use layouts::Form;
 use tariff::Refusal;
 
 // What reading a grid gives: its counts and the form of its file, or the refusal.
-#[derive(Drop)]
+#[derive(Clone, Copy)]
 pub enum GridAnswer {
     Read {
         nodes: usize,

@@ -23,7 +23,7 @@ const MAX_AMOUNT: u64 = 2
 const MAX_CENTS: i64 = (MAX_AMOUNT / PER_CENT) as i64;
 
 // A contract's amount in cents, and exactly as whole cents rounded down and parts, with the set of constraints that priced it.
-#[derive(Drop)]
+#[derive(Clone, Copy)]
 pub struct SettledAmount {
     pub cents: i64,
     pub whole: i64,

@@ -12,7 +12,7 @@ ghost use Rattle.hour_mcc.specs.Inner.{MccTable, mcc_in};
 use tariff::{Checked, MAX_NODES, Mcc, Price, Refusal};
 
 // What finding the MCC gives beside the cells.
-#[derive(Drop)]
+#[derive(Clone, Copy)]
 pub enum MccAnswer {
     Found,
     Refused(Refusal),

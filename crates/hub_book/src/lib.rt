@@ -12,7 +12,7 @@ use layouts::{Form, WriteAnswer};
 use tariff::{Checked, Contract, Kind, MAX_HOLDER, MAX_HUB_NODES, Period, Quantity, Refusal};
 
 // What a hub contract says beside its hub and its quantity.
-#[derive(Drop)]
+#[derive(Clone, Copy)]
 struct Terms {
     kind: u64,
     period: u64,

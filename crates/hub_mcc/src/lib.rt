@@ -11,7 +11,7 @@ ghost use Rattle.hub_mcc.specs.FindHubMcc.{find_hub_mcc_call, find_hub_mcc_check
 use tariff::{Checked, Mcc, Refusal, WeightedMcc};
 
 // What finding a hub's MCC gives.
-#[derive(Drop)]
+#[derive(Clone, Copy)]
 pub enum HubMccAnswer {
     Found { quotient: Mcc, remainder: u64 },
     Refused(Refusal),

@@ -10,7 +10,7 @@ use crate::{
 };
 use tariff::{MAX_NARROW_NODES, MAX_NODES};
 
-#[derive(Drop)]
+#[derive(Clone, Copy)]
 pub enum Form {
     Narrow,
     Wide,

@@ -44,7 +44,7 @@ pub const NARROW_ENDS: usize = 256;
 pub const CONTRACT_CELLS: usize = 6;
 
 // What writing a file gives: the bytes written, or the refusal.
-#[derive(Drop)]
+#[derive(Clone, Copy)]
 pub enum WriteAnswer {
     Written { bytes: usize },
     Refused(Refusal),

@@ -32,7 +32,7 @@ fn pair_count(c: Contract, row: Row, loads: &[u64]) -> usize
 }
 
 // How many LSEs gain of a loser, and the least net that one of them gains: 0 where none does.
-#[derive(Drop)]
+#[derive(Clone, Copy)]
 pub struct Gainers {
     pub count: usize,
     pub least: Transfer,

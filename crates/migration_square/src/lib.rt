@@ -11,7 +11,7 @@ use migration_transfers::{Row, Square};
 use tariff::{Checked, Refusal, Transfer};
 
 // What netting gives beside the cells.
-#[derive(Drop)]
+#[derive(Clone, Copy)]
 pub enum NetsAnswer {
     Netted,
     Refused(Refusal),

@@ -7,7 +7,7 @@ use layouts::{PRICE_HEADER_BITS, PRICE_WIDTH};
 use tariff::Refusal;
 
 // What reading a price file gives: the period, or the refusal.
-#[derive(Drop)]
+#[derive(Clone, Copy)]
 pub enum PriceAnswer {
     Read { period: u64 },
     Refused(Refusal),

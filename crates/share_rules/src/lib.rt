@@ -2,7 +2,7 @@
 use tariff::Refusal;
 
 // What sharing gives: nothing beside the cells.
-#[derive(Drop)]
+#[derive(Clone, Copy)]
 pub enum ShareAnswer {
     Shared,
     Refused(Refusal),

@@ -5,7 +5,7 @@ ghost use Rattle.tariff.specs.ContractRules.{kind_of, period_of, same_period};
 use crate::units::Quantity;
 
 // What a contract obliges to.
-#[derive(Drop)]
+#[derive(Clone, Copy)]
 pub enum Kind {
     Obligation,
     Option,
@@ -24,7 +24,7 @@ impl Kind {
 }
 
 // Time-of-use period.
-#[derive(Drop)]
+#[derive(Clone, Copy)]
 pub enum Period {
     OffPeak,
     OnPeak,
@@ -58,7 +58,7 @@ impl Period {
 }
 
 // A point-to-point CRR.
-#[derive(Drop)]
+#[derive(Clone, Copy)]
 pub struct Contract {
     pub kind: Kind,
     pub period: Period,

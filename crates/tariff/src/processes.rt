@@ -6,7 +6,7 @@ ghost use Rattle.tariff.specs.Processes.{percent as percentOf, process_of};
 use crate::units::Flow;
 
 // The process that awards CRRs, which fixes the share of each limit that is released.
-#[derive(Drop)]
+#[derive(Clone, Copy)]
 pub enum Process {
     Annual,
     TierLt,

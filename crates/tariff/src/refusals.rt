@@ -6,7 +6,7 @@ ghost use Rattle.tariff.specs.Checks.{nodes_outside_of, node_count, quantity_ran
 use crate::{MAX_NODES, MAX_QUANTITY};
 
 // Why input is turned down ("When input is turned down"): one case for each of the papers' numbers. 12 is no longer given (document 02, paper 6).
-#[derive(Drop)]
+#[derive(Clone, Copy)]
 pub enum Refusal {
     ShortFile,
     NodeCount,
@@ -72,7 +72,7 @@ impl Refusal {
 }
 
 // What an operation's checks find: none refuses, or the first that does.
-#[derive(Drop)]
+#[derive(Clone, Copy)]
 pub enum Checked {
     Passed,
     Refused(Refusal),

@@ -12,7 +12,7 @@ use crate::contracts::Kind;
 use crate::{HUB_WEIGHT, floors};
 
 // Thousandths of a MW.
-#[derive(Drop)]
+#[derive(Clone, Copy)]
 pub struct Quantity(pub u64);
 
 impl Quantity {
@@ -116,7 +116,7 @@ impl Quantity {
 }
 
 // Cents per MWh.
-#[derive(Drop)]
+#[derive(Clone, Copy)]
 pub struct Price(pub u64);
 
 impl Price {
@@ -138,7 +138,7 @@ impl Price {
 }
 
 // The marginal cost of congestion: 10^-5 cents per MWh.
-#[derive(Drop)]
+#[derive(Clone, Copy)]
 pub struct Mcc(pub i64);
 
 impl Mcc {
@@ -191,7 +191,7 @@ impl Mcc {
 }
 
 // MCCs times hub weights: 10^-10 cents per MWh.
-#[derive(Drop)]
+#[derive(Clone, Copy)]
 pub struct WeightedMcc(pub i64);
 
 impl WeightedMcc {
@@ -220,7 +220,7 @@ impl WeightedMcc {
 }
 
 // Load that went from one LSE to another, less what came back (02, paper 5): thousandths of a MW.
-#[derive(Drop)]
+#[derive(Clone, Copy)]
 pub struct Transfer(pub i64);
 
 impl Transfer {
@@ -260,7 +260,7 @@ impl Transfer {
 }
 
 // 10^-8 MW.
-#[derive(Drop)]
+#[derive(Clone, Copy)]
 pub struct Flow(pub i64);
 
 impl Flow {
@@ -287,7 +287,7 @@ impl Flow {
 }
 
 // 10^-8 cents for one hour.
-#[derive(Drop)]
+#[derive(Clone, Copy)]
 pub struct Amount(pub i64);
 
 impl Amount {

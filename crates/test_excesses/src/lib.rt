@@ -10,7 +10,7 @@ use test_rules::Flows;
 use test_terms::Asked;
 
 // The terms of a test, checked: how many nodes and constraints its tables have, the process and the period.
-#[derive(Drop)]
+#[derive(Clone, Copy)]
 pub struct Terms {
     pub nodes: usize,
     pub constraints: usize,

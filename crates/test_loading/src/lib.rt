@@ -11,14 +11,14 @@ use test_rules::Flows;
 use test_terms::{Asked, AskedFlows};
 
 // What finding the flows gives beside the cells: how many contracts were counted.
-#[derive(Drop)]
+#[derive(Clone, Copy)]
 pub enum FlowsAnswer {
     Found { counted: usize },
     Refused(Refusal),
 }
 
 // The released share of each limit, in percent.
-#[derive(Drop)]
+#[derive(Clone, Copy)]
 pub enum PercentAnswer {
     Released { percent: u64 },
     Refused(Refusal),

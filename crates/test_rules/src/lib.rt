@@ -2,14 +2,14 @@
 use tariff::{Flow, MAX_CONSTRAINTS, Refusal};
 
 // The flow on all constraints, carried together with the number of contracts counted.
-#[derive(Drop)]
+#[derive(Clone, Copy)]
 pub struct Flows {
     pub flows: [i64; MAX_CONSTRAINTS],
     pub count: usize,
 }
 
 // What the test answers.
-#[derive(Drop)]
+#[derive(Clone, Copy)]
 pub enum TestAnswer {
     Pass,
     Fail {

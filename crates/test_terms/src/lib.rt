@@ -7,7 +7,7 @@ ghost use Rattle.grid_tables.specs.TableChecks.{grid_table_checks};
 use tariff::Checked;
 
 // What a test is asked beside its tables and its book: nothing here is checked yet.
-#[derive(Drop)]
+#[derive(Clone, Copy)]
 pub struct Asked {
     pub nodes: usize,
     pub constraints: usize,
@@ -16,7 +16,7 @@ pub struct Asked {
 }
 
 // What finding flows is asked: a test's terms without the process.
-#[derive(Drop)]
+#[derive(Clone, Copy)]
 pub struct AskedFlows {
     pub nodes: usize,
     pub constraints: usize,

@@ -5,7 +5,7 @@ ghost use Rattle.tier_rules.specs.Cells.{running_outcome};
 use tariff::Refusal;
 
 // What an operation answers: the state holds what it made, or nothing has changed.
-#[derive(Drop)]
+#[derive(Clone, Copy)]
 pub enum RunningAnswer {
     Held,
     Refused(Refusal),
