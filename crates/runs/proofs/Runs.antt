@@ -1,7 +1,7 @@
 -- Laws of a search, a reading and a writing that go through a run from the front: one for a turn and one for each end.
 use mathlib.Core.Path.{◌≡◌, sym, ap, ◌∙◌}
 use mathlib.Core.List.{List}
-use Prim.Native.Nat.{ℕ, ◌+◌, ◌-◌, ◌*◌, ◌≤◌, ◌<◌}
+use Prim.Native.Nat.{ℕ, ◌+◌, ◌*◌, ◌≤◌, ◌<◌}
 use lib.ListN.{length, get_or, take, drop, set}
 use Rattle.bits.specs.Bits.{field, fields}
 use Rattle.bits.proofs.Fields.{field-of_run, length_fields}

@@ -5,7 +5,7 @@ use Prim.Native.Nat.{ℕ, ◌+◌, ◌*◌, ◌^◌, ◌≤◌}
 use native.Mathlib.Omega.{arith}
 use lib.ListN.{length, drop, take-append-drop}
 use Rattle.bits.specs.Bits.{number}
-use Rattle.bits.specs.Fields.{Field, bits, total_width, packed, file_of}
+use Rattle.bits.specs.Fields.{Field, bits, total_width, file_of}
 use Rattle.bits.specs.Inner.{written, bits_written, WriterReady, WritesOn}
 use Rattle.bits.specs.declared.BitWriter.{BitWriter}
 use Rattle.bits.proofs.Numbers.{Below}

@@ -1,4 +1,6 @@
 // Runs of fields of one width: searched for a figure above a limit, read into cells from the front, and written from cells by a writer.
+#![tactic(auto)]
+
 ghost use Rattle.std.specs.Prelude.{◌≡◌, ℕ, ◌+◌, ◌*◌, ◌^◌, ◌≤◌, ◌<◌, length, get_or, take};
 ghost use Rattle.bits.specs.Bits.{number, fields};
 ghost use Rattle.bits.specs.Inner.{written, bits_written, WriterReady, WritesOn};
