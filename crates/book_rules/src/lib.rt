@@ -1,4 +1,6 @@
 // Books: the checks that every operation on a book has, a contract's bits as one number, what the reader and the writer promise, and the laws of all three.
+#![tactic(auto)]
+
 use layouts::Form;
 use tariff::Refusal;
 

@@ -1,0 +1,15 @@
+-- `contract_at`.
+use mathlib.Core.Path.{sym, ◌∙◌}
+use Rattle.book_bits.proofs.contract_at.Goals as goal
+
+pub bits_at-requires : goal.bits_at-requires
+bits_at-requires c = let s = c in (s.requires.0, rw c.in-Narrow.is at s.requires.1)
+
+pub bits_at-requires-in-Wide : goal.bits_at-requires-in-Wide
+bits_at-requires-in-Wide c = let s = c in (s.requires.0, rw c.in-Wide.is at s.requires.1)
+
+pub returns-in-Narrow : goal.returns-in-Narrow
+returns-in-Narrow c = rw c.in-Narrow.is (c.contract_of.ensures ∙ sym c.bits_at.ensures)
+
+pub returns-in-Wide : goal.returns-in-Wide
+returns-in-Wide c = rw c.in-Wide.is (c.contract_of-in-Wide.ensures ∙ sym c.bits_at-in-Wide.ensures)
