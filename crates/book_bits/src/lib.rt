@@ -1,4 +1,6 @@
 // A book's bits: the header's two fields, and a contract as the one number that its bits are. Widths and places of a contract's parts stand here alone.
+#![tactic(auto)]
+
 ghost use Rattle.std.specs.Prelude.{◌≡◌, ◌++◌, ◌+◌, ◌/◌, ◌%◌, ◌^◌, ◌≤◌, ◌<◌, length, take, drop};
 ghost use Rattle.lists.specs.Lent.{before, after, overwrite};
 ghost use Rattle.layouts.specs.declared.forms.Form.TheVariants.{Narrow, Wide};
