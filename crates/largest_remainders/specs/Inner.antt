@@ -1,6 +1,5 @@
 -- Terms that only the search for a key and proofs use: an order as one number, and how many keys there are from a number on.
-use Rattle.std.specs.Prelude.{◌≡◌, Bool, ℕ, suc, ◌+◌, ◌-◌, ◌*◌, ◌^◌, ◌≤◌, ◌<◌, leb, ltb, length, get_or, List}
-use Rattle.lists.specs.Sets.{count_of}
+use Rattle.std.specs.Prelude.{ℕ, suc, ◌+◌, ◌-◌, ◌*◌, ◌^◌, ◌≤◌, ◌<◌, length, get_or, List}
 use Rattle.largest_remainders.specs.Ranks.{Different}
 
 -- remainder and place in one number, for w places at most: the greater number comes before

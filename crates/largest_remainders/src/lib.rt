@@ -1,4 +1,6 @@
 // Sharing by largest remainders, free of what is shared: the definitions, their laws, and the search for the key from which on exactly so many keys are.
+#![tactic(auto)]
+
 ghost use Rattle.std.specs.Prelude.{◌≡◌, ℕ, ◌+◌, ◌≤◌, ◌<◌, length};
 ghost use Rattle.lists.specs.Lent.{before};
 ghost use Rattle.largest_remainders.specs.Inner.{key_limit, key_at, Searchable};

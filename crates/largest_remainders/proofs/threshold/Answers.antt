@@ -1,6 +1,6 @@
 -- `threshold`: enough keys are from `low` on, too few from `high` on.
 use mathlib.Core.Path.{sym, ◌∙◌}
-use Prim.Native.Nat.{◌-◌, ◌<◌}
+use Prim.Native.Nat.{◌<◌}
 use native.Mathlib.Nat.{pos_of_ne-zero}
 use native.Mathlib.Omega.{arith}
 use Rattle.largest_remainders.specs.Inner.{key_at}
