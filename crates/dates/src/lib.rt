@@ -1,4 +1,6 @@
 // Dates of January 2010 to December 2037 (document 02, paper 1): month lengths, weekdays, the date one month later.
+#![tactic(auto)]
+
 ghost use Rattle.std.specs.Prelude.{◌≡◌, ◌≤◌, ◌<◌};
 ghost use Rattle.date_rules.specs.Dates.{leap, month_length_of, length_before_of, month_days_of, day_number_of, weekday_of, last_year, month_exists_of, date_exists};
 ghost use Rattle.dates.specs.Weekday.{TellsWeekday};
