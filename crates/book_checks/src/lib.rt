@@ -1,4 +1,6 @@
 // The checks that every operation on a book has: a contract's own, the book's, and those of a book that is handed in with a node count.
+#![tactic(auto)]
+
 ghost use Rattle.std.specs.Prelude.{◌≡◌, ◌+◌, ◌≤◌, ◌<◌, max, length};
 ghost use Rattle.lists.specs.Lent.{before};
 ghost use Rattle.tariff.specs.Refusals.{first};

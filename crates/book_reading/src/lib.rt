@@ -1,4 +1,6 @@
 // Books read into a table of six cells a contract. All checks come first, in the paper's order; then all is written.
+#![tactic(auto)]
+
 ghost use Rattle.std.specs.Prelude.{◌≡◌, ℕ, ◌*◌, ◌≤◌, length};
 ghost use mathlib.Core.List.{List, flat_map};
 ghost use Rattle.lists.specs.Lent.{before, after, overwrite};

@@ -1,4 +1,6 @@
 // A row of a book's table, six cells: checked, stored, read as a contract, and its bits as one number.
+#![tactic(auto)]
+
 ghost use Rattle.std.specs.Prelude.{◌≡◌, ◌++◌, ◌+◌, ◌*◌, ◌≤◌, ◌<◌, length, take, drop};
 ghost use Rattle.lists.specs.Lent.{before, after};
 ghost use Rattle.tariff.specs.Units.{max_contracts};

@@ -1,4 +1,6 @@
 // The least cuts that clear a book, for C: the rows go into lent cells, and the answer is the refusal's number, 0 for none.
+#![tactic(auto)]
+
 ghost use Rattle.lists.specs.Lent.{before};
 ghost use Rattle.test_rules.specs.TestBook.{test_call};
 ghost use Rattle.cut_rules.specs.FindCuts.{FindsCutsForC};

@@ -1,4 +1,6 @@
 // Dates and on-peak hours, for C: figures go into lent cells, and the answer is the refusal's number, 0 for none.
+#![tactic(auto)]
+
 ghost use Rattle.dates.specs.Date.{date_for};
 ghost use Rattle.dates.specs.Weekday.{TellsWeekdayForC};
 ghost use Rattle.dates.specs.MonthLater.{ReachesMonthLaterForC};

@@ -1,4 +1,6 @@
 // The grid's two operations for C: figures go into lent cells, and the answer is the refusal's number, 0 for none.
+#![tactic(auto)]
+
 ghost use Rattle.lists.specs.Lent.{before, after};
 ghost use Rattle.layouts.specs.Forms.{form_of};
 ghost use Rattle.grid_rules.specs.ReadGrid.{read_grid_call, ReadsGridForC};

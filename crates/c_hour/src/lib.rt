@@ -1,4 +1,6 @@
 // Finding the MCC and settling an hour for C: figures go into lent cells, and the answer is the refusal's number, 0 for none.
+#![tactic(auto)]
+
 ghost use Rattle.lists.specs.Lent.{before, after};
 ghost use Rattle.hour_mcc.specs.FindMcc.{find_mcc_call, FindsMccForC};
 ghost use Rattle.hour_rules.specs.SettleHour.{hour_call, SettlesForC};

@@ -1,4 +1,6 @@
 // Adding a hub contract to a book for C: the length goes into a lent cell, and the answer is the refusal's number, 0 for none.
+#![tactic(auto)]
+
 ghost use Rattle.lists.specs.Lent.{before, after};
 ghost use Rattle.hub_book.specs.AddHubContract.{hub_call, AddsHubForC};
 

@@ -1,4 +1,6 @@
 // The interface for C by its number, and a refusal by its sentence: the length goes into a lent cell, and the answer is the refusal's number, 0 for none.
+#![tactic(auto)]
+
 ghost use Rattle.lists.specs.Lent.{before, after};
 ghost use Rattle.text_refusals.specs.RefusalText.{text_call, WritesTextForC};
 ghost use Rattle.c_interface.specs.Interface.{TellsInterface};

@@ -1,4 +1,6 @@
 // How full the constraints are, for C: figures go into lent cells, and the answer is the refusal's number, 0 for none.
+#![tactic(auto)]
+
 ghost use Rattle.lists.specs.Lent.{before, after};
 ghost use Rattle.test_loading.specs.FindFlows.{flows_call, FindsFlowsForC};
 ghost use Rattle.test_loading.specs.ReleasedPercent.{ReleasesPercentForC};

@@ -1,4 +1,6 @@
 // Migrating load for C: the length goes into a lent cell, and the answer is the refusal's number, 0 for none.
+#![tactic(auto)]
+
 ghost use Rattle.lists.specs.Lent.{after};
 ghost use Rattle.migration_rules.specs.Transfers.{row_lists};
 ghost use Rattle.migration_book.specs.MigrateLoad.{migrate_load_call, MigratesLoadForC};

@@ -1,4 +1,6 @@
 // An hour's period, for C: the figure goes into a lent cell, and the answer is the refusal's number, 0 for none.
+#![tactic(auto)]
+
 ghost use Rattle.dates.specs.Date.{date_for};
 ghost use Rattle.date_period.specs.HourPeriod.{TellsPeriodForC};
 

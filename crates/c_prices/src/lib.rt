@@ -1,4 +1,6 @@
 // The price file's two operations for C: figures go into lent cells, and the answer is the refusal's number, 0 for none.
+#![tactic(auto)]
+
 ghost use Rattle.lists.specs.Lent.{before, after};
 ghost use Rattle.price_rules.specs.ReadPrices.{read_prices_call, ReadsPricesForC};
 ghost use Rattle.price_rules.specs.WritePrices.{write_prices_call, WritesPricesForC};

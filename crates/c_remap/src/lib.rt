@@ -1,4 +1,6 @@
 // Remapping a book for C: the length goes into a lent cell, and the answer is the refusal's number, 0 for none.
+#![tactic(auto)]
+
 ghost use Rattle.lists.specs.Lent.{before, after};
 ghost use Rattle.remap_rules.specs.RemapBook.{remap_book_call, RemapsBookForC};
 

@@ -1,4 +1,6 @@
 // A running test for C: the answer is the refusal's number, 0 for none.
+#![tactic(auto)]
+
 ghost use Rattle.lists.specs.Lent.{after};
 ghost use Rattle.tier_rules.specs.Cells.{left_in};
 ghost use Rattle.tier_running_rules.specs.OpenRunning.{open_running_call, OpensRunningForC};

@@ -1,4 +1,6 @@
 // Balancing Account shares, for C: the answer is the refusal's number, 0 for none.
+#![tactic(auto)]
+
 ghost use Rattle.lists.specs.Lent.{before, after};
 ghost use Rattle.share_rules.specs.ShareBalance.{share_call, SharesBalanceForC};
 

@@ -1,4 +1,6 @@
 // What a book costs at a price list, for C: the figures go into lent cells, and the answer is the refusal's number, 0 for none.
+#![tactic(auto)]
+
 ghost use Rattle.lists.specs.Lent.{before};
 ghost use Rattle.test_rules.specs.TestBook.{test_call};
 ghost use Rattle.exposure_shortfall.specs.FindShortfall.{FindsShortfallForC};

@@ -1,4 +1,6 @@
 // The two texts for C: the length goes into a lent cell, and the answer is the refusal's number, 0 for none.
+#![tactic(auto)]
+
 ghost use Rattle.lists.specs.Lent.{before, after};
 ghost use Rattle.text_report_rules.specs.WriteReport.{report_call, WritesReportForC};
 ghost use Rattle.text_statement.specs.WriteStatement.{statement_call, WritesStatementForC};

@@ -1,4 +1,6 @@
 // Marks of a running test for C: the answer is the refusal's number, 0 for none.
+#![tactic(auto)]
+
 ghost use Rattle.lists.specs.Lent.{before, after};
 ghost use Rattle.tier_mark_rules.specs.MarkTier.{mark_tier_call, MarksTierForC};
 ghost use Rattle.tier_mark_rules.specs.ReturnToTier.{return_to_tier_call, ReturnsToTierForC};

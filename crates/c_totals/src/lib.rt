@@ -1,4 +1,6 @@
 // A test of any size, for C: figures go into lent cells, and the answer is the refusal's number, 0 for none.
+#![tactic(auto)]
+
 ghost use Rattle.lists.specs.Lent.{before, after};
 ghost use Rattle.test_totals.specs.AddFlows.{add_flows_call, AddsFlowsForC};
 ghost use Rattle.test_totals.specs.JudgeFlows.{judge_call, JudgesFlowsForC};

@@ -1,4 +1,6 @@
 // The square of net transfers for C: the answer is the refusal's number, 0 for none.
+#![tactic(auto)]
+
 ghost use Rattle.lists.specs.Lent.{before, after};
 ghost use Rattle.migration_rules.specs.Transfers.{row_lists};
 ghost use Rattle.migration_square.specs.NetTransfers.{net_transfers_call, NetsTransfersForC};

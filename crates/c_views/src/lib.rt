@@ -1,4 +1,6 @@
 // The views of a book for C: the length goes into a lent cell, and the answer is the refusal's number, 0 for none.
+#![tactic(auto)]
+
 ghost use Rattle.lists.specs.Lent.{before, after};
 ghost use Rattle.view_rules.specs.MarketView.{market_view_call, WritesMarketViewForC};
 ghost use Rattle.view_rules.specs.HolderView.{holder_view_call, WritesHolderViewForC};

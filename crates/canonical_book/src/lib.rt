@@ -1,4 +1,6 @@
 // The canonical form of a book (document 02, paper 11), written in the book's form.
+#![tactic(auto)]
+
 ghost use Rattle.std.specs.Prelude.{◌≡◌, ◌++◌, ℕ, ◌+◌, ◌≤◌, ◌<◌, length, get_or, take, drop};
 ghost use Rattle.lists.specs.Lists.{list_to};
 ghost use Rattle.lists.specs.Lent.{before, after, overwrite};

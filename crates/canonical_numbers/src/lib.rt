@@ -1,4 +1,6 @@
 // A book's contracts as numbers that have the canonical order (document 02, paper 11): sorted, added together and cut in one walk.
+#![tactic(auto)]
+
 ghost use Rattle.std.specs.Prelude.{◌≡◌, map, ◌+◌, ◌≤◌, ◌<◌, length, take};
 ghost use Rattle.lists.specs.Lists.{Each, list_to};
 ghost use Rattle.lists.specs.Lent.{before, after};

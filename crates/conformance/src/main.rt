@@ -1,5 +1,7 @@
 // The edges that document 01 lists behind P11, and those that paper 9 of document 02 sets for wide files and narrow writers, asked of the proved entries.
 // A line each: what was asked, then 0 or the number of the refusal. All other vectors are lines of tests/vectors.
+#![tactic(auto)]
+
 use book_rules::BookAnswer;
 use grid_rules::GridAnswer;
 use layouts::Form;

@@ -1,4 +1,6 @@
 // The least cuts that clear a failing book: each contract of the period whose quantity, lowered alone, makes it pass, with the smallest such cut.
+#![tactic(auto)]
+
 ghost use Rattle.std.specs.Prelude.{◌≡◌, ◌≤◌, length};
 ghost use Rattle.lists.specs.Lent.{before, after, overwrite};
 ghost use Rattle.test_terms.specs.Calls.{asked_test};

@@ -1,4 +1,6 @@
 // A month's on-peak hours (document 02, paper 1), from the table.
+#![tactic(auto)]
+
 ghost use Rattle.date_hours.specs.MonthHours.{TellsHours};
 
 use dates::FIRST_YEAR;

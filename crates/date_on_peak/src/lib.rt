@@ -1,4 +1,6 @@
 // The on-peak rule (document 02, paper 1), day by day.
+#![tactic(auto)]
+
 ghost use Rattle.std.specs.Prelude.{◌≡◌, true, ◌*◌, ◌≤◌};
 ghost use Rattle.date_rules.specs.Dates.{last_year, month_exists_of};
 ghost use Rattle.date_rules.specs.OnPeak.{hoursADay, on_peak_hours};

@@ -1,4 +1,6 @@
 // An hour's period, by the on-peak rule of document 02, paper 1. Beyond the papers, which ask for a month's hours alone.
+#![tactic(auto)]
+
 ghost use Rattle.std.specs.Prelude.{◌≡◌, true};
 ghost use Rattle.date_rules.specs.Dates.{date_exists};
 ghost use Rattle.date_period.specs.HourPeriod.{within, period_is, TellsPeriod};

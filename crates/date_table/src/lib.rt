@@ -1,4 +1,6 @@
 // On-peak hours of each month, January 2010 to December 2037: the figures of `on_peak_hours`, proved to be the rule's.
+#![tactic(auto)]
+
 ghost use Rattle.std.specs.Prelude.{◌≡◌, ◌<◌, get_or};
 ghost use Rattle.date_rules.specs.OnPeak.{table_entries};
 ghost use Rattle.date_table.specs.Table.{cells};

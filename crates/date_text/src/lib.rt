@@ -1,4 +1,6 @@
 // The table of on-peak hours as text (document 02, paper 1), each count worked out by the rule.
+#![tactic(auto)]
+
 ghost use Rattle.std.specs.Prelude.{◌+◌, ◌*◌, ◌≤◌, length};
 ghost use Rattle.lists.specs.Lent.{before, after};
 ghost use Rattle.text_format.specs.Inner.{Put};

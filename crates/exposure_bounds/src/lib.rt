@@ -1,4 +1,6 @@
 // What a failing book can cost: the worst shortfall, with prices that reach it; between two figures where more than ten constraints are overloaded.
+#![tactic(auto)]
+
 ghost use Rattle.std.specs.Prelude.{◌≡◌, ◌≤◌, length};
 ghost use Rattle.lists.specs.Sets.{count_of};
 ghost use Rattle.lists.specs.Lent.{before, after};

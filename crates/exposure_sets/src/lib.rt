@@ -1,5 +1,7 @@
 // What one cent costs on every set of a few constraints. Obligations and the rent add up by constraint; an option counts by the set, and its amounts are made
 // of those of smaller sets, one constraint at a time.
+#![tactic(auto)]
+
 ghost use Rattle.std.specs.Prelude.{◌≡◌, ℕ, ◌+◌, ◌*◌, ◌^◌, ◌≤◌, ◌<◌, length, get_or, pos, nat_abs};
 ghost use Rattle.lists.specs.Lent.{before, after};
 ghost use Rattle.tariff.specs.declared.refusals.Checked.TheVariants.{Passed};

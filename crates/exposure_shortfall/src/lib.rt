@@ -1,4 +1,6 @@
 // What a book costs at a price list: net payment, rent and shortfall (document 01, "Terms of the third demand").
+#![tactic(auto)]
+
 ghost use Rattle.std.specs.Prelude.{◌≡◌, ◌≤◌, take};
 ghost use Rattle.lists.specs.Lent.{before};
 ghost use Rattle.tariff.specs.declared.refusals.Checked.TheVariants.{Passed};

@@ -1,5 +1,7 @@
 // Writes the feasibility report of grid.bin and book.bin, in the folder that it is started in, to standard output.
 // A file is looked at only when those before it were taken. Where it is there and can't be read, nothing is printed: `files` has told it on standard error.
+#![tactic(auto)]
+
 use layouts::{MAX_BOOK_BYTES, PROGRAM_GRID_BYTES, WriteAnswer};
 use text_report::REPORT_ROOM;
 

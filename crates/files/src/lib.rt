@@ -1,4 +1,6 @@
 // Files read whole and texts written, for the programs. What fails is told on standard error: what it was, and why.
+#![tactic(auto)]
+
 ghost use Rattle.io.specs.Counts.{IsPrefixLen};
 
 use libc::{ENOENT, STDOUT_FILENO};

@@ -1,4 +1,6 @@
 // A grid's figures checked before they are read: limits, factors and padding of a file of the right length, and the tables' room.
+#![tactic(auto)]
+
 ghost use Rattle.std.specs.Prelude.{◌≡◌, ◌^◌, ◌<◌};
 ghost use Rattle.bits.specs.Signed.{to_int};
 ghost use Rattle.lists.specs.Lent.{before};

@@ -1,4 +1,6 @@
 // Document 01's grid file: what its reader and its writer promise, the answer that reading gives, and the laws of both.
+#![tactic(auto)]
+
 use layouts::Form;
 use tariff::Refusal;
 

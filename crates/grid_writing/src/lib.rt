@@ -1,4 +1,6 @@
 // A grid's file written from its tables.
+#![tactic(auto)]
+
 ghost use Rattle.std.specs.Prelude.{◌≡◌, ℕ, ◌+◌, ◌*◌, ◌^◌, ◌≤◌, ◌<◌, length, get_or, pos, nat_abs};
 ghost use Rattle.bits.specs.Bits.{number};
 ghost use Rattle.bits.specs.Inner.{written, bits_written, WriterReady, WritesOn};

@@ -1,4 +1,6 @@
 // What a contract adds to an hour: its amount in cents and exactly, with the set of constraints that priced it, and the totals with one amount more.
+#![tactic(auto)]
+
 ghost use Rattle.std.specs.Prelude.{◌≡◌, ◌≤◌, ℤ, pos, nat_abs, ◌+ℤ◌};
 ghost use Rattle.lists.specs.Lent.{before};
 ghost use Rattle.tariff.specs.Units.{max_contracts};

@@ -1,4 +1,6 @@
 // Settling the contracts of a book: each one's amount by a table of MCCs, its cents, what priced it, and the totals.
+#![tactic(auto)]
+
 ghost use Rattle.std.specs.Prelude.{◌≡◌, ℕ, ◌≤◌, ◌<◌, length};
 ghost use Rattle.lists.specs.Lent.{before, after};
 ghost use Rattle.tariff.specs.declared.refusals.Checked.TheVariants.{Passed};

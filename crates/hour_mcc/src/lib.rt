@@ -1,4 +1,6 @@
 // The marginal cost of congestion (MCC), node by node (002 part C). All checks come first, in the paper's order; then all is written.
+#![tactic(auto)]
+
 ghost use Rattle.std.specs.Prelude.{◌≡◌, ◌+◌, ◌*◌, ◌≤◌, ◌<◌, length, take, nat_abs};
 ghost use Rattle.lists.specs.Lists.{list_to};
 ghost use Rattle.lists.specs.Lent.{before, after, overwrite};

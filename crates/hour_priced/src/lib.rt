@@ -1,5 +1,7 @@
 // Which constraints priced a contract (02, paper 8): those whose price isn't 0 and on which source and sink have different factors.
 // A set is made from its highest bit down, eight bits at once.
+#![tactic(auto)]
+
 ghost use Rattle.std.specs.Prelude.{◌≡◌, ℕ, ◌+◌, ◌-◌, ◌*◌, ◌/◌, ◌^◌, ◌≤◌, ◌<◌, length, take};
 ghost use Rattle.lists.specs.Sets.{set_of};
 ghost use Rattle.lists.specs.Lent.{before};

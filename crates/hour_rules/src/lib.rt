@@ -1,4 +1,6 @@
 // What settling an hour promises, what it gives, and the laws of it.
+#![tactic(auto)]
+
 use tariff::{Amount, Period, Refusal};
 
 // What settling an hour gives beside the cells: the sum of the rounded cents, and the exact total as whole cents rounded down and parts.

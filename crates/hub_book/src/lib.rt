@@ -1,4 +1,6 @@
 // A hub contract added to a book (document 02, paper 7): the point-to-point contracts that it becomes join the book's end.
+#![tactic(auto)]
+
 ghost use Rattle.std.specs.Prelude.{◌≡◌, ◌<◌, length};
 ghost use Rattle.lists.specs.Lent.{before, after, overwrite};
 ghost use Rattle.tariff.specs.declared.refusals.Checked.TheVariants.{Passed};

@@ -1,4 +1,6 @@
 // What a hub is turned down for (document 02, paper 7): 11, 24 and 25.
+#![tactic(auto)]
+
 ghost use Rattle.std.specs.Prelude.{◌≡◌, false, [], ◌∷◌, ◌≤◌, ◌<◌, length, drop};
 ghost use Rattle.lists.specs.Lists.{any_of};
 ghost use Rattle.lists.specs.Lent.{before};

@@ -1,4 +1,6 @@
 // The MCC of a trading hub (document 02, paper 7): the weighted sum of its nodes' MCCs, over 100,000.
+#![tactic(auto)]
+
 ghost use Rattle.std.specs.Prelude.{◌≡◌, ◌≤◌, take, nat_abs};
 ghost use Rattle.lists.specs.Lent.{before};
 ghost use Rattle.tariff.specs.Units.{factors_of};

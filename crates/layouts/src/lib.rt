@@ -1,4 +1,6 @@
 // Document 01's three files, in both forms: values to bytes and bytes to values, as definitions and laws. The code here is what readers and writers share.
+#![tactic(auto)]
+
 mod forms;
 
 ghost use Rattle.std.specs.Prelude.{◌≡◌};

@@ -1,4 +1,6 @@
 // Migrating load (document 02, paper 5): 001's monthly transfer of contracts from LSEs that lost load to those that gained it.
+#![tactic(auto)]
+
 ghost use Rattle.std.specs.Prelude.{◌≡◌, ◌+◌, length};
 ghost use Rattle.lists.specs.Lent.{before, after, overwrite};
 ghost use Rattle.tariff.specs.Refusals.{first};

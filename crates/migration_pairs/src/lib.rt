@@ -1,4 +1,6 @@
 // The contracts that follow one base contract (document 02, paper 5): for each gainer its own and the loser's, counted, and stored behind a book's others.
+#![tactic(auto)]
+
 ghost use Rattle.std.specs.Prelude.{◌≡◌, List, ℕ, ◌+◌, ◌≤◌, ◌<◌, length, get_or, nat_abs};
 ghost use Rattle.lists.specs.Lent.{before, after};
 ghost use Rattle.tariff.specs.declared.units.Transfer.{Transfer};

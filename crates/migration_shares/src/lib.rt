@@ -1,4 +1,6 @@
 // What a gainer receives of a base contract (document 02, paper 5): which contracts migrate, and a gainer's share.
+#![tactic(auto)]
+
 ghost use Rattle.std.specs.Prelude.{◌≡◌, cond, ◌≤◌, eqb};
 ghost use Rattle.lists.specs.Lent.{before};
 ghost use Rattle.migration_rules.specs.ContractRules.{obliges, migrates as migratesBy, gainer_share};

@@ -1,4 +1,6 @@
 // The square of net transfers given cell by cell (beyond the papers: document 02, paper 5, asks for the square and for no entry that gives it).
+#![tactic(auto)]
+
 ghost use Rattle.std.specs.Prelude.{◌≡◌, ◌+◌, ◌*◌, ◌^◌, ◌≤◌, ◌<◌, length, nat_abs};
 ghost use Rattle.lists.specs.Lent.{before, after, overwrite};
 ghost use Rattle.tariff.specs.Units.{max_entities};

@@ -1,4 +1,6 @@
 // The square of net transfers (document 02, paper 5): rows of moved customers checked and netted, and each LSE's losses held against its load.
+#![tactic(auto)]
+
 ghost use Rattle.std.specs.Prelude.{◌≡◌, [], ℕ, ◌-◌, ◌≤◌, ◌<◌, length};
 ghost use Rattle.lists.specs.Lists.{any_of};
 ghost use Rattle.lists.specs.Lent.{before};

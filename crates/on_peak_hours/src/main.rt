@@ -1,4 +1,6 @@
 // Prints the on-peak hours of each month, January 2010 to December 2037, a count a line, worked out by the rule.
+#![tactic(auto)]
+
 use date_text::TABLE_BYTES;
 
 fn main() {

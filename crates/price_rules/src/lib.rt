@@ -1,4 +1,6 @@
 // Document 01's price file: what its reader and its writer promise, the answer that reading gives, the file's size, and the laws of all.
+#![tactic(auto)]
+
 ghost use Rattle.std.specs.Prelude.{◌≡◌, ◌≤◌};
 ghost use Rattle.tariff.specs.Units.{max_constraints};
 ghost use Rattle.layouts.specs.PriceFile.{price_bytes};

@@ -1,1 +1,3 @@
+#![tactic(auto)]
+
 // What remapping a book promises, and the laws of it.

@@ -1,4 +1,6 @@
 // The Balancing Account's balance shared by Measured Demand, to the cent (document 02, paper 13).
+#![tactic(auto)]
+
 ghost use Rattle.std.specs.Prelude.{◌≡◌, ◌≤◌, ◌<◌, length, nat_abs};
 ghost use Rattle.lists.specs.Lent.{before, after, overwrite};
 ghost use Rattle.tariff.specs.Units.{max_balance};

@@ -1,4 +1,6 @@
 // The checks before a balance is shared, and the total of the demands.
+#![tactic(auto)]
+
 ghost use Rattle.std.specs.Prelude.{◌≡◌, ◌≤◌, ◌<◌};
 ghost use Rattle.lists.specs.Lent.{before};
 ghost use Rattle.tariff.specs.Checks.{coordinator_count, balance_range};

@@ -1,4 +1,6 @@
 // What sharing a balance promises, what it gives, and the laws of it.
+#![tactic(auto)]
+
 use tariff::Refusal;
 
 // What sharing gives: nothing beside the cells.

@@ -1,4 +1,6 @@
 // Which files the programs take: each is looked at only when those before it were.
+#![tactic(auto)]
+
 ghost use Rattle.std.specs.Prelude.{◌≡◌};
 ghost use Rattle.lists.specs.Lent.{before};
 ghost use Rattle.taken_files.specs.Taken.{nodes_taken_of, book_taken_of};

@@ -2,7 +2,6 @@
 use mathlib.Core.Path.{◌≡◌, refl, ap, ◌∙◌}
 use mathlib.Core.Bool.{Bool, true, false, cond}
 use mathlib.Core.List.{List, [], ◌∷◌, ◌++◌}
-use Prim.Native.Nat.{◌+◌}
 use lib.IntN.{ℤ, ◌+ℤ◌, +ℤ_idr}
 use Rattle.integers.specs.Sums.{sum_over_of}
 use Rattle.integers.proofs.Sums.{sum_over-append}

@@ -1,5 +1,5 @@
 -- Ends that coincide (document 02, paper 6): no flow, no amount, nothing priced, of either kind, by the rules as they are.
-use mathlib.Core.Path.{◌≡◌, refl, ap, ◌∙◌}
+use mathlib.Core.Path.{◌≡◌, ap, ◌∙◌}
 use mathlib.Core.List.{List}
 use Prim.Native.Nat.{ℕ}
 use lib.IntN.{ℤ, pos, ◌-ℤ◌, ◌*ℤ◌, zero-*ℤ, *ℤ_comm, +ℤ_invr}

@@ -1,6 +1,5 @@
 -- What inner functions and proofs say, and no promise does: figures within their ranges, and the largest figures that come of them.
 use Rattle.std.specs.Prelude.{ℕ, ◌*◌, ◌/◌, ◌≤◌, ◌<◌, List, nat_abs}
-use Rattle.tariff.specs.declared.contracts.Contract.{Contract}
 use Rattle.tariff.specs.Units.{Factors, factor, limit, price, max_quantity, max_factor, max_limit, max_price, max_constraints, hub_weight, per_cent}
 
 pub record FactorsInRange (f : Factors) : Type 0 where

@@ -1,4 +1,6 @@
 // Document 01's units, contracts, processes and refusals as types, and its counts and ranges as constants.
+#![tactic(auto)]
+
 mod contracts;
 mod floors;
 mod processes;

@@ -1,4 +1,6 @@
 // The excess at each constraint: what a book's flow there has beyond the released limit. And the terms of a test, for what is found beside its verdict.
+#![tactic(auto)]
+
 ghost use Rattle.std.specs.Prelude.{◌≡◌, ◌≤◌, length};
 ghost use Rattle.lists.specs.Lists.{list_to};
 ghost use Rattle.lists.specs.Lent.{before, after, overwrite};

@@ -1,4 +1,6 @@
 // The flows of a book's contracts of one period, carried together with the number of contracts counted.
+#![tactic(auto)]
+
 ghost use Rattle.std.specs.Prelude.{◌≡◌, [], ◌≤◌, ◌<◌};
 ghost use Rattle.lists.specs.Lent.{before, after};
 ghost use Rattle.lists.specs.Lists.{list_to};

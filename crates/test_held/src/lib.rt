@@ -1,4 +1,6 @@
 // Flows held in lent cells from call to call: whether so many contracts can make them, and the cells in an array.
+#![tactic(auto)]
+
 ghost use Rattle.std.specs.Prelude.{◌≡◌, ◌*◌, ◌^◌, ◌≤◌, ◌<◌, ltb, length, nat_abs};
 ghost use Rattle.lists.specs.Lent.{before};
 ghost use Rattle.tariff.specs.Units.{max_constraints, max_flow};

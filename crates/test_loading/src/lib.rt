@@ -1,4 +1,6 @@
 // How full the constraints are: the flow on each of a period's contracts as they count, and the share of each limit that a process releases.
+#![tactic(auto)]
+
 ghost use Rattle.std.specs.Prelude.{◌≡◌, ℕ, ◌^◌, ◌≤◌, ◌<◌, length, get_or, pos, nat_abs};
 ghost use Rattle.lists.specs.Lists.{list_to};
 ghost use Rattle.lists.specs.Lent.{before, after, overwrite};

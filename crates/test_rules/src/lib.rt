@@ -1,4 +1,6 @@
 // What the simultaneous feasibility test promises, what it carries and answers, and the laws of both.
+#![tactic(auto)]
+
 use tariff::{Flow, MAX_CONSTRAINTS, Refusal};
 
 // The flow on all constraints, carried together with the number of contracts counted.

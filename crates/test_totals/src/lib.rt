@@ -1,4 +1,6 @@
 // A feasibility test of any size, step by step: a book's flows added to running totals, and totals judged.
+#![tactic(auto)]
+
 ghost use Rattle.std.specs.Prelude.{◌≡◌, ◌≤◌, length};
 ghost use Rattle.lists.specs.Lent.{before, after, overwrite};
 ghost use Rattle.test_totals.specs.Totals.{no_totals_of};

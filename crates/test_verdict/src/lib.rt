@@ -1,4 +1,6 @@
 // The simultaneous feasibility test of a book's bytes against grid tables.
+#![tactic(auto)]
+
 ghost use Rattle.std.specs.Prelude.{◌≡◌, ℕ, ◌*◌, get_or, pos};
 ghost use Rattle.std.specs.Int.Signed.{lt_z};
 ghost use Rattle.lists.specs.Sets.{set_of};

@@ -1,4 +1,6 @@
 // Figures, fixed texts and the line of a refusal, put into a lent buffer. Each function puts its text at a place and gives the place behind it.
+#![tactic(auto)]
+
 mod figures;
 mod refused;
 mod texts;

@@ -1,4 +1,6 @@
 // The sentence of a refusal's number, into a lent place.
+#![tactic(auto)]
+
 ghost use Rattle.lists.specs.Lent.{before, after};
 ghost use Rattle.text_refusals.specs.RefusalText.{text_call, WritesText};
 

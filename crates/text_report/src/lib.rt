@@ -1,4 +1,5 @@
 // The feasibility report's text, rendered into a lent buffer. Each inner function puts a part of it at a place and gives the place behind it.
+#![tactic(auto)]
 
 ghost use Rattle.std.specs.Prelude.{◌≤◌, length};
 ghost use Rattle.lists.specs.Lent.{before, after};

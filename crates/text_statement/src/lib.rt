@@ -1,4 +1,6 @@
 // The hour statement's text, rendered into a lent buffer. The files are checked one after the other, each once.
+#![tactic(auto)]
+
 ghost use Rattle.std.specs.Prelude.{◌≡◌, ◌≤◌, length, take};
 ghost use Rattle.lists.specs.Lent.{before, after};
 ghost use Rattle.text_format.specs.Inner.{Put};

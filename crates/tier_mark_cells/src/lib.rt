@@ -1,4 +1,6 @@
 // The cells of a running test's marks: copied, set and unset.
+#![tactic(auto)]
+
 ghost use Rattle.std.specs.Prelude.{◌≡◌, ◌≤◌, length};
 ghost use Rattle.lists.specs.Lent.{before, after};
 ghost use Rattle.tier_rules.specs.Checks.{max_tier};

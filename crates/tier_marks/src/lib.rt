@@ -1,4 +1,6 @@
 // Marks of a running test: a tier is marked, and returned to. Cells are copied and compared, and nothing is worked out.
+#![tactic(auto)]
+
 ghost use Rattle.std.specs.Prelude.{◌≡◌};
 ghost use Rattle.lists.specs.Lent.{before, after};
 ghost use Rattle.tier_mark_rules.specs.MarkTier.{mark_tier_call, mark_tier_checked, MarksTier};

@@ -1,4 +1,6 @@
 // The running test of tiers (document 02, paper 4): what its operations answer, and the sizes of the buffers that hold its state.
+#![tactic(auto)]
+
 ghost use Rattle.std.specs.Prelude.{◌≡◌};
 ghost use Rattle.tier_rules.specs.Cells.{running_outcome};
 

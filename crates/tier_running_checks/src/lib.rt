@@ -1,4 +1,6 @@
 // The checks of opening and adding: as the test does up to 7, with the lent buffers under the 9.
+#![tactic(auto)]
+
 ghost use Rattle.std.specs.Prelude.{◌≡◌, [], ◌∷◌, length};
 ghost use Rattle.lists.specs.Lent.{before};
 ghost use Rattle.tariff.specs.Refusals.{first};

@@ -1,4 +1,6 @@
 // The flows of a running test with an award's: they are tried, and held where none exceeds its released limit.
+#![tactic(auto)]
+
 ghost use Rattle.std.specs.Prelude.{◌≡◌, ◌≤◌, ◌<◌, length};
 ghost use Rattle.lists.specs.Lent.{before, after};
 ghost use Rattle.tariff.specs.Units.{factors_of, max_contracts};

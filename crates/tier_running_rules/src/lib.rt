@@ -1,1 +1,3 @@
+#![tactic(auto)]
+
 // What a running test promises, and the laws of it.

@@ -1,4 +1,6 @@
 // The market's view of a book (document 02, paper 10): the book with every holder 0.
+#![tactic(auto)]
+
 ghost use Rattle.std.specs.Prelude.{◌≡◌, List, ℕ, ◌≤◌, length};
 ghost use Rattle.lists.specs.Lists.{list_to};
 ghost use Rattle.lists.specs.Lent.{before, after, overwrite};

@@ -22,5 +22,9 @@ returns c =
     let j = i.join-bits in
     let w = c.part in
     let st = c.store4 in
-    let room : a.writer.at + 4 ≤ length a.buf.now = omega (arith, s.requires, i.if-held-lt32.false) in record { result_value = bytes-turn 4 a.buf.now _ a.writer.at w.result room st.ensures (a.writer.held + a.width) j.result (omega (arith, i.if-held-lt32.false)) w.ensures.0
-          ∙ put_more _ a.writer.held _ _ a.v a.width (j.ensures a.writer.held (omega (arith, s.requires))); result_value_2 = (omega (arith, i.if-held-lt32.false), omega (arith, s.requires)); writes_on = record { onward = omega arith; rest = bytes_rest 4 a.buf.now _ a.writer.at w.result room st.ensures } }
+    let room : a.writer.at + 4 ≤ length a.buf.now = omega (arith, s.requires, i.if-held-lt32.false) in record {
+      result_value = bytes-turn 4 a.buf.now _ a.writer.at w.result room st.ensures (a.writer.held + a.width) j.result (omega (arith, i.if-held-lt32.false)) w.ensures.0
+          ∙ put_more _ a.writer.held _ _ a.v a.width (j.ensures a.writer.held (omega (arith, s.requires)));
+      result_value_2 = (omega (arith, i.if-held-lt32.false), omega (arith, s.requires));
+      writes_on = record { onward = omega arith; rest = bytes_rest 4 a.buf.now _ a.writer.at w.result room st.ensures };
+    }

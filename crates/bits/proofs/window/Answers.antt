@@ -1,6 +1,5 @@
 -- `bits::window`: after i turns `acc` is the number of the first i bytes.
 use mathlib.Core.Path.{◌≡◌}
-use Prim.Native.Nat.{◌-◌}
 use native.Mathlib.Omega.{arith}
 use Rattle.bits.proofs.window.Goals as goal
 
