@@ -5,16 +5,12 @@
 use book_rules::BookAnswer;
 use grid_rules::GridAnswer;
 use layouts::Form;
-use libc::STDOUT_FILENO;
 use price_rules::PriceAnswer;
+use std::io;
 
 // A line: what was asked, of which number, and the answer.
-fn line(asked: &[u8], number: u64, answer: u64) {
-    io::write_all(STDOUT_FILENO, asked);
-    io::print_decimal(STDOUT_FILENO, number);
-    io::write_all(STDOUT_FILENO, b": ");
-    io::print_decimal(STDOUT_FILENO, answer);
-    io::write_all(STDOUT_FILENO, b"\n");
+fn line(rt: &impl Print, asked: &str, number: u64, answer: u64) -> io::Result<()> {
+    println!(rt; "{asked}{number}: {answer}")
 }
 
 // The answer of reading a grid into tables that are long enough for every narrow one.
@@ -32,60 +28,66 @@ fn grid_read(file: &[u8]) -> u64 {
 }
 
 // A narrow grid with no constraint.
-fn narrow_nodes(nodes: u8) {
+fn narrow_nodes(rt: &impl Print, nodes: u8) -> io::Result<()> {
     let answer = grid_read(&[nodes, 0]);
-    line(b"narrow grid, nodes ", nodes as u64, answer);
+    line(rt, "narrow grid, nodes ", nodes as u64, answer)
 }
 
 // A narrow grid of one node, its limits and factors 0. For 65 constraints the file is too short, but 3 comes before 5.
-fn constraints(count: u8) {
+fn constraints(rt: &impl Print, count: u8) -> io::Result<()> {
     let mut file = [0u8; 362];
     file[0] = 1;
     file[1] = count % 128 * 2;
-    line(b"narrow grid, constraints ", count as u64, grid_read(&file));
+    line(
+        rt,
+        "narrow grid, constraints ",
+        count as u64,
+        grid_read(&file),
+    )
 }
 
 // A wide grid with no constraint.
-fn wide_nodes(nodes: u64) {
+fn wide_nodes(rt: &impl Print, nodes: u64) -> io::Result<()> {
     let high = (nodes / 256 % 256) as u8;
     let low = (nodes % 256) as u8;
     let answer = grid_read(&[0, 1, high, low]);
-    line(b"wide grid, nodes ", nodes, answer);
+    line(rt, "wide grid, nodes ", nodes, answer)
 }
 
 // A wide grid that ends within its node count.
-fn three_bytes() {
+fn three_bytes(rt: &impl Print) -> io::Result<()> {
     let answer = grid_read(&[0, 1, 15]);
-    line(b"wide grid, bytes ", 3, answer);
+    line(rt, "wide grid, bytes ", 3, answer)
 }
 
 // A narrow grid with no constraint, written.
-fn grid_written(nodes: usize) {
+fn grid_written(rt: &impl Print, nodes: usize) -> io::Result<()> {
     let mut file = [0u8; 4];
     let mut bytes = 0;
     let answer = grid_writing::write_grid(Form::Narrow, nodes, 0, &[], &[], &mut file);
     line(
-        b"narrow grid written, nodes ",
+        rt,
+        "narrow grid written, nodes ",
         nodes as u64,
         answer.into_cell(&mut bytes),
-    );
+    )
 }
 
 // One on-peak price: 19 bits behind the period and the count, and five zero bits.
-fn price(price: u64) {
+fn price(rt: &impl Print, price: u64) -> io::Result<()> {
     let high = (price / 2048 % 256) as u8;
     let middle = (price / 8 % 256) as u8;
     let low = (price % 8 * 32) as u8;
     let mut prices = [0u64; 1];
     let answer = price_reading::read_prices(1, &[129, high, middle, low], &mut prices);
     match answer {
-        PriceAnswer::Refused(refusal) => line(b"price ", price, refusal.number()),
-        PriceAnswer::Read { period: _ } => line(b"price ", price, 0),
+        PriceAnswer::Refused(refusal) => line(rt, "price ", price, refusal.number()),
+        PriceAnswer::Read { period: _ } => line(rt, "price ", price, 0),
     }
 }
 
 // A wide book of one contract, from node 3,999 to node 256, for a stated node count.
-fn stated_nodes(nodes: usize) {
+fn stated_nodes(rt: &impl Print, nodes: usize) -> io::Result<()> {
     let mut book = [0u64; 6];
     let file = b"\x00\x7f\xbf\xff\x9f\x10\x0f\x42\x40";
     let answer = match book_reading::read_book(nodes, file, &mut book) {
@@ -96,40 +98,42 @@ fn stated_nodes(nodes: usize) {
         } => 0,
     };
     line(
-        b"wide book from node 3999, stated nodes ",
+        rt,
+        "wide book from node 3999, stated nodes ",
         nodes as u64,
         answer,
-    );
+    )
 }
 
 // A narrow book of one contract from node `source`, written for 4,000 nodes.
-fn book_written(source: u64) {
+fn book_written(rt: &impl Print, source: u64) -> io::Result<()> {
     let mut file = [0u8; 8];
     let mut bytes = 0;
     let row = [0, 1, 7, source, 1, 5];
     let answer = book_writing::write_book(Form::Narrow, 4000, 1, &row, &mut file);
     line(
-        b"narrow book written, source ",
+        rt,
+        "narrow book written, source ",
         source,
         answer.into_cell(&mut bytes),
-    );
+    )
 }
 
-fn main() {
-    narrow_nodes(200);
-    narrow_nodes(201);
-    constraints(64);
-    constraints(65);
-    price(500000);
-    price(500001);
-    wide_nodes(4000);
-    wide_nodes(4001);
-    three_bytes();
-    grid_written(200);
-    grid_written(201);
-    stated_nodes(3999);
-    stated_nodes(4000);
-    stated_nodes(4001);
-    book_written(255);
-    book_written(256);
+fn main(rt: HostRuntime) -> io::Result<()> {
+    narrow_nodes(&rt, 200)?;
+    narrow_nodes(&rt, 201)?;
+    constraints(&rt, 64)?;
+    constraints(&rt, 65)?;
+    price(&rt, 500000)?;
+    price(&rt, 500001)?;
+    wide_nodes(&rt, 4000)?;
+    wide_nodes(&rt, 4001)?;
+    three_bytes(&rt)?;
+    grid_written(&rt, 200)?;
+    grid_written(&rt, 201)?;
+    stated_nodes(&rt, 3999)?;
+    stated_nodes(&rt, 4000)?;
+    stated_nodes(&rt, 4001)?;
+    book_written(&rt, 255)?;
+    book_written(&rt, 256)
 }

@@ -3,8 +3,8 @@
 
 use date_text::TABLE_BYTES;
 
-fn main() {
+fn main(rt: HostRuntime) {
     let mut text = [0u8; TABLE_BYTES];
     let bytes = date_text::put_table(&mut text);
-    files::print(&text[..bytes]);
+    files::print(&rt, &text[..bytes]);
 }

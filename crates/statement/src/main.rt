@@ -6,18 +6,18 @@ use layouts::{MAX_BOOK_BYTES, MAX_PRICE_BYTES, PROGRAM_GRID_BYTES, WriteAnswer};
 use text_statement_lines::LONGEST_STATEMENT;
 
 // The buffers hold one byte more than the longest file taken, so that the length of a longer one is refused.
-fn main() {
+fn main(rt: HostRuntime) {
     let mut grid = [0u8; PROGRAM_GRID_BYTES + 1];
     let mut book = [0u8; MAX_BOOK_BYTES + 1];
     let mut prices = [0u8; MAX_PRICE_BYTES + 1];
     let mut text = [0u8; LONGEST_STATEMENT];
-    let grid_file = files::read_file(b"grid.bin", &mut grid);
+    let grid_file = files::read_file(&rt, b"grid.bin", &mut grid);
     let grid_bytes = grid_file.bytes;
     let nodes = taken_files::nodes_taken(&grid[..grid_bytes]);
-    let book_file = files::read_behind(0 < nodes, b"book.bin", &mut book);
+    let book_file = files::read_behind(&rt, 0 < nodes, b"book.bin", &mut book);
     let book_bytes = book_file.bytes;
     let taken = taken_files::book_taken(nodes, &book[..book_bytes]);
-    let price_file = files::read_behind(taken, b"prices.bin", &mut prices);
+    let price_file = files::read_behind(&rt, taken, b"prices.bin", &mut prices);
     let price_bytes = price_file.bytes;
     if grid_file.readable && book_file.readable && price_file.readable {
         let answer = text_statement::write_statement(
@@ -27,7 +27,7 @@ fn main() {
             &mut text,
         );
         if let WriteAnswer::Written { bytes } = answer {
-            files::print(&text[..bytes]);
+            files::print(&rt, &text[..bytes]);
         }
     }
 }
