@@ -6,7 +6,6 @@ use lib.ListN.{length}
 use lib.IntN.{ℤ}
 use Rattle.lists.specs.Lists.{Each}
 use Rattle.tariff.specs.declared.contracts.Contract.{Contract}
-use Rattle.tariff.specs.declared.refusals.Checked.{Checked}
 use Rattle.tariff.specs.declared.refusals.Checked.TheVariants.{Refused}
 use Rattle.tariff.specs.Units.{max_contracts}
 use Rattle.tariff.specs.ContractRules.{period_of, of_period}
@@ -20,7 +19,7 @@ use Rattle.grid_tables.specs.TableChecks.{grid_table_checks}
 use Rattle.book_rules.specs.BookChecks.{book_checks}
 use Rattle.book_rules.proofs.Theorems.{both-forms_alike, both-forms_checked_alike}
 use Rattle.test_rules.specs.declared.TestAnswer.{TestAnswer}
-use Rattle.test_rules.specs.TestBook.{TestCall, test_call, test_outcome, test_checks, test_checked, tested_grid, tested_process, test_values, TestsBook}
+use Rattle.test_rules.specs.TestBook.{TestCall, test_outcome, test_checks, test_checked, tested_grid, tested_process, test_values, TestsBook}
 use Rattle.test_rules.specs.Theorems.{test_of}
 
 module _ (n k process period : ℕ) (limits : List ℕ) (factors : List ℤ) (cs : List Contract) (few : length cs ≤ max_contracts) (fits : Each (ContractFits 8) cs) where

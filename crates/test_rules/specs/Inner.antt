@@ -2,9 +2,9 @@
 use Rattle.std.specs.Prelude.{◌≡◌, List, ℕ, ◌+◌, ◌*◌, ◌^◌, ◌≤◌, ◌<◌, length, get_or, ℤ, pos, nat_abs, ◌+ℤ◌}
 use Rattle.tariff.specs.declared.contracts.Contract.{Contract}
 use Rattle.tariff.specs.declared.processes.Process.{Process}
-use Rattle.tariff.specs.Units.{Factors, Grid, factors_of, max_constraints, max_contracts, max_factor, max_quantity, max_limit, max_flow}
+use Rattle.tariff.specs.Units.{Grid, factors_of, max_constraints, max_contracts, max_factor, max_quantity, max_limit, max_flow}
 use Rattle.tariff.specs.Refusals.{given}
-use Rattle.tariff.specs.Feasibility.{flow, total_flow}
+use Rattle.tariff.specs.Feasibility.{flow}
 use Rattle.tariff.specs.ContractRules.{InRange}
 use Rattle.grid_tables.specs.Inner.{GoodCells}
 use Rattle.test_rules.specs.declared.Flows.{Flows}
