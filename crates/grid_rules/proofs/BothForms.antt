@@ -18,13 +18,13 @@ use Rattle.tariff.proofs.Former.{first-number}
 use Rattle.layouts.specs.declared.forms.Form.{Form}
 use Rattle.layouts.specs.declared.forms.Form.TheVariants.{Narrow, Wide}
 use Rattle.layouts.specs.Forms.{grid_header_bytes_of}
-use Rattle.layouts.specs.GridFile.{grid_file, grid_form_in, header_in, nodes_in, constraints_in_of, limits_from, factors_from, limits_in, factors_in, grid_in}
+use Rattle.layouts.specs.GridFile.{grid_file, grid_form_in, header_in, nodes_in, constraints_in_of, grid_in}
 use Rattle.layouts.proofs.FormLaws.{header-whole, header-least}
 use Rattle.layouts.proofs.GridHeader.{wide-header, node_width}
 use Rattle.layouts.proofs.GridFile.{GridFits, grid-written}
 use Rattle.grid_rules.specs.ReadGrid.{ReadGridCall, grid_size_checks, grid_figure_checks, grid_file_checks, read_grid_checks, read_grid_checked, program_bytes, program_factors}
 use Rattle.grid_rules.specs.WriteGrid.{write_grid_call, write_grid_checked}
-use Rattle.grid_rules.specs.Former.{former_nodes, former_grid_checks, ReadAsBefore}
+use Rattle.grid_rules.specs.Former.{former_grid_checks, ReadAsBefore}
 use Rattle.grid_rules.proofs.Passing.{sized, writable, written-fits}
 
 -- ---- the former reader

@@ -28,7 +28,6 @@ use Rattle.grid_tables.proofs.Cells.{cut-sized}
 use Rattle.grid_tables.proofs.Passing.{passed_all, grid-tables}
 use Rattle.layouts.specs.declared.forms.Form.{Form}
 use Rattle.layouts.specs.declared.forms.Form.TheVariants.{Narrow, Wide}
-use Rattle.layouts.specs.Files.{bytes_for}
 use Rattle.layouts.specs.Forms.{grid_header_bytes_of, grid_header_bits_of, grid_spare_of, most_nodes_of}
 use Rattle.layouts.specs.GridFile.{limit_width, factor_width, bits_behind, grid_bytes, grid_fields, grid_file}
 use Rattle.layouts.specs.GridFile.{grid_form_in, header_in, nodes_of, nodes_in, constraints_in_of, grid_spare_in, limits_from, factors_from, limits_in, factors_in, grid_pad_in}
@@ -37,7 +36,7 @@ use Rattle.layouts.proofs.GridHeader.{most-nodes_fit}
 use Rattle.layouts.proofs.GridFile.{GridFits, total-grid}
 use Rattle.grid_rules.specs.ReadGrid.{ReadGridCall, grid_size_checks, grid_figure_checks, grid_file_checks, read_grid_checks, read_grid_checked}
 use Rattle.grid_rules.specs.WriteGrid.{WriteGridCall, write_grid_checks, write_grid_checked}
-use Rattle.grid_rules.specs.Inner.{GoodCounts, Counted, Writable, most_header, most_bytes, factors_at}
+use Rattle.grid_rules.specs.Inner.{Counted, Writable, most_header, most_bytes, factors_at}
 use Rattle.grid_rules.proofs.Factors.{small-mag, cell_small}
 
 -- ---- a file that is read
