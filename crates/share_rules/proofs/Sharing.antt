@@ -12,7 +12,7 @@ use lib.IntN.{ℤ, nat_abs}
 use lib.Seq.{get_or-set_same, get_or-set_other}
 use Rattle.tariff.specs.Units.{max_coordinators, max_balance, max_demand}
 use Rattle.largest_remainders.specs.Ranks.{add_to, keys_from_of}
-use Rattle.largest_remainders.specs.Shares.{total_weight, whole, rest, leftover, rank, given_one, share}
+use Rattle.largest_remainders.specs.Shares.{total_weight, whole, rest, rank, given_one, share}
 use Rattle.largest_remainders.specs.Inner.{remainder_key, key_at, Searchable}
 use Rattle.largest_remainders.proofs.Counting.{add_to-bounded, add_to-more, add_to-prefix}
 use Rattle.largest_remainders.proofs.Order.{rank-by_key, keys_apart, key_small}
