@@ -1,8 +1,7 @@
 -- A book kept under a new header: the bytes of its contracts are the book's own; and what 10 and 9 leave.
 use mathlib.Core.Path.{◌≡◌, refl, sym, ap, subst, ◌∙◌}
 use mathlib.Core.List.{List, ◌++◌, flat_map, append_assoc}
-use Prim.Native.Nat.{ℕ, ◌+◌, ◌≤◌}
-use native.Mathlib.Omega.{arith}
+use Prim.Native.Nat.{ℕ, ◌≤◌}
 use borrow.Author.Tests.{ltb-false}
 use lib.ListN.{length, drop}
 use lib.Seq.{drop_at}
