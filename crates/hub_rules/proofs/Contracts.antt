@@ -5,7 +5,6 @@ use Prim.Native.Nat.{ℕ, zero, suc, ◌≤◌, ◌<◌}
 use native.Mathlib.Omega.{arith}
 use lib.Dec.{T, ltb, ltb→lt, lt→ltb}
 use lib.ListN.{length}
-use Rattle.tariff.specs.declared.contracts.Contract.{Contract}
 use Rattle.tariff.specs.ContractRules.{InRange}
 use Rattle.largest_remainders.specs.Shares.{share}
 use Rattle.largest_remainders.proofs.Counting.{bit, bit_le, add_to-mono}
