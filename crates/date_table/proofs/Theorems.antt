@@ -2,13 +2,13 @@
 use mathlib.Core.Path.{◌≡◌, refl, ap, ap₂, ◌∙◌}
 use mathlib.Core.Bool.{true}
 use mathlib.Core.List.{List}
-use Prim.Native.Nat.{ℕ, ◌+◌, ◌-◌, ◌*◌}
+use Prim.Native.Nat.{ℕ}
 use native.Mathlib.Omega.{arith}
 use lib.ListN.{get_or}
 use Rattle.lists.specs.Lists.{list_to}
 use Rattle.lists.specs.Sets.{count_of}
 use Rattle.lists.proofs.Lists.{get_d_list_to}
-use Rattle.date_rules.specs.Dates.{leap, month_length_of, length_before_of, day_number_of, weekday_of, first_year, month_exists_of}
+use Rattle.date_rules.specs.Dates.{leap, month_length_of, length_before_of, day_number_of, weekday_of, month_exists_of}
 use Rattle.date_rules.specs.OnPeak.{weekdays_to, nth, last, holiday, observed, on_peak_day, on_peak_hours, table_entries, table_entry}
 use Rattle.date_rules.proofs.Months.{MonthIn, month_in}
 use Rattle.date_table.specs.Table.{cells, month_cell}
