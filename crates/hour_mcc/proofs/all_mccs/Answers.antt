@@ -1,5 +1,4 @@
 -- `all_mccs`: those passed are stored.
-use Prim.Native.Nat.{◌-◌}
 use mathlib.Core.Path.{refl}
 use native.Mathlib.Omega.{arith}
 use lib.ListN.{length-set}

@@ -1,6 +1,6 @@
 -- `fill_mcc`: the cells passed hold the MCCs passed, and those behind are as they were.
 use mathlib.Core.Path.{sym, ◌∙◌}
-use Prim.Native.Nat.{◌-◌, ◌<◌}
+use Prim.Native.Nat.{◌<◌}
 use native.Mathlib.Omega.{arith}
 use lib.ListN.{length-set}
 use lib.IntN.{pos}
@@ -18,7 +18,7 @@ loop-node-preserved c =
     let l = c.loop-node in
     let f = mcc_in a.nodes a.constraints a.factors.now a.prices.now in
     let h : l.node < a.nodes = omega arith in
-    let v = to_z-of_z {w = w64} (record { sfits = c.cell.type-inv }) ∙ c.cell.ensures ∙ c.node_mcc.ensures.0 ∙ sym (get_d_list_to a.nodes f l.node (pos 0) h) in (
+    let v = to_z-of_z {w = w64} (record { sfits = c.cell.type_inv }) ∙ c.cell.ensures ∙ c.node_mcc.ensures.0 ∙ sym (get_d_list_to a.nodes f l.node (pos 0) h) in (
       omega arith,
       simp length-set (omega arith),
       fill_turn (list_to a.nodes f) l.out l.node l.invariant.2 _ (pos 0) (omega arith) (rw (length-list_to a.nodes f) h) v,

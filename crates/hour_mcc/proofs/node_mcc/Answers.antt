@@ -1,6 +1,5 @@
 -- `node_mcc`: the sum so far is that of the products so far, not yet negated.
 use mathlib.Core.Path.{sym}
-use Prim.Native.Nat.{◌-◌}
 use native.Mathlib.Omega.{arith}
 use lib.ListN.{take}
 use Rattle.tariff.specs.Units.{factors_of}
