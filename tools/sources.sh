@@ -31,7 +31,7 @@ read_crates() {
     while IFS= read -r line || [ -n "$line" ]; do
         line=${line%%#*}
         [[ $line == *:* ]] || continue
-        read -r name <<< "${line%%:*}"
+        read -r name _ <<< "${line%%:*}" # behind the name, what kind of crate it is
         read -ra below <<< "${line#*:}"
         stands_on[$name]=${below[*]}
     done < crates.txt

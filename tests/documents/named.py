@@ -108,7 +108,7 @@ def main():
     names = files()
     known, listed = words(names), commands()
     problems = []
-    crates = re.findall(r"^(\w+):", (ROOT / "crates.txt").read_text(), re.M)
+    crates = re.findall(r"^(\w+)[\w ]*:", (ROOT / "crates.txt").read_text(), re.M)
     plan = (ROOT / "docs" / "MAP.md").read_text(encoding="utf-8")
     for crate in crates:
         if not re.search(rf"`{crate}`", plan) and not (crate.startswith("c_") and "`c_*`" in plan):
