@@ -1,6 +1,6 @@
 # shellcheck shell=bash
-# Proving and building with the kit: progress crate by crate, provers beside each other, the library
-# linked and dist/ filled. Sourced and called in the repository's folder.
+# Proving and building with the kit: progress crate by crate, the library linked and dist/ filled. Sourced
+# and called in the repository's folder.
 . tools/sources.sh
 . tools/machines.sh
 
@@ -32,8 +32,7 @@ declare -A due=()
 find_due() { # CRATE..
     local crate stamp
     for crate in "$@"; do
-        case $crate in c_*) stamp=target/staticlib/$crate.stamp ;; *) stamp=target/stamp/$crate ;; esac
-        [ -f "$stamp" ] || due[$crate]=1
+        [ -f "target/stamp/$crate" ] || due[$crate]=1
     done
 }
 
@@ -63,70 +62,138 @@ tell() { # WHO CRATE..
             [ "$left" -eq 0 ] || words=", $(left_in_words $((took < 5 ? left / 800 : took * left / spent)))"
             echo "$who: ${line#rt: }; $count of $total$words" >&2
             ;;
-        *"NOT PROVED"* | *"its run FAILED"*)
+        *"NOT PROVED"*)
             printf '%s\n' "${said[@]}" "$who: ${line#rt: }" | tail -n 21 >&2
             said=()
             ;;
-        "library "*": modules loaded="* | "fn "*": proved") ;;
+        "library "*": modules loaded="* | "statements "*": modules loaded="* | "fn "*": proved" | "axioms "* | "logic=proved "*) ;;
+        "rt: chose "* | "rt: "*": begins with what a check kept in "*) ;;
         *) said+=("$line") ;;
         esac
     done
-    case ${said[*]: -1} in "" | "rt: ok"*) ;; *) printf '%s\n' "${said[@]}" | tail -n 20 >&2 ;; esac
+    case ${said[*]: -1} in "") ;; *) printf '%s\n' "${said[@]}" | tail -n 20 >&2 ;; esac
 }
 
-# ---- the library
+# ---- proving
 
-kit_home() { echo "${RATTLE_HOME:-$(dirname "$(dirname "$(readlink -f "$(command -v rt)")")")}"; }
-kit_tools() { echo "$(kit_home)/on/$(uname -m)/toolchain/bin"; }
+kit_home() { dirname "$(dirname "$(readlink -f "$(command -v rt)")")"; }
+kit_tools() { echo "$(kit_home)/toolchain/bin"; }
 
-# What an object is made from: the kit, its crate's files, and all that this stands on, as rt noted it.
-object_stamp() { # CRATE
-    local below
-    read -ra below <<< "${stands_on[$1]}"
-    {
-        rt version
-        echo "${below[*]}"
-        (cd "crates/$1" && { find src specs proofs -type f -exec sha256sum {} + 2> /dev/null || true; } | LC_ALL=C sort)
-        (cd target/stamp && { cat "${below[@]}" < /dev/null 2> /dev/null || true; }) # the kit's libraries have none
-    } | sha256sum
+# What a crate's proof stands on: the kit, its files, its line of crates.txt, and the same of all below. Of a
+# library also what was made of it, so that what stands on another build of it is made anew.
+declare -A stamp_of=()
+find_stamp() { # CRATE
+    local crate=$1 below item
+    read -ra below <<< "${stands_on[$crate]}"
+    for item in "${below[@]}"; do
+        [ -z "${stands_on[$item]+listed}" ] || [ -n "${stamp_of[$item]:-}" ] || find_stamp "$item"
+    done
+    stamp_of[$crate]=$({
+        echo "$kit $crate"
+        for item in "${below[@]}"; do echo "$item ${stamp_of[$item]:-}"; done # the kit's libraries have none
+        (cd "crates/$crate" && { find src specs proofs -type f -exec sha256sum {} + 2> /dev/null || true; } | LC_ALL=C sort)
+        case $(kind_of "$crate") in library) cat "crates/$crate/out/rlib/$crate.rlib/format" 2> /dev/null || true ;; esac
+    } | sha256sum | cut -d ' ' -f 1)
 }
 
-# Proves a crate of the library and writes target/staticlib/CRATE.o, and the module that it was made of
-# to target/modules, unless both stand there already. rt keeps notes in target/log, and two that run at
-# once must not share them: each has its own room.
-object() { # CRATE
-    local crate=$1 built=$PWD/target/staticlib room=$PWD/target/rooms/$1 stamp began=$SECONDS part
-    local module=$PWD/target/modules/$1.bc
-    stamp=$(object_stamp "$crate")
-    if [ -f "$built/$crate.o" ] && [ -f "$module" ] && [ "$(cat "$built/$crate.stamp" 2> /dev/null)" = "$stamp" ]; then
+kind_of() { # CRATE
+    case $1 in
+    c_*) echo staticlib ;;
+    *) if [ -f "crates/$1/src/main.rt" ]; then echo program; else echo library; fi ;;
+    esac
+}
+
+# What was made of a crate.
+made_of() { # CRATE
+    case $(kind_of "$1") in
+    staticlib) echo "target/staticlib/$1.o" "target/modules/$1.bc" "target/modules/$1.bc.words" ;;
+    program) echo "target/bin/$1" ;;
+    library) echo "crates/$1/out/rlib/$1.rlib/format" ;;
+    esac
+}
+
+# Whether the crate was proved, of these files, and what was made then is there.
+is_proved() { # CRATE
+    local file
+    [ "$(cat "target/stamp/$1" 2> /dev/null)" = "${stamp_of[$1]}" ] || return
+    for file in $(made_of "$1"); do [ -f "$file" ] || return; done
+}
+
+# Tells whether the last command proved the crate, and notes of what.
+proved() { # CRATE LOG BEGAN
+    find_stamp "$1"
+    echo "${stamp_of[$1]}" > "target/stamp/$1"
+    echo "rt: $1 proved ($((SECONDS - $3)) s)"
+}
+unproved() { # CRATE LOG
+    rm -f "target/stamp/$1"
+    cat "$2"
+    echo "rt: $1 NOT PROVED"
+    return 1
+}
+
+# LIBRARY..: proves these and what they stand on, lowest first, in their folders; what was proved is left.
+libraries_below() {
+    local crate log began
+    kit=$(rt version)
+    mkdir -p target/log target/stamp
+    for crate in $(lowest_first "$@"); do
+        find_stamp "$crate"
+        if is_proved "$crate"; then
+            echo "rt: $crate proved (unchanged since it was last proved)"
+            continue
+        fi
+        log=$PWD/target/log/$crate began=$SECONDS
+        if (cd "crates/$crate" && rt lib) > "$log" 2>&1; then proved "$crate" "$log" "$began"; else unproved "$crate" "$log"; return 1; fi
+    done
+}
+
+# After rt ci in a tree in which nothing was built before: the libraries that it left are those that it proved,
+# one over the other, and nothing need be proved again. rt notes of each that it built itself that it did.
+take_proved() { # LIBRARY..
+    local crate
+    for crate in "$@"; do
+        if [ -f "crates/$crate/out/rlib/stamp" ] || [ ! -f "crates/$crate/out/rlib/$crate.rlib/format" ]; then return; fi
+    done
+    kit=$(rt version)
+    mkdir -p target/stamp
+    for crate in $(lowest_first "$@"); do
+        find_stamp "$crate"
+        echo "${stamp_of[$crate]}" > "target/stamp/$crate"
+    done
+}
+
+# Proves a static library or a program over the libraries below it and writes what is made of it: of the first
+# its object to target/staticlib and the module that this was made of to target/modules, of the second target/bin.
+compiled() { # CRATE
+    local crate=$1 log=$PWD/target/log/$1 began=$SECONDS
+    find_stamp "$crate"
+    if is_proved "$crate"; then
         echo "rt: $crate proved (unchanged since it was last proved)"
         return
     fi
-    rm -f "$built/$crate.stamp"
-    mkdir -p "$room/target/log" "${module%/*}"
-    keeping_kit "$room/kit" "$module"
-    for part in crates crates.txt target/rlib target/stamp target/staticlib; do
-        ln -sfn "$PWD/$part" "$room/$part"
-    done
-    if (cd "$room" && RATTLE_HOME=$room/kit rt staticlib "$crate") > "$built/$crate.log" 2>&1; then
-        (cd "$built" && "$(kit_tools)/llvm-ar" x "lib$crate.a" "$crate.o")
-        echo "$stamp" > "$built/$crate.stamp"
-        echo "rt: $crate proved ($((SECONDS - began)) s)"
-    else
-        sed "s|$room/||g" "$built/$crate.log"
-        echo "rt: $crate NOT PROVED"
-        return 1
-    fi
+    rm -f "target/stamp/$crate"
+    mkdir -p target/{staticlib,modules,bin}
+    case $(kind_of "$crate") in
+    program) tools/compile "$crate" "target/bin/$crate" > "$log" 2>&1 || { unproved "$crate" "$log"; return 1; } ;;
+    *)
+        tools/compile "$crate" "target/staticlib/lib$crate.a" "target/modules/$crate.bc" > "$log" 2>&1 || { unproved "$crate" "$log"; return 1; }
+        (cd target/staticlib && "$(kit_tools)/llvm-ar" x "lib$crate.a" "$crate.o")
+        ;;
+    esac
+    proved "$crate" "$log" "$began"
 }
 
-# CRATE..: their objects, as many at once as rt proves crates at once.
-objects() {
-    local crate jobs=${RT_JOBS:-$(nproc)} running=0 failed=0
+# CRATE..: static libraries and programs, with all that they stand on; of the former as many at once as there
+# are processors, four at most (RT_JOBS).
+build() {
+    local crate jobs=${RT_JOBS:-$(nproc)} running=0 failed=0 below
     [ -n "${RT_JOBS:-}" ] || [ "$jobs" -le 4 ] || jobs=4
-    mkdir -p target/staticlib
+    mapfile -t below < <(for crate in $(crates_of "$@"); do [ "$(kind_of "$crate")" != library ] || echo "$crate"; done)
+    libraries_below "${below[@]}" || return
     for crate in "$@"; do
         [ "$running" -lt "$jobs" ] || { wait -n || failed=1; running=$((running - 1)); }
-        object "$crate" &
+        compiled "$crate" &
         running=$((running + 1))
     done
     while [ "$running" -gt 0 ]; do
@@ -135,6 +202,8 @@ objects() {
     done
     return "$failed"
 }
+
+# ---- the library
 
 # The objects into target/staticlib/libcrr.a and target/sharedlib/libcrr.so, by the kit's own tools: the
 # same bytes from the same sources, whatever the folder, machine or order of crates.txt. New files are

@@ -1,8 +1,8 @@
 # shellcheck shell=bash
 # The library for other machines than the first. rattle's back end hands one LLVM module for each proved
-# crate to the clang of its toolchain; there it is kept (target/modules), and from it the kit's own
-# clang and linkers make what dist/ has for the others. Nothing but the kit is needed, so the bytes are
-# the same wherever the kit is. Sourced by tools/build.sh and called in the repository's folder.
+# crate to the clang of its toolchain; there it is kept (target/modules, by tools/compile), and from it the
+# kit's own clang and linkers make what dist/ has for the others. Nothing but the kit is needed, so the bytes
+# are the same wherever the kit is. Sourced by tools/build.sh and called in the repository's folder.
 
 # The others, by their folders in dist/ and target/machines. glibc looks for the first by itself.
 hwcaps=x86-64-linux/glibc-hwcaps/x86-64-v3
@@ -10,32 +10,6 @@ machines=("$hwcaps" aarch64-linux x86-64-windows wasm32)
 
 # Stack of crr.wasm: more than twice what crr.h asks for (CRR_TEXT_STACK_BYTES). A page has 65,536.
 wasm_stack=524288
-
-# ---- the modules
-
-links_but() { # FROM TO NAME: links to all that a folder has, but one
-    local entry
-    shopt -s nullglob
-    mkdir -p "$2"
-    for entry in "$1"/*; do
-        [ "$entry" = "$1/$3" ] || ln -sfn "$entry" "$2/"
-    done
-}
-
-# A kit of links to the kit, but for a clang that keeps the module which it is handed, and then calls the
-# kit's. rattle clears the environment of what it calls, so the places are written into it.
-keeping_kit() { # FOLDER MODULE
-    local home own clang
-    home=$(kit_home) own=on/$(uname -m)
-    clang=$1/$own/toolchain/bin/clang
-    links_but "$home" "$1" on
-    links_but "$home/$own" "$1/$own" toolchain
-    links_but "$home/$own/toolchain" "$1/$own/toolchain" bin
-    links_but "$home/$own/toolchain/bin" "$1/$own/toolchain/bin" clang
-    rm -f "$clang"
-    printf '#!/bin/sh\ncat module.bc > "%s" || exit\nexec "%s" "$@"\n' "$2" "$(kit_tools)/clang" > "$clang"
-    chmod +x "$clang"
-}
 
 # ---- a module for a machine
 
@@ -53,7 +27,7 @@ flags_for() { # MACHINE
 # What becomes of the attributes of functions, which name the first machine's processor and ask for its
 # probes of the stack. Windows has probes of its own; WebAssembly stops where the stack ends.
 attributes_for() { # MACHINE
-    local processor=' "target-cpu"="x86-64"' probes=' "probe-stack"="inline-asm"'
+    local processor=' "target-cpu"="x86-64"' probes=' "probe-stack"="inline-asm" "stack-probe-size"="3072"'
     case $1 in
     "$hwcaps") echo "s/$processor/ \"target-cpu\"=\"x86-64-v3\"/" ;;
     aarch64-linux) echo "s/$processor//" ;;
@@ -65,7 +39,7 @@ attributes_for() { # MACHINE
 # Writes a module as text, in which the target can be replaced.
 module_text() { # MODULE.bc TEXT.ll
     "$(kit_tools)/clang" -S -emit-llvm -x ir "$1" -O0 -Xclang -disable-llvm-passes -o "$2.new"
-    if ! grep -q '"probe-stack"="inline-asm" "target-cpu"="x86-64"' "$2.new"; then
+    if ! grep -q '"probe-stack"="inline-asm" "stack-probe-size"="3072" "target-cpu"="x86-64"' "$2.new"; then
         echo "library: $1 has other attributes than tools/machines.sh replaces" >&2
         return 1
     fi
@@ -77,15 +51,25 @@ target_lines() { # FLAG..
     "$(kit_tools)/clang" "$@" -S -emit-llvm -x c /dev/null -o - | grep '^target '
 }
 
-# An object for a machine from the text of a module; but for the target, clang is told what rattle tells it.
+# What rattle told clang for a module, but for the target and the files.
+words_for() { # MODULE.bc
+    local word
+    while IFS= read -r word; do
+        case $word in
+        --target=* | --sysroot=* | -march=* | -fPIC | -c | -x | ir | module.bc | -o | module.o) ;;
+        *) echo "$word" ;;
+        esac
+    done < "$1.words"
+}
+
+# An object for a machine from the text of a module; but for the target, clang is told what rattle told it.
 object_for() { # MACHINE TEXT.ll OBJECT
-    local flags lines
+    local flags lines words
     read -ra flags <<< "$(flags_for "$1")"
     lines=$(target_lines "${flags[@]}")
+    mapfile -t words < <(words_for "${2%.ll}.bc")
     { echo "$lines" && sed "/^target /d; $(attributes_for "$1")" "$2"; } > "$3.ll"
-    "$(kit_tools)/clang" "${flags[@]}" -ffunction-sections -fdata-sections -mllvm -trap-unreachable \
-        -mllvm -no-trap-after-noreturn --no-default-config -no-canonical-prefixes -fintegrated-cc1 \
-        -fno-crash-diagnostics -Werror -c -O3 -x ir "$3.ll" -o "$3"
+    "$(kit_tools)/clang" "${flags[@]}" "${words[@]}" -c -x ir "$3.ll" -o "$3"
     rm "$3.ll"
 }
 
@@ -132,7 +116,8 @@ wasm_library() { # FILE OBJECT..
 # What the library for a machine is made from, and how.
 modules_stamp() { # CRATE..
     local modules=("${@/#/target/modules/}")
-    { rt version && cat tools/machines.sh include/crr.h "${modules[@]/%/.bc}"; } | sha256sum
+    # The folder of the kit's toolchain is told to clang, and no code comes of it.
+    { rt version && cat tools/machines.sh include/crr.h "${modules[@]/%/.bc}" && grep -v ^--sysroot= "${modules[@]/%/.bc.words}"; } | sha256sum
 }
 
 # The library for a machine, into its folder, unless that was made from the same modules in the same way.

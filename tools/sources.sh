@@ -61,6 +61,20 @@ crates_of() {
     [ ${#seen[@]} -eq 0 ] || printf '%s\n' "${!seen[@]}" | LC_ALL=C sort
 }
 
+# CRATE..: these and all that they stand on, each behind those that it stands on.
+lowest_first() {
+    local -A seen=()
+    in_order() {
+        local below item
+        [ -z "${seen[$1]:-}" ] && [ -n "${stands_on[$1]+listed}" ] || return 0
+        seen[$1]=1
+        read -ra below <<< "${stands_on[$1]}"
+        for item in "${below[@]}"; do in_order "$item"; done
+        echo "$1"
+    }
+    for item in "$@"; do in_order "$item"; done
+}
+
 # CRATE.. FILE..: what they are made from, as lines of MADE-FROM: each crate with what it stands on,
 # then each file with its hash, so that `sha256sum --check` reads them.
 sources() {

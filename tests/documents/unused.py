@@ -145,6 +145,7 @@ def crates_named(root: Path) -> Tuple[Dict[str, Set[str]], Set[Tuple[str, str]]]
     for line in (root / "crates.txt").read_text(encoding="utf-8").splitlines():
         crate, _, rest = line.partition(":")
         below, _, told = rest.partition("# entry ")
+        crate = crate.split(" ")[0]  # behind the name, what kind of crate it is
         named[crate] = {crate, *below.split("#")[0].split()}
         entries.update((crate, name) for name in told.split())
     return named, entries
