@@ -1,6 +1,5 @@
 -- `check_rows`.
 use mathlib.Core.Path.{sym, ◌∙◌}
-use Prim.Native.Nat.{◌-◌}
 use native.Mathlib.Omega.{arith}
 use Rattle.book_rules.specs.WriteBook.{row_checks}
 use Rattle.book_rules.proofs.Checking.{checks_start, checks_more, checks_stop, checks_end}

@@ -1,18 +1,16 @@
 -- `check_write`: each return by the tests that led there.
 -- what the row checks come behind
 use mathlib.Core.Path.{◌≡◌, sym, ◌∙◌}
-use mathlib.Core.List.{List, [], ◌∷◌, ◌++◌}
-use Prim.Native.Nat.{ℕ, ◌<◌, ◌≤◌}
+use Prim.Native.Nat.{◌<◌, ◌≤◌}
 use native.Mathlib.Omega.{arith}
 use borrow.Author.Tests.{lt-ltb, le-ltb}
 use lib.ListN.{length}
 use Rattle.tariff.specs.Refusals.{first}
-use Rattle.tariff.specs.Checks.{short_table}
 use Rattle.tariff.proofs.Checks.{first_passes, first-refuses, last-passes, append_refuses, append_passes}
 use Rattle.layouts.specs.Forms.{ends_below_of}
 use Rattle.layouts.specs.BookFile.{book_bytes_of}
 use Rattle.book_rules.specs.BookChecks.{checks_to}
-use Rattle.book_rules.specs.WriteBook.{write_book_call, row_checks, write_book_checks, write_book_checked}
+use Rattle.book_rules.specs.WriteBook.{write_book_call, row_checks, write_book_checks}
 use Rattle.book_rules.proofs.Passing.{then_rows}
 use Rattle.book_writing.proofs.check_write.Goals as goal
 

@@ -2,7 +2,7 @@
 use mathlib.Core.Path.{refl, sym, ◌∙◌}
 use Rattle.tariff.proofs.Answers.{answer-refused, cells-refused, answer-passed, cells-passed}
 use Rattle.book_rules.specs.WriteBook.{write_book_call, book_written}
-use Rattle.book_rules.proofs.Passing.{Writable, writable, length-written}
+use Rattle.book_rules.proofs.Passing.{writable, length-written}
 use Rattle.book_writing.proofs.write_book.Goals as goal
 
 pub write_contracts-requires : goal.write_contracts-requires

@@ -1,6 +1,6 @@
 -- `write_contracts`: after i turns the front of the book is there, as far as its first i contracts, in the place that the header was stored in.
 use mathlib.Core.Path.{refl, ◌∙◌}
-use Prim.Native.Nat.{◌+◌, ◌-◌}
+use Prim.Native.Nat.{◌+◌}
 use native.Mathlib.Omega.{arith}
 use Rattle.layouts.proofs.BookFile.{record_room}
 use Rattle.layouts.specs.BookTable.{row_at}
