@@ -149,15 +149,17 @@ libraries_below() {
 }
 
 # After rt ci in a tree in which nothing was built before: the libraries that it left are those that it proved,
-# one over the other, and nothing need be proved again. rt notes of each that it built itself that it did.
-take_proved() { # LIBRARY..
-    local crate
-    for crate in "$@"; do
+# one over the other, and need not be proved again. rt notes of each that it built otherwise that it did.
+take_proved() {
+    local crate libraries=()
+    for crate in "${!stands_on[@]}"; do
+        [ "$(kind_of "$crate")" = library ] || continue
         if [ -f "crates/$crate/out/rlib/stamp" ] || [ ! -f "crates/$crate/out/rlib/$crate.rlib/format" ]; then return; fi
+        libraries+=("$crate")
     done
     kit=$(rt version)
     mkdir -p target/stamp
-    for crate in $(lowest_first "$@"); do
+    for crate in $(lowest_first "${libraries[@]}"); do
         find_stamp "$crate"
         echo "${stamp_of[$crate]}" > "target/stamp/$crate"
     done

@@ -10,12 +10,14 @@ import unittest
 from support import ROOT, FolderTest
 
 LAST = "7 passed, 0 failed"
+WELL = "rt: ok; handles allowed: none; must-fail edits: 5 refused; every proof and must-fail edit was done in this run"
 
 
 class Gate(FolderTest):
     def setUp(self):
         super().setUp()
-        for name in ("test", ".ci/run", "tests/python", "crates.txt"):
+        tools = ("tools/build.sh", "tools/machines.sh", "tools/sources.sh")
+        for name in ("test", ".ci/run", "tests/python", "crates.txt", *tools):
             (self.folder / name).parent.mkdir(parents=True, exist_ok=True)
             shutil.copy(ROOT / name, self.folder / name)
         text = (ROOT / "test").read_text()
@@ -25,7 +27,7 @@ class Gate(FolderTest):
             self.stand_in(name, "echo ran")
         self.stand_in("python/tests/run", "print('python: 3 passed, 0 failed, 0 skipped in 1 s')", "python3")
         self.stand_in("tests/setup", "exit 0")
-        self.stand_in("bin/rt", f"echo {LAST}")
+        self.stand_in("bin/rt", f"echo '{WELL}'; echo {LAST}")
         (self.folder / "crates").mkdir()
 
     def stand_in(self, name, line, language="bash"):
@@ -66,7 +68,27 @@ class Gate(FolderTest):
         self.stand_in("python/tests/run", f"print({said!r})", "python3")
         status, lines = self.ran(".ci/run")
         self.assertEqual((status, lines[-1], lines.count(said)), (0, LAST, 2), lines)
-        self.assertIn("ci: the packages above could not be installed", "\n".join(lines))
+        self.assertIn("test: the packages above could not be installed", "\n".join(lines))
+
+    def test_rt_ci_stands_alone_and_first(self):
+        self.stand_in("bin/rt", f"[ \"$1\" = version ] || ls -A > seen; echo \"$*\" >> called; echo '{WELL}'; echo {LAST}")
+        before = {path.name for path in self.folder.iterdir()}
+        self.assertEqual(self.ran(".ci/run")[0], 0)
+        self.assertEqual((self.folder / "called").read_text().splitlines()[0], "ci")
+        self.assertEqual(set((self.folder / "seen").read_text().split()), before | {"seen"})
+
+    def test_bad_edits_are_a_failure(self):
+        bad = WELL.replace("5 refused", "4 refused, 1 bad")
+        self.stand_in("bin/rt", f"echo '{bad}'; echo {LAST}")
+        status, lines = self.ran(".ci/run")
+        self.assertEqual((status, LAST in lines), (1, False), lines)
+        self.assertIn("must-fail edits are bad", lines[-1])
+
+    def test_a_failed_proof_is_one(self):
+        self.stand_in("bin/rt", "echo '6 passed, 1 failed'; exit 1")
+        status, lines = self.ran(".ci/run")
+        self.assertEqual((status, len(lines)), (1, 2), lines)
+        self.assertIn("rt ci failed: 6 passed, 1 failed", lines[-1])
 
     def test_a_failure_is_one(self):
         self.stand_in("tests/interface/run", "exit 1")
