@@ -5,7 +5,7 @@ use Prim.Native.Nat.{ℕ, ◌*◌, ◌≤◌}
 use lib.ListN.{length, take}
 use lib.IntN.{ℤ, pos}
 use Rattle.lists.specs.Lists.{Each}
-use Rattle.lists.specs.Lent.{Lent, before, after}
+use Rattle.lists.specs.Lent.{Lent, before}
 use Rattle.tariff.specs.declared.contracts.Contract.{Contract}
 use Rattle.tariff.specs.declared.refusals.Checked.TheVariants.{Refused}
 use Rattle.tariff.specs.Units.{max_contracts}
@@ -21,7 +21,7 @@ use Rattle.layouts.proofs.BookFile.{length-book_in}
 use Rattle.book_rules.specs.BookChecks.{book_checks}
 use Rattle.book_rules.proofs.Theorems.{both-forms_alike, both-forms_checked_alike}
 use Rattle.hour_rules.specs.declared.SettleAnswer.{SettleAnswer}
-use Rattle.hour_rules.specs.SettleHour.{HourCall, hour_call, settle_outcome, settle_checks, settle_checked, hour_factors, hour_prices, hour_period, cents_of, priced_of, cents_sum, hour_total, SettlesHour}
+use Rattle.hour_rules.specs.SettleHour.{HourCall, settle_checks, settle_checked, hour_factors, hour_prices, hour_period, cents_of, priced_of, cents_sum, hour_total, SettlesHour}
 use Rattle.hour_rules.specs.Theorems.{SettledAlike, hour_for}
 
 module _ (n k period : ℕ) (factors : List ℤ) (prices : List ℕ) (cs : List Contract) (few : length cs ≤ max_contracts) (fits : Each (ContractFits 8) cs) where
