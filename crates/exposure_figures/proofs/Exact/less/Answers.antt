@@ -1,18 +1,17 @@
 -- `Exact::less`: with or without a cent borrowed.
+-- what the machine subtracts
 use mathlib.Core.Path.{◌≡◌, refl, ap, ◌∙◌}
 use Prim.Native.Nat.{ℕ, ◌+◌, ◌-◌, ◌^◌, ◌≤◌, ◌<◌}
 use native.Mathlib.Omega.{arith}
 use lib.IntN.{ℤ, pos, nat_abs, ◌-ℤ◌}
 use mir.Syntax.{w64}
 use mir.Val.{to_z, of_z}
-use borrow.Author.Rules.{rules}
 use Rattle.integers.proofs.Machine.{back, cast_back, op_fits, op_is}
 use Rattle.integers.proofs.Sizes.{nat_abs_sub}
 use Rattle.exposure_figures.proofs.Figures.{cents, less_parts, less_borrow}
-use Rattle.exposure_figures.proofs.Exact.less.Statement.{statement}
 use Rattle.exposure_figures.proofs.Exact.less.Tie as tie
+use Rattle.exposure_figures.proofs.Exact.less.Goals as goal
 
--- what the machine subtracts
 module _ (s : tie.Start) where
   abbrev whole : ℤ
   whole = s.args.self.whole
@@ -38,15 +37,15 @@ module _ (s : tie.Start) where
   borrowed : to_z w64 (of_z w64 (to_z w64 (of_z w64 (to_z w64 (of_z w64 whole) -ℤ to_z w64 owed)) -ℤ pos 1)) ≡ whole -ℤ pos owed -ℤ pos 1
   borrowed = op_is ◌-ℤ◌ {u = pos 1} left refl (omega (arith, smaller))
 
-sub-whole : tie.Need-overflow-sub-whole
-sub-whole c = let s = c.before.before.before in op_fits ◌-ℤ◌ (whole_back s) (owed_back s) (omega (arith, small s))
+pub overflow_sub-whole : goal.overflow_sub-whole
+overflow_sub-whole c = let s = c in op_fits ◌-ℤ◌ (whole_back s) (owed_back s) (omega (arith, small s))
 
-sub-t7 : tie.Need-overflow-sub-t7
-sub-t7 c = let s = c.before.before.before.before.before.before in op_fits ◌-ℤ◌ {u = pos 1} (left s) refl (omega (arith, smaller s))
+pub overflow_sub-result : goal.overflow_sub-result
+overflow_sub-result c = let s = c in op_fits ◌-ℤ◌ {u = pos 1} (left s) refl (omega (arith, smaller s))
 
-returns : tie.Need-returns
-returns c =
-    let s = c.before.before.before.before.before.before.before.before in
+pub returns-then-self-owed : goal.returns-then-self-owed
+returns-then-self-owed c =
+    let s = c in
     let p = s.args.self.parts in
     let P = s.args.owed.parts in
     let fewer : p < P = omega arith in
@@ -57,9 +56,9 @@ returns c =
       whole-sized = rw (borrowed s) (smaller s);
     }
 
-returns-2 : tie.Need-returns-2
-returns-2 c =
-    let s = c.before.before.before.before.before.before.before.before in
+pub returns-else-self-owed : goal.returns-else-self-owed
+returns-else-self-owed c =
+    let s = c in
     let p = s.args.self.parts in
     let P = s.args.owed.parts in
     let enough : P ≤ p = omega arith in
@@ -68,6 +67,3 @@ returns-2 c =
       parts-small = omega (arith, s.requires.0.parts-small);
       whole-sized = rw (left s) (omega (arith, small s));
     }
-
-pub less-spec : {M : Type 1} → statement M
-less-spec = tie.close (tie.spec (λ c. search rules) sub-whole sub-t7 (λ c. search rules) (λ c. search rules) returns returns-2)

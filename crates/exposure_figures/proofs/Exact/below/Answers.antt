@@ -5,8 +5,8 @@ use mir.Syntax.{w64}
 use mir.Val.{to_z, of_z}
 use Rattle.integers.proofs.Machine.{back}
 use Rattle.exposure_figures.proofs.Figures.{whole_below, whole_above, parts-decide}
-use Rattle.exposure_figures.proofs.Exact.below.Statement.{statement}
 use Rattle.exposure_figures.proofs.Exact.below.Tie as tie
+use Rattle.exposure_figures.proofs.Exact.below.Goals as goal
 
 self-is : (c : tie.Start) → to_z w64 (of_z w64 c.args.self.whole) ≡ c.args.self.whole
 self-is c = back c.args.self.whole (omega (arith, c.requires))
@@ -14,25 +14,22 @@ self-is c = back c.args.self.whole (omega (arith, c.requires))
 other-is : (c : tie.Start) → to_z w64 (of_z w64 c.args.other.whole) ≡ c.args.other.whole
 other-is c = back c.args.other.whole (omega (arith, c.requires))
 
-returns : tie.Need-returns
-returns c =
+pub returns-then-self-other : goal.returns-then-self-other
+returns-then-self-other c =
     let s = c.before.before.before.before.before in
     let a = s.args in
-    whole_below a.self.whole a.other.whole a.self.parts a.other.parts s.requires.0 s.requires.1 (rw (self-is s, other-is s) at c.if1.true)
+    whole_below a.self.whole a.other.whole a.self.parts a.other.parts s.requires.0 s.requires.1 (rw (self-is s, other-is s) at c.if-self-other.true)
 
-returns-2 : tie.Need-returns-2
-returns-2 c =
+pub returns-then-other-self : goal.returns-then-other-self
+returns-then-other-self c =
     let s = c.before.before.before.before.before.before.before.before.before.before in
     let a = s.args in
-    whole_above a.self.whole a.other.whole a.self.parts a.other.parts s.requires.0 s.requires.1 (rw (self-is s, other-is s) at c.if2.true)
+    whole_above a.self.whole a.other.whole a.self.parts a.other.parts s.requires.0 s.requires.1 (rw (self-is s, other-is s) at c.if-other-self.true)
 
-returns-3 : tie.Need-returns-3
-returns-3 c =
+pub returns : goal.returns
+returns c =
     let s = c.before.before.before.before.before.before.before.before.before.before.before.before in
     let a = s.args in
     parts-decide a.self.whole a.other.whole a.self.parts a.other.parts s.requires.0 s.requires.1
-    (rw (self-is s, other-is s) at c.before.before.before.before.before.before.before.if1.false)
-    (rw (self-is s, other-is s) at c.before.before.if2.false)
-
-pub below-spec : {M : Type 1} → statement M
-below-spec = tie.close (tie.spec returns returns-2 returns-3)
+    (rw (self-is s, other-is s) at c.if-self-other.false)
+    (rw (self-is s, other-is s) at c.if-other-self.false)
