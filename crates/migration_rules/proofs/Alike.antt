@@ -1,13 +1,13 @@
 -- The new contracts depend on the losses of LSEs 1 to n alone, and so does 23.
-use mathlib.Core.Path.{◌≡◌, refl, sym, ap, ◌∙◌}
+use mathlib.Core.Path.{◌≡◌, refl, sym, ◌∙◌}
 use mathlib.Core.Bool.{Bool, true, false, cond}
 use mathlib.Core.List.{List, [], ◌∷◌, flat_map}
-use Prim.Native.Nat.{ℕ, zero, suc, ◌-◌, ◌≤◌, ◌<◌}
+use Prim.Native.Nat.{ℕ, zero, suc, ◌≤◌, ◌<◌}
 use native.Mathlib.Omega.{arith}
 use native.Mathlib.Nat.{le_trans}
 use borrow.Author.Tests.{ltb-false, le-ltb, lt-ltb, ne_eqb}
-use lib.Dec.{eqb, ltb}
-use lib.ListN.{length, get_or}
+use lib.Dec.{ltb}
+use lib.ListN.{length}
 use Rattle.lists.specs.Lists.{any_of, list_to}
 use Rattle.lists.proofs.Lists.{length-list_to, get_d_list_to}
 use Rattle.lists.proofs.Search.{none-bad}
