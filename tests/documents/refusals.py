@@ -1,91 +1,84 @@
-"""Fails where the prover refuses a must-fail edit, first of all, for a proof text that no longer fits the
-edited program, and not for a fact that fails. rt ci leaves what it said in target/must-fail/CRATE/LABEL/.log.
+"""Fails where the prover refuses a must-fail edit for a proof text that no longer fits the edited program, and
+not for a fact that fails. ./test leaves what rt ci said in target/ci.log: a line for each edit, with the first
+thing that the prover says of it, cut short. rt looks past what names a place that the edit took away, and says
+so where there is nothing else.
 
-A text that does not fit names what is not there (a field, a definition), can't be read, takes a term for
-another kind of thing, or hands the function's needs over in another number or order than the program now has
-them. Of a fact the prover says that two values or types differ, or that it does not follow, or that no proof
-of it was found. Whatever else it says first is for a person to read: it is told here too.
+A text that does not fit names what is not there (a field, a definition), can't be read, or takes a term for
+another kind of thing. Of a fact the prover says that two values or types differ, or that it does not follow, or
+that no proof of it was found. Whatever else it says first is for a person to read: it is told here too.
 """
 
 import re
 import sys
 from pathlib import Path
-from typing import List, Optional
+from typing import Dict, List, Optional
 
 ROOT = Path(__file__).resolve().parents[2]
-ERROR = re.compile(r"^([^ ]+?:\d+:\d+): error: (.*)$")
+LOG = ROOT / "target/ci.log"
+TRIED = re.compile(r"^rt: must-fail (\w+/[\w.-]+)\.edit: (.*)$", re.M)
+REFUSED = "refused, as it must be"
+# A function whose proof is not whole is refused in a note.
+NOTE = re.compile(r"note: \S+:\d+:\d+: ")
+ERROR = re.compile(r"(\S+?):\d+:\d+: error: (.*)")
 # A fact is refused in a declaration, which the prover names first; a text that can't be read has none yet.
-DECLARED = re.compile(r"`([^`]+)`: (.*)", re.S)
+DECLARED = re.compile(r"`([^`]+)`: (.*)")
 UNFIT = (
-    (re.compile(r"\bhas no field `"), "names a place that the program no longer has"),
-    (re.compile(r"\bthat can be named from here"), "names something that is not there"),
-    (re.compile(r"` is not in scope\b"), "names something that is not there"),
-    (re.compile(r"\bis expected here"), "takes what it names for something else"),
-    (re.compile(r"\bwas not admitted\b"), "stands on something that was refused"),
+    (re.compile(r"record `|.*\bhas no field `"), "names a place that the program no longer has"),
+    (re.compile(r".*\bthat can be named from here"), "names something that is not there"),
+    (re.compile(r"`[^`]*` is not in scope\b"), "names something that is not there"),
+    (re.compile(r".*\bis expected here"), "takes what it names for something else"),
+    (re.compile(r".*\bwas not admitted\b|\d+ declarations? that depend"), "stands on something that was refused"),
 )
-# A function without a proof file is refused in a note; its callers then stand on what was not admitted.
-REFUSED_BELOW = re.compile(r"^note: \S+\.rt:\d+:\d+: it is not proved that ", re.M)
-# `NAME-spec` hands over the needs one by one.
-NEEDS = re.compile(r"(?:expected type|but this has type) `tie\.Need-")
 FACT = re.compile(
     r"(?:as printed|computed as far as they go), the two (?:types|values|sides) "
-    r"|expected type `.*but this has type `"
-    r"|`omega`: .* does not follow from what it read"
-    r"|`search`: no proof of `"
+    r"|expected type `"
+    r"|`(?:omega|search|grind|simp)`: "
     r"|`rw`: no occurrence of the path's "
     r"|give a proof of that as the last argument, `rw L t`"
 )
 
 
-def first_error(log: str) -> Optional[str]:
-    """The first error with the lines that belong to it, which are indented; its place in front."""
-    found: List[str] = []
-    for line in log.splitlines():
-        if found:
-            if not line.startswith("  "):
-                break
-            found.append(line.strip())
-        else:
-            error = ERROR.match(line)
-            if error:
-                found = [error[1], error[2]]
-    return "\n".join(found) if found else None
-
-
-def fault_of(log: str) -> Optional[str]:
-    """Why the first error is no fact that fails, or None where it is one."""
-    error = first_error(log)
+def fault_of(said: str) -> Optional[str]:
+    """Why what rt says of an edit is no fact that fails, or None where it is one."""
+    if not said.startswith(REFUSED):
+        return said[:200]
+    said = said[len(REFUSED):]
+    if not said.startswith(": "):
+        return f"no fact is named{said[:200]}"
+    if NOTE.match(said, 2):
+        return None
+    error = ERROR.match(said, 2)
     if error is None:
-        return None if re.search(r"^note: \S+:\d+:\d+:", log, re.M) else "the prover names no place"
-    place, message = error.split("\n", 1)
-    if not place.split(":", 1)[0].endswith(".antt"):
+        return f"the prover names no place: {said[2:200]}"
+    file, message = error.groups()
+    if not file.endswith(".antt"):
         return None
     declared = DECLARED.match(message)
     if declared is None:
-        return f"{place}: the proof text can't be read: {message.splitlines()[0][:200]}"
-    name, said = declared[1], " ".join(declared[2].split("\n"))
-    head = said[:600]
-    if head.startswith("`close` was not admitted") and REFUSED_BELOW.search(log):
-        return None
+        return f"{file}: the proof text can't be read: {message[:200]}"
+    name, told = declared.groups()
     for pattern, why in UNFIT:
-        if pattern.search(head):
-            return f"{place}: {name} {why}: {head[:200]}"
-    if name.endswith("-spec") and NEEDS.search(head):
-        return f"{place}: {name} hands over needs that the program no longer has so: {head[:200]}"
-    return None if FACT.match(said) else f"{place}: {name}: no fact is refused in these words: {head[:200]}"
+        if pattern.match(told):
+            return f"{file}: {name} {why}: {told[:200]}"
+    return None if FACT.match(told) else f"{file}: {name}: no fact is refused in these words: {told[:200]}"
+
+
+def tried(log: str) -> Dict[str, str]:
+    """What rt said of each edit."""
+    return dict(TRIED.findall(log))
 
 
 def main() -> int:
+    if not LOG.is_file():
+        print(f"refusals: no {LOG.relative_to(ROOT)}: ./test leaves it there, and so does rt ci > target/ci.log", file=sys.stderr)
+        return 1
+    said = tried(LOG.read_text(encoding="utf-8", errors="replace"))
     faults: List[str] = []
     count = 0
     for edit in sorted(ROOT.glob("crates/*/must-fail/*.edit")):
         name = f"{edit.parents[1].name}/{edit.stem}"
-        log = ROOT / "target/must-fail" / name / ".log"
-        if not log.is_file():
-            faults.append(f"{name}: not tried: rt ci or rt must-fail leaves a log")
-            continue
-        count += 1
-        fault = fault_of(log.read_text(encoding="utf-8", errors="replace").replace(f"{log.parent}/", ""))
+        count += name in said
+        fault = fault_of(said[name]) if name in said else "not tried"
         if fault:
             faults.append(f"{name}: {fault}")
     for fault in faults:
