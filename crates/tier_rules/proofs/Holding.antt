@@ -4,7 +4,7 @@ use mathlib.Core.Logic.{◌≢◌, ⊎_elim}
 use mathlib.Core.Bool.{Bool, true, false, cond}
 use mathlib.Core.List.{List, [], ◌∷◌, ◌++◌, flat_map}
 use mathlib.Core.Option.{Option, none, some}
-use Prim.Native.Nat.{ℕ, zero, ◌+◌, ◌-◌, ◌*◌, ◌≤◌, ◌<◌}
+use Prim.Native.Nat.{ℕ, ◌+◌, ◌-◌, ◌*◌, ◌≤◌, ◌<◌}
 use native.Mathlib.Nat.{eq-or-lt_of_le}
 use native.Mathlib.Omega.{arith}
 use borrow.Author.Tests.{leb-true, leb-false, eqb-true, eqb-false, le-ltb, lt-ltb}
@@ -28,8 +28,8 @@ use Rattle.layouts.proofs.BookTable.{length-cells}
 use Rattle.tier_rules.specs.Tiers.{Tiers, opened, with_award, marked, kept, returned, Reached}
 use Rattle.tier_rules.specs.Checks.{max_tier}
 use Rattle.tier_rules.specs.Cells.{awards_cells, state_numbers, state_flows, held_in, counted_in, flag_cell, held_cell, counted_cell, mark_block, StateCells, state_cells, opened_numbers, opened_flows}
-use Rattle.tier_rules.specs.Cells.{with_award_row, with_award_numbers, flow_with, with_award_flows, copied, marked_numbers, marked_flows, drop_marks_of, returned_numbers, returned_flows}
-use Rattle.tier_rules.specs.Cells.{Block, MarkAt, MarkIs, HoldsTiers}
+use Rattle.tier_rules.specs.Cells.{with_award_row, with_award_numbers, flow_with, with_award_flows, marked_numbers, marked_flows, drop_marks_of, returned_numbers, returned_flows}
+use Rattle.tier_rules.specs.Cells.{MarkAt, MarkIs, HoldsTiers}
 use Rattle.tier_rules.proofs.Cells.{behind, copied-before, copied-here, copied_behind, length-drop_marks, drop-marks_else, drop-marks_held, drop-marks_flag}
 
 zero_side : (b : Bool) → cond {A = ℕ} b 0 0 ≡ 0

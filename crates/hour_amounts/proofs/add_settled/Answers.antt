@@ -1,8 +1,8 @@
 -- `add_settled`: what the machine adds is what the amounts add, with or without a carry.
+-- the machine's sums are those of the numbers
 use mathlib.Core.Path.{◌≡◌, refl, ap}
 use Prim.Native.Nat.{◌+◌, ◌≤◌}
 use native.Mathlib.Omega.{arith}
-use borrow.Author.Rules.{rules}
 use lib.IntN.{ℤ, pos, nat_abs, ◌+ℤ◌}
 use mir.Syntax.{w64}
 use mir.Val.{to_z, of_z}
@@ -10,10 +10,9 @@ use Rattle.integers.proofs.Sizes.{nat_abs_add}
 use Rattle.integers.proofs.Machine.{op_is}
 use Rattle.tariff.specs.Inner.{max_cents}
 use Rattle.hour_rules.proofs.HourSums.{add_fits, add_is, carry_fits, exact-more, exact-carry}
-use Rattle.hour_amounts.proofs.add_settled.Statement.{statement}
 use Rattle.hour_amounts.proofs.add_settled.Tie as tie
+use Rattle.hour_amounts.proofs.add_settled.Goals as goal
 
--- the machine's sums are those of the numbers
 module _ (s : tie.Start) where
   sum_is : to_z w64 (of_z w64 (to_z w64 (of_z w64 s.args.totals.sum) +ℤ to_z w64 (of_z w64 s.args.amount.cents))) ≡ s.args.totals.sum +ℤ s.args.amount.cents
   sum_is = add_is s.args.totals.sum s.args.amount.cents (omega (arith, s.requires.1.sum-sized, s.requires.0.cents-sized))
@@ -27,25 +26,25 @@ module _ (s : tie.Start) where
       let w = s.args.amount.whole in
       omega (arith, nat_abs_add W w, nat_abs_add (W +ℤ w) (pos 1), s.pre.0.whole-sized)
 
-add-sum : tie.Need-overflow-add-sum
-add-sum c =
-    let s = c.before.before.before.before in
+pub overflow_add-sum : goal.overflow_add-sum
+overflow_add-sum c =
+    let s = c in
     add_fits s.args.totals.sum s.args.amount.cents (omega (arith, s.requires.1.sum-sized, s.requires.0.cents-sized))
 
-add-whole : tie.Need-overflow-add-whole
-add-whole c =
-    let s = c.before.before.before.before.before.before.before.before in
+pub overflow_add-whole : goal.overflow_add-whole
+overflow_add-whole c =
+    let s = c in
     add_fits s.args.totals.whole s.args.amount.whole (omega (arith, s.requires.1.whole-sized, s.requires.0.whole-sized))
 
-add-t8 : tie.Need-overflow-add-t8
-add-t8 c =
-    let s = c.before.before.before.before.before.before.before.before.before.before.before in
+pub overflow_add-result : goal.overflow_add-result
+overflow_add-result c =
+    let s = c in
     let W = s.args.totals.whole in
     carry_fits (whole_is s) _ (omega (arith, nat_abs_add W s.args.amount.whole, s.requires.1.whole-sized, s.requires.0.whole-sized)) (omega arith)
 
-returns : tie.Need-returns
-returns c = λ z is.
-    let s = c.before.before.before.before.before.before.before.before.before.before.before in
+pub returns-then-parts-lt-PER_CENT : goal.returns-then-parts-lt-PER_CENT
+returns-then-parts-lt-PER_CENT c = λ z is.
+    let s = c in
     let t = s.args.totals in
     let x = s.args.amount in
     record {
@@ -53,21 +52,21 @@ returns c = λ z is.
       exact = rw (whole_is s) (exact-more t.whole x.whole t.parts x.parts z is.exact-is);
       bounded = λ m b.
           record {
-            parts-small = c.if1.true;
+            parts-small = c.if-parts-lt-PER_CENT.true;
             sum-sized = rw (sum_is s) (omega (arith, nat_abs_add t.sum x.cents, s.requires.0.cents-sized, b.sum-sized));
             whole-sized = rw (whole_is s) (omega (arith, nat_abs_add t.whole x.whole, s.requires.0.whole-sized, b.whole-sized));
           };
     }
 
-returns-2 : tie.Need-returns-2
-returns-2 c = λ z is.
-    let s = c.before.before.before.before.before.before.before.before.before.before.before in
+pub returns-else-parts-lt-PER_CENT : goal.returns-else-parts-lt-PER_CENT
+returns-else-parts-lt-PER_CENT c = λ z is.
+    let s = c in
     let t = s.args.totals in
     let x = s.args.amount in
     let whole = op_is ◌+ℤ◌ {u = pos 1} (whole_is s) refl (omega (arith, small s, s.requires.1.whole-sized)) in
     record {
       sum = rw (sum_is s) (ap (λ (y : ℤ). t.sum +ℤ y) is.cents-is);
-      exact = rw whole (exact-carry t.whole x.whole t.parts x.parts z is.exact-is c.if1.false);
+      exact = rw whole (exact-carry t.whole x.whole t.parts x.parts z is.exact-is c.if-parts-lt-PER_CENT.false);
       bounded = λ m b.
           record {
             parts-small = omega (arith, s.requires.1.parts-small, s.requires.0.parts-small);
@@ -75,6 +74,3 @@ returns-2 c = λ z is.
             whole-sized = rw whole (omega (arith, small s, b.whole-sized));
           };
     }
-
-pub add-settled-spec : {M : Type 1} → statement M
-add-settled-spec = tie.close (tie.spec add-sum add-whole (λ c. search rules) add-t8 returns returns-2)
