@@ -14,12 +14,14 @@ from typing import DefaultDict, Dict, Iterator, List, NamedTuple, Set, Tuple
 
 ROOT = Path(__file__).resolve().parents[2]
 TELLING = ("README.md", "docs/BELIEVE.md", "docs/DEMANDS.md", "docs/PROVED.md")
-IMPORT = re.compile(r"(?:ghost )?use Rattle·(\w+?)(?:·(?:specs|proofs))?\.(specs|proofs)\.([\w.-]+?)"
+IMPORT = re.compile(r"(?:ghost )?use Rattle\.(\w+)\.(specs|proofs)\.([\w.-]+?)"
                     r"(?:\.\{([^}]*)\}| as ([\w-]+));?")
 TOKEN = re.compile(r"[^\s(){}.;,@\"«»]+")
 MARKS = r"(?:unfoldable |abbrev |axiom |pub )*"
 NAME = r"[^\s(){}.;,]+"
 HEADED = re.compile(rf"{MARKS}(?:(?:record|data|ruleset) ({NAME})|({NAME})(?: \{{[^}}]*\}})? :(?: |$))")
+# The two files of a function's proof: what they hand to the prover is pub.
+ANSWERS = ("/Answers.antt", "/Invariants.antt")
 CODE = re.compile(r"(?:pub |extern \"C\" )*(fn|const|struct|enum|type|impl) (\w+)")
 
 Lines = List[Tuple[int, str]]
@@ -35,6 +37,7 @@ class Named(NamedTuple):
 class Declared(NamedTuple):
     line: int
     words: Set[str]
+    is_public: bool = False
 
 
 Table = Dict[Named, Declared]
@@ -43,7 +46,7 @@ Scope = DefaultDict[str, Set[Named]]
 
 def parts(name: str) -> List[str]:
     """A name, and the parts of an operator's."""
-    return [name, *(part for part in name.split("_") if part)] if "_" in name else [name]
+    return [name, *(part for part in name.split("◌") if part)] if "◌" in name else [name]
 
 
 def bare(text: str, comment: str) -> Lines:
@@ -84,8 +87,8 @@ def declare(lines: Lines, file: str, around: Set[str], table: Table) -> None:
             declare(item[head:], file, around | words_of(item[:head]), table)
         elif headed:
             last = Named(file, headed[1] or headed[2])
-            before = table.get(last, Declared(number, set()))
-            table[last] = Declared(before.line, before.words | around | words_of(item))
+            before = table.get(last, Declared(number, set(), "pub" in line.split()))
+            table[last] = Declared(before.line, before.words | around | words_of(item), before.is_public)
         elif last and not line.startswith(("use ", "pub mod ", "infix")):
             table[last].words.update(words_of(item))
 
@@ -176,7 +179,7 @@ def used(root: Path, table: Table, scopes: Dict[str, Scope]) -> Set[Named]:
         crate, folder = named.file.split("/")[0], named.file.split("/")[-2].lstrip("+")
         if named.file.endswith(".rt"):
             coded[crate, named.name].add(named)
-        elif named.file.endswith("/Proof.antt") and named.name.endswith("-spec"):
+        elif named.file.endswith(ANSWERS) and table[named].is_public:
             proved[crate, folder].add(named)
     pages = "\n".join((root / page).read_text(encoding="utf-8") for page in TELLING)
     told = {word for span in re.findall(r"`([^`\n]+)`", pages) for word in TOKEN.findall(span)}
