@@ -10,9 +10,9 @@ sys.path.insert(0, str(Path(__file__).resolve().parent))
 from unused import TELLING, unused  # noqa: E402
 
 TREE = {
-    "crates.txt": "own:   # entry go\n",
+    "crates.txt": "own staticlib:   # entry go\n",
     "crates/own/src/lib.rt": """
-ghost use Rattle·own·specs.specs.Does.{Does};
+ghost use Rattle.own.specs.Does.{Does};
 
 const MOST: u64 = 7;
 
@@ -20,7 +20,7 @@ const LEAST: u64 = 1;
 
 // Not `never_called`.
 pub fn go(x: u64) -> u64
-    ensures { λ r. ⌜ Does x r ⌝ }
+    ensures { Does x result }
 {
     helper(x, MOST)
 }
@@ -43,14 +43,18 @@ part x = x
 abbrev pub unsaid : ℕ → ℕ
 unsaid x = x
 """,
-    "crates/own/proofs/go/Proof.antt": """
-use Rattle·own·proofs.proofs.Laws.{law, _then_}
+    "crates/own/proofs/go/Answers.antt": """
+use Rattle.own.proofs.Laws.{law, ◌then◌}
+use Rattle.own.proofs.go.Goals as goal
 
-returns : tie.Need-returns
-returns c = law c then law c
+once : (c : goal.start) → c ≡ c
+once c = law c
 
-pub go-spec : {M : Type 1} → statement M
-go-spec = tie.close (tie.spec returns)
+never : ℕ
+never = 0
+
+pub returns : goal.returns
+returns c = once c then law c
 """,
     "crates/own/proofs/Laws.antt": """
 module _ (x : ℕ) (h : Given x) where
@@ -64,7 +68,7 @@ module _ (x : ℕ) (h : Given x) where
 Given : ℕ → Type 0
 Given x = x ≡ x
 
-pub _then_ : {x y z : ℕ} → x ≡ y → y ≡ z → x ≡ z
+pub ◌then◌ : {x y z : ℕ} → x ≡ y → y ≡ z → x ≡ z
 p then q = p ∙ q
 
 pub unneeded : (n : ℕ) → n ≡ n
@@ -84,7 +88,7 @@ pub on-top : ℕ → ℕ
 on-top n = beneath n
 """,
     "crates/own/proofs/Theorems.antt": """
-pub use Rattle·own·proofs.proofs.Laws.{passed-on}
+pub use Rattle.own.proofs.Laws.{passed-on}
 
 pub stated : ℕ
 stated = 0
@@ -100,7 +104,7 @@ class Small(unittest.TestCase):
                 (root / name).parent.mkdir(parents=True, exist_ok=True)
                 (root / name).write_text(text, encoding="utf-8")
             dead = [named.name for named in unused(root)[1]]
-        self.assertEqual(sorted(dead), ["LEAST", "beneath", "never_called", "on-top", "unneeded", "unsaid"])
+        self.assertEqual(sorted(dead), ["LEAST", "beneath", "never", "never_called", "on-top", "unneeded", "unsaid"])
 
 
 if __name__ == "__main__":
