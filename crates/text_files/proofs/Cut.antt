@@ -25,7 +25,7 @@ use Rattle.layouts.specs.Files.{short_file, spare_other, file_length, file_too_l
 use Rattle.layouts.specs.declared.forms.Form.{Form}
 use Rattle.layouts.specs.declared.forms.Form.TheVariants.{Narrow, Wide}
 use Rattle.layouts.specs.Forms.{grid_header_bytes_of, grid_spare_of, most_nodes_of, spare_pattern_of}
-use Rattle.layouts.specs.GridFile.{grid_bytes, grid_form_in, nodes_of, nodes_in, constraints_in_of, grid_spare_in, grid_in}
+use Rattle.layouts.specs.GridFile.{grid_bytes, grid_form_in, nodes_of, nodes_in, constraints_in_of, grid_spare_in}
 use Rattle.layouts.proofs.FormLaws.{header-most}
 use Rattle.layouts.specs.BookFile.{book_bytes_of, contract_count_in, book_spare_in, book_form_in}
 use Rattle.layouts.proofs.BookFile.{book-bytes_most}
@@ -33,8 +33,6 @@ use Rattle.layouts.specs.PriceFile.{price_bytes, price_count}
 use Rattle.grid_rules.specs.ReadGrid.{grid_size_checks, grid_figure_checks, capped_checks, program_bytes}
 use Rattle.book_rules.specs.BookChecks.{book_checks}
 use Rattle.price_rules.specs.ReadPrices.{price_file_checks}
-use Rattle.text_format.specs.Ascii.{ascii}
-use Rattle.text_format.specs.RefusedLine.{refused_line_of}
 use Rattle.text_files.specs.WithFiles.{with_grid, with_book, with_prices}
 
 -- what a program reads of a file: one byte more than the most that it takes, `PROGRAM_GRID_BYTES`, `MAX_BOOK_BYTES` and `MAX_PRICE_BYTES` of layouts
