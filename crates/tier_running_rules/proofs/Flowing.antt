@@ -14,7 +14,7 @@ use Rattle.lists.specs.Lists.{any_of, list_to}
 use Rattle.lists.proofs.Lists.{list_to-cong}
 use Rattle.lists.proofs.Search.{neither, none-bad, any_of_bad, cell_in}
 use Rattle.tariff.specs.declared.contracts.Contract.{Contract}
-use Rattle.tariff.specs.Units.{Factors, factors_of, max_constraints, max_contracts, max_flow}
+use Rattle.tariff.specs.Units.{factors_of, max_constraints, max_contracts, max_flow}
 use Rattle.tariff.specs.Feasibility.{flow}
 use Rattle.tariff.specs.ContractRules.{InRange}
 use Rattle.tariff.proofs.Sizes.{flow-sized}
