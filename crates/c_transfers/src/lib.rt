@@ -18,7 +18,7 @@ pub extern "C" fn crr_net_transfers(
     news: &[u64],
     nets: &mut [i64],
 ) -> u64
-    ensures { NetsTransfersForC (net_transfers_call lses (row_lists classes customers rates olds news) (before nets)) result (after nets) }
+    ensures { NetsTransfersForC (net_transfers_call lses (row_lists classes.now customers.now rates.now olds.now news.now) (before nets)) result (after nets) }
 {
     match migration_square::net_transfers(lses, classes, customers, rates, olds, news, nets) {
         NetsAnswer::Refused(refusal) => refusal.number(),

@@ -22,8 +22,8 @@ pub record MigrateLoadCall : Type 0 where
   pub loads : List ℕ
   pub place : List ℕ
 
-abbrev pub migrate_load_call : ℕ → ℕ → Lent (List ℕ) → RowLists → Lent (List ℕ) → Lent (List ℕ) → MigrateLoadCall
-migrate_load_call n t book lists loads file = record { nodes = n; period = t; book = before book; lists = lists; loads = before loads; place = before file }
+abbrev pub migrate_load_call : ℕ → ℕ → List ℕ → RowLists → List ℕ → Lent (List ℕ) → MigrateLoadCall
+migrate_load_call n t book lists loads file = record { nodes = n; period = t; book = book; lists = lists; loads = loads; place = before file }
 
 module _ (q : MigrateLoadCall) where
   abbrev pub rows_given : List MigrationRow

@@ -29,7 +29,7 @@ fn check_input(
     news: &[u64],
     loads: &[u64],
 ) -> Checked
-    ensures { result ≡ first (input_checks nodes period book.now (row_lists classes customers rates olds news) loads.now) }
+    ensures { result ≡ first (input_checks nodes period book.now (row_lists classes.now customers.now rates.now olds.now news.now) loads.now) }
 {
     if 1 < period {
         return Checked::Refused(Refusal::PeriodOrKind);
@@ -147,7 +147,7 @@ pub fn migrate_load(
     loads: &[u64],
     file: &mut [u8],
 ) -> WriteAnswer
-    ensures { MigratesLoad (migrate_load_call nodes period book (row_lists classes customers rates olds news) loads file) result (after file) }
+    ensures { MigratesLoad (migrate_load_call nodes period book.now (row_lists classes.now customers.now rates.now olds.now news.now) loads.now file) result (after file) }
 {
     if let Checked::Refused(refusal) = check_input(
         nodes, period, book, classes, customers, rates, olds, news, loads,

@@ -1,7 +1,6 @@
 -- Document 02, paper 5: rows of moved customers, net transfers, and what is turned down. Load-serving entities (LSEs) are numbered from 1; n is how many there
 -- are. Definitions only.
 use Rattle.std.specs.Prelude.{Bool, cond, not, ◌||◌, ◌&&◌, List, [], ◌∷◌, ◌++◌, ℕ, suc, ◌-◌, ◌*◌, ltb, eqb, length, get_or, ℤ, pos, nat_abs, ◌-ℤ◌}
-use Rattle.lists.specs.Lent.{Lent, before}
 use Rattle.lists.specs.Lists.{list_to, any_of, above}
 use Rattle.largest_remainders.specs.Ranks.{add_to}
 use Rattle.integers.specs.Sums.{max0, sum_over_of}
@@ -31,9 +30,8 @@ pub record RowLists : Type 0 where
   pub olds : List ℕ
   pub news : List ℕ
 
-abbrev pub row_lists : Lent (List ℕ) → Lent (List ℕ) → Lent (List ℕ) → Lent (List ℕ) → Lent (List ℕ) → RowLists
-row_lists classes customers rates olds news =
-    record { classes = before classes; customers = before customers; rates = before rates; olds = before olds; news = before news }
+abbrev pub row_lists : List ℕ → List ℕ → List ℕ → List ℕ → List ℕ → RowLists
+row_lists classes customers rates olds news = record { classes = classes; customers = customers; rates = rates; olds = olds; news = news }
 
 abbrev pub migration_rows_in : RowLists → List MigrationRow
 migration_rows_in lists = rows_of lists.customers lists.rates lists.olds lists.news

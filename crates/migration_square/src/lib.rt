@@ -29,7 +29,7 @@ fn check_nets(
     news: &[u64],
     place: &[i64],
 ) -> Checked
-    ensures { result ≡ net_transfers_checked (net_transfers_call entities (row_lists classes customers rates olds news) place.now) }
+    ensures { result ≡ net_transfers_checked (net_transfers_call entities (row_lists classes.now customers.now rates.now olds.now news.now) place.now) }
 {
     let checked = migration_transfers::check_rows(entities, classes, customers, rates, olds, news);
     if let Checked::Refused(refusal) = checked {
@@ -83,7 +83,7 @@ pub fn net_transfers(
     news: &[u64],
     nets: &mut [i64],
 ) -> NetsAnswer
-    ensures { NetsTransfers (net_transfers_call entities (row_lists classes customers rates olds news) (before nets)) result (after nets) }
+    ensures { NetsTransfers (net_transfers_call entities (row_lists classes.now customers.now rates.now olds.now news.now) (before nets)) result (after nets) }
 {
     let checked = check_nets(entities, classes, customers, rates, olds, news, nets);
     if let Checked::Refused(refusal) = checked {

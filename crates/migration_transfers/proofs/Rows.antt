@@ -8,7 +8,7 @@ use native.Mathlib.Omega.{arith}
 use borrow.Author.Tests.{ltb-false, eqb-false}
 use lib.Dec.{ltb, eqb}
 use lib.ListN.{length}
-use Rattle.lists.specs.Lists.{list_to, any_of, above}
+use Rattle.lists.specs.Lists.{above}
 use Rattle.lists.proofs.Lists.{length-list_to, get_d_list_to}
 use lib.ListN.{get_or}
 use Rattle.lists.proofs.Search.{neither, none-bad}

@@ -97,7 +97,7 @@ pub fn check_rows(
     olds: &[u64],
     news: &[u64],
 ) -> Checked
-    ensures { result ≡ first (migration_row_checks entities (row_lists classes customers rates olds news)) }
+    ensures { result ≡ first (migration_row_checks entities (row_lists classes.now customers.now rates.now olds.now news.now)) }
 {
     if entity_count_bad(entities) {
         return Checked::Refused(Refusal::MigrationRange);
@@ -129,7 +129,7 @@ pub fn check_figures(
     news: &[u64],
     loads: &[u64],
 ) -> Checked
-    ensures { result ≡ first (range_checks (row_lists classes customers rates olds news) loads.now) }
+    ensures { result ≡ first (range_checks (row_lists classes.now customers.now rates.now olds.now news.now) loads.now) }
 {
     let checked = check_rows(loads.len(), classes, customers, rates, olds, news);
     if let Checked::Refused(refusal) = checked {
