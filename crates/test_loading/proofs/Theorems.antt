@@ -9,7 +9,7 @@ use Rattle.lists.specs.Sets.{set_of}
 use Rattle.lists.proofs.Sets.{set-cong}
 use Rattle.tariff.specs.declared.refusals.Checked.TheVariants.{Passed}
 use Rattle.tariff.specs.Checks.{process_number}
-use Rattle.tariff.specs.Feasibility.{total_flow, released, excess, overloaded, overload_set}
+use Rattle.tariff.specs.Feasibility.{total_flow, excess, overloaded, overload_set}
 use Rattle.tariff.proofs.Checks.{first_passes, passed_cons}
 use Rattle.grid_tables.specs.TableChecks.{grid_table_checks}
 use Rattle.test_rules.specs.TestBook.{TestCall, test_checks, test_checked, tested_grid, tested_process, tested_contracts}

@@ -1,6 +1,5 @@
 -- `held_flows`: the cells passed are copied.
 use mathlib.Core.Path.{ap, ◌∙◌}
-use Prim.Native.Nat.{◌-◌}
 use native.Mathlib.Omega.{arith}
 use lib.ListN.{get_or, length-set, length-replicate}
 use lib.IntN.{ℤ, pos}

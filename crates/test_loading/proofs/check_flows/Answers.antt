@@ -1,6 +1,6 @@
 -- `check_flows`: the test's checks, then the place.
 use native.Mathlib.Omega.{arith}
-use Rattle.test_loading.specs.FindFlows.{FlowsCall, asked_flows}
+use Rattle.test_loading.specs.FindFlows.{asked_flows}
 use Rattle.test_loading.proofs.Passing.{test-refuses, no_room, all-fits}
 use Rattle.test_loading.proofs.check_flows.Goals as goal
 

@@ -1,12 +1,11 @@
 -- `fill_flows`: the cells passed hold the flows passed, and those behind are as they were.
 use mathlib.Core.Path.{sym, ◌∙◌}
-use Prim.Native.Nat.{ℕ, ◌-◌, ◌<◌}
+use Prim.Native.Nat.{ℕ, ◌<◌}
 use native.Mathlib.Omega.{arith}
 use lib.ListN.{get_or, length-set}
 use lib.IntN.{ℤ, pos}
 use Rattle.integers.proofs.Machine.{back}
 use Rattle.lists.specs.Lists.{list_to}
-use Rattle.tariff.specs.Units.{max_constraints}
 use Rattle.lists.proofs.Fill.{fill_turn, rest-turn, fill_front}
 use Rattle.lists.proofs.Lists.{length-list_to, get_d_list_to}
 use Rattle.test_loading.proofs.fill_flows.Goals as goal

@@ -7,7 +7,7 @@ use Rattle.layouts.specs.BookFile.{book_in}
 use Rattle.test_rules.specs.TestBook.{TestCall, tested_grid, tested_contracts}
 use Rattle.test_rules.specs.declared.Flows.{Flows}
 use Rattle.test_rules.specs.Carried.{Carries}
-use Rattle.test_rules.proofs.Checking.{Tested, tested, refusal-answers, verdict_answers}
+use Rattle.test_rules.proofs.Checking.{tested, refusal-answers, verdict_answers}
 use Rattle.test_rules.proofs.Flowing.{carried_judgeable}
 use Rattle.test_terms.specs.Calls.{asked_test}
 use Rattle.test_verdict.proofs.Judging.{judges}
