@@ -1,58 +1,67 @@
 -- `amount_of`: sink minus source, times quantity, as it counts; and what priced it.
--- both MCCs are small
-use Prim.Native.Nat.{◌≤◌}
+use mathlib.Core.Path.{◌≡◌}
+use mathlib.Core.List.{List}
+use Prim.Native.Nat.{ℕ, ◌≤◌}
 use native.Mathlib.Omega.{arith}
-use lib.IntN.{nat_abs}
+use lib.IntN.{ℤ, nat_abs, ◌-ℤ◌}
 use Rattle.integers.proofs.Sizes.{nat_abs_sub}
+use Rattle.tariff.specs.declared.units.Mcc.{Mcc}
+use Rattle.tariff.specs.declared.contracts.Contract.{Contract}
+use Rattle.tariff.specs.ContractRules.{InRange}
 use Rattle.tariff.specs.Inner.{max_mcc, max_spread}
 use Rattle.hour_mcc.proofs.Products.{node_sized}
+use Rattle.hour_rules.specs.declared.PricedHour.{PricedHour}
+use Rattle.hour_rules.specs.Inner.{PricedBy, EndMccs}
 use Rattle.hour_rules.proofs.Amounts.{product_fits, counted-fits, amount-end}
-use Rattle.hour_amounts.proofs.amount_of.Tie as tie
 use Rattle.hour_amounts.proofs.amount_of.Goals as goal
 
-sink-small : (s : tie.Start) → nat_abs s.args.sink.0 ≤ max_mcc
-sink-small s =
-    let a = s.args in
-    rw s.requires.2.sink-is (node_sized a.hour.nodes a.hour.constraints a.factors.now a.prices.now s.requires.0.tables a.c.sink s.requires.1.sink-below)
+module _ (hour : PricedHour) (fs : List ℤ) (ps : List ℕ) (c : Contract) (sink source : Mcc)
+    (t : PricedBy hour fs ps) (r : InRange hour.nodes c) (e : EndMccs hour fs ps c sink source) where
+  -- both MCCs are small
+  sink-small : nat_abs sink.0 ≤ max_mcc
+  sink-small = rw e.sink-is (node_sized hour.nodes hour.constraints fs ps t.tables c.sink r.sink-below)
 
-source-small : (s : tie.Start) → nat_abs s.args.source.0 ≤ max_mcc
-source-small s =
-    let a = s.args in
-    rw s.requires.2.source_is (node_sized a.hour.nodes a.hour.constraints a.factors.now a.prices.now s.requires.0.tables a.c.source s.requires.1.source-below)
+  source-small : nat_abs source.0 ≤ max_mcc
+  source-small = rw e.source_is (node_sized hour.nodes hour.constraints fs ps t.tables c.source r.source-below)
+
+  -- the size does not hang on which is taken from which
+  small : (m : ℤ) → m ≡ sink.0 -ℤ source.0 → nat_abs m ≤ max_spread
+  small m is = rw is (omega (arith, nat_abs_sub sink.0 source.0, nat_abs_sub source.0 sink.0, sink-small, source-small))
 
 pub minus-requires : goal.minus-requires
-minus-requires c = let s = c.before.before in omega (arith, sink-small s, source-small s)
-
--- the size does not hang on which is taken from which
-small : (c : goal.After-minus) → nat_abs c.minus.result.0 ≤ max_spread
-small c =
-    let s = c.before.before.before in
-    let a = s.args in
-    rw c.minus.ensures (omega (arith, nat_abs_sub a.sink.0 a.source.0, nat_abs_sub a.source.0 a.sink.0, sink-small s, source-small s))
+minus-requires c =
+    let a = c.args in
+    let r = c.requires in
+    omega (
+      arith,
+      sink-small a.hour a.factors.now a.prices.now a.c a.sink a.source r.0 r.1 r.2,
+      source-small a.hour a.factors.now a.prices.now a.c a.sink a.source r.0 r.1 r.2,
+    )
 
 pub times-requires : goal.times-requires
-times-requires c = (small c, c.requires.1.quantity-sized)
+times-requires c =
+    let a = c.args in
+    let r = c.requires in
+    (small a.hour a.factors.now a.prices.now a.c a.sink a.source r.0 r.1 r.2 c.minus.result.0 c.minus.ensures, r.1.quantity-sized)
 
 pub counted-amount-requires : goal.counted-amount-requires
 counted-amount-requires c =
-    let s = c.before.before.before.before in
-    let d = c.before in
-    omega (arith, product_fits s.args.c s.requires.1.quantity-sized d.minus.result.0 (small d) c.times.result.0 c.times.ensures)
-
-pub priced_set-priced-requires : goal.priced_set-priced-requires
-priced_set-priced-requires c = let s = c in (s.requires.0.tables, s.requires.1, s.requires.0.posted_is)
+    let a = c.args in
+    let r = c.requires in
+    let s = small a.hour a.factors.now a.prices.now a.c a.sink a.source r.0 r.1 r.2 c.minus.result.0 c.minus.ensures in
+    omega (arith, product_fits a.c r.1.quantity-sized c.minus.result.0 s c.times.result.0 c.times.ensures)
 
 pub returns : goal.returns
 returns c =
-    let s = c.before.before.before.before.before.before in
-    let a = s.args in
-    let d = c.before.before.before in
+    let a = c.args in
+    let r = c.requires in
+    let s = small a.hour a.factors.now a.prices.now a.c a.sink a.source r.0 r.1 r.2 c.minus.result.0 c.minus.ensures in
     let x = c.times in
     let v = c.counted-amount in
     record {
       amount-is =
-          amount-end a.hour.nodes a.hour.constraints a.factors.now a.prices.now a.c a.sink a.source s.requires.2.sink-is s.requires.2.source_is
-          d.minus.result.0 x.result.0 v.result.0 d.minus.ensures x.ensures v.ensures;
-      amount-sized = counted-fits a.c s.requires.1.quantity-sized d.minus.result.0 (small d) x.result.0 v.result.0 x.ensures v.ensures;
+          amount-end a.hour.nodes a.hour.constraints a.factors.now a.prices.now a.c a.sink a.source r.2.sink-is r.2.source_is
+          c.minus.result.0 x.result.0 v.result.0 c.minus.ensures x.ensures v.ensures;
+      amount-sized = counted-fits a.c r.1.quantity-sized c.minus.result.0 s x.result.0 v.result.0 x.ensures v.ensures;
       priced-is = c.priced_set-priced.ensures;
     }
