@@ -1,0 +1,68 @@
+-- `write_market_view`: where no check refuses, the book's contracts without their holders are written.
+use mathlib.Core.Path.{◌≡◌, refl, sym, ◌∙◌}
+use Prim.Native.Nat.{◌≤◌}
+use native.Mathlib.Nat.{le_of_eq}
+use native.Mathlib.Omega.{arith}
+use lib.ListN.{length}
+use Rattle.tariff.specs.declared.refusals.Checked.TheVariants.{Passed}
+use Rattle.tariff.proofs.Answers.{answer-refused, cells-refused, answer-passed, cells-passed}
+use Rattle.tariff.specs.Refusals.{first}
+use Rattle.book_rules.specs.BookChecks.{own_checks}
+use Rattle.book_rules.proofs.Accepted.{own_accepted, own_header}
+use Rattle.view_rules.specs.Views.{market_file}
+use Rattle.view_rules.specs.MarketView.{MarketViewCall, market_view_call, market_view_checked}
+use Rattle.view_rules.proofs.Market.{market_rows, market_length}
+use Rattle.view_market.proofs.Checking.{accepted-of, room_of}
+use Rattle.view_market.proofs.write_market_view.Goals as goal
+
+pub write_anonymous-requires : goal.write_anonymous-requires
+write_anonymous-requires c =
+    let call : MarketViewCall = let a = c.args in market_view_call a.nodes a.book.now a.file.now in
+    let ok : market_view_checked call ≡ Passed = sym (c.check_market_view.ensures call.place refl) ∙ c.in-Passed.is in
+    let q = call in
+    let accepted : first (own_checks q.nodes q.book) ≡ Passed = accepted-of q ok in
+    let own = own_accepted q.nodes q.book accepted in
+    let form = c.book_form-form.ensures in
+    let count = c.contract_count.ensures.0 in
+    (omega (arith, count, own.few), rw (form, count) (le_of_eq (sym own.size)), rw (form, count) (room_of q ok))
+
+pub returns-in-Refused : goal.returns-in-Refused
+returns-in-Refused c =
+    let call : MarketViewCall = let a = c.args in market_view_call a.nodes a.book.now a.file.now in
+    let q = call in
+    let a = c.args in
+    let q = market_view_call a.nodes a.book.now a.file.now in
+    let found = c.check_market_view.ensures a.file.now refl in
+    let told = c.in-Refused.is in
+    record { length-given = answer-refused _ _ found _ told _; bytes-written = cells-refused _ _ found _ told (market_file q.book) _ }
+
+pub returns-in-Passed : goal.returns-in-Passed
+returns-in-Passed c =
+    let call : MarketViewCall = let a = c.args in market_view_call a.nodes a.book.now a.file.now in
+    let ok : market_view_checked call ≡ Passed = sym (c.check_market_view.ensures call.place refl) ∙ c.in-Passed.is in
+    let q = call in
+    let accepted : first (own_checks q.nodes q.book) ≡ Passed = accepted-of q ok in
+    let found = c.check_market_view.ensures q.place refl in
+    let told = c.in-Passed.is in
+    let written = c.write_anonymous.ensures in
+    let stored = rw (c.book_form-form.ensures, c.contract_count.ensures.0, ← market_rows q.book) at written in
+    record {
+      length-given = rw (sym (market_length q.nodes q.book accepted)) (answer-passed _ _ found told _);
+      bytes-written = cells-passed _ _ found told (market_file q.book) q.place _ stored;
+    }
+
+pub book_form-form-requires : goal.book_form-form-requires
+book_form-form-requires c =
+    let call : MarketViewCall = let a = c.args in market_view_call a.nodes a.book.now a.file.now in
+    let ok : market_view_checked call ≡ Passed = sym (c.check_market_view.ensures call.place refl) ∙ c.in-Passed.is in
+    let header-there : 2 ≤ length call.book = let q = call in own_header q.nodes q.book (accepted-of q ok) in
+    let q = call in
+    header-there
+
+pub contract_count-requires : goal.contract_count-requires
+contract_count-requires c =
+    let call : MarketViewCall = let a = c.args in market_view_call a.nodes a.book.now a.file.now in
+    let ok : market_view_checked call ≡ Passed = sym (c.check_market_view.ensures call.place refl) ∙ c.in-Passed.is in
+    let header-there : 2 ≤ length call.book = let q = call in own_header q.nodes q.book (accepted-of q ok) in
+    let q = call in
+    header-there
