@@ -1,0 +1,35 @@
+-- `room_short`: the rows are no longer than a row of every contract.
+use mathlib.Core.Path.{ap, ap₂, sym, ◌∙◌}
+use Prim.Native.Nat.{ℕ, ◌+◌, ◌*◌}
+use native.Mathlib.Nat.{mul-le-mul_left}
+use native.Mathlib.Omega.{arith}
+use borrow.Author.Tests.{le-ltb}
+use lib.Dec.{ltb}
+use Rattle.layouts.specs.Forms.{record_bytes}
+use Rattle.layouts.specs.BookFile.{contract_in}
+use Rattle.view_holder.proofs.Rows.{length-rows_to, held_most}
+use Rattle.view_holder.proofs.room_short.Goals as goal
+
+pub overflow_mul-row : goal.overflow_mul-row
+overflow_mul-row c = record { fits = omega (arith, mul-le-mul_left c.row_bytes-row.result c.requires.0, c.row_bytes-row.ensures.1) }
+
+pub returns-then-row-count : goal.returns-then-row-count
+returns-then-row-count c =
+    let k = c in
+    let a = k.args in
+    let g = contract_in a.form a.book.now in
+    sym (le-ltb a.bytes _ (omega (
+      arith,
+      c.if-row-count.true,
+      length-rows_to a.form a.holder a.book.now a.count,
+      mul-le-mul_left (2 + record_bytes a.form) (held_most a.holder g a.count),
+      ap (λ (x : ℕ). x * a.count) k.row_bytes-row.ensures.0,
+    )))
+
+pub overflow_mul-result : goal.overflow_mul-result
+overflow_mul-result c = let k = c in record { fits = omega (arith, mul-le-mul_left k.row_bytes-row.result c.held_count.ensures.1, k.row_bytes-row.ensures.1) }
+
+pub returns : goal.returns
+returns c =
+    let a = c.args in
+    ap (ltb a.bytes) (ap₂ ◌*◌ c.row_bytes-row.ensures.0 c.held_count.ensures.0 ∙ sym (length-rows_to a.form a.holder a.book.now a.count))
