@@ -1,0 +1,10 @@
+-- `put_part`.
+-- the byte string is the sentences joined
+use mathlib.Core.List.{flat_map}
+use Rattle.text_refusals.specs.Sentences.{sentences}
+use Rattle.text_refusals.specs.Inner.{part}
+use Rattle.text_refusals.proofs.sentences.put_part.Goals as goal
+
+pub returns : goal.returns
+unfolding part sentences flat_map
+returns c = c.put_text.ensures
