@@ -19,9 +19,7 @@ pub returns-in-Refused : goal.returns-in-Refused
 returns-in-Refused c place e = sym (book-refuses _ _ (sym c.check_own.ensures ∙ c.in-Refused.is))
 
 pub returns-then-holder-gt-MAX_HOLDER : goal.returns-then-holder-gt-MAX_HOLDER
-returns-then-holder-gt-MAX_HOLDER c place e =
-    let accepted : first (own_checks c.args.nodes c.args.book.now) ≡ Passed = sym c.check_own.ensures ∙ c.in_default.is in
-    sym (no_holder _ accepted (omega arith))
+returns-then-holder-gt-MAX_HOLDER c place e = sym (no_holder _ (sym c.check_own.ensures ∙ c.in_default.is) (omega arith))
 
 pub book_form-form-requires : goal.book_form-form-requires
 book_form-form-requires c =
