@@ -1,0 +1,27 @@
+-- `moved_contract`.
+use mathlib.Core.Path.{ap, ◌∙◌}
+use lib.ListN.{get_or}
+use Rattle.tariff.specs.declared.contracts.Contract.{Contract}
+use Rattle.remap_rules.specs.Inner.{moved_by}
+use Rattle.remap_book.proofs.moved_contract.Goals as goal
+
+pub end_at-from-requires : goal.end_at-from-requires
+end_at-from-requires c = rw c.contract_at-c.ensures c.requires.movable.source_known
+
+pub end_at-to-requires : goal.end_at-to-requires
+end_at-to-requires c = rw c.contract_at-c.ensures c.requires.movable.sink-known
+
+pub returns : goal.returns
+unfolding moved_by
+returns c =
+    let k = c in
+    let ends = k.args.ends.now in
+    let e = k.contract_at-c.ensures in
+    λ t. record {
+      kind = (e t).kind;
+      period = (e t).period;
+      holder = (e t).holder;
+      source = (c.end_at-from.ensures ∙ ap (λ (x : Contract). get_or ends x.source 0) e) t;
+      sink = (c.end_at-to.ensures ∙ ap (λ (x : Contract). get_or ends x.sink 0) e) t;
+      quantity = (e t).quantity;
+    }
