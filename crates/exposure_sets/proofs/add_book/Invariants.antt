@@ -1,0 +1,25 @@
+-- The invariants and measures of `exposure_sets::add_book`.
+use mathlib.Core.Path.{◌≡◌}
+use Prim.Native.Nat.{ℕ, ◌-◌, ◌*◌, ◌≤◌}
+use mathlib.Core.List.{List}
+use lib.ListN.{length}
+use lib.IntN.{ℤ}
+use Rattle.tariff.specs.declared.contracts.Period.{Period}
+use Rattle.tariff.specs.Inner.{max_released}
+use Rattle.layouts.specs.BookFile.{contract_at}
+use Rattle.exposure_sets.specs.Inner.{fixed_in, option_in}
+use Rattle.exposure_sets.proofs.Laws.{Upto}
+use Rattle.exposure_sets.proofs.add_book.Given as goal
+
+abbrev pub options : ℕ → List ℤ → List ℕ → ℕ → Period → List ℕ → ℕ → ℕ → ℤ
+options k fs over count t book i m = option_in k fs over count t (contract_at book i) m
+
+abbrev pub fixed : ℕ → List ℤ → List ℕ → Period → List ℕ → ℕ → ℕ → ℤ
+fixed k fs over t book i s = fixed_in k fs over t (contract_at book i) s
+
+abbrev pub invariant-loop-i : goal.invariant-loop-i
+invariant-loop-i l = (l.i ≤ l.contracts) × (length l.sums ≡ 1024) × Upto max_released l.count (fixed l.constraints l.factors l.over l.period l.book) l.initial.row l.row l.i
+    × Upto (max_released * 10) l.n (options l.constraints l.factors l.over l.count l.period l.book) l.initial.costs l.costs l.i
+
+abbrev pub decreases-loop-i : goal.decreases-loop-i
+decreases-loop-i l = l.contracts - l.i

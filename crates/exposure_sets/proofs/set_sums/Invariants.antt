@@ -1,0 +1,11 @@
+-- The invariants and measures of `exposure_sets::set_sums`.
+use Prim.Native.Nat.{◌-◌}
+use Rattle.exposure_sets.specs.Inner.{cell_in_of}
+use Rattle.exposure_sets.proofs.Laws.{Summed}
+use Rattle.exposure_sets.proofs.set_sums.Given as goal
+
+abbrev pub invariant-loop-t : goal.invariant-loop-t
+invariant-loop-t l = Summed l.count (cell_in_of l.figures) l.sums l.n l.t
+
+abbrev pub decreases-loop-t : goal.decreases-loop-t
+decreases-loop-t l = l.count - l.t
