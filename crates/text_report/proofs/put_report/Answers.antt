@@ -1,0 +1,52 @@
+-- `put_report`.
+-- the tables before the reader fills them
+use Rattle.grid_rules.specs.declared.GridAnswer.TheVariants.{Read}
+use Rattle.grid_rules.specs.declared.GridAnswer.{GridAnswer}
+use Rattle.layouts.specs.declared.forms.Form.{Form}
+use mathlib.Core.Path.{◌≡◌}
+use mathlib.Core.List.{List}
+use Prim.Native.Nat.{ℕ}
+use native.Mathlib.Omega.{arith}
+use lib.ListN.{length, replicate, length-replicate}
+use lib.IntN.{ℤ, pos}
+use Rattle.text_format.proofs.Putting.{put_same}
+use Rattle.tariff.specs.Units.{max_constraints}
+use Rattle.text_files.proofs.WithFiles.{grid-refused, grid-text}
+use Rattle.grid_rules.specs.ReadGrid.{capped_checks, program_bytes, program_factors, ReadsWithin, read_grid_call}
+use Rattle.grid_rules.proofs.Taken.{GridTaken, within-taken}
+use Rattle.text_report_rules.specs.WriteReport.{report}
+use Rattle.text_report.proofs.put_report.Goals as goal
+
+cells : List ℕ
+cells = replicate max_constraints 0
+
+places : List ℤ
+places = replicate program_factors (pos 0)
+
+cells-long : length cells ≡ max_constraints
+unfolding cells
+cells-long = length-replicate {A = ℕ} max_constraints 0
+
+places-long : length places ≡ program_factors
+unfolding places
+places-long = length-replicate {A = ℤ} program_factors (pos 0)
+
+-- the tables as the reader left them
+taken : (file : List ℕ) → (nodes constraints : ℕ) → (form : Form) → (limits : List ℕ) → (factors : List ℤ) → (answer : GridAnswer) → answer ≡ Read nodes constraints form
+    → ReadsWithin program_bytes (read_grid_call file cells places) answer limits factors → GridTaken (capped_checks program_bytes file) file nodes constraints limits factors
+taken file nodes constraints form limits factors answer told reads = within-taken _ cells places program_bytes _ _ _ _ _ (rw told at reads)
+
+pub put_tested-requires : goal.put_tested-requires
+unfolding cells places
+put_tested-requires c =
+    let t = taken _ c.in-Read.nodes c.in-Read.constraints _ _ _ _ c.in-Read.is c.read_within.ensures in record { report_room_in_bounds = omega arith; good_cells = (t.good-limits, t.good-factors) }
+
+pub returns-in-Refused : goal.returns-in-Refused
+unfolding report cells places
+returns-in-Refused c =
+    let r = c.read_within in
+    put_same (grid-refused _ _ cells places cells-long places-long _ _ _ (rw c.in-Refused.is at r.ensures)) c.put_refused.ensures
+
+pub returns-in-Read : goal.returns-in-Read
+unfolding report cells places
+returns-in-Read c = put_same (grid-text _ _ _ _ _ _ (taken _ c.in-Read.nodes c.in-Read.constraints _ _ _ _ c.in-Read.is c.read_within.ensures)) c.put_tested.ensures
