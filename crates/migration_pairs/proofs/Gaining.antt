@@ -11,11 +11,10 @@ use borrow.Author.Tests.{eq-eqb, ne_eqb, eqb-false, ltb-true, ltb-false}
 use lib.Dec.{eqb, ltb}
 use lib.ListN.{length, get_or, set}
 use lib.Seq.{get_or-set_same, get_or-set_other}
-use lib.IntN.{pos, nat_abs}
+use lib.IntN.{nat_abs}
 use Rattle.integers.specs.Sums.{max0}
 use Rattle.tariff.specs.declared.contracts.Contract.{Contract}
 use Rattle.tariff.specs.declared.units.Transfer.{Transfer}
-use Rattle.tariff.specs.Units.{max_entities}
 use Rattle.migration_rules.specs.Transfers.{load}
 use Rattle.migration_rules.specs.ContractRules.{gainer_share, pairs_to}
 use Rattle.migration_transfers.specs.Squares.{no_transfer, of_net, row_losses}
