@@ -4,8 +4,8 @@
 Crates, modules, functions, definitions and words get their new names: folders and files, paths, imports, crates.txt
 with its sections, must-fail edits, documents, tests, bindings. A definition is renamed where it stands and where it is
 imported from there, and nowhere else. What is imported from crates that the folder does not have is looked up in a
-tree, since definitions moved with their crates. It reads the spelling of the kits before rattle-kit-13. The notes on landings and the changelog tell what was: of them links
-alone follow. A second run changes nothing.
+tree, since definitions moved with their crates. The notes on landings and the changelog tell what was: of them links
+alone follow. A second run changes nothing. It reads and writes the spelling of the kits before rattle-kit-13.
 
 Usage: rename.py FOLDER [--tree TREE]   TREE: where imports are looked up; by default FOLDER if it is a tree,
                                         else the tree that this script stands in
