@@ -1,0 +1,29 @@
+-- `put_priced`: where the prices are read, an hour is settled.
+use Prim.Native.Nat.{ℕ}
+use native.Mathlib.Omega.{arith}
+use lib.ListN.{length-replicate}
+use Rattle.text_format.proofs.Putting.{put_same}
+use Rattle.tariff.specs.Units.{max_constraints}
+use Rattle.price_rules.proofs.Taken.{prices-taken}
+use Rattle.text_files.proofs.WithFiles.{prices-refused, prices-text}
+use Rattle.text_statement.proofs.put_priced.Goals as goal
+
+pub put_settled-requires : goal.put_settled-requires
+put_settled-requires c =
+    let r = c.read_prices in
+    let a = c.args in
+    let taken = prices-taken a.constraints a.price_file.now _ _ _ (rw c.in-Read.is at r.ensures) in record { longest_statement_in_bounds = omega (arith, c.requires.longest_statement_in_bounds); hour = (record { good-factors = c.requires.good_factors.0; good-prices = taken.good-prices }, c.requires.good_factors.1) }
+
+pub returns-in-Refused : goal.returns-in-Refused
+returns-in-Refused c =
+    let r = c.read_prices in
+    let a = c.args in
+    put_same (prices-refused a.constraints a.price_file.now _ _ (length-replicate {A = ℕ} max_constraints 0) _ _ (rw c.in-Refused.is at r.ensures)) c.put_refused.ensures
+
+pub returns-in-Read : goal.returns-in-Read
+returns-in-Read c =
+    let h = c.from_number-hour in
+    let r = c.read_prices in
+    let a = c.args in
+    let taken = prices-taken a.constraints a.price_file.now _ _ _ (rw c.in-Read.is at r.ensures) in
+    put_same (prices-text a.constraints a.price_file.now _ _ _ taken) (rw h.ensures at c.put_settled.ensures)

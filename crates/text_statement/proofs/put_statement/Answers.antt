@@ -1,0 +1,34 @@
+-- `put_statement`.
+use Prim.Native.Nat.{ℕ}
+use native.Mathlib.Omega.{arith}
+use lib.IntN.{ℤ, pos}
+use lib.ListN.{length-replicate}
+use Rattle.text_format.proofs.Putting.{put_same}
+use Rattle.tariff.specs.Units.{max_constraints}
+use Rattle.grid_rules.specs.ReadGrid.{program_bytes, program_factors}
+use Rattle.grid_rules.proofs.Taken.{within-taken}
+use Rattle.text_files.proofs.WithFiles.{grid-refused, grid-text}
+use Rattle.text_statement.specs.WriteStatement.{statement as statementOf}
+use Rattle.text_statement.proofs.put_statement.Goals as goal
+
+pub put_booked-requires : goal.put_booked-requires
+put_booked-requires c =
+    let r = c.read_within in
+    let a = c.args in
+    (omega (arith, c.requires), (within-taken a.grid_file.now _ _ program_bytes _ _ _ _ _ (rw c.in-Read.is at r.ensures)).good-factors)
+
+pub returns-in-Refused : goal.returns-in-Refused
+unfolding statementOf
+returns-in-Refused c =
+    let r = c.read_within in
+    let a = c.args in
+    let limits = length-replicate {A = ℕ} max_constraints 0 in
+    let factors = length-replicate {A = ℤ} program_factors (pos 0) in
+    put_same (grid-refused a.grid_file.now _ _ _ limits factors _ _ _ (rw c.in-Refused.is at r.ensures)) c.put_refused.ensures
+
+pub returns-in-Read : goal.returns-in-Read
+unfolding statementOf
+returns-in-Read c =
+    let r = c.read_within in
+    let a = c.args in
+    put_same (grid-text a.grid_file.now _ _ _ _ _ (within-taken a.grid_file.now _ _ program_bytes _ _ _ _ _ (rw c.in-Read.is at r.ensures))) c.put_booked.ensures
