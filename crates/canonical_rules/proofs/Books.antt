@@ -7,7 +7,7 @@ use Prim.Native.Nat.{ℕ, ◌^◌, ◌≤◌, ◌<◌}
 use native.Mathlib.Nat.{mul-le-mul_left}
 use native.Mathlib.Omega.{arith}
 use borrow.Author.Tests.{ltb-false, eqb-false, lt-leb, le-ltb, ne_eqb}
-use lib.Dec.{eqb, ltb, leb}
+use lib.Dec.{eqb, ltb}
 use lib.ListN.{length}
 use Rattle.lists.specs.Lists.{Each}
 use Rattle.lists.proofs.Lists.{each-list_to}
@@ -27,7 +27,7 @@ use Rattle.layouts.specs.BookFile.{book_file, contract_count_in, book_form_in, c
 use Rattle.layouts.specs.BookTable.{ContractFits}
 use Rattle.layouts.proofs.BookFile.{contract-in_fits, book-fits, length-book_in}
 use Rattle.book_rules.specs.BookChecks.{contract_checks}
-use Rattle.book_rules.proofs.Accepted.{Accepted, contract-in_range, contracts-pass, own_parts, own_accepted, own_passes}
+use Rattle.book_rules.proofs.Accepted.{contract-in_range, contracts-pass, own_parts, own_accepted, own_passes}
 use Rattle.book_rules.proofs.Making.{Made, book-made}
 use Rattle.test_flow_laws.specs.Quantities.{with_quantity}
 use Rattle.canonical_rules.specs.Canonical.{quantity, total_of, Filled, CanonicalOf, canonical, canonical_file}

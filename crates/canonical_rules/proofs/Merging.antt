@@ -1,5 +1,5 @@
 -- The rows that `canonical` gives are canonical: merged rows have strictly ascending fives, and each is cut into full rows and a rest.
-use mathlib.Core.Path.{◌≡◌, refl, ap}
+use mathlib.Core.Path.{◌≡◌, refl}
 use mathlib.Core.Logic.{inl, inr, ⊎_elim}
 use mathlib.Core.Bool.{Bool, true, false, cond}
 use mathlib.Core.List.{List, [], ◌∷◌, ◌++◌, flat_map, append_assoc}
@@ -14,7 +14,7 @@ use Rattle.lists.proofs.Lists.{each_append}
 use Rattle.tariff.specs.declared.contracts.Contract.{Contract}
 use Rattle.tariff.specs.Units.{max_quantity}
 use Rattle.test_flow_laws.specs.Quantities.{with_quantity}
-use Rattle.canonical_rules.specs.Canonical.{quantity, five_of, has_five_of, Before, BeforeNext, Ordered, Filled, CanonicalOf, merge_into, merged_rows, cut, canonical}
+use Rattle.canonical_rules.specs.Canonical.{quantity, five_of, has_five_of, BeforeNext, Ordered, Filled, CanonicalOf, merge_into, merged_rows, cut, canonical}
 use Rattle.canonical_rules.specs.Theorems.{FiveFits}
 use Rattle.canonical_rules.proofs.Totals.{each-add_into, each-merged, total-canonical}
 

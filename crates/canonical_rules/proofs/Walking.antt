@@ -1,20 +1,20 @@
 -- One walk over rows sorted by their fives gives the canonical rows: neighbours of one five are added and cut as they come.
 use mathlib.Core.Path.{◌≡◌, refl, sym, ap, ◌∙◌}
 use mathlib.Core.Logic.{◌⊎◌, inl, inr, ⊎_elim}
-use mathlib.Core.Bool.{Bool, true, false, cond, not}
+use mathlib.Core.Bool.{Bool, true, false, cond}
 use mathlib.Core.List.{List, [], ◌∷◌}
 use Prim.Native.Nat.{ℕ, suc, ◌+◌, ◌-◌, ◌≤◌, ◌<◌}
 use native.Mathlib.Omega.{arith}
 use borrow.Author.Tests.{eqb-true, eqb-false, eq-eqb, ne_eqb, le-leb, lt-leb}
-use lib.Dec.{eqb, leb}
+use lib.Dec.{eqb}
 use lib.ListN.{length}
 use Rattle.lists.specs.Lists.{Each}
 use Rattle.tariff.specs.declared.contracts.Contract.{Contract}
 use Rattle.tariff.specs.Units.{max_quantity}
 use Rattle.test_flow_laws.specs.Quantities.{with_quantity}
 use Rattle.sorting.proofs.Sorted.{le_or_lt}
-use Rattle.canonical_rules.specs.Canonical.{quantity, five_of, total_where, Before, BeforeNext, Ordered, Filled}
-use Rattle.canonical_rules.specs.Inner.{goes, out, pending, walk_from}
+use Rattle.canonical_rules.specs.Canonical.{quantity, five_of, total_where, BeforeNext, Ordered, Filled}
+use Rattle.canonical_rules.specs.Inner.{walk_from}
 use Rattle.canonical_rules.proofs.Merging.{five_at}
 
 same_or_not : (x y : ℕ) → (x ≡ y) ⊎ (x ≡ y → ⊥)
