@@ -1,5 +1,4 @@
 -- `walk`: the rows that are out and the walk from the pending one on are the whole walk.
-use Prim.Native.Nat.{◌-◌}
 use native.Mathlib.Omega.{arith}
 use Rattle.canonical_numbers.proofs.Turning.{walking_begins, read_sized, walking_next, walk_ends}
 use Rattle.canonical_numbers.proofs.walk.Goals as goal
