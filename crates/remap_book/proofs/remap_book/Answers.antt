@@ -6,7 +6,7 @@ use native.Mathlib.Omega.{arith}
 use lib.ListN.{length}
 use Rattle.tariff.proofs.Answers.{answer-refused, cells-refused, answer-passed, cells-passed}
 use Rattle.book_rules.proofs.Accepted.{book-accepted, accepted-header}
-use Rattle.remap_rules.specs.RemapBook.{RemapBookCall, remap_book_call, book_remapped}
+use Rattle.remap_rules.specs.RemapBook.{remap_book_call, book_remapped}
 use Rattle.remap_rules.proofs.Accepted.{Remappable, remappable, movable, looked_up_list, length-remade}
 use Rattle.remap_book.proofs.remap_book.Goals as goal
 

@@ -1,7 +1,7 @@
 -- `write_moved`: after i turns the front of the book is there, as far as its first i contracts.
 -- contract j of a book, moved
 use mathlib.Core.Path.{refl, ◌∙◌}
-use Prim.Native.Nat.{◌+◌, ◌-◌}
+use Prim.Native.Nat.{◌+◌}
 use native.Mathlib.Omega.{arith}
 use Rattle.layouts.proofs.BookFile.{record_room}
 use Rattle.book_growth.proofs.Appending.{no_rows, row_appended, rows_written}
