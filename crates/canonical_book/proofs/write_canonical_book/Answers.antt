@@ -1,7 +1,7 @@
 -- `write_canonical_book`: where no check of the book's own refuses, the canonical rows are in the cells.
 use mathlib.Core.Path.{◌≡◌, refl, sym, ap₂, ◌∙◌}
-use mathlib.Core.List.{List, map}
-use Prim.Native.Nat.{ℕ, ◌≤◌}
+use mathlib.Core.List.{map}
+use Prim.Native.Nat.{◌≤◌}
 use native.Mathlib.Omega.{arith}
 use lib.ListN.{length, take}
 use Rattle.tariff.specs.declared.refusals.Checked.TheVariants.{Passed}
@@ -11,7 +11,7 @@ use Rattle.layouts.specs.BookFile.{book_bytes_of, book_form_in, book_in}
 use Rattle.book_rules.specs.BookChecks.{own_checks}
 use Rattle.canonical_rules.specs.Canonical.{canonical, canonical_file}
 use Rattle.canonical_rules.specs.Inner.{row_number}
-use Rattle.canonical_rules.specs.CanonicalBook.{CanonicalBookCall, canonical_book_call}
+use Rattle.canonical_rules.specs.CanonicalBook.{canonical_book_call}
 use Rattle.canonical_book.proofs.Accepted.{rows-count, row_at, rows_are, own_refuses, header-there, countable, rows-fit_form, file-bytes, no_room, room}
 use Rattle.canonical_book.proofs.write_canonical_book.Goals as goal
 

@@ -1,7 +1,7 @@
 -- `write_rows`: after i turns the front of the book is there, as far as its first i rows.
 -- row j
 use mathlib.Core.Path.{refl, ◌∙◌}
-use Prim.Native.Nat.{ℕ, ◌+◌, ◌-◌, ◌<◌}
+use Prim.Native.Nat.{ℕ, ◌+◌, ◌<◌}
 use native.Mathlib.Omega.{arith}
 use Rattle.layouts.specs.Forms.{end_width}
 use Rattle.layouts.specs.BookTable.{ContractFits}
