@@ -4,14 +4,12 @@ use Prim.Native.Nat.{◌/◌, ◌%◌, ◌*◌}
 use native.Mathlib.Nat.{div-le_self}
 use native.Mathlib.Omega.{arith}
 use lib.IntN.{ℤ}
-use borrow.Author.Rules.{rules}
 use Rattle.integers.proofs.Machine.{cast_back}
 use Rattle.exposure_figures.proofs.Figures.{cents}
 use Rattle.exposure_prices.proofs.Figures.{units_are}
-use Rattle.exposure_prices.proofs.at_highest.Statement.{statement}
-use Rattle.exposure_prices.proofs.at_highest.Tie as tie
+use Rattle.exposure_prices.proofs.at_highest.Goals as goal
 
-returns : tie.Need-returns
+pub returns : goal.returns
 returns c =
     let u = c.args.units in
     let small = div-le_self u 200 in
@@ -20,6 +18,3 @@ returns c =
       parts-small = omega arith;
       whole-sized = rw (cast_back (u / 200) (omega (arith, small, c.requires))) (omega (arith, small, c.requires));
     }
-
-pub at-highest-spec : {M : Type 1} → statement M
-at-highest-spec = tie.close (tie.spec (λ c. search rules) (λ c. search rules) (λ c. search rules) (λ c. search rules) returns)
