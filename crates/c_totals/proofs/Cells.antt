@@ -1,9 +1,9 @@
 -- A judgement's answer as cells: they are the figures of the definitions.
 use mathlib.Core.Path.{◌≡◌}
-use mathlib.Core.List.{List, [], ◌∷◌}
+use mathlib.Core.List.{List, []}
 use Prim.Native.Nat.{ℕ}
 use lib.Dec.{eqb}
-use lib.IntN.{ℤ, pos}
+use lib.IntN.{ℤ}
 use Rattle.lists.specs.Sets.{set_of, count_of, lowest_of}
 use Rattle.tariff.specs.declared.processes.Process.{Process}
 use Rattle.test_rules.specs.TestBook.{pass_cells_of}
