@@ -6,7 +6,7 @@ ghost use Rattle.lists.specs.Lent.{before};
 ghost use Rattle.tariff.specs.Refusals.{first};
 ghost use Rattle.tier_rules.specs.Checks.{running_checks};
 ghost use Rattle.tier_rules.specs.Cells.{held_in};
-ghost use Rattle.tier_running_rules.specs.AddAward.{add_award_call};
+ghost use Rattle.tier_running_rules.specs.AddAward.{add_award_on};
 ghost use Rattle.tier_running_rules.specs.Inner.{counts_bad_of, state_short_of, short_if, up_to13};
 
 use layouts::CONTRACT_CELLS;
@@ -63,7 +63,7 @@ pub fn check_award(
     flows: &[i64],
 ) -> Checked
     ensures { result ≡ first (up_to13
-        (add_award_call asked.nodes asked.constraints asked.process asked.period limits factors award awards numbers flows) (held_in (numbers.now))) }
+        (add_award_on asked.nodes asked.constraints asked.process asked.period limits.now factors.now award.now awards.now numbers.now flows.now) (held_in (numbers.now))) }
 {
     let award_short = award.len() < CONTRACT_CELLS;
     let short = award_short | state_short(awards.len(), numbers.len(), flows.len());
