@@ -32,7 +32,7 @@ UNFIT = (
 FACT = re.compile(
     r"(?:as printed|computed as far as they go), the two (?:types|values|sides) "
     r"|expected type `"
-    r"|`(?:omega|search|grind|simp)`: "
+    r"|`(?:omega|search|grind|simp|cc)`(?:: | found no proof)"
     r"|`rw`: no occurrence of the path's "
     r"|give a proof of that as the last argument, `rw L t`"
 )
