@@ -7,7 +7,7 @@ use native.Mathlib.Omega.{arith}
 use borrow.Author.Tests.{eq-eqb, ne_eqb}
 use lib.ListN.{length, take}
 use lib.Seq.{get_or-take}
-use lib.IntN.{ℤ, pos, ◌-ℤ◌, ◌*ℤ◌}
+use lib.IntN.{ℤ, pos, ◌-ℤ◌}
 use Rattle.integers.proofs.Linear.{*ℤ-pos1}
 use Rattle.lists.specs.Lists.{list_to}
 use Rattle.lists.specs.Lent.{overwrite}

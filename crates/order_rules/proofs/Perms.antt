@@ -5,7 +5,7 @@ use mathlib.Core.Bool.{Bool, true, false, cond, Bool-discrete}
 use mathlib.Core.List.Perm
 use mathlib.Core.List.{List, [], ◌∷◌, foldr, filter, Perm}
 use mathlib.Core.List.{Permᴰ}
-use Prim.Native.Nat.{ℕ, suc}
+use Prim.Native.Nat.{suc}
 use native.Mathlib.Nat.{ℕ_set}
 use lib.ListN.{length}
 use lib.IntN.{ℤ}

@@ -16,7 +16,7 @@ use Rattle.tariff.specs.declared.contracts.Contract.{Contract}
 use Rattle.tariff.specs.Units.{Factors, factor, price}
 use Rattle.tariff.specs.Settlement.{congestion, mcc, amount, spread_at, priced_at, cents}
 use Rattle.slice_rules.specs.Slices.{Block, StandsFor}
-use Rattle.slice_rules.specs.Hours.{PricedBlock, SettledAsWhole, AmountIsTheWhole}
+use Rattle.slice_rules.specs.Hours.{PricedBlock, AmountIsTheWhole}
 
 -- ---- a sum without its term m
 

@@ -1,5 +1,5 @@
 -- What inner functions say: flows that can be added to cells, and cells that they were added to.
-use Rattle.std.specs.Prelude.{◌≡◌, ℕ, ◌+◌, ◌^◌, ◌≤◌, ◌<◌, List, length, get_or, ℤ, pos, nat_abs, ◌+ℤ◌}
+use Rattle.std.specs.Prelude.{ℕ, ◌+◌, ◌^◌, ◌≤◌, ◌<◌, List, length, get_or, ℤ, pos, nat_abs, ◌+ℤ◌}
 use Rattle.lists.specs.Lists.{list_to}
 use Rattle.tariff.specs.Units.{max_constraints}
 use Rattle.test_rules.specs.declared.Flows.{Flows}

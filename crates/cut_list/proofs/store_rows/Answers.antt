@@ -1,6 +1,6 @@
 -- `store_rows`: the cells passed hold the numbers and cuts of the keys passed, and those behind are as they were.
 use mathlib.Core.Path.{refl, sym}
-use Prim.Native.Nat.{ℕ, ◌-◌, ◌/◌, ◌%◌, ◌<◌}
+use Prim.Native.Nat.{ℕ, ◌/◌, ◌%◌, ◌<◌}
 use native.Mathlib.Omega.{arith}
 use lib.ListN.{length, get_or, length-set}
 use Rattle.lists.specs.Lists.{list_to}

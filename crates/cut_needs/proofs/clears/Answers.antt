@@ -1,9 +1,7 @@
 -- `clears`: the cut is enough at the constraints below k.
-use mathlib.Core.Path.{◌≡◌, refl}
+use mathlib.Core.Path.{refl}
 use mathlib.Core.Bool.{true}
-use Prim.Native.Nat.{ℕ, ◌-◌, ◌*◌, ◌^◌, ◌<◌}
 use native.Mathlib.Omega.{arith}
-use lib.IntN.{pos, nat_abs, ◌*ℤ◌}
 use Rattle.integers.proofs.Machine.{back}
 use Rattle.cut_rules.specs.Inner.{enough}
 use Rattle.cut_rules.proofs.Turns.{enough-turn, enough-fails, enough-end}

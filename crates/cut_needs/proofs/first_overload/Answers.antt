@@ -1,5 +1,5 @@
 -- `first_overload`: no constraint below k is overloaded.
-use Prim.Native.Nat.{ℕ, ◌-◌, ◌≤◌}
+use Prim.Native.Nat.{ℕ}
 use native.Mathlib.Omega.{arith}
 use lib.IntN.{pos}
 use lib.Signed.{◌≤ℤ◌}

@@ -1,7 +1,5 @@
 -- `least_cut`: the need, where it is enough at every constraint.
 use mathlib.Core.Path.{sym, ◌∙◌}
-use mathlib.Core.Bool.{Bool}
-use Prim.Native.Nat.{ℕ}
 use native.Mathlib.Omega.{arith}
 use borrow.Author.Tests.{eqb-true}
 use Rattle.cut_rules.specs.Inner.{enough}

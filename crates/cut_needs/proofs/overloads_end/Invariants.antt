@@ -1,5 +1,5 @@
 -- The invariants and measures of `cut_needs::overloads_end`.
-use Prim.Native.Nat.{ℕ, ◌-◌, ◌≤◌, ◌<◌}
+use Prim.Native.Nat.{ℕ, ◌≤◌, ◌<◌}
 use lib.IntN.{pos}
 use lib.Signed.{◌≤ℤ◌}
 use Rattle.cut_needs.specs.Inner.{cell_at}

@@ -1,9 +1,9 @@
 -- `raised`.
-use mathlib.Core.Path.{◌≡◌, refl, ap, ◌∙◌}
+use mathlib.Core.Path.{refl, ap, ◌∙◌}
 use mathlib.Core.Bool.{cond}
 use native.Mathlib.Omega.{arith}
 use lib.Dec.{leb}
-use lib.IntN.{ℤ, pos, ◌-ℤ◌, ◌*ℤ◌}
+use lib.IntN.{ℤ, ◌-ℤ◌}
 use Rattle.tariff.specs.ContractRules.{counted}
 use Rattle.integers.proofs.Linear.{*ℤ-pos1}
 use Rattle.cut_rules.specs.Inner.{need_at}

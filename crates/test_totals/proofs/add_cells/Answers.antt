@@ -1,7 +1,7 @@
 -- `add_cells`: the cells passed have their flows, and those behind are as they were.
 use mathlib.Core.Path.{◌≡◌, sym, ap, ◌∙◌}
 use mathlib.Core.List.{List}
-use Prim.Native.Nat.{ℕ, ◌+◌, ◌-◌, ◌^◌, ◌<◌}
+use Prim.Native.Nat.{ℕ, ◌+◌, ◌^◌, ◌<◌}
 use native.Mathlib.Omega.{arith}
 use lib.ListN.{length, get_or, drop, length-set}
 use lib.IntN.{ℤ, pos, nat_abs, ◌+ℤ◌}

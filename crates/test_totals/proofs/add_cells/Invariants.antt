@@ -1,6 +1,6 @@
 -- The invariants and measures of `test_totals::add_cells`.
 use mathlib.Core.Path.{◌≡◌}
-use Prim.Native.Nat.{ℕ, ◌+◌, ◌-◌, ◌≤◌}
+use Prim.Native.Nat.{ℕ, ◌-◌, ◌≤◌}
 use lib.ListN.{length, get_or, take, drop}
 use lib.IntN.{ℤ, pos, ◌+ℤ◌}
 use Rattle.lists.specs.Lists.{list_to}
