@@ -1,0 +1,56 @@
+-- `grown_count`: what follows the first i contracts is counted.
+use mathlib.Core.Path.{◌≡◌, ap, ◌∙◌}
+use native.Mathlib.Omega.{arith}
+use lib.ListN.{length}
+use Rattle.migration_pairs.proofs.Pairs.{row-ready, new-by_row}
+use Rattle.migration_book.proofs.Growing.{contract-there, none-new, length_more}
+use Rattle.migration_book.proofs.grown_count.Goals as goal
+
+pub losers_of-losers-requires : goal.losers_of-losers-requires
+losers_of-losers-requires c = let ready = c.requires.1 in (ready.size, ready.few)
+
+pub loop-i-init : goal.loop-i-init
+loop-i-init c =
+    let a = c.args in
+    (omega arith, omega (arith, ap length (none-new a.form a.book.now a.period a.square a.loads.now)), omega arith)
+
+pub contract_at-base-requires : goal.contract_at-base-requires
+contract_at-base-requires c =
+    let s = c in
+    contract-there s.args.form s.args.count s.args.book.now s.requires.0 c.loop-i.i (omega arith)
+
+pub new_count-grown-requires : goal.new_count-grown-requires
+new_count-grown-requires c =
+    let s = c in
+    let k = c in
+    let own = c.row_of-place in (
+      row-ready s.args.square s.args.loads.now s.requires.1 k.contract_at-base.result own.result own.ensures.1 own.ensures.0,
+      rw k.contract_at-base.ensures (s.requires.0.quantities c.loop-i.i (omega arith)),
+      c.losers_of-losers.ensures.each own.result own.ensures.0,
+    )
+
+pub overflow_add-grown : goal.overflow_add-grown
+overflow_add-grown c =
+    let s = c in
+    record { fits = omega (arith, s.requires.0.few, c.new_count-grown.ensures.1, c.loop-i.invariant) }
+
+pub loop-i-preserved : goal.loop-i-preserved
+loop-i-preserved c =
+    let s = c in
+    let l = c.loop-i in
+    let a = s.args in
+    let k = c.contract_at-base in
+    let own = c.row_of-place in
+    let same = new-by_row a.square a.loads.now s.requires.1 k.result own.result own.ensures.1 a.period in
+    let new = rw k.ensures at (c.new_count-grown.ensures.0 ∙ ap length same) in (
+      omega arith,
+      omega (arith, new, l.invariant.1, length_more a.form a.book.now a.period a.square a.loads.now l.i),
+      omega (arith, l.invariant.2, c.new_count-grown.ensures.1),
+    )
+
+pub returns : goal.returns
+returns c =
+    let a = c.args in
+    let l = c.loop-i in
+    let last : l.i ≡ a.count = omega arith in
+    rw last at l.invariant.1

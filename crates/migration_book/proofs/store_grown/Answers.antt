@@ -1,0 +1,84 @@
+-- `store_grown`: after i turns what follows the first i contracts is stored.
+use mathlib.Core.Path.{◌≡◌, refl, ◌∙◌}
+use Prim.Native.Nat.{◌+◌, ◌≤◌}
+use native.Mathlib.Nat.{le_trans}
+use native.Mathlib.Omega.{arith}
+use lib.ListN.{length}
+use Rattle.lists.proofs.Lists.{length-list_to}
+use Rattle.layouts.specs.BookFile.{contract_in}
+use Rattle.layouts.proofs.BookFile.{contract-in_fits}
+use Rattle.migration_rules.specs.ContractRules.{new_from}
+use Rattle.migration_transfers.specs.Squares.{lost_in}
+use Rattle.book_growth.proofs.Appending.{room-fewer, none-appended, more_appended}
+use Rattle.migration_pairs.proofs.Pairs.{row-ready, new-by_row}
+use Rattle.migration_book.specs.Inner.{new_to}
+use Rattle.migration_book.proofs.Growing.{contract-there, none-new, new-more, length_more, new-grow}
+use Rattle.migration_book.proofs.store_grown.Goals as goal
+
+pub loop-i-init : goal.loop-i-init
+loop-i-init c =
+    let a = c.args in
+    (omega arith, refl, rw (none-new a.form a.book.now a.period a.square a.loads.now) (none-appended a.form a.count a.file.now))
+
+pub contract_at-base-requires : goal.contract_at-base-requires
+contract_at-base-requires c =
+    let s = c in
+    contract-there s.args.form s.args.count s.args.book.now s.requires.readable.0 c.loop-i.i (omega arith)
+
+-- room for what follows this contract
+room : (c : goal.After-store_new-arg-1) → let a = c.args in
+    let l = c.loop-i in
+    l.place + length (new_from (lost_in a.square) a.loads.now a.period (contract_in a.form a.book.now l.i))
+    ≤ a.count + length (new_to a.form a.book.now a.period a.square a.loads.now a.count)
+room c =
+    let a = c.args in
+    let l = c.loop-i in
+    omega (
+      arith,
+      length_more a.form a.book.now a.period a.square a.loads.now l.i,
+      l.invariant.2.place,
+      new-grow a.form a.book.now a.period a.square a.loads.now (l.i + 1) a.count (omega arith),
+    )
+
+pub store_new-place-requires : goal.store_new-place-requires
+store_new-place-requires c =
+    let l = c.loop-i in
+    let s = c in
+    let a = s.args in
+    let p = c.row_of in
+    let k = c.contract_at-base in
+    let old = length-list_to a.count (contract_in a.form a.book.now) in (
+      row-ready a.square a.loads.now s.requires.readable.1 k.result p.result p.ensures.1 p.ensures.0,
+      rw (new-by_row a.square a.loads.now s.requires.readable.1 k.result p.result p.ensures.1 a.period, k.ensures) (record {
+        quantity-most = s.requires.readable.0.quantities l.i (omega arith);
+        fits = contract-in_fits a.form a.book.now l.i;
+        few = le_trans (room c) (rw old at s.requires.roomy.few);
+        room = room-fewer a.form _ _ _ (room c) (rw l.invariant.1 (rw old at s.requires.roomy.room));
+      }),
+    )
+
+pub loop-i-preserved : goal.loop-i-preserved
+loop-i-preserved c =
+    let w = c in
+    let p = w.row_of in
+    let k = w in
+    let l = k.loop-i in
+    let s = k in
+    let a = s.args in
+    let same = new-by_row a.square a.loads.now s.requires.readable.1 k.contract_at-base.result p.result p.ensures.1 a.period in (
+      omega arith,
+      w.store_new-place.auto.file ∙ l.invariant.1,
+      rw (new-more a.form a.book.now a.period a.square a.loads.now l.i)
+          (more_appended a.form a.count (new_to a.form a.book.now a.period a.square a.loads.now l.i) a.file.now l.file l.place
+          l.invariant.2 _ _ _
+          (rw (same, k.contract_at-base.ensures) at w.store_new-place.ensures)),
+    )
+
+pub shape_of-file : goal.shape_of-file
+shape_of-file c = c.loop-i.invariant.1
+
+pub returns : goal.returns
+returns c =
+    let l = c.loop-i in
+    let last : l.i ≡ c.args.count = omega arith in
+    rw last at l.invariant.2
