@@ -25,10 +25,9 @@ returns-then-text-lt-LONGEST_STATEMENT c =
 pub returns : goal.returns
 unfolding statement_checks
 returns c =
-    let i = c in
-    let a = i.args in
+    let a = c.args in
     let place = a.text.now in
-    let told = last-passes (short_table (length place) longest_statement) (le-ltb (length place) longest_statement i.if-text-lt-LONGEST_STATEMENT.false) in
+    let told = last-passes (short_table (length place) longest_statement) (le-ltb (length place) longest_statement c.if-text-lt-LONGEST_STATEMENT.false) in
     let front = put_front c.put_statement.ensures in
     record {
       length-given = ap (λ (n : ℕ). given (pos n ∷ [])) front.1 ∙ answer-passed _ _ refl told _;
