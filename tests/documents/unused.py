@@ -128,6 +128,8 @@ def all_declared(root: Path) -> Tuple[Table, Dict[str, Scope]]:
     texts: Dict[str, str] = {}
     for path in sorted((root / "crates").glob("*/*/**/*")):
         file = str(path.relative_to(root / "crates"))
+        if file.split("/")[1] == "out":  # what rt makes
+            continue
         if path.suffix in (".antt", ".rt"):
             texts[file] = path.read_text(encoding="utf-8")
         if path.suffix == ".antt":
