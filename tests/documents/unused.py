@@ -4,6 +4,11 @@ Used is what is told: an entry (crates.txt), a program's `main`, what README.md,
 docs/DEMANDS.md or docs/PROVED.md names in backquotes, and a statement of a crate's files of theorems; and
 what the text of something used names, as its file's imports have it. A function that is used uses its
 contract and its proof. Fields are left out: the prover reads them unnamed.
+
+spare.txt beside this has the laws that nothing uses since the prover finds what they were for: a law stays where
+taking it out would have all above it proved anew. One that is used again, or gone, is to leave the list.
+
+Usage: unused.py [--write]   --write puts the laws of proofs/ that nothing uses into spare.txt
 """
 
 import re
@@ -13,6 +18,7 @@ from pathlib import Path
 from typing import DefaultDict, Dict, Iterator, List, NamedTuple, Set, Tuple
 
 ROOT = Path(__file__).resolve().parents[2]
+SPARE = Path(__file__).resolve().parent / "spare.txt"
 TELLING = ("README.md", "docs/BELIEVE.md", "docs/DEMANDS.md", "docs/PROVED.md")
 IMPORT = re.compile(r"(?:ghost )?use Rattle\.(\w+)\.(specs|proofs)\.([\w.-]+?)"
                     r"(?:\.\{([^}]*)\}| as ([\w-]+));?")
@@ -210,12 +216,25 @@ def unused(root: Path) -> Tuple[Table, List[Named]]:
     return table, sorted(set(table) - used(root, table, scopes))
 
 
+def is_law(named: Named) -> bool:
+    """Whether it stands in a crate's laws, and not in a function's own proof."""
+    return re.fullmatch(r"\w+/proofs/\w+\.antt", named.file) is not None
+
+
 def main() -> int:
     table, dead = unused(ROOT)
-    for named in dead:
+    if "--write" in sys.argv[1:]:
+        SPARE.write_text("".join(f"{named.file} {named.name}\n" for named in dead if is_law(named)), encoding="utf-8")
+    listed = [line.split(" ") for line in SPARE.read_text(encoding="utf-8").splitlines()]
+    spare = {Named(file, name) for file, name in listed}
+    wrong = [named for named in dead if named not in spare]
+    for named in wrong:
         print(f"unused: crates/{named.file}:{table[named].line}: nothing uses {named.name}", file=sys.stderr)
-    print(f"unused: {len(table)} lemmas, definitions and functions, {len(dead)} that nothing uses")
-    return 1 if dead else 0
+    for named in sorted(spare - set(dead)):
+        print(f"unused: {SPARE.relative_to(ROOT)}: crates/{named.file}: {named.name} is used, or gone", file=sys.stderr)
+    wrong.extend(spare - set(dead))
+    print(f"unused: {len(table)} lemmas, definitions and functions, {len(spare)} spare laws, {len(wrong)} problems")
+    return 1 if wrong else 0
 
 
 if __name__ == "__main__":
