@@ -1,24 +1,22 @@
 -- What `migrate_load` writes follows the cells that `net_transfers` gives; the statements are in specs/Square.antt.
 use mathlib.Core.Path.{◌≡◌, refl, sym, ap, ap₂, ◌∙◌}
-use mathlib.Core.List.{List, [], ◌++◌}
-use Prim.Native.Nat.{ℕ, zero, suc, ◌+◌, ◌-◌, ◌*◌, ◌≤◌, ◌<◌}
+use mathlib.Core.List.{List, []}
+use Prim.Native.Nat.{ℕ, zero, suc, ◌-◌, ◌*◌, ◌≤◌, ◌<◌}
 use native.Mathlib.Omega.{arith}
 use borrow.Author.Tests.{le-ltb}
-use lib.ListN.{length, get_or, take}
-use lib.IntN.{ℤ, pos, nat_abs}
+use lib.ListN.{length, take}
+use lib.IntN.{ℤ, nat_abs}
 use Rattle.lists.specs.Lent.{Lent, before, after, overwrite}
 use Rattle.integers.specs.Sums.{max0}
-use Rattle.tariff.specs.declared.contracts.Contract.{Contract}
-use Rattle.tariff.specs.declared.refusals.Checked.{Checked}
 use Rattle.tariff.specs.declared.refusals.Checked.TheVariants.{Passed}
 use Rattle.tariff.specs.ContractRules.{period_of}
-use Rattle.tariff.specs.Refusals.{first, given, answered}
+use Rattle.tariff.specs.Refusals.{first}
 use Rattle.tariff.proofs.Answers.{given-told, some_refuses, none-refused, number-told}
 use Rattle.tariff.proofs.Checks.{append_passes, last-passes, passed_append, passed_cons}
 use Rattle.layouts.specs.declared.WriteAnswer.TheVariants.{Written}
 use Rattle.layouts.specs.BookFile.{book_file, book_form_in, book_in}
 use Rattle.book_rules.specs.BookChecks.{own_checks}
-use Rattle.migration_rules.specs.Transfers.{MigrationRow, RowLists, migration_rows_in, net, loss, migration_row_checks, range_checks}
+use Rattle.migration_rules.specs.Transfers.{MigrationRow, RowLists, migration_rows_in, loss, migration_row_checks, range_checks}
 use Rattle.migration_rules.proofs.Alike.{book-alike}
 use Rattle.migration_square.specs.declared.NetsAnswer.{NetsAnswer}
 use Rattle.migration_square.specs.declared.NetsAnswer.TheVariants.{Netted, Refused}
