@@ -5,7 +5,7 @@ ghost use Rattle.tariff.specs.Units.{factors_of, max_contracts};
 ghost use Rattle.tariff.specs.ContractRules.{same_period, period_of};
 ghost use Rattle.tariff.specs.Processes.{process_of};
 ghost use Rattle.tier_rules.specs.Cells.{awards_cells, state_numbers, held_in, left_in, with_award_row};
-ghost use Rattle.tier_running_rules.specs.AddAward.{add_award_call, AddsAward};
+ghost use Rattle.tier_running_rules.specs.AddAward.{add_award_on, AddsAward};
 ghost use Rattle.tier_running_rules.specs.Inner.{Addable, AddsFlows};
 
 use layouts::CONTRACT_CELLS;
@@ -61,7 +61,7 @@ pub fn add_award(
     numbers: &mut [u64],
     flows: &mut [i64],
 ) -> RunningAnswer
-    ensures { AddsAward (add_award_call asked.nodes asked.constraints asked.process asked.period limits factors award awards numbers flows) result
+    ensures { AddsAward (add_award_on asked.nodes asked.constraints asked.process asked.period limits.now factors.now award.now (before awards) (before numbers) (before flows)) result
         (left_in awards numbers flows) }
 {
     let checked = tier_running_checks::check_award(

@@ -2,7 +2,7 @@
 ghost use Rattle.std.specs.Prelude.{◌≡◌, ◌≤◌, length};
 ghost use Rattle.lists.specs.Lent.{before, after};
 ghost use Rattle.tier_rules.specs.Cells.{state_numbers, state_flows, opened_numbers, opened_flows};
-ghost use Rattle.tier_running_rules.specs.OpenRunning.{open_running_call, OpensRunning};
+ghost use Rattle.tier_running_rules.specs.OpenRunning.{open_running_on, OpensRunning};
 
 use tariff::Checked;
 use test_terms::Asked;
@@ -41,7 +41,7 @@ pub fn open_running(
     numbers: &mut [u64],
     flows: &mut [i64],
 ) -> RunningAnswer
-    ensures { OpensRunning (open_running_call asked.nodes asked.constraints asked.process asked.period limits factors awards numbers flows) result
+    ensures { OpensRunning (open_running_on asked.nodes asked.constraints asked.process asked.period limits.now factors.now awards.now (before numbers) (before flows)) result
         (after numbers) (after flows) }
 {
     let short = tier_running_checks::state_short(awards.len(), numbers.len(), flows.len());
