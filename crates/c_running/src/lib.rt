@@ -1,10 +1,10 @@
 // A running test for C: the answer is the refusal's number, 0 for none.
 #![tactic(auto)]
 
-ghost use Rattle.lists.specs.Lent.{after};
+ghost use Rattle.lists.specs.Lent.{before, after};
 ghost use Rattle.tier_rules.specs.Cells.{left_in};
-ghost use Rattle.tier_running_rules.specs.OpenRunning.{open_running_call, OpensRunningForC};
-ghost use Rattle.tier_running_rules.specs.AddAward.{add_award_call, AddsAwardForC};
+ghost use Rattle.tier_running_rules.specs.OpenRunning.{open_running_on, OpensRunningForC};
+ghost use Rattle.tier_running_rules.specs.AddAward.{add_award_on, AddsAwardForC};
 
 use test_terms::Asked;
 
@@ -21,7 +21,7 @@ pub extern "C" fn crr_open_running(
     numbers: &mut [u64],
     flows: &mut [i64],
 ) -> u64
-    ensures { OpensRunningForC (open_running_call nodes constraints process period limits factors awards numbers flows) result (after numbers) (after flows) }
+    ensures { OpensRunningForC (open_running_on nodes constraints process period limits.now factors.now awards.now (before numbers) (before flows)) result (after numbers) (after flows) }
 {
     let asked = Asked {
         nodes,
@@ -47,7 +47,7 @@ pub extern "C" fn crr_add_award(
     numbers: &mut [u64],
     flows: &mut [i64],
 ) -> u64
-    ensures { AddsAwardForC (add_award_call nodes constraints process period limits factors award awards numbers flows) result (left_in awards numbers flows) }
+    ensures { AddsAwardForC (add_award_on nodes constraints process period limits.now factors.now award.now (before awards) (before numbers) (before flows)) result (left_in awards numbers flows) }
 {
     let asked = Asked {
         nodes,
