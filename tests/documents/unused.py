@@ -5,8 +5,8 @@ docs/DEMANDS.md or docs/PROVED.md names in backquotes, and a statement of a crat
 what the text of something used names, as its file's imports have it. A function that is used uses its
 contract and its proof. Fields are left out: the prover reads them unnamed.
 
-spare.txt beside this has the laws that nothing uses since the prover finds what they were for: a law stays where
-taking it out would have all above it proved anew. One that is used again, or gone, is to leave the list.
+spare.txt beside this has the laws that no text names since the prover finds by itself what they were cited for, by
+them or without them. One that is named again, or gone, is to leave the list.
 
 Usage: unused.py [--write]   --write puts the laws of proofs/ that nothing uses into spare.txt
 """
