@@ -1,6 +1,5 @@
 -- `four_bad`: each answer is of the cell itself.
 -- a factor that fits is read back
-use borrow.Author.Rules.{rules}
 use mathlib.Core.Path.{◌≡◌, ap, ◌∙◌}
 use mathlib.Core.Bool.{◌||◌}
 use Prim.Native.Nat.{◌+◌}
@@ -21,7 +20,7 @@ returns c =
     let n2 = n3 in
     let n1 = n2 in
     let a = n1.args in
-    λ t. (n1.factor_bad-a.ensures ∙ kept (get_or a.factors.now a.i (pos 0)) (search rules)) t
-    || ((n2.factor_bad-b.ensures ∙ kept (get_or a.factors.now (a.i + 1) (pos 0)) (search rules)) t
-    || ((n3.factor_bad-c.ensures ∙ kept (get_or a.factors.now (a.i + 2) (pos 0)) (search rules)) t
-    || (c.factor_bad-d.ensures ∙ kept (get_or a.factors.now (a.i + 3) (pos 0)) (search rules)) t))
+    λ t. (n1.factor_bad-a.ensures ∙ kept (get_or a.factors.now a.i (pos 0)) (record { sfits = n1.factor_bad-arg-1.given })) t
+    || ((n2.factor_bad-b.ensures ∙ kept (get_or a.factors.now (a.i + 1) (pos 0)) (record { sfits = n2.factor_bad-arg-2-1.given })) t
+    || ((n3.factor_bad-c.ensures ∙ kept (get_or a.factors.now (a.i + 2) (pos 0)) (record { sfits = n3.factor_bad-arg-3-1.given })) t
+    || (c.factor_bad-d.ensures ∙ kept (get_or a.factors.now (a.i + 3) (pos 0)) (record { sfits = c.factor_bad-arg-4-1.given })) t))

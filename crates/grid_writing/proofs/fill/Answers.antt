@@ -89,5 +89,5 @@ returns c =
     record {
       value = bytes ∙ sym (length-written c.args.form c.args.nodes c.args.constraints c.args.limits.now c.args.factors.now c.args.file.now c.requires);
       file_value = grid-filled c.args.form c.args.nodes c.args.constraints c.args.limits.now c.args.factors.now c.args.file.now c.requires _ _ _ _ m.ensures.0 (ap₂ (λ (x y : ℕ). 8 * x - y) bytes (used c.args.form c.args.nodes c.args.constraints _ c.grid_header_bits-header.ensures c.used_bits-used.ensures.0)) all c.put_last.ensures.result_value_2.1
-          (λ i. (c.type_inv.file i).fits) (c.put_last.auto.buf ∙ c.write_factors-past_factors.auto.buf ∙ c.write_run-past_limits.auto.buf ∙ c.put_header-past_header.auto.file);
+          (λ i. (c.slice_known-5-1.given i).fits) (c.put_last.auto.buf ∙ c.write_factors-past_factors.auto.buf ∙ c.write_run-past_limits.auto.buf ∙ c.put_header-past_header.auto.file);
     }

@@ -23,7 +23,7 @@ loop-i-init c =
 pub unsigned-requires : goal.unsigned-requires
 unsigned-requires c =
     let i = c.loop-i.i in
-    let z = get_or c.args.factors.now i (pos 0) in record { le_width = search rules; z_bound = rw (to_z-of_z w64 z (search rules)) (small-mag z (c.requires.count_in_bounds.1 i (omega arith))) }
+    let z = get_or c.args.factors.now i (pos 0) in record { le_width = search rules; z_bound = rw (to_z-of_z w64 z (record { sfits = c.unsigned-arg-1.given })) (small-mag z (c.requires.count_in_bounds.1 i (omega arith))) }
 
 pub put-writer-requires : goal.put-writer-requires
 put-writer-requires c =
@@ -37,7 +37,7 @@ loop-i-preserved c =
     let p = c.put-writer in
     let e = p.ensures in
     let z = get_or a.factors.now l.i (pos 0) in
-    let same : to_z w64 (of_z w64 z) ≡ z = to_z-of_z w64 z (search rules) in
+    let same : to_z w64 (of_z w64 z) ≡ z = to_z-of_z w64 z (record { sfits = c.unsigned-arg-1.given }) in
     let v = u.ensures.0 ∙ ap (of_int factor_width) same ∙ sym (coded-at a.factors.now a.count (omega arith) l.i (omega arith)) in (
       omega arith,
       p.auto.buf ∙ l.invariant.1,

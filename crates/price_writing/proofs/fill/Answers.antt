@@ -34,6 +34,6 @@ returns c =
     let three = written-run two price_width _ _ ps a.constraints long (w.ensures.result_value, (w.ensures.result_value_2, w.ensures.writes_on)) in
     let four = written_last three _ _ _ 0 (z.ensures.result_value, (z.ensures.result_value_2, z.ensures.writes_on)) in record {
       value = sym (file-length a.period a.constraints ps long);
-      file_value = prices-filled a.period a.constraints ps a.file.now _ _ long four z.ensures.result_value_2.1 (λ i. (c.type_inv.file i).fits)
+      file_value = prices-filled a.period a.constraints ps a.file.now _ _ long four z.ensures.result_value_2.1 (λ i. (c.slice_known-5-1.given i).fits)
           (omega (arith, c.requires.3, e.auto.buf, g.auto.buf, w.auto.buf, z.auto.buf));
     }
