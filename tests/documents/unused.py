@@ -6,9 +6,10 @@ what the text of something used names, as its file's imports have it. A function
 contract and its proof. Fields are left out: the prover reads them unnamed.
 
 spare.txt beside this has the laws that no text names since the prover finds by itself what they were cited for, by
-them or without them. One that is named again, or gone, is to leave the list.
+them or without them, and definitions in whose place others are used. One that is named again, or gone, is to leave
+the list.
 
-Usage: unused.py [--write]   --write puts the laws of proofs/ that nothing uses into spare.txt
+Usage: unused.py [--write]   --write puts the laws and definitions that nothing uses into spare.txt
 """
 
 import re
@@ -217,8 +218,8 @@ def unused(root: Path) -> Tuple[Table, List[Named]]:
 
 
 def is_law(named: Named) -> bool:
-    """Whether it stands in a crate's laws, and not in a function's own proof."""
-    return re.fullmatch(r"\w+/proofs/\w+\.antt", named.file) is not None
+    """Whether it stands among a crate's laws or definitions, and not in a function's own proof."""
+    return re.fullmatch(r"\w+/(?:proofs|specs)/\w+\.antt", named.file) is not None
 
 
 def main() -> int:
@@ -233,7 +234,7 @@ def main() -> int:
     for named in sorted(spare - set(dead)):
         print(f"unused: {SPARE.relative_to(ROOT)}: crates/{named.file}: {named.name} is used, or gone", file=sys.stderr)
     wrong.extend(spare - set(dead))
-    print(f"unused: {len(table)} lemmas, definitions and functions, {len(spare)} spare laws, {len(wrong)} problems")
+    print(f"unused: {len(table)} lemmas, definitions and functions, {len(spare)} spare ones, {len(wrong)} problems")
     return 1 if wrong else 0
 
 
