@@ -9,7 +9,7 @@ ghost use Rattle.layouts.specs.Forms.{record_bytes};
 ghost use Rattle.layouts.specs.BookFile.{book_bytes_of, contract_in};
 ghost use Rattle.layouts.specs.Inner.{contract_for};
 ghost use Rattle.canonical_rules.specs.Canonical.{canonical};
-ghost use Rattle.canonical_rules.specs.Inner.{row_number, quantity_in, number_at, walk_numbers};
+ghost use Rattle.canonical_rules.specs.Inner.{row_number, quantity_in, number_at as number_at_of, walk_numbers};
 ghost use Rattle.canonical_numbers.specs.Inner.{SizedQuantity, Steps, Countable};
 
 use book_bits::{NARROW_END_WIDTH, QUANTITIES, QUANTITY_WIDTH, WIDE_END_WIDTH};
@@ -82,7 +82,7 @@ fn row_quantity(row: u64) -> Quantity
 // The number of the row of the same five with this quantity.
 fn row_with(row: u64, quantity: Quantity) -> u64
     requires { quantity.0 ≤ max_quantity }
-    ensures { result ≡ number_at quantity.0 row }
+    ensures { result ≡ number_at_of quantity.0 row }
 {
     row / QUANTITIES * QUANTITIES + quantity.cell()
 }

@@ -4,7 +4,7 @@
 ghost use Rattle.std.specs.Prelude.{◌≡◌, ◌≤◌, ◌<◌};
 ghost use Rattle.date_rules.specs.Dates.{leap, month_length_of, length_before_of, month_days_of, day_number_of, weekday_of, last_year, month_exists_of, date_exists};
 ghost use Rattle.dates.specs.Weekday.{TellsWeekday};
-ghost use Rattle.dates.specs.MonthLater.{cut_to, ReachesMonthLater};
+ghost use Rattle.dates.specs.MonthLater.{cut_to as cut_to_of, ReachesMonthLater};
 
 use tariff::Refusal;
 
@@ -112,7 +112,7 @@ pub fn month_exists(year: u64, month: u64) -> bool
 }
 
 fn cut_to(last: u64, day: u64) -> u64
-    ensures { result ≡ cut_to last day }
+    ensures { result ≡ cut_to_of last day }
 {
     if day <= last { day } else { last }
 }

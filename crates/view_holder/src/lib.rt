@@ -7,7 +7,7 @@ ghost use Rattle.tariff.specs.Units.{max_contracts};
 ghost use Rattle.layouts.specs.Forms.{end_width, record_bytes};
 ghost use Rattle.layouts.specs.BookFile.{book_bytes_of, contract_in};
 ghost use Rattle.layouts.specs.Inner.{contract_for};
-ghost use Rattle.view_rules.specs.Views.{held_at, held_to};
+ghost use Rattle.view_rules.specs.Views.{held_at as held_at_of, held_to};
 ghost use Rattle.view_rules.specs.HolderView.{holder_view_call, holder_view_checked, WritesHolderView};
 ghost use Rattle.view_holder.specs.Inner.{stored_row, rows_at, rows_to};
 
@@ -38,7 +38,7 @@ fn row_bytes(form: Form) -> usize
 // 1 where the holder has contract i, else 0.
 fn held_at(book: &[u8], form: Form, holder: u64, i: usize) -> usize
     requires { (i < 1024) × (book_bytes_of form i + record_bytes form ≤ length book.now) }
-    ensures { (result ≡ length (held_at holder i (contract_in form book.now i))) × (result ≤ 1) }
+    ensures { (result ≡ length (held_at_of holder i (contract_in form book.now i))) × (result ≤ 1) }
 {
     if holder_of(form, book_bits::bits_at(book, form, i)) == holder {
         1
