@@ -1,9 +1,9 @@
 #!/usr/bin/env python3
 """Holds the documents to the project: each file, theorem, function, crate and command that one names is there.
 
-Of every page but the notes on landings and the changelog, which tell what was: a path in backquotes is a file or
-folder; a name (a theorem with hyphens, a function, a crate, a definition) stands in the sources; `crr COMMAND` is
-a command. Every link leads somewhere, every crate is on the map, and prose is at most 100 columns wide.
+Of every page but the notes on landings, the changelog and what was brought over, which tell what was: a path in
+backquotes is a file or folder; a name (a theorem with hyphens, a function, a crate, a definition) stands in the
+sources; `crr COMMAND` is a command. Every link leads somewhere, every crate is on the map, and prose is at most 100 columns wide.
 """
 
 import re
@@ -115,7 +115,7 @@ def main():
             problems.append(f"docs/MAP.md: the crate {crate} is not on the map")
     for name in pages(names):
         page = ROOT / name
-        told = name.startswith("docs/landings/") or name == "CHANGELOG.md"
+        told = name.startswith("docs/landings/") or name in ("CHANGELOG.md", "docs/PORT.md")
         found = [*links(page), *wide(page), *([] if told else [*named(page, names, known, listed), *bare(page, names)])]
         problems += [f"{name}: {problem}" for problem in found]
     for problem in problems:
