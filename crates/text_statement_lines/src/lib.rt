@@ -165,7 +165,9 @@ fn put_exact(buf: &mut [u8], at: usize, whole: i64, parts: u64) -> usize
     text_format::put_char(buf, rest, b'\n')
 }
 
-// All lines, at the front: the heading, the contracts of the period, the sum and the exact total.
+// All lines, at the front: the heading, the contracts of the period, the sum and the exact total. In a frame of its own: where LLVM takes it into its
+// caller's, this keeps the nodes' congestion components twice, 32,000 bytes more than CRR_TEXT_STACK_BYTES leaves.
+#[inline(never)]
 pub fn put_lines(
     buf: &mut [u8],
     period: Period,
