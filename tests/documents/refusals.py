@@ -31,6 +31,7 @@ UNFIT = (
 )
 FACT = re.compile(
     r"(?:as printed|computed as far as they go), the two (?:types|values|sides) "
+    r"|computed as a goal is, one side reads `"
     r"|expected type `"
     r"|`(?:omega|search|grind|simp|cc)`(?:: | found no proof)"
     r"|`rw`: no occurrence of the path's "
