@@ -19,7 +19,6 @@ FACTS = (
     "`returns-then-z-lt0`: computed as far as they go, the two types first differ where one has `lib.IntN.p",
     "`returns-in-Refused`: computed as a goal is, one side reads `Rattle.hour_mcc.specs.FindMcc.FindsMcc (Rattle.hour",
     "`returns-then-holder-gt-MAX`: `grind` found no proof. It did not look into `first`, `own_checks`, `",
-    "`returns-in-Refused`: computed as a goal is, one side reads `Rattle.migration_square.specs.NetTransfers.Net",
     "`returns-2`: `rw`: no occurrence of the path's left endpoint in the goal: write the family yourself",
 )
 UNFIT = (

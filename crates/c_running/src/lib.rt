@@ -21,7 +21,8 @@ pub extern "C" fn crr_open_running(
     numbers: &mut [u64],
     flows: &mut [i64],
 ) -> u64
-    ensures { OpensRunningForC (open_running_on nodes constraints process period limits.now factors.now awards.now (before numbers) (before flows)) result (after numbers) (after flows) }
+    ensures { OpensRunningForC (open_running_on nodes constraints process period limits.now factors.now awards.now (before numbers) (before flows))
+        result (after numbers) (after flows) }
 {
     let asked = Asked {
         nodes,
@@ -47,7 +48,8 @@ pub extern "C" fn crr_add_award(
     numbers: &mut [u64],
     flows: &mut [i64],
 ) -> u64
-    ensures { AddsAwardForC (add_award_on nodes constraints process period limits.now factors.now award.now (before awards) (before numbers) (before flows)) result (left_in awards numbers flows) }
+    ensures { AddsAwardForC (add_award_on nodes constraints process period limits.now factors.now award.now (before awards) (before numbers) (before flows))
+        result (left_in awards numbers flows) }
 {
     let asked = Asked {
         nodes,

@@ -45,7 +45,8 @@ pub record RoundTripsForC : Type 0 where
   pub crr_grid_read_then_written : (s ls₀ : List ℕ) (fs₀ : List ℤ) → Bytes s → (ls : List ℕ) (fs : List ℤ) (nodes constraints form : Lent ℕ)
       → ReadsGridForC (read_grid_call s ls₀ fs₀) 0 ls fs nodes constraints form → (place : List ℕ) → length s ≤ length place
       → (number : ℕ) (exit : List ℕ) (bytes : Lent ℕ)
-      → WritesGridForC (write_grid_call (form_of (after form)) (after nodes) (after constraints) ls fs place) number exit bytes → WrittenForC s place number exit bytes
+      → WritesGridForC (write_grid_call (form_of (after form)) (after nodes) (after constraints) ls fs place) number exit bytes
+      → WrittenForC s place number exit bytes
   pub crr_book_read_then_written : (n : ℕ) (s entry : List ℕ) → Bytes s → (table : List ℕ) (contracts form : Lent ℕ)
       → ReadsBookForC (read_book_call n s entry) 0 table contracts form → (place : List ℕ) → length s ≤ length place → (number : ℕ) (exit : List ℕ) (bytes : Lent ℕ)
       → WritesBookForC (write_book_call (form_of (after form)) n (after contracts) table place) number exit bytes → WrittenForC s place number exit bytes

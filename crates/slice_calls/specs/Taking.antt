@@ -5,7 +5,8 @@ use Rattle.lists.specs.Lists.{Each}
 use Rattle.lists.specs.Lent.{Lent, before}
 use Rattle.tariff.specs.declared.contracts.Contract.{Contract}
 use Rattle.tariff.specs.declared.refusals.Checked.TheVariants.{Passed}
-use Rattle.tariff.specs.Units.{Factors, factors_of, factor, Grid, limit, price, max_nodes, max_constraints, max_contracts, max_factor, max_limit, max_price, max_holder}
+use Rattle.tariff.specs.Units.{Factors, factors_of, factor, Grid, limit, price}
+use Rattle.tariff.specs.Units.{max_nodes, max_constraints, max_contracts, max_factor, max_limit, max_price, max_holder}
 use Rattle.tariff.specs.ContractRules.{period_of, InRange}
 use Rattle.layouts.specs.declared.forms.Form.{Form}
 use Rattle.layouts.specs.Forms.{end_width}

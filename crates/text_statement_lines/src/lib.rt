@@ -123,8 +123,10 @@ fn put_contracts(
     cents: &[i64],
     priced: &[u64],
 ) -> usize
-    requires count_le_max_contracts { (count ≤ max_contracts) × (book_bytes_of form count ≤ length book.now) × (count ≤ length cents.now) × (count ≤ length priced.now) }
-    requires by_index { ((i : ℕ) → i < count → nat_abs (get_or cents.now i (pos 0)) ≤ max_cents) × ((i : ℕ) → i < count → ones (get_or priced.now i 0) ≤ max_constraints) }
+    requires count_le_max_contracts { (count ≤ max_contracts) × (book_bytes_of form count ≤ length book.now)
+        × (count ≤ length cents.now) × (count ≤ length priced.now) }
+    requires by_index { ((i : ℕ) → i < count → nat_abs (get_or cents.now i (pos 0)) ≤ max_cents)
+        × ((i : ℕ) → i < count → ones (get_or priced.now i 0) ≤ max_constraints) }
     requires count_in_bounds { at + longest_line * count ≤ length buf.old }
     ensures put { Put (before buf) at (lines_to period (contract_in form book.now) cents.now priced.now count) (after buf) result }
     ensures upper_bound { result ≤ at + longest_line * count }
@@ -179,7 +181,8 @@ pub fn put_lines(
 ) -> usize
     requires count_le_max_contracts { (count ≤ max_contracts) × (book_bytes_of (book_form_in book.now) count ≤ length book.now)
         × (count ≤ length cents.now) × (count ≤ length priced.now) }
-    requires sized_figures { SizedFigures count cents.now priced.now totals × (length heading + longest_line * count + longest_sum + longest_exact ≤ length buf.old) }
+    requires sized_figures { SizedFigures count cents.now priced.now totals
+        × (length heading + longest_line * count + longest_sum + longest_exact ≤ length buf.old) }
     ensures { Put (before buf) 0 (settled_lines_of period (contract_at book.now) cents.now priced.now count totals) (after buf) result }
 {
     let form = book_bits::book_form(book);

@@ -60,8 +60,8 @@ pub record TierAnswers : Type 0 where
   -- what any run of calls has come to is such a state, with room; and where two runs under one opening's tables hold the same awards, in whatever order they were
   -- added and whatever was refused or dropped on the way, flows, count and number held are the same, and the same award is answered alike
   pub run_state : (o : OpenRunningCall) (s : Tiers) (c : StateCells) → CellRun o s c → (award : List ℕ) → StateIn (add_on o award c) s
-  pub runs_room : (o : OpenRunningCall) (buffers : StateCells) (s r : Tiers) (c d : StateCells) → CellRun o s c → CellRun (open_into o buffers) r d → (award : List ℕ)
-      → SameRoom (add_on o award c) d
+  pub runs_room : (o : OpenRunningCall) (buffers : StateCells) (s r : Tiers) (c d : StateCells) → CellRun o s c → CellRun (open_into o buffers) r d
+      → (award : List ℕ) → SameRoom (add_on o award c) d
   pub runs_reordered : (o : OpenRunningCall) (buffers : StateCells) (s r : Tiers) (c d : StateCells) → CellRun o s c → CellRun (open_into o buffers) r d
       → Reordered s.awards r.awards → SameStateCells (grid_of o.nodes o.constraints o.limits o.factors) c d
   pub runs_added_alike : (o : OpenRunningCall) (buffers : StateCells) (s r : Tiers) (c d : StateCells) → CellRun o s c → CellRun (open_into o buffers) r d

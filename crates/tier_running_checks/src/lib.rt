@@ -63,7 +63,8 @@ pub fn check_award(
     flows: &[i64],
 ) -> Checked
     ensures { result ≡ first (up_to13
-        (add_award_on asked.nodes asked.constraints asked.process asked.period limits.now factors.now award.now awards.now numbers.now flows.now) (held_in (numbers.now))) }
+        (add_award_on asked.nodes asked.constraints asked.process asked.period limits.now factors.now award.now awards.now numbers.now flows.now)
+        (held_in numbers.now)) }
 {
     let award_short = award.len() < CONTRACT_CELLS;
     let short = award_short | state_short(awards.len(), numbers.len(), flows.len());

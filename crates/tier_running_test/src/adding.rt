@@ -61,8 +61,8 @@ pub fn add_award(
     numbers: &mut [u64],
     flows: &mut [i64],
 ) -> RunningAnswer
-    ensures { AddsAward (add_award_on asked.nodes asked.constraints asked.process asked.period limits.now factors.now award.now (before awards) (before numbers) (before flows)) result
-        (left_in awards numbers flows) }
+    ensures { AddsAward (add_award_on asked.nodes asked.constraints asked.process asked.period limits.now factors.now award.now
+        (before awards) (before numbers) (before flows)) result (left_in awards numbers flows) }
 {
     let checked = tier_running_checks::check_award(
         asked, limits, factors, award, awards, numbers, flows,

@@ -41,8 +41,8 @@ pub fn open_running(
     numbers: &mut [u64],
     flows: &mut [i64],
 ) -> RunningAnswer
-    ensures { OpensRunning (open_running_on asked.nodes asked.constraints asked.process asked.period limits.now factors.now awards.now (before numbers) (before flows)) result
-        (after numbers) (after flows) }
+    ensures { OpensRunning (open_running_on asked.nodes asked.constraints asked.process asked.period limits.now factors.now awards.now (before numbers) (before flows))
+        result (after numbers) (after flows) }
 {
     let short = tier_running_checks::state_short(awards.len(), numbers.len(), flows.len());
     match tier_running_checks::check_tables(asked, limits, factors, short) {

@@ -2,26 +2,31 @@
 use mathlib.Core.Path.{◌≡◌, sym, ap, ◌∙◌}
 use mathlib.Core.Bool.{Bool}
 use mathlib.Core.List.{[], ◌∷◌}
+use lib.ListN.{length}
+use Rattle.tariff.specs.declared.refusals.Checked.{Checked}
 use Rattle.tariff.specs.Refusals.{first}
 use Rattle.tier_rules.specs.Checks.{running_checks}
 use Rattle.tier_rules.specs.Cells.{opened_numbers, opened_flows}
 use Rattle.tier_rules.proofs.Going.{both-kept, both-made}
-use Rattle.tier_running_rules.specs.OpenRunning.{open_running_on, open_running_checked, OpensRunning}
-use Rattle.tier_running_rules.specs.Inner.{short_if}
+use Rattle.tier_running_rules.specs.OpenRunning.{OpenRunningCall, open_running_on, open_running_checked, OpensRunning}
+use Rattle.tier_running_rules.specs.Inner.{short_if, state_short_of}
 use Rattle.tier_running_rules.proofs.Checking.{open_is, Openable, openable}
 use Rattle.tier_running_rules.proofs.Promises.{opens-running}
 use Rattle.tier_running_test.proofs.opening.open_running.Goals as goal
+
+-- what the tables' checks and the rooms' found is what the paper's list finds
+found_of : (q : OpenRunningCall) (short : Bool) (checked : Checked)
+    → checked ≡ first (running_checks q.nodes q.constraints q.process q.period q.limits q.factors (short_if short ∷ []))
+    → short ≡ state_short_of (length q.awards) (length q.numbers) (length q.flows) → checked ≡ open_running_checked q
+found_of q short checked e f =
+    open_is q checked (e ∙ ap (λ (b : Bool). first (running_checks q.nodes q.constraints q.process q.period q.limits q.factors (short_if b ∷ []))) f)
 
 pub returns-in-Refused : goal.returns-in-Refused
 returns-in-Refused c =
     let a = c.args in
     let t = a.asked in
     let q = open_running_on t.nodes t.constraints t.process t.period a.limits.now a.factors.now a.awards.now a.numbers.now a.flows.now in
-    let found =
-    open_is q c.check_tables.result
-    (c.check_tables.ensures
-    ∙ ap (λ (b : Bool). first (running_checks q.nodes q.constraints q.process q.period q.limits q.factors (short_if b ∷ [])))
-    c.state_short-short.ensures) in
+    let found = found_of q _ _ c.check_tables.ensures c.state_short-short.ensures in
     both-kept (open_running_checked q) (opened_numbers q.numbers) q.numbers (opened_flows q.flows) q.flows (OpensRunning q) (opens-running q)
     c.check_tables.result found _ c.in-Refused.is
 
@@ -30,11 +35,7 @@ clear_numbers-requires c =
     let a = c.args in
     let t = a.asked in
     let q = open_running_on t.nodes t.constraints t.process t.period a.limits.now a.factors.now a.awards.now a.numbers.now a.flows.now in
-    let found =
-    open_is q c.check_tables.result
-    (c.check_tables.ensures
-    ∙ ap (λ (b : Bool). first (running_checks q.nodes q.constraints q.process q.period q.limits q.factors (short_if b ∷ [])))
-    c.state_short-short.ensures) in
+    let found = found_of q _ _ c.check_tables.ensures c.state_short-short.ensures in
     (openable q (sym found ∙ c.in-Passed.is)).numbers-long
 
 pub clear_flows-requires : goal.clear_flows-requires
@@ -42,11 +43,7 @@ clear_flows-requires c =
     let a = c.args in
     let t = a.asked in
     let q = open_running_on t.nodes t.constraints t.process t.period a.limits.now a.factors.now a.awards.now a.numbers.now a.flows.now in
-    let found =
-    open_is q c.check_tables.result
-    (c.check_tables.ensures
-    ∙ ap (λ (b : Bool). first (running_checks q.nodes q.constraints q.process q.period q.limits q.factors (short_if b ∷ [])))
-    c.state_short-short.ensures) in
+    let found = found_of q _ _ c.check_tables.ensures c.state_short-short.ensures in
     (openable q (sym found ∙ c.in-Passed.is)).flows_long
 
 pub returns-in-Passed : goal.returns-in-Passed
@@ -54,10 +51,6 @@ returns-in-Passed c =
     let a = c.args in
     let t = a.asked in
     let q = open_running_on t.nodes t.constraints t.process t.period a.limits.now a.factors.now a.awards.now a.numbers.now a.flows.now in
-    let found =
-    open_is q c.check_tables.result
-    (c.check_tables.ensures
-    ∙ ap (λ (b : Bool). first (running_checks q.nodes q.constraints q.process q.period q.limits q.factors (short_if b ∷ [])))
-    c.state_short-short.ensures) in
+    let found = found_of q _ _ c.check_tables.ensures c.state_short-short.ensures in
     both-made (open_running_checked q) (opened_numbers q.numbers) q.numbers (opened_flows q.flows) q.flows (OpensRunning q) (opens-running q)
     c.check_tables.result found c.in-Passed.is _ _ c.clear_numbers.ensures c.clear_flows.ensures
