@@ -25,14 +25,15 @@ flags_for() { # MACHINE
 }
 
 # What becomes of the attributes of functions, which name the first machine's processor and ask for its
-# probes of the stack. Windows has probes of its own; WebAssembly stops where the stack ends.
+# probes of the stack. Windows has probes of its own; WebAssembly stops where the stack ends, and its
+# addresses are of 32 bits: where the module compares two as numbers of 64, they are widened.
 attributes_for() { # MACHINE
     local processor=' "target-cpu"="x86-64"' probes=' "probe-stack"="inline-asm" "stack-probe-size"="3072"'
     case $1 in
     "$hwcaps") echo "s/$processor/ \"target-cpu\"=\"x86-64-v3\"/" ;;
     aarch64-linux) echo "s/$processor//" ;;
     x86-64-windows) echo "s/$probes//" ;;
-    wasm32) echo "s/$processor//; s/$probes//" ;;
+    wasm32) echo "s/$processor//; s/$probes//; s/= ptrtoaddr ptr /= ptrtoint ptr /" ;;
     esac
 }
 
@@ -90,14 +91,14 @@ shared_library() { # FILE ARCHIVE
     rm "$1.exports"
 }
 
-# crr.dll and its import library. What the library asks of the system, memcpy, memset and the probes of
-# the stack, is in ntdll.dll, which every process has.
+# crr.dll and its import library. What the library asks of the system, memcpy, memmove, memset and the
+# probes of the stack, is in ntdll.dll, which every process has.
 windows_library() { # FOLDER OBJECT..
     local out=$1 functions
     shift
     mapfile -t functions < <(header_functions)
     ln -sf "$(kit_tools)/clang" "$out/llvm-dlltool"
-    printf '%s\n' 'LIBRARY ntdll.dll' EXPORTS memcpy memset __chkstk > "$out/ntdll.def"
+    printf '%s\n' 'LIBRARY ntdll.dll' EXPORTS memcpy memmove memset __chkstk > "$out/ntdll.def"
     "$out/llvm-dlltool" -m i386:x86-64 -d "$out/ntdll.def" -l "$out/ntdll.lib"
     "$(kit_tools)/ld.lld" -flavor link /dll /noentry /nodefaultlib /machine:x64 /timestamp:0 /opt:ref,noicf \
         "${functions[@]/#//export:}" "/out:$out/crr.dll" "/implib:$out/crr.lib" "$out/ntdll.lib" "$@"

@@ -1,7 +1,7 @@
 // The checks that every operation on a book has: a contract's own, the book's, and those of a book that is handed in with a node count.
 #![tactic(auto)]
 
-ghost use Rattle.std.specs.Prelude.{◌≡◌, ◌+◌, ◌≤◌, ◌<◌, max, length};
+ghost use Rattle.std.specs.Prelude.{◌≡◌, ◌+◌, ◌≤◌, ◌<◌, length};
 ghost use Rattle.lists.specs.Lent.{before};
 ghost use Rattle.tariff.specs.Refusals.{first};
 ghost use Rattle.tariff.specs.Units.{max_contracts};
@@ -13,30 +13,24 @@ ghost use Rattle.book_rules.specs.Inner.{number_checks};
 
 use book_bits::{NARROW_END_WIDTH, WIDE_END_WIDTH};
 use layouts::{BOOK_HEADER_BYTES, Form};
-use tariff::{Checked, MAX_CONTRACTS, Refusal};
-
-// The larger of two node numbers: one comparison with the node count holds both ends.
-fn larger(a: usize, b: usize) -> usize
-    ensures { result ≡ max a b }
-{
-    if a < b { b } else { a }
-}
+use tariff::{MAX_CONTRACTS, Refusal};
 
 // A contract's own checks, on its numbers: 11, 13. None has its unit before it has passed.
-pub fn check_numbers(nodes: usize, source: usize, sink: usize, quantity: u64) -> Checked
+pub fn check_numbers(nodes: usize, source: usize, sink: usize, quantity: u64) -> Result<(), Refusal>
     ensures { result ≡ first (number_checks nodes source sink quantity) }
 {
-    if nodes <= larger(source, sink) {
-        return Checked::Refused(Refusal::NodeNumber);
+    // One comparison holds both ends.
+    if nodes <= source.max(sink) {
+        return Err(Refusal::NodeNumber);
     }
     if tariff::quantity_bad(quantity) {
-        return Checked::Refused(Refusal::QuantityRange);
+        return Err(Refusal::QuantityRange);
     }
-    Checked::Passed
+    Ok(())
 }
 
 // The checks of the contract whose bits are the lowest of `v`, its ends of `width` bits.
-fn check_bits(nodes: usize, v: u64, width: usize) -> Checked
+fn check_bits(nodes: usize, v: u64, width: usize) -> Result<(), Refusal>
     requires { width ≤ 12 }
     ensures { result ≡ first (contract_checks nodes (contract_for width v)) }
 {
@@ -49,7 +43,7 @@ fn check_bits(nodes: usize, v: u64, width: usize) -> Checked
 }
 
 // The checks of contract i of a book's bytes.
-fn check_at(nodes: usize, file: &[u8], form: Form, i: usize) -> Checked
+fn check_at(nodes: usize, file: &[u8], form: Form, i: usize) -> Result<(), Refusal>
     requires { (i < 1024) × (book_bytes_of form i + record_bytes form ≤ length file.now) }
     ensures { result ≡ first (contract_checks nodes (contract_in form file.now i)) }
 {
@@ -68,48 +62,43 @@ fn check_at(nodes: usize, file: &[u8], form: Form, i: usize) -> Checked
 }
 
 // The checks of a book's contracts, one after the other.
-fn check_contracts(nodes: usize, file: &[u8], form: Form, count: usize) -> Checked
+fn check_contracts(nodes: usize, file: &[u8], form: Form, count: usize) -> Result<(), Refusal>
     requires { (count ≤ max_contracts) × (book_bytes_of form count ≤ length file.now) }
     ensures { result ≡ first (checks_to count (λ i. contract_checks nodes (contract_in form file.now i))) }
 {
-    let mut i = 0;
-    while i < count {
-        let checked = check_at(nodes, file, form, i);
-        if let Checked::Refused(refusal) = checked {
-            return Checked::Refused(refusal);
-        }
-        i += 1;
+    for i in 0..count {
+        check_at(nodes, file, form, i)?;
     }
-    Checked::Passed
+    Ok(())
 }
 
 // The book's own checks: 1, 10, 4, 5, then contract by contract 11, 13.
-pub fn check_book(nodes: usize, file: &[u8]) -> Checked
+pub fn check_book(nodes: usize, file: &[u8]) -> Result<(), Refusal>
     ensures { result ≡ first (book_checks nodes file.now) }
 {
     if file.len() < BOOK_HEADER_BYTES {
-        return Checked::Refused(Refusal::ShortFile);
+        return Err(Refusal::ShortFile);
     }
     let count = book_bits::contract_count(file);
     if MAX_CONTRACTS < count {
-        return Checked::Refused(Refusal::ContractCount);
+        return Err(Refusal::ContractCount);
     }
     let form = book_bits::book_form(file);
     if book_bits::spare_bits(file) != form.spare_pattern() {
-        return Checked::Refused(Refusal::SpareBits);
+        return Err(Refusal::SpareBits);
     }
     if file.len() != form.book_bytes(count) {
-        return Checked::Refused(Refusal::FileLength);
+        return Err(Refusal::FileLength);
     }
     check_contracts(nodes, file, form, count)
 }
 
 // The own checks of a book that is handed in for a grid of `nodes` nodes: 2, then the book's.
-pub fn check_own(nodes: usize, file: &[u8]) -> Checked
+pub fn check_own(nodes: usize, file: &[u8]) -> Result<(), Refusal>
     ensures { result ≡ first (own_checks nodes file.now) }
 {
     if tariff::nodes_bad(nodes) {
-        return Checked::Refused(Refusal::NodeCount);
+        return Err(Refusal::NodeCount);
     }
     check_book(nodes, file)
 }

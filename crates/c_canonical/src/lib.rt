@@ -15,5 +15,5 @@ pub extern "C" fn crr_write_canonical_book(
     ensures { WritesCanonicalBookForC (canonical_book_call nodes book.now (before file)) result (after file) bytes }
 {
     let answer = canonical_book::write_canonical_book(nodes, book, file);
-    answer.into_cell(bytes)
+    tariff::answer_cell(answer, bytes)
 }

@@ -5,7 +5,6 @@ ghost use Rattle.lists.specs.Lent.{before};
 ghost use Rattle.test_rules.specs.TestBook.{test_call};
 ghost use Rattle.cut_rules.specs.FindCuts.{FindsCutsForC};
 
-use cut_rules::CutsAnswer;
 use test_terms::Asked;
 
 // Lists each contract of the period whose quantity, lowered alone, makes a failing book pass, with the least such cut, and gives how many there are.
@@ -30,11 +29,6 @@ pub extern "C" fn crr_find_cuts(
         process,
         period,
     };
-    match cut_list::find_cuts(asked, limits, factors, book, numbers, cuts) {
-        CutsAnswer::Refused(refusal) => refusal.number(),
-        CutsAnswer::Found { listed: rows } => {
-            *listed = rows;
-            0
-        }
-    }
+    let found = cut_list::find_cuts(asked, limits, factors, book, numbers, cuts);
+    tariff::answer_cell(found, listed)
 }

@@ -5,9 +5,6 @@ ghost use Rattle.lists.specs.Lent.{before, after};
 ghost use Rattle.hour_mcc.specs.FindMcc.{find_mcc_call, FindsMccForC};
 ghost use Rattle.hour_rules.specs.SettleHour.{hour_call, SettlesForC};
 
-use hour_mcc::MccAnswer;
-use hour_rules::SettleAnswer;
-
 // Finds the MCC of all nodes, one cell each.
 #[unsafe(no_mangle)]
 pub extern "C" fn crr_find_mcc(
@@ -19,10 +16,7 @@ pub extern "C" fn crr_find_mcc(
 ) -> u64
     ensures { FindsMccForC (find_mcc_call nodes constraints factors.now prices.now (before mcc)) result (after mcc) }
 {
-    match hour_mcc::find_mcc(nodes, constraints, factors, prices, mcc) {
-        MccAnswer::Refused(refusal) => refusal.number(),
-        MccAnswer::Found => 0,
-    }
+    tariff::answer_number(hour_mcc::find_mcc(nodes, constraints, factors, prices, mcc))
 }
 
 // Settles an hour of a period: a cell of cents and a cell of the constraints that priced it for each contract, and gives the sum of the
@@ -53,15 +47,11 @@ pub extern "C" fn crr_settle_hour(
         cents,
         priced,
     ) {
-        SettleAnswer::Refused(refusal) => refusal.number(),
-        SettleAnswer::Settled {
-            sum: added,
-            whole: down,
-            parts: rest,
-        } => {
-            *sum = added;
-            *whole = down;
-            *part = rest;
+        Err(refusal) => refusal.number(),
+        Ok(totals) => {
+            *sum = totals.sum;
+            *whole = totals.whole;
+            *part = totals.parts;
             0
         }
     }

@@ -24,5 +24,5 @@ pub extern "C" fn crr_add_hub_contract(
     let answer = hub_book::add_hub_contract(
         nodes, book, kind, period, holder, hub, weights, sink, quantity, file,
     );
-    answer.into_cell(bytes)
+    tariff::answer_cell(answer, bytes)
 }

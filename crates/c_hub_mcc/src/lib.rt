@@ -4,8 +4,6 @@
 ghost use Rattle.lists.specs.Lent.{before};
 ghost use Rattle.hub_mcc.specs.FindHubMcc.{find_hub_mcc_call, FindsHubMccForC};
 
-use hub_mcc::HubMccAnswer;
-
 // Finds the MCC of a hub of nodes and weights, as quotient rounded down and remainder.
 #[unsafe(no_mangle)]
 pub extern "C" fn crr_find_hub_mcc(
@@ -21,13 +19,10 @@ pub extern "C" fn crr_find_hub_mcc(
     ensures { FindsHubMccForC (find_hub_mcc_call nodes constraints factors.now prices.now hub.now weights.now) result quotient remainder }
 {
     match hub_mcc::find_hub_mcc(nodes, constraints, factors, prices, hub, weights) {
-        HubMccAnswer::Refused(refusal) => refusal.number(),
-        HubMccAnswer::Found {
-            quotient: down,
-            remainder: rest,
-        } => {
-            *quotient = down.cell();
-            *remainder = rest;
+        Err(refusal) => refusal.number(),
+        Ok(found) => {
+            *quotient = i64::from(found.quotient);
+            *remainder = found.remainder;
             0
         }
     }

@@ -22,5 +22,5 @@ pub extern "C" fn crr_refusal_text(number: u64, text: &mut [u8], bytes: &mut usi
     ensures { WritesTextForC (text_call number (before text)) result (after text) bytes }
 {
     let answer = text_refusals::refusal_text(number, text);
-    answer.into_cell(bytes)
+    tariff::answer_cell(answer, bytes)
 }

@@ -25,5 +25,5 @@ pub extern "C" fn crr_migrate_load(
     let answer = migration_book::migrate_load(
         nodes, period, book, classes, customers, rates, olds, news, loads, file,
     );
-    answer.into_cell(bytes)
+    tariff::answer_cell(answer, bytes)
 }

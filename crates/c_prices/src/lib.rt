@@ -5,8 +5,6 @@ ghost use Rattle.lists.specs.Lent.{before, after};
 ghost use Rattle.price_rules.specs.ReadPrices.{read_prices_call, ReadsPricesForC};
 ghost use Rattle.price_rules.specs.WritePrices.{write_prices_call, WritesPricesForC};
 
-use price_rules::PriceAnswer;
-
 // Reads a price file of `constraints` constraints into the first cells of `prices`, and gives its period.
 #[unsafe(no_mangle)]
 pub extern "C" fn crr_read_prices(
@@ -17,13 +15,8 @@ pub extern "C" fn crr_read_prices(
 ) -> u64
     ensures { ReadsPricesForC (read_prices_call constraints file.now (before prices)) result (after prices) period }
 {
-    match price_reading::read_prices(constraints, file, prices) {
-        PriceAnswer::Refused(refusal) => refusal.number(),
-        PriceAnswer::Read { period: t } => {
-            *period = t;
-            0
-        }
-    }
+    let answer = price_reading::read_prices(constraints, file, prices);
+    tariff::answer_cell(answer, period)
 }
 
 // Writes the first `constraints` prices as a file of a period, and gives its length.
@@ -38,5 +31,5 @@ pub extern "C" fn crr_write_prices(
     ensures { WritesPricesForC (write_prices_call period constraints prices.now (before file)) result (after file) bytes }
 {
     let answer = price_writing::write_prices(period, constraints, prices, file);
-    answer.into_cell(bytes)
+    tariff::answer_cell(answer, bytes)
 }

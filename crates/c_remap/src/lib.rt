@@ -17,5 +17,5 @@ pub extern "C" fn crr_remap_book(
     ensures { RemapsBookForC (remap_book_call nodes book.now old.now new.now (before file)) result (after file) bytes }
 {
     let answer = remap_book::remap_book(nodes, book, old, new, file);
-    answer.into_cell(bytes)
+    tariff::answer_cell(answer, bytes)
 }

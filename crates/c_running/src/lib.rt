@@ -31,7 +31,7 @@ pub extern "C" fn crr_open_running(
         period,
     };
     let answer = tier_running_test::open_running(asked, limits, factors, awards, numbers, flows);
-    answer.number()
+    tariff::answer_number(answer)
 }
 
 // Adds an award to a running test.
@@ -60,5 +60,5 @@ pub extern "C" fn crr_add_award(
     let answer = tier_running_test::add_award(
         asked, limits, factors, award, awards, numbers, flows,
     );
-    answer.number()
+    tariff::answer_number(answer)
 }

@@ -4,7 +4,7 @@
 ghost use Rattle.lists.specs.Lent.{before};
 ghost use Rattle.test_rules.specs.TestBook.{test_call, TestsBookForC};
 
-use test_rules::TestAnswer;
+use test_rules::Verdict;
 use test_terms::Asked;
 
 // Tests a book's bytes against grid tables for a process and a period, and gives the test's figures: on a pass all are 0, and only then is the set.
@@ -31,25 +31,26 @@ pub extern "C" fn crr_test_book(
         period,
     };
     match test_verdict::test_book(asked, limits, factors, book) {
-        TestAnswer::Refused(refusal) => refusal.number(),
-        TestAnswer::Pass => {
+        Err(refusal) => refusal.number(),
+        Ok(Verdict::Pass) => {
             *set = 0;
             *count = 0;
             *lowest = 0;
             *excess = 0;
             0
         }
-        TestAnswer::Fail {
-            set: overloads,
-            count: many,
-            lowest: named,
-            excess: over,
-        } => {
-            let flow = over.0;
+        Ok(
+            Verdict::Fail {
+                set: overloads,
+                count: many,
+                lowest: named,
+                excess: over,
+            },
+        ) => {
             *set = overloads;
             *count = many;
             *lowest = named;
-            *excess = flow;
+            *excess = over.0;
             0
         }
     }

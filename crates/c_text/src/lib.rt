@@ -16,7 +16,7 @@ pub extern "C" fn crr_write_report(
     ensures { WritesReportForC (report_call grid_file.now book_file.now (before text)) result (after text) bytes }
 {
     let answer = text_report::write_report(grid_file, book_file, text);
-    answer.into_cell(bytes)
+    tariff::answer_cell(answer, bytes)
 }
 
 // Writes the hour statement of a grid's, a book's and a price file into the first bytes of `text`, and gives its length.
@@ -31,5 +31,5 @@ pub extern "C" fn crr_write_statement(
     ensures { WritesStatementForC (statement_call grid_file.now book_file.now price_file.now (before text)) result (after text) bytes }
 {
     let answer = text_statement::write_statement(grid_file, book_file, price_file, text);
-    answer.into_cell(bytes)
+    tariff::answer_cell(answer, bytes)
 }

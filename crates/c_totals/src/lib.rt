@@ -5,8 +5,7 @@ ghost use Rattle.lists.specs.Lent.{before, after};
 ghost use Rattle.test_totals.specs.AddFlows.{add_flows_call, AddsFlowsForC};
 ghost use Rattle.test_totals.specs.JudgeFlows.{judge_call, JudgesFlowsForC};
 
-use test_loading::FlowsAnswer;
-use test_rules::TestAnswer;
+use test_rules::Verdict;
 use test_terms::AskedFlows;
 
 // Adds the flow on each constraint of a period's contracts as they count to the totals in `flows`, and how many to `count`; `counted` is given how many.
@@ -30,13 +29,8 @@ pub extern "C" fn crr_add_flows(
         constraints,
         period,
     };
-    match test_totals::add_flows(asked, limits, factors, book, flows, count) {
-        FlowsAnswer::Refused(refusal) => refusal.number(),
-        FlowsAnswer::Found { counted: many } => {
-            *counted = many;
-            0
-        }
-    }
+    let found = test_totals::add_flows(asked, limits, factors, book, flows, count);
+    tariff::answer_cell(found, counted)
 }
 
 // Judges totals of flows by the released limits of their constraints, and gives the test's figures: on a pass all are 0, and only then is the set.
@@ -55,25 +49,26 @@ pub extern "C" fn crr_judge_flows(
     ensures { JudgesFlowsForC (judge_call constraints process limits.now flows.now summed) result set count lowest excess }
 {
     match test_totals::judge_flows(constraints, process, limits, flows, summed) {
-        TestAnswer::Refused(refusal) => refusal.number(),
-        TestAnswer::Pass => {
+        Err(refusal) => refusal.number(),
+        Ok(Verdict::Pass) => {
             *set = 0;
             *count = 0;
             *lowest = 0;
             *excess = 0;
             0
         }
-        TestAnswer::Fail {
-            set: overloads,
-            count: many,
-            lowest: named,
-            excess: over,
-        } => {
-            let flow = over.0;
+        Ok(
+            Verdict::Fail {
+                set: overloads,
+                count: many,
+                lowest: named,
+                excess: over,
+            },
+        ) => {
             *set = overloads;
             *count = many;
             *lowest = named;
-            *excess = flow;
+            *excess = over.0;
             0
         }
     }

@@ -16,7 +16,7 @@ pub extern "C" fn crr_write_market_view(
     ensures { WritesMarketViewForC (market_view_call nodes book.now (before file)) result (after file) bytes }
 {
     let answer = view_market::write_market_view(nodes, book, file);
-    answer.into_cell(bytes)
+    tariff::answer_cell(answer, bytes)
 }
 
 // Writes the holder's contracts of a book's file for a grid of `nodes` nodes, each behind its number, and gives their length.
@@ -31,5 +31,5 @@ pub extern "C" fn crr_write_holder_view(
     ensures { WritesHolderViewForC (holder_view_call nodes book.now holder (before view)) result (after view) bytes }
 {
     let answer = view_holder::write_holder_view(nodes, book, holder, view);
-    answer.into_cell(bytes)
+    tariff::answer_cell(answer, bytes)
 }

@@ -11,7 +11,8 @@ use Rattle.lists.proofs.Lists.{map-list_to, take-is_list_to}
 use Rattle.tariff.specs.declared.contracts.Contract.{Contract}
 use Rattle.tariff.specs.declared.refusals.Refusal.{Refusal}
 use Rattle.tariff.specs.declared.refusals.Refusal.TheVariants.{ShortTable}
-use Rattle.tariff.specs.declared.refusals.Checked.TheVariants.{Passed, Refused}
+use Rattle.std.specs.Prelude.{Err}
+use Rattle.tariff.specs.Refusals.{passed}
 use Rattle.tariff.specs.Refusals.{first}
 use Rattle.tariff.proofs.Checks.{first-refuses, last-passes, append_refuses, append_passes}
 use Rattle.layouts.specs.declared.forms.Form.{Form}
@@ -61,11 +62,11 @@ module _ (q : CanonicalBookCall) where
   abbrev canonical_rows : List Contract
   canonical_rows = canonical (book_in q.book)
 
-  pub own_refuses : (r : Refusal) → first (own_checks q.nodes q.book) ≡ Refused r → canonical_book_checked q ≡ Refused r
+  pub own_refuses : (r : Refusal) → first (own_checks q.nodes q.book) ≡ Err r → canonical_book_checked q ≡ Err r
   unfolding canonical_book_checks
   own_refuses r e = append_refuses (own_checks q.nodes q.book) _ r e
 
-  module _ (ok : first (own_checks q.nodes q.book) ≡ Passed) where
+  module _ (ok : first (own_checks q.nodes q.book) ≡ passed) where
     pub header-there : 2 ≤ length q.book
     header-there = own_header q.nodes q.book ok
 
@@ -89,10 +90,10 @@ module _ (q : CanonicalBookCall) where
 
     -- with so many bytes needed
     module _ (bytes : ℕ) (e : bytes ≡ length (canonical_file q.book)) where
-      pub no_room : length q.place < bytes → canonical_book_checked q ≡ Refused ShortTable
+      pub no_room : length q.place < bytes → canonical_book_checked q ≡ Err ShortTable
       unfolding canonical_book_checks
       no_room h = append_passes (own_checks q.nodes q.book) _ ok ∙ first-refuses _ _ (lt-ltb (length q.place) (length (canonical_file q.book)) (omega arith))
 
-      pub room : bytes ≤ length q.place → canonical_book_checked q ≡ Passed
+      pub room : bytes ≤ length q.place → canonical_book_checked q ≡ passed
       unfolding canonical_book_checks
       room h = append_passes (own_checks q.nodes q.book) _ ok ∙ last-passes _ (le-ltb (length q.place) (length (canonical_file q.book)) (omega arith))

@@ -13,8 +13,8 @@ ghost use Rattle.canonical_rules.specs.CanonicalBook.{canonical_book_call, Write
 ghost use Rattle.canonical_book.specs.Inner.{row_bytes, RowOf};
 
 use book_bits::{NARROW_END_WIDTH, QUANTITIES, QUANTITY_WIDTH, WIDE_END_WIDTH};
-use layouts::{Form, WriteAnswer};
-use tariff::{Checked, MAX_CONTRACTS, Refusal};
+use layouts::Form;
+use tariff::{MAX_CONTRACTS, Refusal};
 
 // One past the largest figure of an end's bits in a narrow book.
 const NARROW_ENDS: u64 = 1u64 << NARROW_END_WIDTH;
@@ -50,20 +50,16 @@ fn write_rows(form: Form, cells: &[u64], rows: usize, file: &mut [u8])
     ensures { after file ≡ overwrite (book_file form (list_to rows (λ i. contract_for 12 (get_or cells.now i 0)))) (before file) }
 {
     book_bits::store_header(file, form, rows);
-    let mut i = 0;
-    while i < rows {
+    for i in 0..rows {
         store_row(file, form, i, cells[i]);
-        i += 1;
     }
 }
 
 // Writes the canonical form of a book for a grid of `nodes` nodes. Takes 21,000 bytes of stack.
-pub fn write_canonical_book(nodes: usize, book: &[u8], file: &mut [u8]) -> WriteAnswer
+pub fn write_canonical_book(nodes: usize, book: &[u8], file: &mut [u8]) -> Result<usize, Refusal>
     ensures { WritesCanonicalBook (canonical_book_call nodes book.now (before file)) result (after file) }
 {
-    if let Checked::Refused(refusal) = book_checks::check_own(nodes, book) {
-        return WriteAnswer::Refused(refusal);
-    }
+    book_checks::check_own(nodes, book)?;
     let form = book_bits::book_form(book);
     let mut cells = [0u64; MAX_CONTRACTS];
     let rows = canonical_numbers::canonical_rows(
@@ -74,8 +70,8 @@ pub fn write_canonical_book(nodes: usize, book: &[u8], file: &mut [u8]) -> Write
     );
     let bytes = form.book_bytes(rows);
     if file.len() < bytes {
-        return WriteAnswer::Refused(Refusal::ShortTable);
+        return Err(Refusal::ShortTable);
     }
     write_rows(form, &cells, rows, file);
-    WriteAnswer::Written { bytes }
+    Ok(bytes)
 }

@@ -52,15 +52,13 @@ fn number_at(book: &[u8], form: Form, i: usize) -> u64
     }
 }
 
-// Puts the numbers of the first `count` contracts into the first cells.
-fn fill_numbers(book: &[u8], form: Form, count: usize, cells: &mut [u64])
-    requires { (count ≤ max_contracts) × (book_bytes_of form count ≤ length book.now) × (count ≤ length cells.old) }
-    ensures { take count (after cells) ≡ list_to count (λ i. row_number (contract_in form book.now i)) }
+// Puts the numbers of the first contracts into the cells, one into each.
+fn fill_numbers(book: &[u8], form: Form, cells: &mut [u64])
+    requires { (length cells.old ≤ max_contracts) × (book_bytes_of form (length cells.old) ≤ length book.now) }
+    ensures { after cells ≡ list_to (length (before cells)) (λ i. row_number (contract_in form book.now i)) }
 {
-    let mut i = 0;
-    while i < count {
-        cells[i] = number_at(book, form, i);
-        i += 1;
+    for (i, cell) in cells.iter_mut().enumerate() {
+        *cell = number_at(book, form, i);
     }
 }
 
@@ -84,7 +82,7 @@ fn row_with(row: u64, quantity: Quantity) -> u64
     requires { quantity.0 ≤ max_quantity }
     ensures { result ≡ number_at_of quantity.0 row }
 {
-    row / QUANTITIES * QUANTITIES + quantity.cell()
+    row / QUANTITIES * QUANTITIES + u64::from(quantity)
 }
 
 // The pending row and the next one: of one five they are added, and a full row goes out where they are more; of two fives the pending row goes out.
@@ -101,12 +99,12 @@ fn next_step(row: u64, next: u64) -> Step
     }
     let most = Quantity(MAX_QUANTITY);
     let full = row_with(row, most);
-    let both = row_quantity(row).plus(row_quantity(next));
-    if both.exceeds(most) {
+    let both = row_quantity(row) + row_quantity(next);
+    if most < both {
         return Step {
             goes: 1,
             out: full,
-            pending: row_with(row, both.minus(most)),
+            pending: row_with(row, both - most),
         };
     }
     Step {
@@ -116,20 +114,18 @@ fn next_step(row: u64, next: u64) -> Step
     }
 }
 
-// Adds together and cuts the first `count` cells, whose fives rise. Gives how many rows there are then: never more than are read, so they go into the same cells.
-fn walk(cells: &mut [u64], count: usize) -> usize
-    requires { (0 < count) × (count ≤ length cells.old) × Each SizedQuantity (take count cells.old) }
-    ensures { (take result (after cells) ≡ walk_numbers (take count (before cells))) × (result ≤ count) }
+// Adds together and cuts the cells, whose fives rise. Gives how many rows there are then: never more than are read, so they go into the same cells.
+fn walk(cells: &mut [u64]) -> usize
+    requires { (0 < length cells.old) × Each SizedQuantity cells.old }
+    ensures { (take result (after cells) ≡ walk_numbers (before cells)) × (result ≤ length (before cells)) }
 {
     let mut row = cells[0];
     let mut rows = 0;
-    let mut i = 1;
-    while i < count {
+    for i in 1..cells.len() {
         let s = next_step(row, cells[i]);
         cells[rows] = s.out;
         rows += s.goes;
         row = s.pending;
-        i += 1;
     }
     cells[rows] = row;
     rows + 1
@@ -143,7 +139,8 @@ pub fn canonical_rows(book: &[u8], form: Form, count: usize, cells: &mut [u64]) 
     if count == 0 {
         return 0;
     }
-    fill_numbers(book, form, count, cells);
-    sorting_digits::sort(cells, count);
-    walk(cells, count)
+    let rows = &mut cells[..count];
+    fill_numbers(book, form, rows);
+    sorting_digits::sort(rows);
+    walk(rows)
 }

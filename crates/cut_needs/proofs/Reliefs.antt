@@ -3,10 +3,15 @@ use mathlib.Core.Path.{◌≡◌, refl, sym, ap, ◌∙◌, subst}
 use mathlib.Core.Logic.{⊎_elim}
 use mathlib.Core.Bool.{Bool, true, false, cond, true≢false}
 use mathlib.Core.List.{List}
-use Prim.Native.Nat.{ℕ, ◌+◌, ◌-◌, ◌*◌, ◌/◌, ◌^◌, ◌<◌, ◌≤◌}
+use Prim.Native.Nat.{ℕ, ◌+◌, ◌-◌, ◌*◌, ◌/◌, ◌%◌, ◌^◌, ◌<◌, ◌≤◌, min}
 use native.Mathlib.Nat.{eq-or-lt_of_le}
 use native.Mathlib.Omega.{arith}
 use borrow.Author.Tests.{le-leb, lt-leb}
+use native.Mathlib.Decide.{ℕ_discrete}
+use Rattle.std.specs.Int.{div_ceil}
+use Rattle.std.specs.Ordering.{is_lt, int_cmp}
+use Rattle.std.proofs.Math.Nat.{div-add-mod, mod-lt}
+use Rattle.std.proofs.lemmas.Nat.{div-mul-add}
 use lib.Dec.{T, leb}
 use lib.ListN.{get_or}
 use lib.IntN.{ℤ, pos, negsuc, nat_abs, ◌-ℤ◌, ◌*ℤ◌}
@@ -25,6 +30,7 @@ use Rattle.cut_rules.proofs.Needs.{is_true}
 use Rattle.cut_rules.proofs.Turns.{need-sizes}
 use Rattle.test_rules.specs.Inner.{Ends}
 use Rattle.test_rules.proofs.Flowing.{rows-kept, part_small}
+use Rattle.test_rules.proofs.Judging.{less-is}
 use Rattle.cut_needs.specs.Inner.{slope_from, slope_in}
 
 -- what a cell of an i64 gives back
@@ -61,9 +67,9 @@ module _ (k : ℕ) (fs : List ℤ) (c : Contract) (ends : Ends k fs c) (j : ℕ)
   relief_small z t h e = relief_sized c.kind x y z t (ends.source-sized j b) (ends.sink-sized j b) h e
 
 -- the comparison: r is what it says of an excess x, kept as v, and a flow z
-module _ (x v z p : ℤ) (same : v ≡ x) (is : z ≡ p) (r : Bool) (found : r ≡ lt_z z v) where
+module _ (x v z p : ℤ) (same : v ≡ x) (is : z ≡ p) (r : Bool) (found : r ≡ is_lt (int_cmp z v)) where
   compared : r ≡ lt_z p x
-  compared = found ∙ rw (is, same)
+  compared = found ∙ less-is z v ∙ rw (is, same)
 
   pub over-so : r ≡ true → p <ℤ x
   over-so e = lt_z_yes (rw (sym compared ∙ e) tt)
@@ -87,19 +93,39 @@ pub some_size : (z : ℤ) → pos 0 <ℤ z → 1 ≤ nat_abs z
 some_size (pos n) h = let l = simp ⊖s at h in omega arith
 some_size (negsuc n) h = absurd h.lt
 
+-- a quotient rounded up
+module _ (x y : ℕ) (some : 0 < y) where
+  abbrev q : ℕ
+  q = x / y
+
+  abbrev r : ℕ
+  r = x % y
+
+  whole : x ≡ q * y + r
+  whole = omega (arith, div-add-mod x y)
+
+  pub rounded_up : div_ceil x y ≡ (x + (y - 1)) / y
+  rounded_up = elim (ℕ_discrete r 0) [
+    | yes z ↦
+        let e : x + (y - 1) ≡ q * y + (y - 1) = omega (arith, whole) in
+        rw (e, z, div-mul-add q y (y - 1) (omega arith)) (omega arith)
+    | no ne ↦
+        let e : x + (y - 1) ≡ (q + 1) * y + (r - 1) = grind (arith, whole) in
+        let one : min 1 r ≡ 1 = omega arith in
+        rw (e, one, div-mul-add (q + 1) y (r - 1) (omega (arith, mod-lt x some))) refl
+  ]
+
 module _ (e w : ℤ) (over : pos 0 <ℤ e) (steep : pos 0 <ℤ w) (ke : kept e ≡ e) (kw : kept w ≡ w) where
   -- what the machine divides
-  abbrev divided : ℕ
-  divided = (nat_abs (kept e) + (nat_abs (kept w) - 1)) / nat_abs (kept w)
+  module _ (n : ℕ) (divided : n ≡ div_ceil (nat_abs (kept e)) (nat_abs (kept w))) where
+    divided_is : n ≡ need_at e w
+    divided_is = divided ∙ rw (ke, kw) (rounded_up (nat_abs e) (nat_abs w) (some_size w steep) ∙ need-sizes e w over steep)
 
-  divided_is : divided ≡ need_at e w
-  divided_is = rw (ke, kw) (need-sizes e w over steep)
+    pub too_much : (most : ℕ) → most < n → 0 ≡ cond (leb (need_at e w) most) (need_at e w) 0
+    too_much most h = rw (lt-leb (need_at e w) most (rw divided_is at h))
 
-  pub too_much : (most : ℕ) → most < divided → 0 ≡ cond (leb (need_at e w) most) (need_at e w) 0
-  too_much most h = rw (lt-leb (need_at e w) most (rw divided_is at h))
-
-  pub no_more : (most : ℕ) → divided ≤ most → divided ≡ cond (leb (need_at e w) most) (need_at e w) 0
-  no_more most h = rw (le-leb (need_at e w) most (rw divided_is at h)) divided_is
+    pub no_more : (most : ℕ) → n ≤ most → n ≡ cond (leb (need_at e w) most) (need_at e w) 0
+    no_more most h = rw (le-leb (need_at e w) most (rw divided_is at h)) divided_is
 
 pub nothing : (b : Bool) → ◌≡◌ {A = ℕ} 0 (cond b 0 0)
 nothing true = refl

@@ -19,11 +19,8 @@ fn cut_needed(over: Flow, slope: Flow, most: Quantity) -> Quantity
     if slope.0 <= 0 {
         return Quantity(0);
     }
-    let excess = over.0 as u64;
-    let each = slope.0 as u64;
-    let thousandths = (excess + (each - 1)) / each;
-    let cut = Quantity(thousandths);
-    if cut.exceeds(most) {
+    let cut = Quantity((over.0 as u64).div_ceil(slope.0 as u64));
+    if most < cut {
         return Quantity(0);
     }
     cut
@@ -43,9 +40,8 @@ fn raised(
     ensures { result.0 ≡ raised_to over.0 (counted kind (source -ℤ sink)) most.0 need.0 }
 {
     let relief = need.counted_flow(kind, source, sink);
-    if over.exceeds(relief) {
-        let thousandth = Quantity(1);
-        let slope = thousandth.counted_flow(kind, source, sink);
+    if relief < over {
+        let slope = Quantity(1).counted_flow(kind, source, sink);
         return cut_needed(over, slope, most);
     }
     need
@@ -67,26 +63,21 @@ fn least_need(
 {
     let source = c.source * constraints;
     let sink = c.sink * constraints;
-    let kind = c.kind;
-    let most = c.quantity;
     let mut need = Quantity(0);
-    let mut k = from;
-    while k < upto {
-        let excess = excesses[k];
-        if 0 < excess {
+    for k in from..upto {
+        if 0 < excesses[k] {
             need = raised(
-                Flow(excess),
-                kind,
+                Flow(excesses[k]),
+                c.kind,
                 factors[source + k],
                 factors[sink + k],
-                most,
+                c.quantity,
                 need,
             );
-            if need.is_zero() {
-                return Quantity(0);
+            if need == Quantity(0) {
+                return need;
             }
         }
-        k += 1;
     }
     need
 }
@@ -98,15 +89,11 @@ fn clears(c: Contract, constraints: usize, factors: &[i64], excesses: &[i64], cu
 {
     let source = c.source * constraints;
     let sink = c.sink * constraints;
-    let kind = c.kind;
-    let mut k = 0;
-    while k < constraints {
-        let relief = cut.counted_flow(kind, factors[source + k], factors[sink + k]);
-        let over = Flow(excesses[k]);
-        if over.exceeds(relief) {
+    for k in 0..constraints {
+        let relief = cut.counted_flow(c.kind, factors[source + k], factors[sink + k]);
+        if relief < Flow(excesses[k]) {
             return false;
         }
-        k += 1;
     }
     true
 }
@@ -116,13 +103,10 @@ pub fn first_overload(constraints: usize, excesses: &[i64]) -> usize
     requires { Excesses constraints excesses.now }
     ensures { (result ≤ constraints) × ((j : ℕ) → j < result → cell_at excesses.now j ≤ℤ pos 0) }
 {
-    let mut k = 0;
-    while k < constraints {
-        let excess = excesses[k];
-        if 0 < excess {
+    for k in 0..constraints {
+        if 0 < excesses[k] {
             return k;
         }
-        k += 1;
     }
     constraints
 }
@@ -132,13 +116,10 @@ pub fn overloads_end(constraints: usize, excesses: &[i64]) -> usize
     requires { Excesses constraints excesses.now }
     ensures { (result ≤ constraints) × ((j : ℕ) → result ≤ j → j < constraints → cell_at excesses.now j ≤ℤ pos 0) }
 {
-    let mut k = constraints;
-    while 0 < k {
-        let excess = excesses[k - 1];
-        if 0 < excess {
-            return k;
+    for k in (0..constraints).rev() {
+        if 0 < excesses[k] {
+            return k + 1;
         }
-        k -= 1;
     }
     0
 }
@@ -156,10 +137,7 @@ pub fn least_cut(
     ensures { (result.0 ≡ cut_in constraints factors.now excesses.now c) × (result.0 ≤ max_quantity) }
 {
     let need = least_need(c, constraints, factors, excesses, from, upto);
-    if need.is_zero() {
-        return Quantity(0);
-    }
-    if clears(c, constraints, factors, excesses, need) {
+    if need != Quantity(0) && clears(c, constraints, factors, excesses, need) {
         need
     } else {
         Quantity(0)

@@ -16,13 +16,7 @@ fn is_between(weekday: u64, from: u64, to: u64, year: u64, month: u64, day: u64)
     requires { (1 ≤ year) × (year ≤ last_year) × (month ≤ 12) × (1 ≤ from) × (to ≤ 31) }
     ensures { result ≡ between weekday from to year month day }
 {
-    if day < from {
-        return false;
-    }
-    if to < day {
-        return false;
-    }
-    weekday_number(year, month, day) == weekday
+    (from..=to).contains(&day) && weekday_number(year, month, day) == weekday
 }
 
 // By the days of the month between which each holiday falls (date_laws/proofs/ByDays.antt: these are the first, the fourth and the last).
@@ -30,25 +24,15 @@ fn is_holiday(year: u64, month: u64, day: u64) -> bool
     requires { (1 ≤ year) × (year ≤ last_year) × (month ≤ 12) }
     ensures { result ≡ holiday_by_days year month day }
 {
-    if month == 1 {
-        return day == 1;
+    match month {
+        1 => day == 1,
+        5 => is_between(1, 25, 31, year, month, day),
+        7 => day == 4,
+        9 => is_between(1, 1, 7, year, month, day),
+        11 => is_between(4, 22, 28, year, month, day),
+        12 => day == 25,
+        _ => false,
     }
-    if month == 5 {
-        return is_between(1, 25, 31, year, month, day);
-    }
-    if month == 7 {
-        return day == 4;
-    }
-    if month == 9 {
-        return is_between(1, 1, 7, year, month, day);
-    }
-    if month == 11 {
-        return is_between(4, 22, 28, year, month, day);
-    }
-    if month == 12 {
-        return day == 25;
-    }
-    false
 }
 
 pub fn on_peak_day(year: u64, month: u64, day: u64) -> bool
@@ -62,12 +46,7 @@ pub fn on_peak_day(year: u64, month: u64, day: u64) -> bool
     if is_holiday(year, month, day) {
         return false;
     }
-    if weekday == 1 {
-        if is_holiday(year, month, day - 1) {
-            return false;
-        }
-    }
-    true
+    weekday != 1 || !is_holiday(year, month, day - 1)
 }
 
 // A month's on-peak hours by the rule. The table is not read.
@@ -76,13 +55,11 @@ pub fn hours_by_rule(year: u64, month: u64) -> u64
     ensures { (result ≡ on_peak_hours year month) × (result ≤ hoursADay * 31) }
 {
     let days = month_days(year, month);
-    let mut count: u64 = 0;
-    let mut day: u64 = 0;
-    while day < days {
+    let mut count = 0;
+    for day in 0..days {
         if on_peak_day(year, month, day + 1) {
             count += 1;
         }
-        day += 1;
     }
     HOURS_A_DAY * count
 }

@@ -31,11 +31,9 @@ pub fn put_table(buf: &mut [u8]) -> usize
     ensures upper_bound { result ≤ table_bytes }
 {
     let mut next = 0;
-    let mut k = 0;
-    while k < ENTRIES {
+    for k in 0..ENTRIES {
         let hours = date_on_peak::hours_by_rule(FIRST_YEAR + k / 12, 1 + k % 12);
         next = put_count(buf, next, hours);
-        k += 1;
     }
     next
 }

@@ -4,7 +4,7 @@
 ghost use Rattle.std.specs.Prelude.{◌≡◌, ◌≤◌, ◌<◌};
 ghost use Rattle.date_rules.specs.Dates.{leap, month_length_of, length_before_of, month_days_of, day_number_of, weekday_of, last_year, month_exists_of, date_exists};
 ghost use Rattle.dates.specs.Weekday.{TellsWeekday};
-ghost use Rattle.dates.specs.MonthLater.{cut_to as cut_to_of, ReachesMonthLater};
+ghost use Rattle.dates.specs.MonthLater.{ReachesMonthLater};
 
 use tariff::Refusal;
 
@@ -20,29 +20,10 @@ pub struct Date {
     pub day: u64,
 }
 
-// 1, Monday, to 7.
-#[derive(Clone, Copy)]
-pub enum WeekdayAnswer {
-    Found(u64),
-    Refused(Refusal),
-}
-
-#[derive(Clone, Copy)]
-pub enum DateAnswer {
-    Reached(Date),
-    Refused(Refusal),
-}
-
 fn leap_year(year: u64) -> bool
     ensures { result ≡ leap year }
 {
-    if year % 400 == 0 {
-        return true;
-    }
-    if year % 100 == 0 {
-        return false;
-    }
-    year % 4 == 0
+    year % 400 == 0 || year % 100 != 0 && year % 4 == 0
 }
 
 // The days of each month of a common year, from month 1; there is no month 0.
@@ -53,7 +34,7 @@ fn month_length(leap: bool, month: usize) -> u64
     ensures { (result ≡ month_length_of leap month) × (result ≤ 31) }
 {
     if month != 2 {
-        return tariff::wide(DAYS[month]);
+        return u64::from(DAYS[month]);
     }
     if leap { 29 } else { 28 }
 }
@@ -65,7 +46,7 @@ fn length_before(leap: bool, month: usize) -> u64
     requires { month ≤ 12 }
     ensures { (result ≡ length_before_of leap month) × (result ≤ 335) }
 {
-    let before = tariff::wide(DAYS_BEFORE[month]);
+    let before = u64::from(DAYS_BEFORE[month]);
     if month <= 2 {
         return before;
     }
@@ -99,61 +80,41 @@ pub fn weekday_number(year: u64, month: u64, day: u64) -> u64
 pub fn month_exists(year: u64, month: u64) -> bool
     ensures { result ≡ month_exists_of year month }
 {
-    if year < FIRST_YEAR {
-        return false;
-    }
-    if LAST_YEAR < year {
-        return false;
-    }
-    if month < 1 {
-        return false;
-    }
-    month <= 12
-}
-
-fn cut_to(last: u64, day: u64) -> u64
-    ensures { result ≡ cut_to_of last day }
-{
-    if day <= last { day } else { last }
+    (FIRST_YEAR..=LAST_YEAR).contains(&year) && (1..=12).contains(&month)
 }
 
 impl Date {
     pub fn exists(self) -> bool
         ensures { result ≡ date_exists self.year self.month self.day }
     {
-        if !month_exists(self.year, self.month) {
-            return false;
-        }
-        if self.day < 1 {
-            return false;
-        }
-        self.day <= month_days(self.year, self.month)
+        month_exists(self.year, self.month)
+            && (1..=month_days(self.year, self.month)).contains(&self.day)
     }
 
     // 1, Monday, to 7. Check: 19.
-    pub fn weekday(self) -> WeekdayAnswer
+    pub fn weekday(self) -> Result<u64, Refusal>
         ensures { TellsWeekday self result }
     {
         if !self.exists() {
-            return WeekdayAnswer::Refused(Refusal::NoSuchDate);
+            return Err(Refusal::NoSuchDate);
         }
-        WeekdayAnswer::Found(weekday_number(self.year, self.month, self.day))
+        Ok(weekday_number(self.year, self.month, self.day))
     }
 
     // The date one month later, the day cut to the month's last. Checks: 19 of the date given, 19 of the date reached.
-    pub fn month_later(self) -> DateAnswer
+    pub fn month_later(self) -> Result<Date, Refusal>
         ensures { ReachesMonthLater self result }
     {
         if !self.exists() {
-            return DateAnswer::Refused(Refusal::NoSuchDate);
+            return Err(Refusal::NoSuchDate);
         }
         let year = self.year + self.month / 12;
         let month = self.month % 12 + 1;
-        let day = cut_to(month_days(year, month), self.day);
+        let day = self.day.min(month_days(year, month));
         let reached = Date { year, month, day };
         if !reached.exists() {
-            return DateAnswer::Refused(Refusal::NoSuchDate);
+            return Err(Refusal::NoSuchDate);
         }
-        DateAnswer::Reached(reached)
+        Ok(reached)
     }
 }

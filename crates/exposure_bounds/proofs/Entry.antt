@@ -16,8 +16,8 @@ use Rattle.tariff.specs.declared.contracts.Period.{Period}
 use Rattle.tariff.specs.declared.processes.Process.{Process}
 use Rattle.tariff.specs.declared.refusals.Refusal.{Refusal}
 use Rattle.tariff.specs.declared.refusals.Refusal.TheVariants.{ShortTable}
-use Rattle.tariff.specs.declared.refusals.Checked.{Checked}
-use Rattle.tariff.specs.declared.refusals.Checked.TheVariants.{Passed, Refused}
+use Rattle.tariff.specs.Refusals.{Checked, passed}
+use Rattle.std.specs.Prelude.{Ok, Err}
 use Rattle.tariff.specs.Units.{factors_of, grid_of, max_limit}
 use Rattle.tariff.specs.ContractRules.{of_period}
 use Rattle.tariff.specs.Processes.{percent}
@@ -39,7 +39,6 @@ use Rattle.exposure_rules.specs.Theorems.{Exposes}
 use Rattle.exposure_rules.proofs.Theorems.{exposes, exposure_list}
 use Rattle.exposure_figures.proofs.Figures.{figures}
 use Rattle.exposure_bounds.specs.declared.Exposure.{Exposure}
-use Rattle.exposure_bounds.specs.declared.ExposureAnswer.TheVariants as is
 use Rattle.test_excesses.specs.Inner.{cell_at, excess_in}
 use Rattle.exposure_prices.specs.Inner.{Excesses}
 use Rattle.exposure_bounds.specs.Inner.{AreExcesses, Exposed}
@@ -48,7 +47,7 @@ use Rattle.exposure_bounds.specs.FindExposure.{exposure_checks, exposure_checked
 -- ---- the excesses
 
 module _ (n k : ℕ) (ls : List ℕ) (fs : List ℤ) (process : Process) (t : Period) (book : List ℕ) (gl : GoodCells max_limit k ls) (gf : GoodFactors n k fs)
-    (own : first (book_checks n book) ≡ Passed) (carried : Flows) (carries : Carries (factors_of n k fs) (of_period t (book_in book)) carried)
+    (own : first (book_checks n book) ≡ passed) (carried : Flows) (carries : Carries (factors_of n k fs) (of_period t (book_in book)) carried)
     (entry cells : List ℤ) (fills : cells ≡ overwrite (list_to k (excess_in ls process carried.flows)) entry) where
   cell_is : (j : ℕ) → j < k → cell_at cells j ≡ excess_in ls process carried.flows j
   cell_is j h =
@@ -87,24 +86,24 @@ module _ (q : TestCall) (place : List ℕ) where
   room = short_table (length place) q.constraints ∷ []
 
   module _ (x : Checked) (found : x ≡ test_checked q) where
-    pub test-refuses : (r : Refusal) → x ≡ Refused r → Refused r ≡ exposure_checked q place
+    pub test-refuses : (r : Refusal) → x ≡ Err r → Err r ≡ exposure_checked q place
     unfolding exposure_checks
     test-refuses r told = sym (append_refuses (test_checks q) room r (sym found ∙ told))
 
-    then_room : x ≡ Passed → exposure_checked q place ≡ first room
+    then_room : x ≡ passed → exposure_checked q place ≡ first room
     unfolding exposure_checks
     then_room told = append_passes (test_checks q) room (sym found ∙ told)
 
-    pub no_room : x ≡ Passed → length place < q.constraints → Refused ShortTable ≡ exposure_checked q place
+    pub no_room : x ≡ passed → length place < q.constraints → Err ShortTable ≡ exposure_checked q place
     no_room told h = sym (then_room told ∙ first-refuses _ _ (lt-ltb (length place) q.constraints h))
 
-    pub all-fits : x ≡ Passed → q.constraints ≤ length place → Passed ≡ exposure_checked q place
+    pub all-fits : x ≡ passed → q.constraints ≤ length place → passed ≡ exposure_checked q place
     all-fits told h = sym (then_room told ∙ last-passes _ (le-ltb (length place) q.constraints h))
 
 -- ---- the promise
 
 module _ (q : TestCall) (prices : Lent (List ℕ)) where
-  exposed : after prices ≡ cells_after (exposure_checked q (before prices)) (price_cells q) (before prices) → exposure_checked q (before prices) ≡ Passed
+  exposed : after prices ≡ cells_after (exposure_checked q (before prices)) (price_cells q) (before prices) → exposure_checked q (before prices) ≡ passed
       → Exposes (tested_grid q) (tested_process q) (tested_contracts q) (take q.constraints (after prices)) (least q) (most q)
   exposed e passed =
       subst (λ (p : List ℕ). Exposes (tested_grid q) (tested_process q) (tested_contracts q) p (least q) (most q)) (sym stands)
@@ -115,22 +114,22 @@ module _ (q : TestCall) (prices : Lent (List ℕ)) where
           ap (take q.constraints) (e ∙ ap (λ (x : Checked). cells_after x (price_cells q) (before prices)) passed)
           ∙ front-is (price_cells q) (before prices) q.constraints (exposure_list (tested_grid q) (tested_process q) (tested_contracts q)).one_each
 
-  pub refuses : (x : Checked) → x ≡ exposure_checked q (before prices) → (r : Refusal) → x ≡ Refused r → after prices ≡ before prices
-      → FindsExposure q prices (is.Refused r)
+  pub refuses : (x : Checked) → x ≡ exposure_checked q (before prices) → (r : Refusal) → x ≡ Err r → after prices ≡ before prices
+      → FindsExposure q prices (Err r)
   refuses x found r told kept =
       let cells = kept ∙ cells-refused x (exposure_checked q (before prices)) found r told (price_cells q) (before prices) in
       record { figures-given = answer-refused x (exposure_checked q (before prices)) found r told _; prices-found = cells; exposes = exposed cells }
 
-  pub finds : (x : Checked) → x ≡ exposure_checked q (before prices) → x ≡ Passed → (r : Exposure)
+  pub finds : (x : Checked) → x ≡ exposure_checked q (before prices) → x ≡ passed → (r : Exposure)
       → Exposed (tested_grid q) (tested_process q) (tested_contracts q) (before prices) (after prices) r
-      → (lw mw : ℤ) → lw ≡ r.least.whole → mw ≡ r.most.whole → FindsExposure q prices (is.Found lw r.least.parts mw r.most.parts)
-  finds x found told r e lw mw le me =
+      → FindsExposure q prices (Ok r)
+  finds x found told r e =
       let a = figures (least q) r.least e.least in
       let b = figures (most q) r.most e.most in
       let cells = cells-passed x (exposure_checked q (before prices)) found told (price_cells q) (before prices) (after prices) e.prices in
       record {
         figures-given =
-            (λ i. given ((le ∙ a.0) i ∷ pos (a.1 i) ∷ (me ∙ b.0) i ∷ pos (b.1 i) ∷ []))
+            (λ i. given (a.0 i ∷ pos (a.1 i) ∷ b.0 i ∷ pos (b.1 i) ∷ []))
             ∙ answer-passed x (exposure_checked q (before prices)) found told (exposure_values q);
         prices-found = cells;
         exposes = exposed cells;

@@ -2,7 +2,7 @@
 use mathlib.Core.Path.{◌≡◌, refl, sym, ap, ap₂, ◌∙◌}
 use mathlib.Core.Bool.{Bool, true, false, cond, ◌&&◌}
 use mathlib.Core.List.{List}
-use Prim.Native.Nat.{ℕ, zero, suc, ◌+◌, ◌/◌, ◌%◌, ◌^◌, ◌≤◌, ◌<◌}
+use Prim.Native.Nat.{ℕ, zero, suc, ◌+◌, ◌/◌, ◌%◌, ◌^◌, ◌<◌}
 use native.Mathlib.Nat.{add-zero}
 use native.Mathlib.Numerals.{add-one}
 use native.Mathlib.Omega.{arith}
@@ -20,7 +20,6 @@ use Rattle.tariff.specs.declared.processes.Process.{Process}
 use Rattle.tariff.specs.Units.{Grid, max_price}
 use Rattle.tariff.specs.ContractRules.{counted}
 use Rattle.tariff.specs.Feasibility.{released, overloaded, overload_count}
-use Rattle.tariff.specs.Shortfall.{shortfall}
 use Rattle.exposure_sets.specs.Inner.{in_bit, bit_sum, raw_of, unit_cost, UnitCosts}
 use Rattle.exposure_rules.specs.Exposure.{largest_of, in_set, set_prices}
 use Rattle.exposure_rules.proofs.Plain.{max0-same, largest_inside, largest_most, largest_upto}

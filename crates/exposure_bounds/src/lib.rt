@@ -4,10 +4,9 @@
 ghost use Rattle.std.specs.Prelude.{◌≡◌, ◌≤◌, length};
 ghost use Rattle.lists.specs.Sets.{count_of};
 ghost use Rattle.lists.specs.Lent.{before, after};
-ghost use Rattle.tariff.specs.declared.refusals.Checked.TheVariants.{Passed};
+ghost use Rattle.tariff.specs.Refusals.{passed, first};
 ghost use Rattle.tariff.specs.Units.{grid_of, max_limit};
 ghost use Rattle.tariff.specs.ContractRules.{of_period};
-ghost use Rattle.tariff.specs.Refusals.{first};
 ghost use Rattle.layouts.specs.BookFile.{book_in};
 ghost use Rattle.grid_tables.specs.Inner.{GoodCells, GoodFactors};
 ghost use Rattle.book_rules.specs.BookChecks.{book_checks};
@@ -18,7 +17,8 @@ ghost use Rattle.exposure_bounds.specs.FindExposure.{FindsExposure};
 ghost use Rattle.exposure_bounds.specs.Inner.{AreExcesses, WorstPrices, BetterPrices, Exposed};
 
 use exposure_figures::Exact;
-use tariff::{Checked, MAX_CONSTRAINTS, Refusal};
+use grid_tables::FactorTable;
+use tariff::{MAX_CONSTRAINTS, Refusal};
 use test_excesses::Terms;
 use test_terms::Asked;
 use test_verdict::check_test;
@@ -28,18 +28,6 @@ const FEW_OVERLOADS: usize = 10;
 
 // How many sets they have at most.
 const MOST_SETS: usize = 1024;
-
-// What finding the exposure gives beside the prices: the least and the most that the book can cost, as whole cents rounded down and parts.
-#[derive(Clone, Copy)]
-pub enum ExposureAnswer {
-    Found {
-        least_whole: i64,
-        least_parts: u64,
-        most_whole: i64,
-        most_parts: u64,
-    },
-    Refused(Refusal),
-}
 
 // The least and the most that a book can cost.
 #[derive(Clone, Copy)]
@@ -61,7 +49,7 @@ fn worst_prices(
 ) -> Exact
     requires excesses { Excesses terms.constraints excesses.now × GoodCells max_limit terms.constraints limits.now
         × GoodFactors terms.nodes terms.constraints factors.now }
-    requires book_value { (first (book_checks terms.nodes book.now) ≡ Passed) × (terms.constraints ≤ length prices.old) }
+    requires book_value { (first (book_checks terms.nodes book.now) ≡ passed) × (terms.constraints ≤ length prices.old) }
     requires count_le_few_overloads { (count ≤ few_overloads) × (count ≡ count_of terms.constraints (above_in excesses.now)) }
     requires listed { Listed terms.constraints (above_in excesses.now) over.now × (length over.now ≡ 64) }
     requires are_excesses { AreExcesses (grid_of terms.nodes terms.constraints limits.now factors.now) terms.process
@@ -72,8 +60,7 @@ fn worst_prices(
     let mut costs = [0i64; MOST_SETS];
     exposure_sets::set_costs(terms, limits, factors, book, over, count, &mut costs);
     let best = exposure_prices::best_of(exposure_sets::set_count(count), &costs);
-    let set = best.set;
-    exposure_prices::fill_set(terms.constraints, excesses, set, prices);
+    exposure_prices::fill_set(terms.constraints, excesses, best.set, prices);
     best.cost
 }
 
@@ -88,7 +75,7 @@ fn better_prices(
 ) -> Exact
     requires excesses { Excesses terms.constraints excesses.now × GoodCells max_limit terms.constraints limits.now
         × GoodFactors terms.nodes terms.constraints factors.now }
-    requires book_value { (first (book_checks terms.nodes book.now) ≡ Passed) × (terms.constraints ≤ length prices.old) }
+    requires book_value { (first (book_checks terms.nodes book.now) ≡ passed) × (terms.constraints ≤ length prices.old) }
     requires are_excesses { AreExcesses (grid_of terms.nodes terms.constraints limits.now factors.now) terms.process
         (of_period terms.period (book_in book.now)) excesses.now }
     ensures { BetterPrices (grid_of terms.nodes terms.constraints limits.now factors.now) terms.process
@@ -98,13 +85,13 @@ fn better_prices(
     let largest = exposure_prices::largest_cell(constraints, excesses);
     let alone = exposure_prices::alone_shortfall(constraints, excesses, largest);
     exposure_prices::fill_prices(constraints, excesses, 0, constraints, prices);
-    let found = exposure_shortfall::shortfall_at(terms, limits, factors, prices, book);
-    let all = found.shortfall;
-    if all.below(alone) {
+    let all = exposure_shortfall::shortfall_at(terms, limits, factors, prices, book).shortfall;
+    if all < alone {
         exposure_prices::fill_prices(constraints, excesses, largest, largest + 1, prices);
-        return alone;
+        alone
+    } else {
+        all
     }
-    all
 }
 
 // The least and the most that a book can cost, with the prices of the least, where no check refuses.
@@ -116,31 +103,33 @@ fn expose(
     prices: &mut [u64],
 ) -> Exposure
     requires good_cells { GoodCells max_limit terms.constraints limits.now × GoodFactors terms.nodes terms.constraints factors.now }
-    requires book_value { (first (book_checks terms.nodes book.now) ≡ Passed) × (terms.constraints ≤ length prices.old) }
+    requires book_value { (first (book_checks terms.nodes book.now) ≡ passed) × (terms.constraints ≤ length prices.old) }
     ensures { Exposed (grid_of terms.nodes terms.constraints limits.now factors.now) terms.process
         (of_period terms.period (book_in (book.now))) (before prices) (after prices) result }
 {
-    let nodes = terms.nodes;
     let constraints = terms.constraints;
-    let process = terms.process;
-    let period = terms.period;
-    let carried = test_flows::carry(nodes, constraints, factors, period, book);
+    let table = FactorTable::of(terms.nodes, constraints, factors);
+    let carried = test_flows::carry(table, terms.period, book);
     let mut excesses = [0i64; MAX_CONSTRAINTS];
-    test_excesses::fill_excess(constraints, process, limits, carried, &mut excesses);
+    test_excesses::fill_excess(constraints, terms.process, limits, carried, &mut excesses);
     let mut over = [0usize; MAX_CONSTRAINTS];
     let count = exposure_prices::fill_over(constraints, &excesses, &mut over);
     if count <= FEW_OVERLOADS {
         let worst = worst_prices(
             terms, limits, factors, book, &excesses, &over, count, prices,
         );
-        return Exposure {
+        Exposure {
             least: worst,
             most: worst,
-        };
+        }
+    } else {
+        let most = exposure_prices::at_highest(exposure_prices::total_above(
+            constraints,
+            &excesses,
+        ));
+        let least = better_prices(terms, limits, factors, book, &excesses, prices);
+        Exposure { least, most }
     }
-    let most = exposure_prices::at_highest(exposure_prices::total_above(constraints, &excesses));
-    let least = better_prices(terms, limits, factors, book, &excesses, prices);
-    Exposure { least, most }
 }
 
 // Finds what a book can cost: the least and the most, between which its worst shortfall is, and prices that cost the least, one for each constraint.
@@ -150,22 +139,12 @@ pub fn find_exposure(
     factors: &[i64],
     book: &[u8],
     prices: &mut [u64],
-) -> ExposureAnswer
+) -> Result<Exposure, Refusal>
     ensures { FindsExposure (asked_test asked limits.now factors.now book.now) prices result }
 {
-    let checked = check_test(asked, limits, factors, book);
-    if let Checked::Refused(refusal) = checked {
-        return ExposureAnswer::Refused(refusal);
-    }
+    check_test(asked, limits, factors, book)?;
     if prices.len() < asked.constraints {
-        return ExposureAnswer::Refused(Refusal::ShortTable);
+        return Err(Refusal::ShortTable);
     }
-    let terms = Terms::from_asked(asked);
-    let exposure = expose(terms, limits, factors, book, prices);
-    ExposureAnswer::Found {
-        least_whole: exposure.least.whole,
-        least_parts: exposure.least.parts,
-        most_whole: exposure.most.whole,
-        most_parts: exposure.most.parts,
-    }
+    Ok(expose(Terms::from_asked(asked), limits, factors, book, prices))
 }

@@ -38,10 +38,7 @@ fn above_zero(excess: i64) -> u64
     requires { nat_abs excess ≤ max_excess }
     ensures { (pos result ≡ max0 excess) × (result ≤ max_excess) }
 {
-    if excess < 0 {
-        return 0;
-    }
-    excess as u64
+    excess.max(0) as u64
 }
 
 // All excesses above 0, added.
@@ -50,11 +47,8 @@ pub fn total_above(constraints: usize, excesses: &[i64]) -> u64
     ensures { (pos result ≡ sum_to constraints (λ (j : ℕ). max0 (cell_at excesses.now j))) × (result ≤ max_excess * 64) }
 {
     let mut total = 0u64;
-    let mut k = 0;
-    while k < constraints {
-        let over = excesses[k];
-        total += above_zero(over);
-        k += 1;
+    for excess in &excesses[..constraints] {
+        total += above_zero(*excess);
     }
     total
 }
@@ -65,9 +59,7 @@ fn larger(cells: &[i64], low: usize, high: usize) -> usize
     requires low_bound { (nat_abs (cell_at cells.now low) < 2 ^ 62) × (nat_abs (cell_at cells.now high) < 2 ^ 62) }
     ensures { result ≡ cond (lt_z (cell_at cells.now low) (cell_at cells.now high)) high low }
 {
-    let first = cells[low];
-    let second = cells[high];
-    if first < second { high } else { low }
+    if cells[low] < cells[high] { high } else { low }
 }
 
 // Where a figure is largest, the lowest such place.
@@ -76,10 +68,8 @@ pub fn largest_cell(count: usize, cells: &[i64]) -> usize
     ensures { result ≡ largest_of count (cell_at cells.now) }
 {
     let mut largest = 0;
-    let mut k = 0;
-    while k < count {
+    for k in 0..count {
         largest = larger(cells, largest, k);
-        k += 1;
     }
     largest
 }
@@ -89,14 +79,11 @@ fn price_at(excess: i64, k: usize, from: usize, upto: usize) -> u64
     requires { nat_abs excess ≤ max_excess }
     ensures { result ≡ cond (lt_z (pos 0) excess && (leb from k && ltb k upto)) max_price 0 }
 {
-    if 0 < excess {
-        if from <= k {
-            if k < upto {
-                return MAX_PRICE;
-            }
-        }
+    if 0 < excess && from <= k && k < upto {
+        MAX_PRICE
+    } else {
+        0
     }
-    0
 }
 
 // The prices of all constraints, into the first cells of `prices`.
@@ -110,11 +97,8 @@ pub fn fill_prices(
     requires { Excesses constraints excesses.now × (constraints ≤ length prices.old) }
     ensures { after prices ≡ overwrite (highest_where constraints (chosen_in excesses.now from upto)) (before prices) }
 {
-    let mut k = 0;
-    while k < constraints {
-        let excess = excesses[k];
-        prices[k] = price_at(excess, k, from, upto);
-        k += 1;
+    for (k, price) in prices[..constraints].iter_mut().enumerate() {
+        *price = price_at(excesses[k], k, from, upto);
     }
 }
 
@@ -124,10 +108,10 @@ pub fn alone_shortfall(constraints: usize, excesses: &[i64], largest: usize) -> 
     ensures { Exactly (top_in constraints excesses.now largest *ℤ pos max_price) result }
 {
     if largest < constraints {
-        let excess = excesses[largest];
-        return at_highest(above_zero(excess));
+        at_highest(above_zero(excesses[largest]))
+    } else {
+        at_highest(0)
     }
-    at_highest(0)
 }
 
 // The highest price on an overloaded constraint whose bit is the lowest of what is left of a set's number, and 0 on another.
@@ -135,12 +119,11 @@ fn set_price(excess: i64, left: u64) -> u64
     requires { nat_abs excess ≤ max_excess }
     ensures { result ≡ cond (lt_z (pos 0) excess && eqb (left % 2) 1) max_price 0 }
 {
-    if 0 < excess {
-        if left % 2 == 1 {
-            return MAX_PRICE;
-        }
+    if 0 < excess && left % 2 == 1 {
+        MAX_PRICE
+    } else {
+        0
     }
-    0
 }
 
 // What is left of the number behind the constraint: an overloaded one has taken its bit.
@@ -148,10 +131,7 @@ fn set_left(excess: i64, left: u64) -> u64
     requires { nat_abs excess ≤ max_excess }
     ensures { result ≡ cond (lt_z (pos 0) excess) (left / 2) left }
 {
-    if 0 < excess {
-        return left / 2;
-    }
-    left
+    if 0 < excess { left / 2 } else { left }
 }
 
 // The prices of all constraints, into the first cells of `prices`: the highest on a set of overloaded ones.
@@ -160,12 +140,9 @@ pub fn fill_set(constraints: usize, excesses: &[i64], set: u64, prices: &mut [u6
     ensures { after prices ≡ overwrite (highest_where constraints (set_in excesses.now set)) (before prices) }
 {
     let mut left = set;
-    let mut k = 0;
-    while k < constraints {
-        let excess = excesses[k];
-        prices[k] = set_price(excess, left);
-        left = set_left(excess, left);
-        k += 1;
+    for (k, price) in prices[..constraints].iter_mut().enumerate() {
+        *price = set_price(excesses[k], left);
+        left = set_left(excesses[k], left);
     }
 }
 
@@ -176,9 +153,10 @@ fn note_over(excess: i64, k: usize, count: usize, over: &mut [usize]) -> usize
 {
     if 0 < excess {
         over[count] = k;
-        return count + 1;
+        count + 1
+    } else {
+        count
     }
-    count
 }
 
 // The overloaded constraints, into the first cells of `over`. Gives how many there are.
@@ -188,11 +166,8 @@ pub fn fill_over(constraints: usize, excesses: &[i64], over: &mut [usize]) -> us
         × (length (after over) ≡ 64) }
 {
     let mut count = 0;
-    let mut k = 0;
-    while k < constraints {
-        let excess = excesses[k];
-        count = note_over(excess, k, count, over);
-        k += 1;
+    for (k, excess) in excesses[..constraints].iter().enumerate() {
+        count = note_over(*excess, k, count, over);
     }
     count
 }
@@ -202,10 +177,7 @@ fn cost_at(cost: i64) -> Exact
     requires { nat_abs cost < 2 ^ 62 }
     ensures { Exactly (max0 cost *ℤ pos max_price) result }
 {
-    if cost < 0 {
-        return at_highest(0);
-    }
-    at_highest(cost as u64)
+    at_highest(cost.max(0) as u64)
 }
 
 // Of so many costs at one cent the largest, the first such, at the highest price.
@@ -214,9 +186,8 @@ pub fn best_of(sets: usize, costs: &[i64]) -> Best
     ensures { (result.set ≡ largest_of sets (cell_at costs.now)) × Exactly (max0 (cell_at costs.now result.set) *ℤ pos max_price) result.cost }
 {
     let set = largest_cell(sets, costs);
-    let cost = costs[set];
     Best {
         set: set as u64,
-        cost: cost_at(cost),
+        cost: cost_at(costs[set]),
     }
 }

@@ -170,18 +170,16 @@ pub sums_small : (b t n : ℕ) (x : ℕ → ℤ) (cells : List ℤ) → n ≡ 2 
     → SmallCells (b * 10) n cells
 sums_small b t n x cells e few h s m l = rw (s m (rw e at l)) (set-small b x m t few h)
 
-pub record Summed (count : ℕ) (x : ℕ → ℤ) (cells : List ℤ) (n t : ℕ) : Type 0 where
-  pub upto : t ≤ count
-  pub sets : n ≡ 2 ^ t
+pub record Summed (x : ℕ → ℤ) (cells : List ℤ) (t : ℕ) : Type 0 where
   pub length-is : length cells ≡ 1024
   pub sums : Sums t x cells
 
-pub summed-start : (count : ℕ) (x : ℕ → ℤ) (cells : List ℤ) → length cells ≡ 1024 → cell_in_of cells 0 ≡ pos 0 → Summed count x cells 1 0
-summed-start count x cells long e = record { upto = omega arith; sets = refl; length-is = long; sums = sums_start x cells e }
+pub summed-start : (x : ℕ → ℤ) (cells : List ℤ) → length cells ≡ 1024 → cell_in_of cells 0 ≡ pos 0 → Summed x cells 0
+summed-start x cells long e = record { length-is = long; sums = sums_start x cells e }
 
-module _ (count : ℕ) (x : ℕ → ℤ) (cells : List ℤ) (n t : ℕ) (s : Summed count x cells n t) (more : t < count) (few : count ≤ 10) where
-  pub half : n ≤ 512
-  half = rw s.sets (pow_mono {i = t} {j = 9} (omega arith))
+module _ (count : ℕ) (x : ℕ → ℤ) (cells : List ℤ) (n t : ℕ) (sets : n ≡ 2 ^ t) (s : Summed x cells t) (more : t < count) (few : count ≤ 10) where
+  half : n ≤ 512
+  half = rw sets (pow_mono {i = t} {j = 9} (omega arith))
 
   pub room-to_grow : ((u : ℕ) → u < count → nat_abs (x u) ≤ max_row) → (y : ℤ) → y ≡ x t
       → (n + n ≤ length cells) × (n ≤ 512) × (nat_abs y ≤ max_row) × SmallCells (max_row * 10) n cells
@@ -189,20 +187,14 @@ module _ (count : ℕ) (x : ℕ → ℤ) (cells : List ℤ) (n t : ℕ) (s : Sum
     omega (arith, half, s.length-is),
     half,
     rw e (small t more),
-    sums_small max_row t n x cells s.sets (omega arith) (λ u h. small u (omega arith)) s.sums,
+    sums_small max_row t n x cells sets (omega arith) (λ u h. small u (omega arith)) s.sums,
   )
 
-  pub summed-next : (y : ℤ) (new : List ℤ) → y ≡ x t → Grown n y cells new → Summed count x new (n + n) (t + 1)
-  summed-next y new e g =
-      record {
-        upto = omega arith;
-        sets = pow_on t n s.sets;
-        length-is = g.length-kept ∙ s.length-is;
-        sums = sums_grow t x n y cells new s.sets e s.sums g;
-      }
+  pub summed-next : (y : ℤ) (new : List ℤ) → y ≡ x t → Grown n y cells new → Summed x new (t + 1)
+  summed-next y new e g = record { length-is = g.length-kept ∙ s.length-is; sums = sums_grow t x n y cells new sets e s.sums g }
 
-pub summed-end : (count : ℕ) (x : ℕ → ℤ) (cells : List ℤ) (n t : ℕ) → Summed count x cells n t → count ≤ t → Sums count x cells × (length cells ≡ 1024)
-summed-end count x cells n t s h = let all : t ≡ count = omega (arith, s.upto) in (rw all at s.sums, s.length-is)
+pub summed-end : (count : ℕ) (x : ℕ → ℤ) (cells : List ℤ) (t : ℕ) → Summed x cells t → t ≡ count → Sums count x cells × (length cells ≡ 1024)
+summed-end count x cells t s all = (rw all at s.sums, s.length-is)
 
 -- ---- a loop that fills
 
@@ -232,8 +224,8 @@ pub filled-kept : (x : ℕ → ℤ) (t : ℕ) (y : ℤ) (old cells : List ℤ) �
 filled-kept x t y old cells inside e small f =
     let same = back y (omega (arith, small)) in filled_next x t (to_z w64 (of_z w64 y)) old cells inside (same ∙ e) (rw same small) f
 
-pub filled-end : (x : ℕ → ℤ) (t count : ℕ) (old cells : List ℤ) → t ≤ count → count ≤ t → Filled t x old cells → Filled count x old cells
-filled-end x t count old cells h l f = let all : t ≡ count = omega arith in rw all at f
+pub filled-end : (x : ℕ → ℤ) (t count : ℕ) (old cells : List ℤ) → t ≡ count → Filled t x old cells → Filled count x old cells
+filled-end x t count old cells all f = rw all at f
 
 -- ---- what is added
 

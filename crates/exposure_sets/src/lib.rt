@@ -4,10 +4,9 @@
 
 ghost use Rattle.std.specs.Prelude.{◌≡◌, ℕ, ◌+◌, ◌*◌, ◌^◌, ◌≤◌, ◌<◌, length, get_or, pos, nat_abs};
 ghost use Rattle.lists.specs.Lent.{before, after};
-ghost use Rattle.tariff.specs.declared.refusals.Checked.TheVariants.{Passed};
+ghost use Rattle.tariff.specs.Refusals.{passed, first};
 ghost use Rattle.tariff.specs.Units.{grid_of, max_limit};
 ghost use Rattle.tariff.specs.ContractRules.{counted, of_period};
-ghost use Rattle.tariff.specs.Refusals.{first};
 ghost use Rattle.tariff.specs.Inner.{max_released};
 ghost use Rattle.layouts.specs.BookFile.{book_in};
 ghost use Rattle.grid_tables.specs.Inner.{GoodCells, GoodFactors};
@@ -53,13 +52,9 @@ fn grow(n: usize, x: Flow, sums: &mut [i64])
     requires { (n + n ≤ length sums.old) × (n ≤ 512) × (nat_abs x.0 ≤ max_row) × SmallCells (max_row * 10) n sums.old }
     ensures { Grown n x.0 (before sums) (after sums) }
 {
-    let mut m = 0;
-    while m < n {
-        let base = Flow(sums[m]);
-        let more = base.plus(x);
-        let cell = more.0;
-        sums[n + m] = cell;
-        m += 1;
+    for m in 0..n {
+        let more = Flow(sums[m]) + x;
+        sums[n + m] = more.0;
     }
 }
 
@@ -69,13 +64,8 @@ fn set_sums(count: usize, figures: &[i64], sums: &mut [i64])
     ensures { Sums count (cell_in_of figures.now) (after sums) × (length (after sums) ≡ 1024) }
 {
     sums[0] = 0;
-    let mut n = 1;
-    let mut t = 0;
-    while t < count {
-        let x = Flow(figures[t]);
-        grow(n, x, sums);
-        n += n;
-        t += 1;
+    for t in 0..count {
+        grow(set_count(t), Flow(figures[t]), sums);
     }
 }
 
@@ -93,14 +83,10 @@ fn fill_spreads(
 {
     let source = c.source * constraints;
     let sink = c.sink * constraints;
-    let quantity = c.quantity;
-    let mut t = 0;
-    while t < count {
+    for t in 0..count {
         let k = over[t];
-        let x = quantity.flow(factors[source + k], factors[sink + k]);
-        let cell = x.0;
-        figures[t] = cell;
-        t += 1;
+        let x = c.quantity.flow(factors[source + k], factors[sink + k]);
+        figures[t] = x.0;
     }
 }
 
@@ -116,13 +102,9 @@ fn fill_rents(
     requires { GoodCells max_limit constraints limits.now × Chosen constraints count over.now × (count ≤ length figures.old) }
     ensures { Filled count (λ (s : ℕ). due_in limits.now process (get_or over.now s 0)) (before figures) (after figures) }
 {
-    let mut t = 0;
-    while t < count {
-        let k = over[t];
-        let x = Flow(0).minus(process.released(limits[k]));
-        let cell = x.0;
-        figures[t] = cell;
-        t += 1;
+    for t in 0..count {
+        let x = Flow(0) - process.released(limits[over[t]]);
+        figures[t] = x.0;
     }
 }
 
@@ -132,14 +114,10 @@ fn add_counted(kind: Kind, n: usize, figures: &[i64], totals: &mut [i64])
         × SmallCells (2 ^ 61) n totals.old }
     ensures { Added n (λ (m : ℕ). counted kind (cell_in_of figures.now m)) (before totals) (after totals) }
 {
-    let mut m = 0;
-    while m < n {
+    for m in 0..n {
         let amount = Amount(figures[m]).counted(kind);
-        let base = Flow(totals[m]);
-        let more = base.plus(Flow(amount.0));
-        let cell = more.0;
-        totals[m] = cell;
-        m += 1;
+        let more = Flow(totals[m]) + Flow(amount.0);
+        totals[m] = more.0;
     }
 }
 
@@ -163,29 +141,22 @@ fn add_contract(
         × AddedSmall (max_released * 10) n (option_in constraints (factors.now) (over.now) count period c) (before costs) (after costs)
         × (length (after sums) ≡ 1024) }
 {
-    let own = c.period;
-    if own.same(period) {
+    if c.period == period {
         let mut figures = [0i64; MOST_LISTED];
         fill_spreads(constraints, factors, over, count, c, &mut figures);
-        let kind = c.kind;
-        match kind {
-            Kind::Obligation => {
-                add_counted(Kind::Obligation, count, &figures, row);
-            }
+        match c.kind {
+            Kind::Obligation => add_counted(Kind::Obligation, count, &figures, row),
             Kind::Option => {
                 set_sums(count, &figures, sums);
                 add_counted(Kind::Option, n, sums, costs);
             }
         }
-        return;
     }
 }
 
 // What the book's contracts of the period pay at one cent: obligations to the totals of constraints, options to the costs of sets.
 fn add_book(
-    nodes: usize,
-    constraints: usize,
-    period: Period,
+    terms: Terms,
     factors: &[i64],
     book: &[u8],
     over: &[usize],
@@ -195,22 +166,21 @@ fn add_book(
     sums: &mut [i64],
     costs: &mut [i64],
 )
-    requires good_factors { GoodFactors nodes constraints factors.now × (first (book_checks nodes book.now) ≡ Passed) }
-    requires chosen { Chosen constraints count over.now × (n ≡ 2 ^ count) × (count ≤ length row.old) }
+    requires good_factors { GoodFactors terms.nodes terms.constraints factors.now × (first (book_checks terms.nodes book.now) ≡ passed) }
+    requires chosen { Chosen terms.constraints count over.now × (n ≡ 2 ^ count) × (count ≤ length row.old) }
     requires sums_len { (length sums.old ≡ 1024) × (length costs.old ≡ 1024) × SmallCells max_released count row.old × SmallCells (max_released * 10) n costs.old }
-    ensures added { Added count (book_fixed constraints factors.now over.now period book.now) (before row) (after row)
+    ensures added { Added count (book_fixed terms.constraints factors.now over.now terms.period book.now) (before row) (after row)
         × SmallCells max_row count (after row) }
-    ensures added_2 { Added n (book_options constraints factors.now over.now count period book.now) (before costs) (after costs)
+    ensures added_2 { Added n (book_options terms.constraints factors.now over.now count terms.period book.now) (before costs) (after costs)
         × SmallCells (max_row * 10) n (after costs) × (length (after sums) ≡ 1024) }
 {
     let contracts = book_bits::contract_count(book);
     let form = book_bits::book_form(book);
-    let mut i = 0;
-    while i < contracts {
+    for i in 0..contracts {
         let c = book_bits::contract_at(book, form, i);
         add_contract(
-            constraints,
-            period,
+            terms.constraints,
+            terms.period,
             factors,
             over,
             count,
@@ -220,7 +190,6 @@ fn add_book(
             sums,
             costs,
         );
-        i += 1;
     }
 }
 
@@ -235,31 +204,24 @@ pub fn set_costs(
     costs: &mut [i64],
 )
     requires good_cells { GoodCells max_limit terms.constraints limits.now × GoodFactors terms.nodes terms.constraints factors.now
-        × (first (book_checks terms.nodes book.now) ≡ Passed) }
+        × (first (book_checks terms.nodes book.now) ≡ passed) }
     requires chosen { Chosen terms.constraints count over.now × (length costs.old ≡ 1024) × ((m : ℕ) → m < 1024 → cell_in_of costs.old m ≡ pos 0) }
     ensures { UnitCosts (grid_of terms.nodes terms.constraints limits.now factors.now) terms.process
         (of_period terms.period (book_in (book.now))) (over.now) count (after costs) }
 {
-    let nodes = terms.nodes;
-    let constraints = terms.constraints;
-    let process = terms.process;
-    let period = terms.period;
     let n = set_count(count);
     let mut row = [0i64; MOST_LISTED];
     let mut sums = [0i64; MOST_SETS];
-    fill_rents(constraints, process, limits, over, count, &mut row);
-    add_book(
-        nodes,
-        constraints,
-        period,
-        factors,
-        book,
+    fill_rents(
+        terms.constraints,
+        terms.process,
+        limits,
         over,
         count,
-        n,
         &mut row,
-        &mut sums,
-        costs,
+    );
+    add_book(
+        terms, factors, book, over, count, n, &mut row, &mut sums, costs,
     );
     set_sums(count, &row, &mut sums);
     add_counted(Kind::Obligation, n, &sums, costs);

@@ -3,10 +3,9 @@
 
 ghost use Rattle.std.specs.Prelude.{◌≡◌, ◌≤◌, take};
 ghost use Rattle.lists.specs.Lent.{before};
-ghost use Rattle.tariff.specs.declared.refusals.Checked.TheVariants.{Passed};
+ghost use Rattle.tariff.specs.Refusals.{passed, first};
 ghost use Rattle.tariff.specs.Units.{grid_of, max_constraints, max_limit, max_nodes};
 ghost use Rattle.tariff.specs.ContractRules.{of_period};
-ghost use Rattle.tariff.specs.Refusals.{first};
 ghost use Rattle.layouts.specs.BookFile.{book_in};
 ghost use Rattle.grid_tables.specs.Inner.{GoodCells, Hour};
 ghost use Rattle.book_rules.specs.BookChecks.{book_checks};
@@ -15,23 +14,10 @@ ghost use Rattle.exposure_shortfall.specs.FindShortfall.{FindsShortfall};
 ghost use Rattle.exposure_shortfall.specs.Inner.{cell_checks, table_checks, Costs};
 
 use exposure_figures::Exact;
-use tariff::{Checked, MAX_CONSTRAINTS, MAX_CONTRACTS, MAX_LIMIT, MAX_PRICE, Refusal};
+use grid_tables::HourTable;
+use tariff::{MAX_CONSTRAINTS, MAX_CONTRACTS, MAX_LIMIT, MAX_PRICE, Refusal};
 use test_excesses::Terms;
 use test_terms::Asked;
-
-// What finding the shortfall gives: net payment, rent and shortfall, each as whole cents rounded down and parts.
-#[derive(Clone, Copy)]
-pub enum ShortfallAnswer {
-    Found {
-        payment_whole: i64,
-        payment_parts: u64,
-        rent_whole: i64,
-        rent_parts: u64,
-        shortfall_whole: i64,
-        shortfall_parts: u64,
-    },
-    Refused(Refusal),
-}
 
 // What a book costs at a price list.
 #[derive(Clone, Copy)]
@@ -50,36 +36,23 @@ pub fn shortfall_at(
     book: &[u8],
 ) -> Shortfall
     requires good_cells { GoodCells max_limit terms.constraints limits.now × Hour terms.nodes terms.constraints factors.now prices.now }
-    requires book_value { first (book_checks terms.nodes book.now) ≡ Passed }
+    requires book_value { first (book_checks terms.nodes book.now) ≡ passed }
     ensures { Costs (grid_of terms.nodes terms.constraints limits.now factors.now) terms.process
         (of_period terms.period (book_in (book.now))) (take terms.constraints (prices.now)) result }
 {
-    let nodes = terms.nodes;
-    let constraints = terms.constraints;
-    let process = terms.process;
-    let period = terms.period;
     let mut cents = [0i64; MAX_CONTRACTS];
     let mut priced = [0u64; MAX_CONTRACTS];
-    let totals = hour_contracts::settle(
-        nodes,
-        constraints,
-        period,
-        factors,
-        prices,
-        book,
-        &mut cents,
-        &mut priced,
-    );
+    let hour = HourTable::of(terms.nodes, terms.constraints, factors, prices);
+    let totals = hour_contracts::settle(hour, terms.period, book, &mut cents, &mut priced);
     let payment = Exact {
         whole: totals.whole,
         parts: totals.parts,
     };
-    let owed = exposure_figures::rent(constraints, process, limits, prices);
-    let shortfall = payment.less(owed);
+    let owed = exposure_figures::rent(terms.constraints, terms.process, limits, prices);
     Shortfall {
         payment,
         rent: owed.exact(),
-        shortfall,
+        shortfall: payment - owed,
     }
 }
 
@@ -90,48 +63,53 @@ fn check_cells(
     limits: &[u64],
     factors: &[i64],
     prices: &[u64],
-) -> Checked
+) -> Result<(), Refusal>
     requires { (nodes ≤ max_nodes) × (constraints ≤ max_constraints) }
     ensures { result ≡ first (cell_checks nodes constraints limits.now factors.now prices.now) }
 {
     let cells = nodes * constraints;
     if limits.len() < constraints {
-        return Checked::Refused(Refusal::ShortTable);
+        return Err(Refusal::ShortTable);
     }
     if factors.len() < cells {
-        return Checked::Refused(Refusal::ShortTable);
+        return Err(Refusal::ShortTable);
     }
     if prices.len() < constraints {
-        return Checked::Refused(Refusal::ShortTable);
+        return Err(Refusal::ShortTable);
     }
-    if grid_tables::cell_above(limits, constraints, MAX_LIMIT) {
-        return Checked::Refused(Refusal::LimitRange);
+    if grid_tables::cell_above(&limits[..constraints], MAX_LIMIT) {
+        return Err(Refusal::LimitRange);
     }
-    if grid_tables::factor_out_of_range(factors, cells) {
-        return Checked::Refused(Refusal::FactorRange);
+    if grid_tables::factor_out_of_range(&factors[..cells]) {
+        return Err(Refusal::FactorRange);
     }
-    if grid_tables::cell_above(prices, constraints, MAX_PRICE) {
-        return Checked::Refused(Refusal::PriceRange);
+    if grid_tables::cell_above(&prices[..constraints], MAX_PRICE) {
+        return Err(Refusal::PriceRange);
     }
-    Checked::Passed
+    Ok(())
 }
 
 // The checks of the tables: 2, 3, 16, 17, those of the cells.
-fn check_tables(asked: Asked, limits: &[u64], factors: &[i64], prices: &[u64]) -> Checked
+fn check_tables(
+    asked: Asked,
+    limits: &[u64],
+    factors: &[i64],
+    prices: &[u64],
+) -> Result<(), Refusal>
     ensures { result ≡ first (table_checks asked.nodes asked.constraints asked.process asked.period
         (limits.now) (factors.now) (prices.now)) }
 {
     if tariff::nodes_bad(asked.nodes) {
-        return Checked::Refused(Refusal::NodeCount);
+        return Err(Refusal::NodeCount);
     }
     if MAX_CONSTRAINTS < asked.constraints {
-        return Checked::Refused(Refusal::ConstraintCount);
+        return Err(Refusal::ConstraintCount);
     }
     if 2 < asked.process {
-        return Checked::Refused(Refusal::ProcessNumber);
+        return Err(Refusal::ProcessNumber);
     }
     if 1 < asked.period {
-        return Checked::Refused(Refusal::PeriodOrKind);
+        return Err(Refusal::PeriodOrKind);
     }
     check_cells(asked.nodes, asked.constraints, limits, factors, prices)
 }
@@ -143,25 +121,10 @@ pub fn find_shortfall(
     factors: &[i64],
     prices: &[u64],
     book: &[u8],
-) -> ShortfallAnswer
+) -> Result<Shortfall, Refusal>
     ensures { FindsShortfall (asked_test asked limits.now factors.now book.now) prices.now result }
 {
-    let tables = check_tables(asked, limits, factors, prices);
-    if let Checked::Refused(refusal) = tables {
-        return ShortfallAnswer::Refused(refusal);
-    }
-    let own = book_checks::check_book(asked.nodes, book);
-    if let Checked::Refused(refusal) = own {
-        return ShortfallAnswer::Refused(refusal);
-    }
-    let terms = Terms::from_asked(asked);
-    let found = shortfall_at(terms, limits, factors, prices, book);
-    ShortfallAnswer::Found {
-        payment_whole: found.payment.whole,
-        payment_parts: found.payment.parts,
-        rent_whole: found.rent.whole,
-        rent_parts: found.rent.parts,
-        shortfall_whole: found.shortfall.whole,
-        shortfall_parts: found.shortfall.parts,
-    }
+    check_tables(asked, limits, factors, prices)?;
+    book_checks::check_book(asked.nodes, book)?;
+    Ok(shortfall_at(Terms::from_asked(asked), limits, factors, prices, book))
 }

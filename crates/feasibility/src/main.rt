@@ -2,7 +2,7 @@
 // A file is looked at only when those before it were taken. Where it is there and can't be read, nothing is printed: `files` has told it on standard error.
 #![tactic(auto)]
 
-use layouts::{MAX_BOOK_BYTES, PROGRAM_GRID_BYTES, WriteAnswer};
+use layouts::{MAX_BOOK_BYTES, PROGRAM_GRID_BYTES};
 use text_report::REPORT_ROOM;
 
 // The buffers hold one byte more than the longest file taken, so that the length of a longer one is refused.
@@ -17,7 +17,7 @@ fn main(rt: HostRuntime) {
     let book_bytes = book_file.bytes;
     if grid_file.readable && book_file.readable {
         let answer = text_report::write_report(&grid[..grid_bytes], &book[..book_bytes], &mut text);
-        if let WriteAnswer::Written { bytes } = answer {
+        if let Ok(bytes) = answer {
             files::print(&rt, &text[..bytes]);
         }
     }

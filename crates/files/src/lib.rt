@@ -91,6 +91,7 @@ fn read_all<F: Read>(file: &mut F, buf: &mut [u8]) -> io::Result<usize>
     ensures whole { IfOk result (λ n. n < length buf.new → IsAtEnd (F.remaining file.new)) }
 {
     let mut bytes = 0;
+    // No `for`: each read gives as many bytes as it will.
     while bytes < buf.len() {
         let more = file.read(&mut buf[bytes..])?;
         if more == 0 {

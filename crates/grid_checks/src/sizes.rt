@@ -28,5 +28,5 @@ pub fn file_bytes(header: usize, nodes: usize, constraints: usize) -> usize
     requires { (header ≤ most_header) × GoodCounts nodes constraints }
     ensures { (result ≡ bytes_for (bits_behind header nodes constraints)) × (result ≤ most_bytes) }
 {
-    (used_bits(header, nodes, constraints) + 7) / 8
+    used_bits(header, nodes, constraints).div_ceil(8)
 }

@@ -1,2 +1,3 @@
 pub mod TableChecks
 pub mod Inner
+pub mod Hours

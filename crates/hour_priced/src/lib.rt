@@ -2,15 +2,16 @@
 // A set is made from its highest bit down, eight bits at once.
 #![tactic(auto)]
 
-ghost use Rattle.std.specs.Prelude.{◌≡◌, ℕ, ◌+◌, ◌-◌, ◌*◌, ◌/◌, ◌^◌, ◌≤◌, ◌<◌, length, take};
+ghost use Rattle.std.specs.Prelude.{◌≡◌, ℕ, ◌+◌, ◌-◌, ◌*◌, ◌/◌, ◌^◌, ◌≤◌, ◌<◌};
 ghost use Rattle.lists.specs.Sets.{set_of};
 ghost use Rattle.lists.specs.Lent.{before};
-ghost use Rattle.tariff.specs.Units.{factors_of, max_constraints};
+ghost use Rattle.tariff.specs.Units.{max_constraints};
 ghost use Rattle.tariff.specs.ContractRules.{InRange};
 ghost use Rattle.tariff.specs.Settlement.{priced_set_of};
-ghost use Rattle.grid_tables.specs.Inner.{Hour};
+ghost use Rattle.grid_tables.specs.Hours.{factors_by, prices_by};
 ghost use Rattle.hour_priced.specs.Inner.{FactorRow, differ_at, posted_in};
 
+use grid_tables::HourTable;
 use tariff::{Contract, Price};
 
 // Whether the factors in two cells differ, as a bit.
@@ -21,7 +22,8 @@ fn differ(factors: &[i64], a: usize, b: usize) -> u64
     (factors[a] != factors[b]) as u64
 }
 
-// The same of two cells, four and eight, behind the bits of a set.
+// The same of two cells, four and eight, behind the bits of a set. Not one function over a const parameter: each calls that of half its cells, and Rattle
+// computes no const argument.
 fn two_more(factors: &[i64], a: usize, b: usize, set: u64) -> u64
     requires { FactorRow factors.now a 2 × FactorRow factors.now b 2 × (set < 2 ^ 62) }
     ensures { (result ≡ set * 4 + set_of 2 (differ_at factors.now a b)) × (result < (set + 1) * 4) }
@@ -52,11 +54,8 @@ fn rest_differ(constraints: usize, factors: &[i64], source: usize, sink: usize) 
     requires { (constraints ≤ max_constraints) × FactorRow factors.now source constraints × FactorRow factors.now sink constraints }
     ensures { result ≡ set_of (constraints - constraints / 8 * 8) (λ (j : ℕ). differ_at factors.now source sink (constraints / 8 * 8 + j)) }
 {
-    let eights = constraints / 8 * 8;
     let mut set = 0u64;
-    let mut k = constraints;
-    while eights < k {
-        k -= 1;
+    for k in (constraints / 8 * 8..constraints).rev() {
         let bit = differ(factors, source + k, sink + k);
         set = set * 2 + bit;
     }
@@ -69,9 +68,7 @@ fn differ_set(constraints: usize, factors: &[i64], source: usize, sink: usize) -
     ensures { result ≡ set_of constraints (differ_at factors.now source sink) }
 {
     let mut set = rest_differ(constraints, factors, source, sink);
-    let mut eight = constraints / 8;
-    while 0 < eight {
-        eight -= 1;
+    for eight in (0..constraints / 8).rev() {
         let k = eight * 8;
         set = eight_more(factors, source + k, sink + k, set);
     }
@@ -79,33 +76,24 @@ fn differ_set(constraints: usize, factors: &[i64], source: usize, sink: usize) -
 }
 
 // The constraints whose price isn't 0.
-pub fn posted_set(constraints: usize, prices: &[u64]) -> u64
-    requires { (constraints ≤ max_constraints) × (constraints ≤ length prices.now) }
-    ensures { result ≡ posted_in constraints prices.now }
+pub fn posted_set(hour: HourTable) -> u64
+    ensures { result ≡ posted_in hour.entry.factors.constraints hour.entry.prices.now }
 {
     let mut set = 0u64;
-    let mut k = constraints;
-    while 0 < k {
-        k -= 1;
-        let bit = Price(prices[k]).exceeds(Price(0)) as u64;
+    for k in (0..hour.factors.constraints).rev() {
+        let bit = (Price(0) < Price(hour.prices[k])) as u64;
         set = set * 2 + bit;
     }
     set
 }
 
 // The set of constraints that priced a contract, by those whose price isn't 0.
-pub fn priced_set(
-    nodes: usize,
-    constraints: usize,
-    factors: &[i64],
-    prices: &[u64],
-    posted: u64,
-    c: Contract,
-) -> u64
-    requires { Hour nodes constraints factors.now prices.now × InRange nodes c × (posted ≡ posted_in constraints prices.now) }
-    ensures { result ≡ priced_set_of (factors_of nodes constraints factors.now) (take constraints prices.now) c }
+pub fn priced_set(hour: HourTable, posted: u64, c: Contract) -> u64
+    requires { InRange hour.factors.nodes c × (posted ≡ posted_in hour.factors.constraints hour.prices.now) }
+    ensures { result ≡ priced_set_of (factors_by hour.entry) (prices_by hour.entry) c }
 {
+    let constraints = hour.factors.constraints;
     let source = c.source * constraints;
     let sink = c.sink * constraints;
-    differ_set(constraints, factors, source, sink) & posted
+    differ_set(constraints, hour.factors.cells, source, sink) & posted
 }

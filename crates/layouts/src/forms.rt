@@ -10,33 +10,33 @@ use crate::{
 };
 use tariff::{MAX_NARROW_NODES, MAX_NODES};
 
-#[derive(Clone, Copy)]
+#[derive(Clone, Copy, Debug, PartialEq, Eq)]
 pub enum Form {
-    Narrow,
-    Wide,
+    Narrow = 0,
+    Wide = 1,
+}
+
+// By the number that a caller gives: any number but 0 is the wide form's.
+impl From<u64> for Form {
+    ghost from_gives = { λ number form. form ≡ form_of number };
+
+    fn from(number: u64) -> Form {
+        match number {
+            0 => Form::Narrow,
+            _ => Form::Wide,
+        }
+    }
+}
+
+impl From<Form> for u64 {
+    ghost from_gives = { λ form number. number ≡ form_number form };
+
+    fn from(form: Form) -> u64 {
+        form as u64
+    }
 }
 
 impl Form {
-    pub fn number(self) -> u64
-        ensures { result ≡ form_number self }
-    {
-        match self {
-            Form::Narrow => 0,
-            Form::Wide => 1,
-        }
-    }
-
-    // Any number but 0 is the wide form's.
-    pub fn from_number(number: u64) -> Form
-        ensures { result ≡ form_of number }
-    {
-        if number == 0 {
-            Form::Narrow
-        } else {
-            Form::Wide
-        }
-    }
-
     // The most nodes of a grid's file.
     pub fn most_nodes(self) -> usize
         ensures { result ≡ most_nodes_of self }
@@ -102,13 +102,7 @@ impl Form {
         ensures { result ≡ ends_below_of self nodes }
     {
         match self {
-            Form::Narrow => {
-                if nodes < NARROW_ENDS {
-                    nodes
-                } else {
-                    NARROW_ENDS
-                }
-            }
+            Form::Narrow => nodes.min(NARROW_ENDS),
             Form::Wide => nodes,
         }
     }

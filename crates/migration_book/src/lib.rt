@@ -7,37 +7,32 @@ ghost use Rattle.tariff.specs.Refusals.{first};
 ghost use Rattle.layouts.specs.BookFile.{book_file, contract_count_in, book_form_in, book_in};
 ghost use Rattle.migration_rules.specs.Transfers.{row_lists};
 ghost use Rattle.migration_rules.specs.ContractRules.{new_book};
+ghost use Rattle.migration_transfers.specs.Inner.{lists_of};
 ghost use Rattle.migration_transfers.specs.Squares.{lost_in};
 ghost use Rattle.book_growth.specs.Inner.{Appended};
 ghost use Rattle.migration_pairs.specs.Inner.{MigrationReady};
 ghost use Rattle.migration_book.specs.MigrateLoad.{migrate_load_call, MigratesLoad};
 ghost use Rattle.migration_book.specs.Inner.{input_checks, Readable, contracts_to, new_to, grown_to, Roomy, Grows};
 
-use layouts::{Form, WriteAnswer};
-use migration_transfers::Square;
-use tariff::{Checked, Period, Refusal};
+use layouts::Form;
+use migration_transfers::{RowLists, Square};
+use tariff::{Period, Refusal};
 
 // The checks before the square: 17, the book's own, 22.
 fn check_input(
     nodes: usize,
     period: u64,
     book: &[u8],
-    classes: &[u8],
-    customers: &[u64],
-    rates: &[u64],
-    olds: &[u64],
-    news: &[u64],
+    lists: RowLists,
     loads: &[u64],
-) -> Checked
-    ensures { result ≡ first (input_checks nodes period book.now (row_lists classes.now customers.now rates.now olds.now news.now) loads.now) }
+) -> Result<(), Refusal>
+    ensures { result ≡ first (input_checks nodes period book.now (lists_of lists.entry) loads.now) }
 {
     if 1 < period {
-        return Checked::Refused(Refusal::PeriodOrKind);
+        return Err(Refusal::PeriodOrKind);
     }
-    if let Checked::Refused(refusal) = book_checks::check_own(nodes, book) {
-        return Checked::Refused(refusal);
-    }
-    migration_transfers::check_figures(classes, customers, rates, olds, news, loads)
+    book_checks::check_own(nodes, book)?;
+    migration_transfers::check_figures(lists, loads)
 }
 
 // How many contracts the book grows to.
@@ -54,12 +49,10 @@ fn grown_count(
 {
     let losers = migration_pairs::losers_of(square, loads.len());
     let mut grown = count;
-    let mut i = 0;
-    while i < count {
+    for i in 0..count {
         let base = book_bits::contract_at(book, form, i);
         let place = migration_transfers::row_of(base.holder);
         grown += migration_pairs::new_count(base, period, square[place], losers[place], loads);
-        i += 1;
     }
     grown
 }
@@ -79,12 +72,10 @@ fn store_grown(
     ensures { Appended form count (new_to form book.now period square loads.now count) (before file) (after file) result }
 {
     let mut place = count;
-    let mut i = 0;
-    while i < count {
+    for i in 0..count {
         let base = book_bits::contract_at(book, form, i);
         let row = square[migration_transfers::row_of(base.holder)];
         place = migration_pairs::store_new(file, form, place, base, period, row, loads);
-        i += 1;
     }
     place
 }
@@ -116,22 +107,16 @@ fn migrate_by(
     square: Square,
     loads: &[u64],
     file: &mut [u8],
-) -> WriteAnswer
+) -> Result<usize, Refusal>
     requires { Readable (book_form_in book.now) (contract_count_in book.now) book.now × MigrationReady square loads.now }
     ensures { Grows book.now (new_book (lost_in square) loads.now period (book_in book.now)) (before file) result (after file) }
 {
     let form = book_bits::book_form(book);
     let count = book_bits::contract_count(book);
     let grown = grown_count(book, form, count, period, square, loads);
-    match book_growth::check_room(form, grown, file.len()) {
-        Checked::Refused(refusal) => WriteAnswer::Refused(refusal),
-        Checked::Passed => {
-            write_grown(book, form, count, grown, period, square, loads, file);
-            WriteAnswer::Written {
-                bytes: form.book_bytes(grown),
-            }
-        }
-    }
+    book_growth::check_room(form, grown, file.len())?;
+    write_grown(book, form, count, grown, period, square, loads, file);
+    Ok(form.book_bytes(grown))
 }
 
 // Migrates the contracts of LSEs that lost load, for a grid of `nodes` nodes: rows of moved customers, netted, and the LSEs' loads.
@@ -146,17 +131,20 @@ pub fn migrate_load(
     news: &[u64],
     loads: &[u64],
     file: &mut [u8],
-) -> WriteAnswer
+) -> Result<usize, Refusal>
     ensures { MigratesLoad (migrate_load_call nodes period book.now (row_lists classes.now customers.now rates.now olds.now news.now) loads.now file) result (after file) }
 {
-    if let Checked::Refused(refusal) = check_input(
-        nodes, period, book, classes, customers, rates, olds, news, loads,
-    ) {
-        return WriteAnswer::Refused(refusal);
-    }
-    let square = migration_transfers::net_square(customers, rates, olds, news);
+    let lists = RowLists {
+        classes,
+        customers,
+        rates,
+        olds,
+        news,
+    };
+    check_input(nodes, period, book, lists, loads)?;
+    let square = migration_transfers::net_square(lists);
     if migration_transfers::loads_exceeded(square, loads) {
-        return WriteAnswer::Refused(Refusal::LoadExceeded);
+        return Err(Refusal::LoadExceeded);
     }
-    migrate_by(book, Period::from_number(period), square, loads, file)
+    migrate_by(book, Period::from(period), square, loads, file)
 }

@@ -25,10 +25,8 @@ fn pair_count(c: Contract, row: Row, loads: &[u64]) -> usize
     ensures { (result ≡ length (pairs_to (row_losses row) loads.now c (length loads.now))) × (result ≤ 32) }
 {
     let mut count = 0;
-    let mut j = 0;
-    while j < loads.len() {
+    for j in 0..loads.len() {
         count += migration_shares::pair_size(migration_shares::share_of(c, row[j], loads));
-        j += 1;
     }
     count
 }
@@ -49,16 +47,13 @@ fn with_net(gainers: Gainers, net: Transfer) -> Gainers
     ensures { (row : List Transfer) (m : ℕ) → get_or row m no_transfer ≡ net → GainersOf row m gainers → GainersOf row (m + 1) result }
 {
     let lost = net.lost();
-    if lost.is_zero() {
+    if lost == Quantity(0) {
         return gainers;
     }
     let least = gainers.least;
     let lowest = least.lost();
     let count = gainers.count + 1;
-    if lowest.is_zero() {
-        return Gainers { count, least: net };
-    }
-    if lowest.exceeds(lost) {
+    if lowest == Quantity(0) || lost < lowest {
         return Gainers { count, least: net };
     }
     Gainers { count, least }
@@ -73,10 +68,8 @@ pub fn gainers_of(row: Row, entities: usize) -> Gainers
         count: 0,
         least: Transfer(0),
     };
-    let mut j = 0;
-    while j < entities {
+    for j in 0..entities {
         gainers = with_net(gainers, row[j]);
-        j += 1;
     }
     gainers
 }
@@ -91,10 +84,8 @@ pub fn losers_of(square: Square, entities: usize) -> Losers
         least: Transfer(0),
     };
     let mut losers = [none; MAX_ENTITIES];
-    let mut i = 0;
-    while i < MAX_ENTITIES {
-        losers[i] = gainers_of(square[i], entities);
-        i += 1;
+    for (i, row) in square.iter().enumerate() {
+        losers[i] = gainers_of(*row, entities);
     }
     losers
 }
@@ -104,9 +95,8 @@ fn base_count(c: Contract, row: Row, gainers: Gainers, loads: &[u64]) -> usize
     requires { RowReady row loads.now c × Held loads.now c × GainersOf row (length loads.now) gainers }
     ensures { (result ≡ length (pairs_to (row_losses row) loads.now c (length loads.now))) × (result ≤ 32) }
 {
-    let net = gainers.least;
-    let least = migration_shares::share_of(c, net, loads);
-    if least.is_zero() {
+    let least = migration_shares::share_of(c, gainers.least, loads);
+    if least == Quantity(0) {
         return pair_count(c, row, loads);
     }
     gainers.count * 2
@@ -127,10 +117,9 @@ pub fn new_count(c: Contract, period: Period, row: Row, gainers: Gainers, loads:
 fn gained_by(c: Contract, gainer: u64, quantity: Quantity) -> Contract
     ensures { result ≡ gained c gainer quantity.0 }
 {
-    let period = c.period;
     Contract {
         kind: Kind::Obligation,
-        period,
+        period: c.period,
         holder: gainer,
         source: c.source,
         sink: c.sink,
@@ -142,10 +131,9 @@ fn gained_by(c: Contract, gainer: u64, quantity: Quantity) -> Contract
 fn countered_by(c: Contract, quantity: Quantity) -> Contract
     ensures { result ≡ countered c quantity.0 }
 {
-    let period = c.period;
     Contract {
         kind: Kind::Obligation,
-        period,
+        period: c.period,
         holder: c.holder,
         source: c.sink,
         sink: c.source,
@@ -167,7 +155,7 @@ fn store_pair(
     requires contract_fits { ContractFits (end_width form) c × (gainer ≤ 16) × (quantity.0 ≤ c.quantity.0) }
     ensures { Appended form at (pair_of c gainer quantity.0) (before file) (after file) result }
 {
-    if quantity.is_zero() {
+    if quantity == Quantity(0) {
         return at;
     }
     let gained = gained_by(c, gainer, quantity);
@@ -191,11 +179,9 @@ fn store_pairs(
     ensures { Appended form at (pairs_to (row_losses row) loads.now c (length loads.now)) (before file) (after file) result }
 {
     let mut place = at;
-    let mut j = 0;
-    while j < loads.len() {
+    for j in 0..loads.len() {
         let quantity = migration_shares::share_of(c, row[j], loads);
         place = store_pair(file, form, place, c, (j + 1) as u64, quantity);
-        j += 1;
     }
     place
 }

@@ -12,7 +12,8 @@ use Rattle.lists.specs.Lists.{above}
 use Rattle.lists.proofs.Lists.{length-list_to, get_d_list_to}
 use lib.ListN.{get_or}
 use Rattle.lists.proofs.Search.{neither, none-bad}
-use Rattle.tariff.specs.declared.refusals.Checked.TheVariants.{Passed}
+use Rattle.std.specs.Prelude.{Ok}
+use Rattle.tariff.specs.Refusals.{passed}
 use Rattle.tariff.specs.Refusals.{first}
 use Rattle.tariff.specs.Units.{max_entities, max_rows, max_customers, max_rate}
 use Rattle.tariff.proofs.Checks.{passed_cons, same_of}
@@ -58,7 +59,7 @@ pub record Rowed (n : ℕ) (lists : RowLists) : Type 0 where
   pub rows : RowsIn lists.customers lists.rates lists.olds lists.news
 
 module _ (n : ℕ) (lists : RowLists) where
-  pub rowed : first (migration_row_checks n lists) ≡ Passed → Rowed n lists
+  pub rowed : first (migration_row_checks n lists) ≡ passed → Rowed n lists
   unfolding migration_row_checks
   rowed e =
       let m = length lists.customers in

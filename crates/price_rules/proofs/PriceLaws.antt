@@ -10,7 +10,8 @@ use Rattle.bits.specs.Fields.{bits}
 use Rattle.bits.specs.declared.BitWriter.{BitWriter}
 use Rattle.bits.proofs.Numbers.{Below}
 use Rattle.bits.proofs.Files.{total-append, total-run, length-file}
-use Rattle.tariff.specs.declared.refusals.Checked.TheVariants.{Passed}
+use Rattle.std.specs.Prelude.{Ok}
+use Rattle.tariff.specs.Refusals.{passed}
 use Rattle.tariff.specs.Units.{max_constraints, max_price}
 use Rattle.tariff.specs.Refusals.{first}
 use Rattle.lists.specs.Lent.{overwrite}
@@ -34,7 +35,7 @@ pub record Readable (k : ℕ) (s table : List ℕ) : Type 0 where
   pub pad : price_pad_in k s ≡ 0
   pub room : k ≤ length table
 
-pub readable : (k : ℕ) (s table : List ℕ) → read_prices_checked (read_prices_call k s table) ≡ Passed → Readable k s table
+pub readable : (k : ℕ) (s table : List ℕ) → read_prices_checked (read_prices_call k s table) ≡ passed → Readable k s table
 unfolding price_file_checks read_prices_checks
 readable k s table e =
     let three = passed_all _ e in
@@ -49,7 +50,7 @@ pub record Writable (t k : ℕ) (table place : List ℕ) : Type 0 where
   pub good : GoodCells max_price k table
   pub room : price_bytes k ≤ length place
 
-pub writable : (t k : ℕ) (table place : List ℕ) → write_prices_checked (write_prices_call t k table place) ≡ Passed → Writable t k table place
+pub writable : (t k : ℕ) (table place : List ℕ) → write_prices_checked (write_prices_call t k table place) ≡ passed → Writable t k table place
 unfolding write_prices_checks
 writable t k table place e =
     let all = passed_all _ e in

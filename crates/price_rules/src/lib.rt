@@ -6,14 +6,6 @@ ghost use Rattle.tariff.specs.Units.{max_constraints};
 ghost use Rattle.layouts.specs.PriceFile.{price_bytes};
 
 use layouts::{PRICE_HEADER_BITS, PRICE_WIDTH};
-use tariff::Refusal;
-
-// What reading a price file gives: the period, or the refusal.
-#[derive(Clone, Copy)]
-pub enum PriceAnswer {
-    Read { period: u64 },
-    Refused(Refusal),
-}
 
 // The bytes of a file.
 pub fn file_bytes(constraints: usize) -> usize

@@ -10,8 +10,8 @@ ghost use Rattle.layouts.specs.BookFile.{book_bytes_of, book_file, contract_in};
 ghost use Rattle.remap_rules.specs.RemapBook.{remap_book_call, RemapsBook};
 ghost use Rattle.remap_rules.specs.Inner.{moved_by, Movable};
 
-use layouts::{Form, WriteAnswer};
-use tariff::{Checked, Contract};
+use layouts::Form;
+use tariff::{Contract, Refusal};
 
 // Where a node goes.
 fn end_at(ends: &[u16], node: usize) -> usize
@@ -28,18 +28,10 @@ fn moved_contract(book: &[u8], form: Form, i: usize, ends: &[u16]) -> Contract
     ensures { result ≡ moved_by ends.now (contract_in form book.now i) }
 {
     let c = book_bits::contract_at(book, form, i);
-    let kind = c.kind;
-    let period = c.period;
-    let from = end_at(ends, c.source);
-    let to = end_at(ends, c.sink);
-    let quantity = c.quantity;
     Contract {
-        kind,
-        period,
-        holder: c.holder,
-        source: from,
-        sink: to,
-        quantity,
+        source: end_at(ends, c.source),
+        sink: end_at(ends, c.sink),
+        ..c
     }
 }
 
@@ -50,10 +42,8 @@ fn write_moved(book: &[u8], form: Form, count: usize, ends: &[u16], file: &mut [
     ensures { after file ≡ overwrite (book_file form (list_to count (λ i. moved_by ends.now (contract_in form book.now i)))) (before file) }
 {
     book_bits::store_header(file, form, count);
-    let mut i = 0;
-    while i < count {
+    for i in 0..count {
         book_bits::store_contract(file, form, i, moved_contract(book, form, i, ends));
-        i += 1;
     }
 }
 
@@ -64,16 +54,12 @@ pub fn remap_book(
     old: &[u64],
     new: &[u64],
     file: &mut [u8],
-) -> WriteAnswer
+) -> Result<usize, Refusal>
     ensures { RemapsBook (remap_book_call nodes book.now old.now new.now (before file)) result (after file) }
 {
-    match remap_checks::check_remap(nodes, book, old, new, file.len()) {
-        Checked::Refused(refusal) => WriteAnswer::Refused(refusal),
-        Checked::Passed => {
-            let ends = remap_ends::moved_ends(nodes, old, new);
-            let form = book_bits::book_form(book);
-            write_moved(book, form, book_bits::contract_count(book), &ends, file);
-            WriteAnswer::Written { bytes: book.len() }
-        }
-    }
+    remap_checks::check_remap(nodes, book, old, new, file.len())?;
+    let ends = remap_ends::moved_ends(nodes, old, new);
+    let form = book_bits::book_form(book);
+    write_moved(book, form, book_bits::contract_count(book), &ends, file);
+    Ok(book.len())
 }

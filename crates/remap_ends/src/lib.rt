@@ -14,10 +14,8 @@ fn every_node(nodes: usize) -> [u16; MAX_NODES]
     ensures { Moves nodes [] [] result }
 {
     let mut ends = [0u16; MAX_NODES];
-    let mut node = 0;
-    while node < nodes {
+    for node in 0..nodes {
         ends[node] = node as u16;
-        node += 1;
     }
     ends
 }
@@ -28,12 +26,8 @@ pub fn moved_ends(nodes: usize, old: &[u64], new: &[u64]) -> [u16; MAX_NODES]
     ensures { Moves nodes old.now new.now result }
 {
     let mut ends = every_node(nodes);
-    let mut i = old.len();
-    while 0 < i {
-        i -= 1;
-        let from = old[i] as usize;
-        let to = new[i] as usize;
-        ends[from] = ends[to];
+    for i in (0..old.len()).rev() {
+        ends[old[i] as usize] = ends[new[i] as usize];
     }
     ends
 }

@@ -2,7 +2,7 @@
 // A file is looked at only when those before it were taken. Where it is there and can't be read, nothing is printed: `files` has told it on standard error.
 #![tactic(auto)]
 
-use layouts::{MAX_BOOK_BYTES, MAX_PRICE_BYTES, PROGRAM_GRID_BYTES, WriteAnswer};
+use layouts::{MAX_BOOK_BYTES, MAX_PRICE_BYTES, PROGRAM_GRID_BYTES};
 use text_statement_lines::LONGEST_STATEMENT;
 
 // The buffers hold one byte more than the longest file taken, so that the length of a longer one is refused.
@@ -26,7 +26,7 @@ fn main(rt: HostRuntime) {
             &prices[..price_bytes],
             &mut text,
         );
-        if let WriteAnswer::Written { bytes } = answer {
+        if let Ok(bytes) = answer {
             files::print(&rt, &text[..bytes]);
         }
     }

@@ -28,8 +28,8 @@ impl Terms {
         Terms {
             nodes: asked.nodes,
             constraints: asked.constraints,
-            process: Process::from_number(asked.process),
-            period: Period::from_number(asked.period),
+            process: Process::from(asked.process),
+            period: Period::from(asked.period),
         }
     }
 }
@@ -45,14 +45,8 @@ pub fn fill_excess(
     requires { Judgeable constraints limits.now carried × (constraints ≤ length out.old) }
     ensures { after out ≡ overwrite (list_to constraints (excess_in limits.now process carried.flows)) (before out) }
 {
-    let flows = carried.flows;
-    let mut k = 0;
-    while k < constraints {
-        let flow = Flow(flows[k]);
-        let released = process.released(limits[k]);
-        let excess = flow.minus(released);
-        let cell = excess.0;
-        out[k] = cell;
-        k += 1;
+    for k in 0..constraints {
+        let excess = Flow(carried.flows[k]) - process.released(limits[k]);
+        out[k] = excess.0;
     }
 }

@@ -17,18 +17,7 @@ pub fn flow_beyond(flow: i64, count: usize) -> bool
     requires { max_flow * count < 2 ^ 63 }
     ensures { result ≡ ltb (max_flow * count) (nat_abs flow) }
 {
-    let most = (MAX_FLOW * count) as i64;
-    if flow < -most {
-        return true;
-    }
-    most < flow
-}
-
-// A flow as it stands in a cell: as an argument it brings its range.
-fn same_flow(flow: i64) -> i64
-    ensures { result ≡ flow }
-{
-    flow
+    ((MAX_FLOW * count) as u64) < flow.unsigned_abs()
 }
 
 // The first cells in an array, to be judged.
@@ -37,11 +26,7 @@ pub fn held_flows(constraints: usize, flows: &[i64]) -> Flows
     ensures { SameFlows constraints flows.now result }
 {
     let mut cells = [0i64; MAX_CONSTRAINTS];
-    let mut k = 0;
-    while k < constraints {
-        cells[k] = same_flow(flows[k]);
-        k += 1;
-    }
+    cells[..constraints].copy_from_slice(&flows[..constraints]);
     Flows {
         flows: cells,
         count: 0,

@@ -8,7 +8,7 @@ use Rattle.tariff.specs.Feasibility.{flow}
 use Rattle.tariff.specs.ContractRules.{InRange}
 use Rattle.grid_tables.specs.Inner.{GoodCells}
 use Rattle.test_rules.specs.declared.Flows.{Flows}
-use Rattle.test_rules.specs.declared.TestAnswer.{TestAnswer}
+use Rattle.test_rules.specs.TestBook.{TestAnswer}
 use Rattle.test_rules.specs.TestBook.{test_outcome, test_values, Demand3}
 
 -- a contract whose rows of k factors each stand in a table, in range

@@ -6,7 +6,7 @@ ghost use Rattle.lists.specs.Lent.{before};
 ghost use Rattle.tariff.specs.Refusals.{first};
 ghost use Rattle.grid_tables.specs.TableChecks.{grid_table_checks};
 
-use tariff::Checked;
+use tariff::Refusal;
 
 // What a test is asked beside its tables and its book: nothing here is checked yet.
 #[derive(Clone, Copy)]
@@ -26,7 +26,7 @@ pub struct AskedFlows {
 }
 
 // The test's checks up to 7, of what is asked and its tables.
-pub fn check_tables(asked: Asked, limits: &[u64], factors: &[i64]) -> Checked
+pub fn check_tables(asked: Asked, limits: &[u64], factors: &[i64]) -> Result<(), Refusal>
     ensures { result ≡ first (grid_table_checks asked.nodes asked.constraints asked.process asked.period limits.now factors.now) }
 {
     grid_tables::check_grid_tables(

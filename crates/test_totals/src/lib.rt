@@ -8,9 +8,9 @@ ghost use Rattle.test_totals.specs.AddFlows.{add_flows_call, AddsFlows};
 ghost use Rattle.test_totals.specs.Inner.{Addable, with_flows};
 ghost use Rattle.test_totals.specs.JudgeFlows.{judge_call, judge_checked, JudgesFlows};
 
-use tariff::{Checked, Flow, MAX_CONSTRAINTS, MAX_LIMIT, Period, Process, Refusal};
-use test_loading::FlowsAnswer;
-use test_rules::{Flows, TestAnswer};
+use grid_tables::FactorTable;
+use tariff::{Flow, MAX_CONSTRAINTS, MAX_LIMIT, Period, Process, Refusal};
+use test_rules::{Flows, Verdict};
 use test_terms::AskedFlows;
 
 // Totals are of at most so many contracts, so that no sum leaves 64 bits.
@@ -21,17 +21,10 @@ fn no_totals(constraints: usize, count: usize, flows: &[i64]) -> bool
     requires { constraints ≤ length flows.now }
     ensures { result ≡ no_totals_of constraints count flows.now }
 {
-    if MAX_SUMMED < count {
-        return true;
-    }
-    let mut k = 0;
-    while k < constraints {
-        if test_held::flow_beyond(flows[k], count) {
-            return true;
-        }
-        k += 1;
-    }
-    false
+    MAX_SUMMED < count
+        || flows[..constraints]
+            .iter()
+            .any(|flow| test_held::flow_beyond(*flow, count))
 }
 
 // Adds the flows carried to the first cells of `out`.
@@ -39,14 +32,9 @@ fn add_cells(constraints: usize, carried: Flows, out: &mut [i64])
     requires { Addable constraints carried out.old }
     ensures { after out ≡ overwrite (with_flows constraints carried (before out)) (before out) }
 {
-    let cells = carried.flows;
-    let mut k = 0;
-    while k < constraints {
-        let held = Flow(out[k]);
-        let sum = held.plus(Flow(cells[k]));
-        let total = sum.0;
-        out[k] = total;
-        k += 1;
+    for k in 0..constraints {
+        let sum = Flow(out[k]) + Flow(carried.flows[k]);
+        out[k] = sum.0;
     }
 }
 
@@ -58,27 +46,23 @@ pub fn add_flows(
     book: &[u8],
     flows: &mut [i64],
     count: &mut usize,
-) -> FlowsAnswer
+) -> Result<usize, Refusal>
     ensures { AddsFlows (add_flows_call asked.nodes asked.constraints asked.period limits.now factors.now book.now flows count)
         result (after flows) (after count) }
 {
-    let checked = test_loading::check_flows(asked, limits, factors, book, flows);
-    if let Checked::Refused(refusal) = checked {
-        return FlowsAnswer::Refused(refusal);
+    test_loading::check_flows(asked, limits, factors, book, flows)?;
+    if no_totals(asked.constraints, *count, flows) {
+        return Err(Refusal::ContractCount);
     }
-    let total = *count;
-    if no_totals(asked.constraints, total, flows) {
-        return FlowsAnswer::Refused(Refusal::ContractCount);
-    }
-    let period = Period::from_number(asked.period);
-    let carried = test_flows::carry(asked.nodes, asked.constraints, factors, period, book);
-    let counted = carried.count;
-    if MAX_SUMMED - total < counted {
-        return FlowsAnswer::Refused(Refusal::ContractCount);
+    let period = Period::from(asked.period);
+    let table = FactorTable::of(asked.nodes, asked.constraints, factors);
+    let carried = test_flows::carry(table, period, book);
+    if MAX_SUMMED - *count < carried.count {
+        return Err(Refusal::ContractCount);
     }
     add_cells(asked.constraints, carried, flows);
-    *count = total + counted;
-    FlowsAnswer::Found { counted }
+    *count += carried.count;
+    Ok(carried.count)
 }
 
 // The checks of judging totals.
@@ -88,28 +72,28 @@ fn check_judged(
     limits: &[u64],
     flows: &[i64],
     count: usize,
-) -> Checked
+) -> Result<(), Refusal>
     ensures { result ≡ judge_checked (judge_call constraints process limits.now flows.now count) }
 {
     if MAX_CONSTRAINTS < constraints {
-        return Checked::Refused(Refusal::ConstraintCount);
+        return Err(Refusal::ConstraintCount);
     }
     if 2 < process {
-        return Checked::Refused(Refusal::ProcessNumber);
+        return Err(Refusal::ProcessNumber);
     }
     if limits.len() < constraints {
-        return Checked::Refused(Refusal::ShortTable);
+        return Err(Refusal::ShortTable);
     }
     if flows.len() < constraints {
-        return Checked::Refused(Refusal::ShortTable);
+        return Err(Refusal::ShortTable);
     }
-    if grid_tables::cell_above(limits, constraints, MAX_LIMIT) {
-        return Checked::Refused(Refusal::LimitRange);
+    if grid_tables::cell_above(&limits[..constraints], MAX_LIMIT) {
+        return Err(Refusal::LimitRange);
     }
     if no_totals(constraints, count, flows) {
-        return Checked::Refused(Refusal::ContractCount);
+        return Err(Refusal::ContractCount);
     }
-    Checked::Passed
+    Ok(())
 }
 
 // Judges totals of flows by the released limits of their constraints: whether the contracts that they are of are simultaneously feasible on them.
@@ -119,13 +103,10 @@ pub fn judge_flows(
     limits: &[u64],
     flows: &[i64],
     count: usize,
-) -> TestAnswer
+) -> Result<Verdict, Refusal>
     ensures { JudgesFlows (judge_call constraints process limits.now flows.now count) result }
 {
-    let checked = check_judged(constraints, process, limits, flows, count);
-    if let Checked::Refused(refusal) = checked {
-        return TestAnswer::Refused(refusal);
-    }
+    check_judged(constraints, process, limits, flows, count)?;
     let held = test_held::held_flows(constraints, flows);
-    test_verdict::verdict(constraints, Process::from_number(process), limits, held)
+    Ok(test_verdict::verdict(constraints, Process::from(process), limits, held))
 }

@@ -12,6 +12,7 @@ fn count_digits(n: u64) -> usize
 {
     let mut rest = n;
     let mut count = 1;
+    // No `for`: how often is what is asked.
     while 10000 <= rest {
         rest = rest / 10000;
         count += 4;

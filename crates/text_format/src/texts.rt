@@ -7,12 +7,9 @@ pub fn put_text(buf: &mut [u8], at: usize, s: &[u8]) -> usize
     requires { at + length s.now ≤ length buf.old }
     ensures { Put (before buf) at s.now (after buf) result }
 {
-    let mut i = 0;
-    while i < s.len() {
-        buf[at + i] = s[i];
-        i += 1;
-    }
-    at + i
+    let end = at + s.len();
+    buf[at..end].copy_from_slice(s);
+    end
 }
 
 pub fn put_char(buf: &mut [u8], at: usize, c: u8) -> usize

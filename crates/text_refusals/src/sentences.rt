@@ -9,18 +9,12 @@ const ENDS: [u16; 29] = [
     1005, 1076, 1146, 1264, 1351, 1449, 1477, 1565, 1603,
 ];
 
-fn wide(x: u16) -> usize
-    ensures { result ≡ x }
-{
-    x as usize
-}
-
 // Where the sentence of number k starts, and that before it ends.
 pub fn end(k: usize) -> usize
     requires { k ≤ numbers }
     ensures { result ≡ get_or ends k 0 }
 {
-    wide(ENDS[k])
+    usize::from(ENDS[k])
 }
 
 // Puts what stands from one place to another at the buffer's front.

@@ -11,7 +11,7 @@ ghost use Rattle.text_report_rules.specs.Report.{numbers_to};
 ghost use Rattle.text_report_rules.specs.Inner.{in_set, member, failed, answer_figures, over_by, member_room, numbers_room, counts_room, figures_room};
 
 use tariff::Flow;
-use test_rules::TestAnswer;
+use test_rules::Verdict;
 
 // Constraint k, if it is in the set, at place `next` of a list that begins at place `at`.
 fn put_member(buf: &mut [u8], at: usize, next: usize, set: u64, k: usize) -> usize
@@ -36,10 +36,8 @@ fn put_numbers(buf: &mut [u8], at: usize, constraints: usize, set: u64) -> usize
     ensures upper_bound { result ≤ at + numbers_room }
 {
     let mut next = at;
-    let mut k = 0;
-    while k < constraints {
+    for k in 0..constraints {
         next = put_member(buf, at, next, set, k);
-        k += 1;
     }
     next
 }
@@ -78,19 +76,18 @@ fn put_failed(
 }
 
 // The verdict and the figures of the test's answer.
-pub fn put_figures(buf: &mut [u8], at: usize, constraints: usize, answer: TestAnswer) -> usize
-    requires { (constraints ≤ max_constraints) × (at + figures_room ≤ length buf.old) × (nat_abs (over_by answer) < 2 ^ 63) }
-    ensures put { Put (before buf) at (answer_figures constraints answer) (after buf) result }
+pub fn put_figures(buf: &mut [u8], at: usize, constraints: usize, verdict: Verdict) -> usize
+    requires { (constraints ≤ max_constraints) × (at + figures_room ≤ length buf.old) × (nat_abs (over_by verdict) < 2 ^ 63) }
+    ensures put { Put (before buf) at (answer_figures constraints verdict) (after buf) result }
     ensures upper_bound { result ≤ at + figures_room }
 {
-    match answer {
-        TestAnswer::Pass => text_format::put_text(buf, at, b"pass,0,,,"),
-        TestAnswer::Fail {
+    match verdict {
+        Verdict::Pass => text_format::put_text(buf, at, b"pass,0,,,"),
+        Verdict::Fail {
             set,
             count,
             lowest,
             excess,
         } => put_failed(buf, at, constraints, set, count, lowest, excess),
-        TestAnswer::Refused(_) => at,
     }
 }

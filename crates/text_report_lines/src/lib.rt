@@ -11,8 +11,9 @@ ghost use Rattle.text_report_rules.specs.Report.{period_word, process_word, peri
 ghost use Rattle.text_report_rules.specs.WriteReport.{report_room};
 ghost use Rattle.text_report_rules.specs.Inner.{Reportable, answer_line, over_by, period_room, process_room, line_room, period_lines_room};
 
+use grid_tables::FactorTable;
 use tariff::{Period, Process};
-use test_rules::TestAnswer;
+use test_rules::Verdict;
 use text_report_figures::put_figures;
 
 // The period's word and a comma.
@@ -47,15 +48,15 @@ fn put_line(
     constraints: usize,
     period: Period,
     process: Process,
-    answer: TestAnswer,
+    verdict: Verdict,
 ) -> usize
-    requires { (constraints ≤ max_constraints) × (at + line_room ≤ length buf.old) × (nat_abs (over_by answer) < 2 ^ 63) }
-    ensures put { Put (before buf) at (answer_line constraints period process answer) (after buf) result }
+    requires { (constraints ≤ max_constraints) × (at + line_room ≤ length buf.old) × (nat_abs (over_by verdict) < 2 ^ 63) }
+    ensures put { Put (before buf) at (answer_line constraints period process verdict) (after buf) result }
     ensures upper_bound { result ≤ at + line_room }
 {
     let first = put_period(buf, at, period);
     let second = put_process(buf, first, process);
-    let third = put_figures(buf, second, constraints, answer);
+    let third = put_figures(buf, second, constraints, verdict);
     text_format::put_char(buf, third, b'\n')
 }
 
@@ -63,19 +64,19 @@ fn put_line(
 fn put_period_lines(
     buf: &mut [u8],
     at: usize,
-    nodes: usize,
-    constraints: usize,
+    table: FactorTable,
     period: Period,
     limits: &[u64],
-    factors: &[i64],
     book: &[u8],
 ) -> usize
     requires period_lines_room_in_bounds { at + period_lines_room ≤ length buf.old }
-    requires reportable { Reportable nodes constraints limits.now factors.now book.now }
-    ensures put { Put (before buf) at (period_lines (grid_of nodes constraints limits.now factors.now) (book_in book.now) period) (after buf) result }
+    requires reportable { Reportable table.nodes table.constraints limits.now table.cells.now book.now }
+    ensures put { Put (before buf) at (period_lines (grid_of table.entry.nodes table.entry.constraints limits.now table.entry.cells.now)
+        (book_in book.now) period) (after buf) result }
     ensures upper_bound { result ≤ at + period_lines_room }
 {
-    let flows = test_flows::carry(nodes, constraints, factors, period, book);
+    let constraints = table.constraints;
+    let flows = test_flows::carry(table, period, book);
     let annual = test_verdict::verdict(constraints, Process::Annual, limits, flows);
     let lt = test_verdict::verdict(constraints, Process::TierLt, limits, flows);
     let monthly = test_verdict::verdict(constraints, Process::Monthly, limits, flows);
@@ -85,41 +86,17 @@ fn put_period_lines(
 }
 
 // The heading and the six lines.
-pub fn put_lines(
-    buf: &mut [u8],
-    nodes: usize,
-    constraints: usize,
-    limits: &[u64],
-    factors: &[i64],
-    book: &[u8],
-) -> usize
+pub fn put_lines(buf: &mut [u8], table: FactorTable, limits: &[u64], book: &[u8]) -> usize
     requires report_room_in_bounds { report_room ≤ length buf.old }
-    requires reportable { Reportable nodes constraints limits.now factors.now book.now }
-    ensures { Put (before buf) 0 (report_lines (grid_of nodes constraints limits.now factors.now) (book_in book.now)) (after buf) result }
+    requires reportable { Reportable table.nodes table.constraints limits.now table.cells.now book.now }
+    ensures { Put (before buf) 0 (report_lines (grid_of table.entry.nodes table.entry.constraints limits.now table.entry.cells.now)
+        (book_in book.now)) (after buf) result }
 {
     let heading = text_format::put_text(
         buf,
         0,
         b"period,process,verdict,overloaded,lowest,excess,constraints\n",
     );
-    let middle = put_period_lines(
-        buf,
-        heading,
-        nodes,
-        constraints,
-        Period::OffPeak,
-        limits,
-        factors,
-        book,
-    );
-    put_period_lines(
-        buf,
-        middle,
-        nodes,
-        constraints,
-        Period::OnPeak,
-        limits,
-        factors,
-        book,
-    )
+    let middle = put_period_lines(buf, heading, table, Period::OffPeak, limits, book);
+    put_period_lines(buf, middle, table, Period::OnPeak, limits, book)
 }

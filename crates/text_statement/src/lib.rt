@@ -1,54 +1,33 @@
 // The hour statement's text, rendered into a lent buffer. The files are checked one after the other, each once.
 #![tactic(auto)]
 
-ghost use Rattle.std.specs.Prelude.{◌≡◌, ◌≤◌, length, take};
+ghost use Rattle.std.specs.Prelude.{◌≡◌, ◌≤◌, length};
 ghost use Rattle.lists.specs.Lent.{before, after};
 ghost use Rattle.text_format.specs.Inner.{Put};
-ghost use Rattle.tariff.specs.declared.refusals.Checked.TheVariants.{Passed};
+ghost use Rattle.tariff.specs.Refusals.{passed, first};
 ghost use Rattle.tariff.specs.Units.{factors_of};
-ghost use Rattle.tariff.specs.Refusals.{first};
 ghost use Rattle.layouts.specs.BookFile.{book_in};
 ghost use Rattle.grid_tables.specs.Inner.{GoodFactors};
+ghost use Rattle.grid_tables.specs.Hours.{factors_by, prices_by};
 ghost use Rattle.book_rules.specs.BookChecks.{book_checks};
-ghost use Rattle.grid_tables.specs.Inner.{Hour};
 ghost use Rattle.text_statement_lines.specs.Lines.{lines, longest_statement};
 ghost use Rattle.text_statement.specs.WriteStatement.{statement, statement_call, WritesStatement};
 ghost use Rattle.text_statement.specs.Inner.{priced_text, booked_text};
 
-use grid_rules::GridAnswer;
-use hour_rules::Totals;
-use layouts::{PROGRAM_FACTORS, PROGRAM_GRID_BYTES, WriteAnswer};
-use price_rules::PriceAnswer;
-use tariff::{Checked, MAX_CONSTRAINTS, MAX_CONTRACTS, Period, Refusal};
+use grid_tables::HourTable;
+use layouts::{PROGRAM_FACTORS, PROGRAM_GRID_BYTES};
+use tariff::{MAX_CONSTRAINTS, MAX_CONTRACTS, Period, Refusal};
 use text_statement_lines::LONGEST_STATEMENT;
 
 // The lines of an hour whose tables and book no check refuses.
-fn put_settled(
-    buf: &mut [u8],
-    nodes: usize,
-    constraints: usize,
-    period: Period,
-    factors: &[i64],
-    prices: &[u64],
-    book: &[u8],
-) -> usize
+fn put_settled(buf: &mut [u8], hour: HourTable, period: Period, book: &[u8]) -> usize
     requires longest_statement_in_bounds { longest_statement ≤ length buf.old }
-    requires hour { Hour nodes constraints factors.now prices.now × (first (book_checks nodes book.now) ≡ Passed) }
-    ensures { Put (before buf) 0
-        (lines (factors_of nodes constraints (factors.now)) (take constraints (prices.now)) period (book_in (book.now))) (after buf) result }
+    requires book_value { first (book_checks hour.factors.nodes book.now) ≡ passed }
+    ensures { Put (before buf) 0 (lines (factors_by hour.entry) (prices_by hour.entry) period (book_in book.now)) (after buf) result }
 {
     let mut cents = [0i64; MAX_CONTRACTS];
     let mut priced = [0u64; MAX_CONTRACTS];
-    let totals: Totals = hour_contracts::settle(
-        nodes,
-        constraints,
-        period,
-        factors,
-        prices,
-        book,
-        &mut cents,
-        &mut priced,
-    );
+    let totals = hour_contracts::settle(hour, period, book, &mut cents, &mut priced);
     let count = book_bits::contract_count(book);
     text_statement_lines::put_lines(buf, period, book, count, &cents, &priced, totals)
 }
@@ -63,16 +42,16 @@ fn put_priced(
     price_file: &[u8],
 ) -> usize
     requires longest_statement_in_bounds { longest_statement ≤ length buf.old }
-    requires good_factors { GoodFactors nodes constraints factors.now × (first (book_checks nodes book.now) ≡ Passed) }
+    requires good_factors { GoodFactors nodes constraints factors.now × (first (book_checks nodes book.now) ≡ passed) }
     ensures { Put (before buf) 0
         (priced_text (factors_of nodes constraints (factors.now)) (book_in (book.now)) (price_file.now)) (after buf) result }
 {
     let mut prices = [0u64; MAX_CONSTRAINTS];
     match price_reading::read_prices(constraints, price_file, &mut prices) {
-        PriceAnswer::Refused(refusal) => text_format::put_refused(buf, b"prices", refusal),
-        PriceAnswer::Read { period } => {
-            let hour = Period::from_number(period);
-            put_settled(buf, nodes, constraints, hour, factors, &prices, book)
+        Err(refusal) => text_format::put_refused(buf, b"prices", refusal),
+        Ok(period) => {
+            let hour = HourTable::of(nodes, constraints, factors, &prices);
+            put_settled(buf, hour, Period::from(period), book)
         }
     }
 }
@@ -90,8 +69,8 @@ fn put_booked(
     ensures { Put (before buf) 0 (booked_text (factors_of nodes constraints factors.now) book.now price_file.now) (after buf) result }
 {
     match book_checks::check_book(nodes, book) {
-        Checked::Refused(refusal) => text_format::put_refused(buf, b"book", refusal),
-        Checked::Passed => put_priced(buf, nodes, constraints, factors, book, price_file),
+        Err(refusal) => text_format::put_refused(buf, b"book", refusal),
+        Ok(()) => put_priced(buf, nodes, constraints, factors, book, price_file),
     }
 }
 
@@ -103,12 +82,15 @@ fn put_statement(grid_file: &[u8], book_file: &[u8], price_file: &[u8], buf: &mu
     let mut limits = [0u64; MAX_CONSTRAINTS];
     let mut factors = [0i64; PROGRAM_FACTORS];
     match grid_reading::read_within(PROGRAM_GRID_BYTES, grid_file, &mut limits, &mut factors) {
-        GridAnswer::Refused(refusal) => text_format::put_refused(buf, b"grid", refusal),
-        GridAnswer::Read {
-            nodes,
-            constraints,
-            form: _,
-        } => { put_booked(buf, nodes, constraints, &factors, book_file, price_file) }
+        Err(refusal) => text_format::put_refused(buf, b"grid", refusal),
+        Ok(grid) => put_booked(
+            buf,
+            grid.nodes,
+            grid.constraints,
+            &factors,
+            book_file,
+            price_file,
+        ),
     }
 }
 
@@ -118,13 +100,11 @@ pub fn write_statement(
     book_file: &[u8],
     price_file: &[u8],
     text: &mut [u8],
-) -> WriteAnswer
+) -> Result<usize, Refusal>
     ensures { WritesStatement (statement_call grid_file.now book_file.now price_file.now (before text)) result (after text) }
 {
     if text.len() < LONGEST_STATEMENT {
-        return WriteAnswer::Refused(Refusal::ShortTable);
+        return Err(Refusal::ShortTable);
     }
-    WriteAnswer::Written {
-        bytes: put_statement(grid_file, book_file, price_file, text),
-    }
+    Ok(put_statement(grid_file, book_file, price_file, text))
 }

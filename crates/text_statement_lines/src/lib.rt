@@ -82,10 +82,8 @@ fn put_contract(
     ensures put { Put (before buf) at (contract_line number c cents priced) (after buf) result }
     ensures upper_bound { result ≤ at + longest_line }
 {
-    let holder = c.holder;
-    let kind = c.kind;
-    let numbers = put_numbers(buf, at, number, holder);
-    let word = put_kind(buf, numbers, kind);
+    let numbers = put_numbers(buf, at, number, c.holder);
+    let word = put_kind(buf, numbers, c.kind);
     put_figures(buf, word, cents, priced)
 }
 
@@ -104,8 +102,7 @@ fn put_own(
     ensures put { Put (before buf) at (line_of period number c cents priced) (after buf) result }
     ensures upper_bound { result ≤ at + longest_line }
 {
-    let own = c.period;
-    if own.same(period) {
+    if c.period == period {
         put_contract(buf, at, number, c, cents, priced)
     } else {
         at
@@ -132,13 +129,10 @@ fn put_contracts(
     ensures upper_bound { result ≤ at + longest_line * count }
 {
     let mut next = at;
-    let mut i = 0;
-    while i < count {
+    for i in 0..count {
         let c = book_bits::contract_at(book, form, i);
-        let set = priced[i];
-        let size = u64::count_ones(set) as u64;
+        let size = priced[i].count_ones() as u64;
         next = put_own(buf, next, period, i as u64, c, cents[i], size);
-        i += 1;
     }
     next
 }

@@ -17,11 +17,9 @@ pub fn copy_block(flows: &mut [i64], from: usize, to: usize)
     requires { Apart from to flows.old }
     ensures { after flows ≡ copied from to (before flows) }
 {
-    let mut k = 0;
-    while k < BLOCK {
-        flows[to + k] = tier_rules::same_flow(flows[from + k]);
-        k += 1;
-    }
+    let mut block = [0; BLOCK];
+    block.copy_from_slice(&flows[from..from + BLOCK]);
+    flows[to..to + BLOCK].copy_from_slice(&block);
 }
 
 // The numbers of a mark: it is set, and how many awards are held and counted now.

@@ -5,11 +5,11 @@ ghost use Rattle.std.specs.Prelude.{◌≡◌, ◌≤◌, ◌<◌, length};
 ghost use Rattle.lists.specs.Lent.{before, after};
 ghost use Rattle.tariff.specs.Units.{factors_of, max_contracts};
 ghost use Rattle.tariff.specs.ContractRules.{InRange};
-ghost use Rattle.grid_tables.specs.Inner.{GoodFactors};
 ghost use Rattle.tier_rules.specs.Cells.{state_numbers, held_in};
 ghost use Rattle.tier_running_rules.specs.AddAward.{no_state_of};
 ghost use Rattle.tier_running_rules.specs.Inner.{Addable, StateLike, FlowsWith, AddsFlows};
 
+use grid_tables::FactorTable;
 use tariff::{Contract, Process};
 use test_rules::Flows;
 
@@ -22,60 +22,49 @@ fn no_state(constraints: usize, numbers: &[u64], flows: &[i64]) -> bool
     if numbers[0] < counted {
         return true;
     }
-    let mut k = 0;
-    while k < constraints {
+    for k in 0..constraints {
         if test_held::flow_beyond(flows[k], counted as usize) {
             return true;
         }
-        k += 1;
     }
     false
 }
 
 // The flows with an award's.
-fn flows_with(
-    nodes: usize,
-    constraints: usize,
-    factors: &[i64],
-    c: Contract,
-    numbers: &[u64],
-    flows: &[i64],
-) -> Flows
-    requires { GoodFactors nodes constraints factors.now × InRange nodes c × StateLike constraints numbers.now flows.now }
-    ensures { FlowsWith (factors_of nodes constraints factors.now) c flows.now result }
+fn flows_with(table: FactorTable, c: Contract, numbers: &[u64], flows: &[i64]) -> Flows
+    requires { InRange table.nodes c × StateLike table.constraints numbers.now flows.now }
+    ensures { FlowsWith (factors_of table.entry.nodes table.entry.constraints table.entry.cells.now) c flows.now result }
 {
-    let mut tried = test_held::held_flows(constraints, flows);
-    test_flows::add_flow(&mut tried.flows, c, constraints, factors);
+    let mut tried = test_held::held_flows(table.constraints, flows);
+    test_flows::add_flow(&mut tried.flows, c, table);
     tried
 }
 
 // Adds the flows and the count of an award that is of the period (`own`), and says whether 21 comes instead.
 pub fn add_flows(
     own: bool,
-    nodes: usize,
-    constraints: usize,
+    table: FactorTable,
     process: Process,
     limits: &[u64],
-    factors: &[i64],
     c: Contract,
     numbers: &mut [u64],
     flows: &mut [i64],
 ) -> bool
-    requires { Addable nodes constraints limits.now factors.now c numbers.old flows.old }
-    ensures { AddsFlows own limits.now process (factors_of nodes constraints factors.now) c (before numbers) (before flows)
-        result (after numbers) (after flows) }
+    requires { Addable table.nodes table.constraints limits.now table.cells.now c numbers.old flows.old }
+    ensures { AddsFlows own limits.now process (factors_of table.entry.nodes table.entry.constraints table.entry.cells.now) c
+        (before numbers) (before flows) result (after numbers) (after flows) }
 {
     if !own {
         return false;
     }
-    if no_state(constraints, numbers, flows) {
+    if no_state(table.constraints, numbers, flows) {
         return true;
     }
-    let tried = flows_with(nodes, constraints, factors, c, numbers, flows);
-    if test_verdict::overload_set(constraints, process, limits, tried) != 0 {
+    let tried = flows_with(table, c, numbers, flows);
+    if test_verdict::overload_set(table.constraints, process, limits, tried) != 0 {
         return true;
     }
-    test_loading::fill_flows(constraints, tried, flows);
-    numbers[1] = numbers[1] + 1;
+    test_loading::fill_flows(table.constraints, tried, flows);
+    numbers[1] += 1;
     false
 }

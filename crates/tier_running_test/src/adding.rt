@@ -8,10 +8,10 @@ ghost use Rattle.tier_rules.specs.Cells.{awards_cells, state_numbers, held_in, l
 ghost use Rattle.tier_running_rules.specs.AddAward.{add_award_on, AddsAward};
 ghost use Rattle.tier_running_rules.specs.Inner.{Addable, AddsFlows};
 
+use grid_tables::FactorTable;
 use layouts::CONTRACT_CELLS;
-use tariff::{Checked, Contract, Period, Process, Refusal};
+use tariff::{Contract, Period, Process, Refusal};
 use test_terms::Asked;
-use tier_rules::RunningAnswer;
 
 // Stores an award behind those held.
 fn store_award(c: Contract, awards: &mut [u64], numbers: &mut [u64])
@@ -36,15 +36,13 @@ fn try_flows(
     ensures { AddsFlows (same_period c.period (period_of asked.period)) limits.now (process_of asked.process)
         (factors_of asked.nodes asked.constraints (factors.now)) c (before numbers) (before flows) result (after numbers) (after flows) }
 {
-    let own = c.period;
-    let is_own = own.same(Period::from_number(asked.period));
+    let is_own = c.period == Period::from(asked.period);
+    let table = FactorTable::of(asked.nodes, asked.constraints, factors);
     tier_running_flows::add_flows(
         is_own,
-        asked.nodes,
-        asked.constraints,
-        Process::from_number(asked.process),
+        table,
+        Process::from(asked.process),
         limits,
-        factors,
         c,
         numbers,
         flows,
@@ -60,21 +58,16 @@ pub fn add_award(
     awards: &mut [u64],
     numbers: &mut [u64],
     flows: &mut [i64],
-) -> RunningAnswer
+) -> Result<(), Refusal>
     ensures { AddsAward (add_award_on asked.nodes asked.constraints asked.process asked.period limits.now factors.now award.now
         (before awards) (before numbers) (before flows)) result (left_in awards numbers flows) }
 {
-    let checked = tier_running_checks::check_award(
-        asked, limits, factors, award, awards, numbers, flows,
-    );
-    if let Checked::Refused(refusal) = checked {
-        return RunningAnswer::Refused(refusal);
-    }
+    tier_running_checks::check_award(asked, limits, factors, award, awards, numbers, flows)?;
     let c = book_rows::contract_from(award, 0);
     let over = try_flows(asked, limits, factors, c, numbers, flows);
     if over {
-        return RunningAnswer::Refused(Refusal::AwardOverload);
+        return Err(Refusal::AwardOverload);
     }
     store_award(c, awards, numbers);
-    RunningAnswer::Held
+    Ok(())
 }

@@ -12,8 +12,8 @@ ghost use Rattle.view_rules.specs.HolderView.{holder_view_call, holder_view_chec
 ghost use Rattle.view_holder.specs.Inner.{stored_row, rows_at, rows_to};
 
 use book_bits::{NARROW_END_WIDTH, WIDE_END_WIDTH};
-use layouts::{Form, WriteAnswer};
-use tariff::{Checked, MAX_HOLDER, Refusal};
+use layouts::Form;
+use tariff::{MAX_HOLDER, Refusal};
 
 // The holder among a contract's bits.
 fn holder_of(form: Form, v: u64) -> u64
@@ -53,10 +53,8 @@ fn held_count(book: &[u8], form: Form, count: usize, holder: u64) -> usize
     ensures { (result ≡ length (held_to holder (contract_in form book.now) count)) × (result ≤ max_contracts) }
 {
     let mut held = 0;
-    let mut i = 0;
-    while i < count {
+    for i in 0..count {
         held += held_at(book, form, holder, i);
-        i += 1;
     }
     held
 }
@@ -67,27 +65,22 @@ fn room_short(book: &[u8], form: Form, count: usize, holder: u64, bytes: usize) 
     ensures { result ≡ ltb bytes (length (rows_to form holder book.now count)) }
 {
     let row = row_bytes(form);
-    if row * count <= bytes {
-        return false;
-    }
-    bytes < row * held_count(book, form, count, holder)
+    bytes < row * count && bytes < row * held_count(book, form, count, holder)
 }
 
 // All checks, with `bytes` lent bytes for the view: the book's own, 18, 9.
-fn check_holder_view(nodes: usize, book: &[u8], holder: u64, bytes: usize) -> Checked
+fn check_holder_view(nodes: usize, book: &[u8], holder: u64, bytes: usize) -> Result<(), Refusal>
     ensures { (place : List ℕ) → length place ≡ bytes → result ≡ holder_view_checked (holder_view_call nodes book.now holder place) }
 {
-    if let Checked::Refused(refusal) = book_checks::check_own(nodes, book) {
-        return Checked::Refused(refusal);
-    }
+    book_checks::check_own(nodes, book)?;
     if MAX_HOLDER < holder {
-        return Checked::Refused(Refusal::HolderRange);
+        return Err(Refusal::HolderRange);
     }
     let form = book_bits::book_form(book);
     if room_short(book, form, book_bits::contract_count(book), holder, bytes) {
-        return Checked::Refused(Refusal::ShortTable);
+        return Err(Refusal::ShortTable);
     }
-    Checked::Passed
+    Ok(())
 }
 
 // Stores a row from place `at` on: a contract's number, then its bits.
@@ -125,26 +118,23 @@ fn write_held(book: &[u8], form: Form, count: usize, holder: u64, view: &mut [u8
     ensures value { result ≡ length (rows_to form holder book.now count) }
 {
     let mut at = 0;
-    let mut i = 0;
-    while i < count {
+    for i in 0..count {
         at = put_held(book, form, holder, i, view, at);
-        i += 1;
     }
     at
 }
 
 // Writes a holder's view of a book for a grid of `nodes` nodes.
-pub fn write_holder_view(nodes: usize, book: &[u8], holder: u64, view: &mut [u8]) -> WriteAnswer
+pub fn write_holder_view(
+    nodes: usize,
+    book: &[u8],
+    holder: u64,
+    view: &mut [u8],
+) -> Result<usize, Refusal>
     ensures { WritesHolderView (holder_view_call nodes book.now holder (before view)) result (after view) }
 {
-    match check_holder_view(nodes, book, holder, view.len()) {
-        Checked::Refused(refusal) => WriteAnswer::Refused(refusal),
-        Checked::Passed => {
-            let form = book_bits::book_form(book);
-            let count = book_bits::contract_count(book);
-            WriteAnswer::Written {
-                bytes: write_held(book, form, count, holder, view),
-            }
-        }
-    }
+    check_holder_view(nodes, book, holder, view.len())?;
+    let form = book_bits::book_form(book);
+    let count = book_bits::contract_count(book);
+    Ok(write_held(book, form, count, holder, view))
 }

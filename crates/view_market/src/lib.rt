@@ -11,8 +11,8 @@ ghost use Rattle.view_rules.specs.MarketView.{market_view_call, market_view_chec
 ghost use Rattle.view_market.specs.Inner.{cleared_number};
 
 use book_bits::{NARROW_HOLDER_AT, NARROW_PERIOD_AT, WIDE_HOLDER_AT, WIDE_PERIOD_AT};
-use layouts::{Form, WriteAnswer};
-use tariff::{Checked, Refusal};
+use layouts::Form;
+use tariff::Refusal;
 
 // What the bits above a holder count for, in either form.
 const NARROW_ABOVE: u64 = 1u64 << NARROW_PERIOD_AT;
@@ -37,37 +37,29 @@ fn write_anonymous(book: &[u8], form: Form, count: usize, file: &mut [u8])
     ensures { after file ≡ overwrite (book_file form (list_to count (λ i. anonymous (contract_in form book.now i)))) (before file) }
 {
     book_bits::store_header(file, form, count);
-    let mut i = 0;
-    while i < count {
+    for i in 0..count {
         let own = book_bits::bits_at(book, form, i);
         book_bits::store_bits(file, form, i, cleared(form, own));
-        i += 1;
     }
 }
 
 // All checks, with `bytes` lent bytes for the view: the book's own, 9.
-fn check_market_view(nodes: usize, book: &[u8], bytes: usize) -> Checked
+fn check_market_view(nodes: usize, book: &[u8], bytes: usize) -> Result<(), Refusal>
     ensures { (place : List ℕ) → length place ≡ bytes → result ≡ market_view_checked (market_view_call nodes book.now place) }
 {
-    if let Checked::Refused(refusal) = book_checks::check_own(nodes, book) {
-        return Checked::Refused(refusal);
-    }
+    book_checks::check_own(nodes, book)?;
     if bytes < book.len() {
-        return Checked::Refused(Refusal::ShortTable);
+        return Err(Refusal::ShortTable);
     }
-    Checked::Passed
+    Ok(())
 }
 
 // Writes the market's view of a book for a grid of `nodes` nodes.
-pub fn write_market_view(nodes: usize, book: &[u8], file: &mut [u8]) -> WriteAnswer
+pub fn write_market_view(nodes: usize, book: &[u8], file: &mut [u8]) -> Result<usize, Refusal>
     ensures { WritesMarketView (market_view_call nodes book.now (before file)) result (after file) }
 {
-    match check_market_view(nodes, book, file.len()) {
-        Checked::Refused(refusal) => WriteAnswer::Refused(refusal),
-        Checked::Passed => {
-            let form = book_bits::book_form(book);
-            write_anonymous(book, form, book_bits::contract_count(book), file);
-            WriteAnswer::Written { bytes: book.len() }
-        }
-    }
+    check_market_view(nodes, book, file.len())?;
+    let form = book_bits::book_form(book);
+    write_anonymous(book, form, book_bits::contract_count(book), file);
+    Ok(book.len())
 }

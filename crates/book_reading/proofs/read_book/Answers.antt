@@ -1,4 +1,5 @@
 -- `read_book`: where no check refuses, the file has its length and the table its cells.
+use Rattle.std.proofs.lemmas.Result.{err_from_is_err_and}
 use mathlib.Core.Path.{refl, sym, ap₂, ◌∙◌}
 use Prim.Native.Nat.{ℕ}
 use native.Mathlib.Omega.{arith}
@@ -16,34 +17,35 @@ use Rattle.book_reading.proofs.read_book.Goals as goal
 pub contract_count-contracts-requires : goal.contract_count-contracts-requires
 contract_count-contracts-requires c =
     let a = c.args in
-    let o = readable (read_book_call a.nodes a.file.now a.book.now) (sym (c.check_read.ensures a.book.now refl) ∙ c.in-Passed.is) in
+    let o = readable (read_book_call a.nodes a.file.now a.book.now) (sym (c.check_read.ensures a.book.now refl) ∙ c.in_ok-check_read.was) in
     omega (arith, o.own.size)
 
 pub book_form-form-requires : goal.book_form-form-requires
 book_form-form-requires c =
     let a = c.args in
-    let o = readable (read_book_call a.nodes a.file.now a.book.now) (sym (c.check_read.ensures a.book.now refl) ∙ c.in-Passed.is) in
+    let o = readable (read_book_call a.nodes a.file.now a.book.now) (sym (c.check_read.ensures a.book.now refl) ∙ c.in_ok-check_read.was) in
     omega (arith, o.own.size)
 
 pub read_contracts-requires : goal.read_contracts-requires
 read_contracts-requires c =
     let a = c.args in
-    let o = readable (read_book_call a.nodes a.file.now a.book.now) (sym (c.check_read.ensures a.book.now refl) ∙ c.in-Passed.is) in
+    let o = readable (read_book_call a.nodes a.file.now a.book.now) (sym (c.check_read.ensures a.book.now refl) ∙ c.in_ok-check_read.was) in
     let n = c.contract_count-contracts.ensures.0 in
     (omega (arith, o.own.few, n), rw (c.book_form-form.ensures, n) (omega (arith, o.own.size)), omega (arith, o.room, n))
 
-pub returns-in-Refused : goal.returns-in-Refused
-returns-in-Refused c =
+pub returns-in_err-check_read : goal.returns-in_err-check_read
+returns-in_err-check_read c =
     let a = c.args in
     let found = c.check_read.ensures a.book.now refl in
-    let told = c.in-Refused.is in
-    record { values-given = answer-refused _ _ found _ told _; contracts-read = cells-refused _ _ found _ told (flat_map cells_of (book_in a.file.now)) _ }
+    let told = c.in_err-check_read.was in
+    let p = err_from_is_err_and c.from_residual.result c.from_residual.ensures.1 in
+    rw (p.1, p.2) (record { values-given = answer-refused _ _ found _ told _; contracts-read = cells-refused _ _ found _ told (flat_map cells_of (book_in a.file.now)) _ })
 
-pub returns-in-Passed : goal.returns-in-Passed
-returns-in-Passed c =
+pub returns : goal.returns
+returns c =
     let a = c.args in
     let found = c.check_read.ensures a.book.now refl in
-    let told = c.in-Passed.is in
+    let told = c.in_ok-check_read.was in
     record {
       values-given = rw (c.contract_count-contracts.ensures.0, c.book_form-form.ensures) (answer-passed _ _ found told _);
       contracts-read =

@@ -1,10 +1,11 @@
 -- `write_canonical_book`: where no check of the book's own refuses, the canonical rows are in the cells.
+use Rattle.std.proofs.lemmas.Result.{err_from_is_err_and}
 use mathlib.Core.Path.{◌≡◌, refl, sym, ap₂, ◌∙◌}
 use mathlib.Core.List.{map}
 use Prim.Native.Nat.{◌≤◌}
 use native.Mathlib.Omega.{arith}
 use lib.ListN.{length, take}
-use Rattle.tariff.specs.declared.refusals.Checked.TheVariants.{Passed}
+use Rattle.tariff.specs.Refusals.{passed}
 use Rattle.tariff.specs.Refusals.{first}
 use Rattle.tariff.proofs.Answers.{answer-refused, cells-refused, answer-passed, cells-passed}
 use Rattle.layouts.specs.BookFile.{book_bytes_of, book_form_in, book_in}
@@ -15,35 +16,33 @@ use Rattle.canonical_rules.specs.CanonicalBook.{canonical_book_call}
 use Rattle.canonical_book.proofs.Accepted.{rows-count, row_at, rows_are, own_refuses, header-there, countable, rows-fit_form, file-bytes, no_room, room}
 use Rattle.canonical_book.proofs.write_canonical_book.Goals as goal
 
-pub returns-in-Refused : goal.returns-in-Refused
-returns-in-Refused c =
+pub returns-in_err-check_own : goal.returns-in_err-check_own
+returns-in_err-check_own c =
     let a = c.args in
     let q = canonical_book_call a.nodes a.book.now a.file.now in
     let found = c.check_own.ensures in
-    let c = c.in-Refused.is in
-    let refused = sym (own_refuses q _ (sym found ∙ c)) in
-    record { length-given = answer-refused _ _ refused _ refl _; bytes-written = cells-refused _ _ refused _ refl (canonical_file q.book) _ }
+    let refused = sym (own_refuses q _ (sym found ∙ c.in_err-check_own.was)) in
+    let p = err_from_is_err_and c.from_residual.result c.from_residual.ensures.1 in
+    rw (p.1, p.2) (record { length-given = answer-refused _ _ refused _ refl _; bytes-written = cells-refused _ _ refused _ refl (canonical_file q.book) _ })
 
--- ---- no check of the book's own refuses
-
--- ---- and the canonical rows are in the cells
+-- ---- no check of the book's own refuses, and the canonical rows are in the cells
 
 pub book_form-form-requires : goal.book_form-form-requires
 book_form-form-requires c =
     let call = let a = c.args in canonical_book_call a.nodes a.book.now a.file.now in
-    let ok : first (own_checks call.nodes call.book) ≡ Passed = sym c.check_own.ensures ∙ c.in_default.is in
+    let ok : first (own_checks call.nodes call.book) ≡ passed = sym c.check_own.ensures ∙ c.in_ok-check_own.was in
     header-there call ok
 
 pub contract_count-requires : goal.contract_count-requires
 contract_count-requires c =
     let call = let a = c.args in canonical_book_call a.nodes a.book.now a.file.now in
-    let ok : first (own_checks call.nodes call.book) ≡ Passed = sym c.check_own.ensures ∙ c.in_default.is in
+    let ok : first (own_checks call.nodes call.book) ≡ passed = sym c.check_own.ensures ∙ c.in_ok-check_own.was in
     header-there call ok
 
 pub canonical_rows-rows-requires : goal.canonical_rows-rows-requires
 canonical_rows-rows-requires c =
     let call = let a = c.args in canonical_book_call a.nodes a.book.now a.file.now in
-    let ok : first (own_checks call.nodes call.book) ≡ Passed = sym c.check_own.ensures ∙ c.in_default.is in
+    let ok : first (own_checks call.nodes call.book) ≡ passed = sym c.check_own.ensures ∙ c.in_ok-check_own.was in
     let count = c.contract_count.ensures.0 in
     let able = countable call ok _ _ c.book_form-form.ensures count in
     (able, able.few)
@@ -51,14 +50,14 @@ canonical_rows-rows-requires c =
 pub book_bytes-bytes-requires : goal.book_bytes-bytes-requires
 book_bytes-bytes-requires c =
     let call = let a = c.args in canonical_book_call a.nodes a.book.now a.file.now in
-    let ok : first (own_checks call.nodes call.book) ≡ Passed = sym c.check_own.ensures ∙ c.in_default.is in
+    let ok : first (own_checks call.nodes call.book) ≡ passed = sym c.check_own.ensures ∙ c.in_ok-check_own.was in
     let few : c.canonical_rows-rows.result ≤ 1000 = omega (arith, c.canonical_rows-rows.ensures.1, c.contract_count.ensures.0, (countable call ok _ _ refl refl).few) in
     few
 
 pub returns-then-file-bytes : goal.returns-then-file-bytes
 returns-then-file-bytes c =
     let call = let a = c.args in canonical_book_call a.nodes a.book.now a.file.now in
-    let ok : first (own_checks call.nodes call.book) ≡ Passed = sym c.check_own.ensures ∙ c.in_default.is in
+    let ok : first (own_checks call.nodes call.book) ≡ passed = sym c.check_own.ensures ∙ c.in_ok-check_own.was in
     let cells = c.canonical_rows-rows.new.cells in
     let few : c.canonical_rows-rows.result ≤ 1000 = omega (arith, c.canonical_rows-rows.ensures.1, c.contract_count.ensures.0, (countable call ok _ _ refl refl).few) in
     let held : c.canonical_rows-rows.result ≤ length cells = omega (arith, few, c.canonical_rows-rows.auto.cells) in
@@ -74,7 +73,7 @@ returns-then-file-bytes c =
 pub write_rows-requires : goal.write_rows-requires
 write_rows-requires c =
     let call = let a = c.args in canonical_book_call a.nodes a.book.now a.file.now in
-    let ok : first (own_checks call.nodes call.book) ≡ Passed = sym c.check_own.ensures ∙ c.in_default.is in
+    let ok : first (own_checks call.nodes call.book) ≡ passed = sym c.check_own.ensures ∙ c.in_ok-check_own.was in
     let cells = c.canonical_rows-rows.new.cells in
     let few : c.canonical_rows-rows.result ≤ 1000 = omega (arith, c.canonical_rows-rows.ensures.1, c.contract_count.ensures.0, (countable call ok _ _ refl refl).few) in
     let held : c.canonical_rows-rows.result ≤ length cells = omega (arith, few, c.canonical_rows-rows.auto.cells) in
@@ -87,7 +86,7 @@ pub returns : goal.returns
 unfolding canonical_file
 returns c =
     let call = let a = c.args in canonical_book_call a.nodes a.book.now a.file.now in
-    let ok : first (own_checks call.nodes call.book) ≡ Passed = sym c.check_own.ensures ∙ c.in_default.is in
+    let ok : first (own_checks call.nodes call.book) ≡ passed = sym c.check_own.ensures ∙ c.in_ok-check_own.was in
     let cells = c.canonical_rows-rows.new.cells in
     let few : c.canonical_rows-rows.result ≤ 1000 = omega (arith, c.canonical_rows-rows.ensures.1, c.contract_count.ensures.0, (countable call ok _ _ refl refl).few) in
     let held : c.canonical_rows-rows.result ≤ length cells = omega (arith, few, c.canonical_rows-rows.auto.cells) in

@@ -1,12 +1,9 @@
--- The invariants and measures of `cut_needs::least_need`.
+-- The invariant of `cut_needs::least_need`.
 use mathlib.Core.Path.{◌≡◌}
-use Prim.Native.Nat.{◌-◌, ◌≤◌}
+use Prim.Native.Nat.{◌≤◌}
 use Rattle.cut_rules.specs.Inner.{need}
 use Rattle.cut_needs.specs.Inner.{cell_at, slope_from}
 use Rattle.cut_needs.proofs.least_need.Given as goal
 
 abbrev pub invariant-loop-k : goal.invariant-loop-k
-invariant-loop-k l = (l.k ≤ l.constraints) × (l.need.0 ≤ l.most.0) × (l.need.0 ≡ need l.k (cell_at l.excesses) (slope_from l.factors l.source l.sink l.kind))
-
-abbrev pub decreases-loop-k : goal.decreases-loop-k
-decreases-loop-k l = l.upto - l.k
+invariant-loop-k l = (l.k ≤ l.constraints) × (l.need.0 ≤ l.c.quantity.0) × (l.need.0 ≡ need l.k (cell_at l.excesses) (slope_from l.factors l.source l.sink l.c.kind))

@@ -11,7 +11,7 @@ use Rattle.date_text.proofs.put_table.Goals as goal
 
 pub loop-k-init : goal.loop-k-init
 unfolding list_to flat_map
-loop-k-init c = (omega arith, omega arith, put_none (omega arith), omega arith)
+loop-k-init c = (omega arith, put_none (omega arith), omega arith)
 
 pub hours_by_rule-hours-requires : goal.hours_by_rule-hours-requires
 hours_by_rule-hours-requires c = month_of _ _ (record { year_low = omega arith; year_high = omega arith; month_low = omega arith; month_high = omega arith })
@@ -24,22 +24,10 @@ loop-k-preserved c =
     let p = c.put_count-next in
     let h = c.hours_by_rule-hours in
     let l = c.loop-k in
-    (omega arith, p.auto.buf ∙ l.invariant.1, put_same (lines_more l.k h.result h.ensures.0) (l.invariant.2 then p.ensures.put), omega (arith, p.ensures.upper_bound, l.invariant.3))
+    (p.auto.buf ∙ l.invariant.0, put_same (lines_more l.k h.result h.ensures.0) (l.invariant.1 then p.ensures.put), omega (arith, p.ensures.upper_bound, l.invariant.2))
 
 pub returns : goal.returns
 returns c =
     let l = c.loop-k in
     let last : l.k ≡ table_entries = omega arith in
-    let put = put_front (put_same (ap lines_to (sym last)) l.invariant.2) in record { puts_table = record { text_put = put.0; bytes-given = put.1 }; upper_bound = omega (arith, l.invariant.3, last) }
-
-pub overflow_add-k : goal.overflow_add-k
-overflow_add-k c = omega arith
-
-pub overflow_add-k-in-loop-k : goal.overflow_add-k-in-loop-k
-overflow_add-k-in-loop-k c = omega arith
-
-pub overflow_add-k-in-loop-k-2 : goal.overflow_add-k-in-loop-k-2
-overflow_add-k-in-loop-k-2 c = omega arith
-
-pub loop-k-smaller : goal.loop-k-smaller
-loop-k-smaller c = omega arith
+    let put = put_front (put_same (ap lines_to (sym last)) l.invariant.1) in record { puts_table = record { text_put = put.0; bytes-given = put.1 }; upper_bound = omega (arith, l.invariant.2, last) }

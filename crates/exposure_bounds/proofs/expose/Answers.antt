@@ -6,6 +6,7 @@ use Rattle.tariff.specs.Units.{grid_of, max_price}
 use Rattle.tariff.specs.ContractRules.{of_period}
 use Rattle.layouts.specs.BookFile.{book_in}
 use Rattle.test_rules.proofs.Flowing.{carried_judgeable}
+use Rattle.test_flows.proofs.Rows.{carried-of}
 use Rattle.exposure_figures.specs.Inner.{Exactly}
 use Rattle.exposure_prices.specs.Inner.{Excesses}
 use Rattle.exposure_bounds.specs.Inner.{AreExcesses}
@@ -13,11 +14,14 @@ use Rattle.exposure_bounds.proofs.Meaning.{most-is, count-is, few-exposed, many_
 use Rattle.exposure_bounds.proofs.Entry.{are_excesses, excesses}
 use Rattle.exposure_bounds.proofs.expose.Goals as goal
 
+pub carry-carried-requires : goal.carry-carried-requires
+carry-carried-requires c = rw c.of-table.ensures.nodes_kept c.requires.book_value.0
+
 pub fill_excess-requires : goal.fill_excess-requires
 fill_excess-requires c =
     let a = c.args in
     let j = carried_judgeable a.terms.nodes a.terms.constraints a.limits.now a.factors.now a.terms.period a.book.now c.requires.good_cells.0
-    c.requires.good_cells.1 c.requires.book_value.0 c.carry-carried.result c.carry-carried.ensures in
+    c.requires.good_cells.1 c.requires.book_value.0 c.carry-carried.result (carried-of c.of-table.ensures.nodes_kept c.of-table.ensures.constraints_kept c.of-table.ensures.cells_kept c.carry-carried.ensures) in
     (j, j.few)
 
 pub fill_over-count-requires : goal.fill_over-count-requires
@@ -25,7 +29,7 @@ fill_over-count-requires c =
     let a = c.args in
     let sized : Excesses a.terms.constraints c.fill_excess.new.out =
     excesses a.terms.nodes a.terms.constraints a.limits.now a.factors.now a.terms.process a.terms.period a.book.now c.requires.good_cells.0
-    c.requires.good_cells.1 c.requires.book_value.0 c.carry-carried.result c.carry-carried.ensures _ _ c.fill_excess.ensures in
+    c.requires.good_cells.1 c.requires.book_value.0 c.carry-carried.result (carried-of c.of-table.ensures.nodes_kept c.of-table.ensures.constraints_kept c.of-table.ensures.cells_kept c.carry-carried.ensures) _ _ c.fill_excess.ensures in
     (sized, refl)
 
 -- where few are overloaded
@@ -35,11 +39,11 @@ worst_prices-worst-requires c =
     let a = c.args in
     let sized : Excesses a.terms.constraints c.fill_excess.new.out =
     excesses a.terms.nodes a.terms.constraints a.limits.now a.factors.now a.terms.process a.terms.period a.book.now c.requires.good_cells.0
-    c.requires.good_cells.1 c.requires.book_value.0 c.carry-carried.result c.carry-carried.ensures _ _ c.fill_excess.ensures in
+    c.requires.good_cells.1 c.requires.book_value.0 c.carry-carried.result (carried-of c.of-table.ensures.nodes_kept c.of-table.ensures.constraints_kept c.of-table.ensures.cells_kept c.carry-carried.ensures) _ _ c.fill_excess.ensures in
     let are : AreExcesses (grid_of a.terms.nodes a.terms.constraints a.limits.now a.factors.now) a.terms.process
     (of_period a.terms.period (book_in a.book.now)) c.fill_excess.new.out =
     are_excesses a.terms.nodes a.terms.constraints a.limits.now a.factors.now a.terms.process a.terms.period a.book.now c.requires.good_cells.0
-    c.requires.good_cells.1 c.requires.book_value.0 c.carry-carried.result c.carry-carried.ensures _ _ c.fill_excess.ensures in
+    c.requires.good_cells.1 c.requires.book_value.0 c.carry-carried.result (carried-of c.of-table.ensures.nodes_kept c.of-table.ensures.constraints_kept c.of-table.ensures.cells_kept c.carry-carried.ensures) _ _ c.fill_excess.ensures in
     let p = c.requires in
     let e = c.fill_over-count.ensures in
     record {
@@ -56,7 +60,7 @@ returns-then-count-le-FEW_OVERLOADS c =
     let are : AreExcesses (grid_of a.terms.nodes a.terms.constraints a.limits.now a.factors.now) a.terms.process
     (of_period a.terms.period (book_in a.book.now)) c.fill_excess.new.out =
     are_excesses a.terms.nodes a.terms.constraints a.limits.now a.factors.now a.terms.process a.terms.period a.book.now c.requires.good_cells.0
-    c.requires.good_cells.1 c.requires.book_value.0 c.carry-carried.result c.carry-carried.ensures _ _ c.fill_excess.ensures in
+    c.requires.good_cells.1 c.requires.book_value.0 c.carry-carried.result (carried-of c.of-table.ensures.nodes_kept c.of-table.ensures.constraints_kept c.of-table.ensures.cells_kept c.carry-carried.ensures) _ _ c.fill_excess.ensures in
     let g = grid_of a.terms.nodes a.terms.constraints a.limits.now a.factors.now in
     let cs = of_period a.terms.period (book_in a.book.now) in
     few-exposed g a.terms.process cs _ _ _ c.fill_over-count.result (c.fill_over-count.ensures.0 ∙ count-is g a.terms.process cs _ are)
@@ -69,7 +73,7 @@ total_above-requires c =
     let a = c.args in
     let sized : Excesses a.terms.constraints c.fill_excess.new.out =
     excesses a.terms.nodes a.terms.constraints a.limits.now a.factors.now a.terms.process a.terms.period a.book.now c.requires.good_cells.0
-    c.requires.good_cells.1 c.requires.book_value.0 c.carry-carried.result c.carry-carried.ensures _ _ c.fill_excess.ensures in
+    c.requires.good_cells.1 c.requires.book_value.0 c.carry-carried.result (carried-of c.of-table.ensures.nodes_kept c.of-table.ensures.constraints_kept c.of-table.ensures.cells_kept c.carry-carried.ensures) _ _ c.fill_excess.ensures in
     sized
 
 pub better_prices-least-requires : goal.better_prices-least-requires
@@ -77,21 +81,21 @@ better_prices-least-requires c =
     let a = c.args in
     let sized : Excesses a.terms.constraints c.fill_excess.new.out =
     excesses a.terms.nodes a.terms.constraints a.limits.now a.factors.now a.terms.process a.terms.period a.book.now c.requires.good_cells.0
-    c.requires.good_cells.1 c.requires.book_value.0 c.carry-carried.result c.carry-carried.ensures _ _ c.fill_excess.ensures in
+    c.requires.good_cells.1 c.requires.book_value.0 c.carry-carried.result (carried-of c.of-table.ensures.nodes_kept c.of-table.ensures.constraints_kept c.of-table.ensures.cells_kept c.carry-carried.ensures) _ _ c.fill_excess.ensures in
     let are : AreExcesses (grid_of a.terms.nodes a.terms.constraints a.limits.now a.factors.now) a.terms.process
     (of_period a.terms.period (book_in a.book.now)) c.fill_excess.new.out =
     are_excesses a.terms.nodes a.terms.constraints a.limits.now a.factors.now a.terms.process a.terms.period a.book.now c.requires.good_cells.0
-    c.requires.good_cells.1 c.requires.book_value.0 c.carry-carried.result c.carry-carried.ensures _ _ c.fill_excess.ensures in
+    c.requires.good_cells.1 c.requires.book_value.0 c.carry-carried.result (carried-of c.of-table.ensures.nodes_kept c.of-table.ensures.constraints_kept c.of-table.ensures.cells_kept c.carry-carried.ensures) _ _ c.fill_excess.ensures in
     let p = c.requires in
     record { excesses = (sized, p.good_cells.0, p.good_cells.1); book_value = (p.book_value.0, p.book_value.1); are_excesses = are }
 
-pub returns : goal.returns
-returns c =
+pub returns-else-count-le-FEW_OVERLOADS : goal.returns-else-count-le-FEW_OVERLOADS
+returns-else-count-le-FEW_OVERLOADS c =
     let a = c.args in
     let are : AreExcesses (grid_of a.terms.nodes a.terms.constraints a.limits.now a.factors.now) a.terms.process
     (of_period a.terms.period (book_in a.book.now)) c.fill_excess.new.out =
     are_excesses a.terms.nodes a.terms.constraints a.limits.now a.factors.now a.terms.process a.terms.period a.book.now c.requires.good_cells.0
-    c.requires.good_cells.1 c.requires.book_value.0 c.carry-carried.result c.carry-carried.ensures _ _ c.fill_excess.ensures in
+    c.requires.good_cells.1 c.requires.book_value.0 c.carry-carried.result (carried-of c.of-table.ensures.nodes_kept c.of-table.ensures.constraints_kept c.of-table.ensures.cells_kept c.carry-carried.ensures) _ _ c.fill_excess.ensures in
     let g = grid_of a.terms.nodes a.terms.constraints a.limits.now a.factors.now in
     let cs = of_period a.terms.period (book_in a.book.now) in
     let all = ap (λ (z : ℤ). z *ℤ pos max_price) c.total_above.ensures.0 ∙ most-is g a.terms.process cs _ are in

@@ -23,12 +23,6 @@ set_costs-requires c =
       );
     }
 
-pub best_of-best-requires : goal.best_of-best-requires
-best_of-best-requires c =
-    let k = c.set_count.ensures in
-    let u = c.set_costs.ensures in
-    (record { few = k.2; long = omega (arith, k.2, u.length-is); sized = λ j h. u.sized j (rw k.0 at h) }, k.1)
-
 pub returns : goal.returns
 returns c =
     let a = c.args in

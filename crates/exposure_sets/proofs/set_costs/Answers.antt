@@ -1,5 +1,5 @@
 -- `set_costs`: the rents, then the book's contracts, then what adds up by constraint on each set.
-use mathlib.Core.Path.{refl, ◌∙◌}
+use mathlib.Core.Path.{◌∙◌}
 use Prim.Native.Nat.{◌<◌}
 use native.Mathlib.Omega.{arith}
 use Rattle.integers.proofs.Sizes.{nat_abs_add}
@@ -7,20 +7,6 @@ use Rattle.book_rules.proofs.Accepted.{book-accepted}
 use Rattle.exposure_sets.specs.Inner.{cell_in_of, max_row}
 use Rattle.exposure_sets.proofs.Laws.{sums_small, unit_is}
 use Rattle.exposure_sets.proofs.set_costs.Goals as goal
-
-pub add_book-requires : goal.add_book-requires
-add_book-requires c =
-    let s = c in
-    let n = c.set_count-n in
-    let r = c.fill_rents.ensures in record { good_factors = (s.requires.good_cells.1, s.requires.good_cells.2); chosen = (s.requires.chosen.0, n.ensures.0, omega (arith, s.requires.chosen.0.few, r.length-kept)); sums_len = (refl, s.requires.chosen.1, r.sized, λ m h. rw (s.requires.chosen.2 m (omega (arith, n.ensures.2))) (omega arith)) }
-
-pub set_sums-requires : goal.set_sums-requires
-set_sums-requires c =
-    let s = c in
-    let r = c.fill_rents.ensures in
-    let e = c.add_book.ensures in
-    let few = s.requires.chosen.0.few in
-    (few, omega (arith, few, r.length-kept, e.added.0.length-kept), e.added.1, e.added_2.2)
 
 pub add_counted-requires : goal.add_counted-requires
 add_counted-requires c =

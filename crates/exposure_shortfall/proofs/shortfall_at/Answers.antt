@@ -15,10 +15,10 @@ use Rattle.exposure_shortfall.proofs.shortfall_at.Goals as goal
 pub settle-totals-requires : goal.settle-totals-requires
 settle-totals-requires c =
     let few : contract_count_in c.args.book.now ≤ 1000 = (book-accepted c.args.terms.nodes c.args.book.now c.requires.book_value).few in
-    record { hour = (c.requires.good_cells.1, c.requires.book_value); book_in_bounds = (few, few) }
+    record { book_value = rw c.of-hour.ensures.nodes_kept c.requires.book_value; book_in_bounds = (few, few) }
 
-pub less-shortfall-requires : goal.less-shortfall-requires
-less-shortfall-requires c =
+pub sub-requires : goal.sub-requires
+sub-requires c =
     let few : contract_count_in c.args.book.now ≤ 1000 = (book-accepted c.args.terms.nodes c.args.book.now c.requires.book_value).few in
     let whole = c.settle-totals.result.whole in
     let sized : nat_abs whole < 2 ^ 60 = omega (arith, c.settle-totals.ensures.bounded.whole-sized, few) in
@@ -32,10 +32,11 @@ returns c =
     let whole = c.settle-totals.result.whole in
     let sized : nat_abs whole < 2 ^ 60 = omega (arith, c.settle-totals.ensures.bounded.whole-sized, few) in
     let same : to_z w64 (of_z w64 whole) ≡ whole = back whole (omega (arith, sized)) in
-    let e = c.settle-totals.ensures in
+    let kept = c.of-hour.ensures in
+    let e = rw (kept.nodes_kept, kept.constraints_kept, kept.factors_kept, kept.prices_kept) at c.settle-totals.ensures in
     let owed = c.rent-owed in
     let paid = ap (λ (z : ℤ). cents z c.settle-totals.result.parts) same ∙ e.exact in
     costs a.terms.nodes a.terms.constraints a.limits.now a.factors.now a.terms.process a.terms.period a.prices.now
     (book_in a.book.now) _ owed.result
     (record { is = paid; parts-small = e.bounded.parts-small; whole-sized = rw same (omega (arith, sized)) })
-    owed.ensures.0 c.exact.ensures c.less-shortfall.ensures
+    owed.ensures.0 c.exact.ensures c.sub.ensures

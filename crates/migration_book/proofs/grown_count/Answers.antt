@@ -12,7 +12,7 @@ losers_of-losers-requires c = let ready = c.requires.1 in (ready.size, ready.few
 pub loop-i-init : goal.loop-i-init
 loop-i-init c =
     let a = c.args in
-    (omega arith, omega (arith, ap length (none-new a.form a.book.now a.period a.square a.loads.now)), omega arith)
+    (omega (arith, ap length (none-new a.form a.book.now a.period a.square a.loads.now)), omega arith)
 
 pub contract_at-base-requires : goal.contract_at-base-requires
 contract_at-base-requires c =
@@ -43,9 +43,8 @@ loop-i-preserved c =
     let own = c.row_of-place in
     let same = new-by_row a.square a.loads.now s.requires.1 k.result own.result own.ensures.1 a.period in
     let new = rw k.ensures at (c.new_count-grown.ensures.0 ∙ ap length same) in (
-      omega arith,
-      omega (arith, new, l.invariant.1, length_more a.form a.book.now a.period a.square a.loads.now l.i),
-      omega (arith, l.invariant.2, c.new_count-grown.ensures.1),
+      omega (arith, new, l.invariant.0, length_more a.form a.book.now a.period a.square a.loads.now l.i),
+      omega (arith, l.invariant.1, c.new_count-grown.ensures.1),
     )
 
 pub returns : goal.returns
@@ -53,4 +52,4 @@ returns c =
     let a = c.args in
     let l = c.loop-i in
     let last : l.i ≡ a.count = omega arith in
-    rw last at l.invariant.1
+    rw last at l.invariant.0

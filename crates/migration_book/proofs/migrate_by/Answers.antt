@@ -1,6 +1,7 @@
 -- `migrate_by`: the count found is the grown book's, and where 10 and 9 pass there is room for it.
 use mathlib.Core.Path.{◌≡◌, sym, ◌∙◌}
 use Prim.Native.Nat.{ℕ, ◌+◌, ◌≤◌}
+use Rattle.std.proofs.lemmas.Result.{err_from_is_err_and}
 use Rattle.tariff.specs.declared.contracts.Period.{Period}
 use Rattle.tariff.specs.declared.units.Transfer.{Transfer}
 use Rattle.layouts.specs.declared.forms.Form.{Form}
@@ -44,7 +45,7 @@ write_grown-requires c =
     let form = c.book_form-form in
     let count = c.contract_count-count in
     let grown = c.grown_count-grown in
-    let parts = room-parts form.result grown.result (length a.file.now) (sym c.check_room.ensures ∙ c.in-Passed.is) in
+    let parts = room-parts form.result grown.result (length a.file.now) (sym c.check_room.ensures ∙ c.in_ok-check_room.was) in
     let old = length-list_to count.result (contract_in form.result a.book.now) in
     record {
       readable = (rw (form.ensures, count.ensures.0) c.requires.0, c.requires.1);
@@ -53,10 +54,10 @@ write_grown-requires c =
     }
 
 pub book_bytes-requires : goal.book_bytes-requires
-book_bytes-requires c = (room-parts c.book_form-form.result c.grown_count-grown.result (length c.args.file.now) (sym c.check_room.ensures ∙ c.in-Passed.is)).0
+book_bytes-requires c = (room-parts c.book_form-form.result c.grown_count-grown.result (length c.args.file.now) (sym c.check_room.ensures ∙ c.in_ok-check_room.was)).0
 
-pub returns-in-Refused : goal.returns-in-Refused
-returns-in-Refused c =
+pub returns-in_err-check_room : goal.returns-in_err-check_room
+returns-in_err-check_room c =
     let a = c.args in
     let form = c.book_form-form in
     let count = c.contract_count-count in
@@ -65,14 +66,15 @@ returns-in-Refused c =
     let is = grown-is a.book.now form.result count.result a.period a.square a.loads.now grown.result form.ensures count.ensures.0 grown.ensures in
     -- what 10 and 9 found, by the grown book
     let found : c.check_room.result ≡ first (growth_checks (book_form_in a.book.now) (length cs) (length a.file.now)) = rw (← form.ensures, ← is) c.check_room.ensures in
-    let told = c.in-Refused.is in
-    record {
+    let told = c.in_err-check_room.was in
+    let p = err_from_is_err_and c.from_residual.result c.from_residual.ensures.1 in
+    rw (p.1, p.2) (record {
       length-given = answer-refused _ _ found _ told _;
       bytes-written = cells-refused _ _ found _ told (book_file (book_form_in a.book.now) cs) _;
-    }
+    })
 
-pub returns-in-Passed : goal.returns-in-Passed
-returns-in-Passed c =
+pub returns : goal.returns
+returns c =
     let a = c.args in
     let form = c.book_form-form in
     let count = c.contract_count-count in
@@ -80,9 +82,9 @@ returns-in-Passed c =
     let cs = grown-book a.book.now a.period a.square a.loads.now in
     let is = grown-is a.book.now form.result count.result a.period a.square a.loads.now grown.result form.ensures count.ensures.0 grown.ensures in
     let found : c.check_room.result ≡ first (growth_checks (book_form_in a.book.now) (length cs) (length a.file.now)) = rw (← form.ensures, ← is) c.check_room.ensures in
-    let parts = room-parts form.result grown.result (length a.file.now) (sym c.check_room.ensures ∙ c.in-Passed.is) in
+    let parts = room-parts form.result grown.result (length a.file.now) (sym c.check_room.ensures ∙ c.in_ok-check_room.was) in
     let f = book_form_in a.book.now in
-    let told = c.in-Passed.is in
+    let told = c.in_ok-check_room.was in
     let stored = rw (form.ensures, count.ensures.0) at c.write_grown.ensures in
     let few : length cs ≤ max_contracts = rw (← is) parts.0 in
     let long = file-size f cs few (book-fits f a.book.now a.period a.square a.loads.now (contract_count_in a.book.now) c.requires.1) in

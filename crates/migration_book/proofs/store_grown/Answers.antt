@@ -18,7 +18,7 @@ use Rattle.migration_book.proofs.store_grown.Goals as goal
 pub loop-i-init : goal.loop-i-init
 loop-i-init c =
     let a = c.args in
-    (omega arith, refl, rw (none-new a.form a.book.now a.period a.square a.loads.now) (none-appended a.form a.count a.file.now))
+    (refl, rw (none-new a.form a.book.now a.period a.square a.loads.now) (none-appended a.form a.count a.file.now))
 
 pub contract_at-base-requires : goal.contract_at-base-requires
 contract_at-base-requires c =
@@ -36,7 +36,7 @@ room c =
     omega (
       arith,
       length_more a.form a.book.now a.period a.square a.loads.now l.i,
-      l.invariant.2.place,
+      l.invariant.1.place,
       new-grow a.form a.book.now a.period a.square a.loads.now (l.i + 1) a.count (omega arith),
     )
 
@@ -53,7 +53,7 @@ store_new-place-requires c =
         quantity-most = s.requires.readable.0.quantities l.i (omega arith);
         fits = contract-in_fits a.form a.book.now l.i;
         few = le_trans (room c) (rw old at s.requires.roomy.few);
-        room = room-fewer a.form _ _ _ (room c) (rw l.invariant.1 (rw old at s.requires.roomy.room));
+        room = room-fewer a.form _ _ _ (room c) (rw l.invariant.0 (rw old at s.requires.roomy.room));
       }),
     )
 
@@ -66,19 +66,18 @@ loop-i-preserved c =
     let s = k in
     let a = s.args in
     let same = new-by_row a.square a.loads.now s.requires.readable.1 k.contract_at-base.result p.result p.ensures.1 a.period in (
-      omega arith,
-      w.store_new-place.auto.file ∙ l.invariant.1,
+      w.store_new-place.auto.file ∙ l.invariant.0,
       rw (new-more a.form a.book.now a.period a.square a.loads.now l.i)
           (more_appended a.form a.count (new_to a.form a.book.now a.period a.square a.loads.now l.i) a.file.now l.file l.place
-          l.invariant.2 _ _ _
+          l.invariant.1 _ _ _
           (rw (same, k.contract_at-base.ensures) at w.store_new-place.ensures)),
     )
 
 pub shape_of-file : goal.shape_of-file
-shape_of-file c = c.loop-i.invariant.1
+shape_of-file c = c.loop-i.invariant.0
 
 pub returns : goal.returns
 returns c =
     let l = c.loop-i in
     let last : l.i ≡ c.args.count = omega arith in
-    rw last at l.invariant.2
+    rw last at l.invariant.1

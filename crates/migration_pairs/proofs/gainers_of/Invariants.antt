@@ -1,10 +1,7 @@
--- The invariants and measures of `migration_pairs::gainers_of`.
+-- The invariant of `migration_pairs::gainers_of`.
 use Prim.Native.Nat.{◌-◌, ◌≤◌}
 use Rattle.migration_pairs.specs.Inner.{GainersOf}
 use Rattle.migration_pairs.proofs.gainers_of.Given as goal
 
 abbrev pub invariant-loop-j : goal.invariant-loop-j
-invariant-loop-j l = (l.j ≤ l.entities) × GainersOf l.row l.j l.gainers
-
-abbrev pub decreases-loop-j : goal.decreases-loop-j
-decreases-loop-j l = l.entities - l.j
+invariant-loop-j l = GainersOf l.row l.j l.gainers

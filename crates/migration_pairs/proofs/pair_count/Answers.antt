@@ -10,10 +10,7 @@ use Rattle.migration_pairs.proofs.Pairs.{share-by_net, net-ready, no_pairs, leng
 use Rattle.migration_pairs.proofs.pair_count.Goals as goal
 
 pub loop-j-init : goal.loop-j-init
-loop-j-init c = let a = c.args in (omega arith, sym (ap length (no_pairs (row_losses a.row) a.loads.now a.c)))
-
-pub bounds-row-j : goal.bounds-row-j
-bounds-row-j c = omega (arith, c.requires.0.few)
+loop-j-init c = let a = c.args in sym (ap length (no_pairs (row_losses a.row) a.loads.now a.c))
 
 pub share_of-requires : goal.share_of-requires
 share_of-requires c =
@@ -29,7 +26,7 @@ counted c =
     let q = c.share_of.result.0 in
     let is = share-by_net a.row a.loads.now a.c l.j q c.share_of.ensures.0 in
     rw (add-one l.j)
-    (omega (arith, length_more (row_losses a.row) a.loads.now a.c l.j q is, pair_length a.c (suc l.j) q, c.pair_size-count.ensures, l.invariant.1))
+    (omega (arith, length_more (row_losses a.row) a.loads.now a.c l.j q is, pair_length a.c (suc l.j) q, c.pair_size-count.ensures, l.invariant))
 
 pub overflow_add-count : goal.overflow_add-count
 overflow_add-count c =
@@ -38,12 +35,12 @@ overflow_add-count c =
     record { fits = omega (arith, counted c, pairs-few (row_losses s.args.row) s.args.loads.now s.args.c (l.j + 1), s.requires.0.few) }
 
 pub loop-j-preserved : goal.loop-j-preserved
-loop-j-preserved c = (omega arith, counted c)
+loop-j-preserved c = counted c
 
 pub returns : goal.returns
 returns c =
     let s = c in
     let l = c.loop-j in
     let last : l.j ≡ length s.args.loads.now = omega arith in
-    let is = rw last at l.invariant.1 in
+    let is = rw last at l.invariant in
     (is, omega (arith, is, pairs-few (row_losses s.args.row) s.args.loads.now s.args.c (length s.args.loads.now), s.requires.0.few))

@@ -1,4 +1,4 @@
--- The invariants and measures of `migration_pairs::pair_count`.
+-- The invariant of `migration_pairs::pair_count`.
 use mathlib.Core.Path.{◌≡◌}
 use Prim.Native.Nat.{◌-◌, ◌≤◌}
 use lib.ListN.{length}
@@ -7,7 +7,4 @@ use Rattle.migration_transfers.specs.Squares.{row_losses}
 use Rattle.migration_pairs.proofs.pair_count.Given as goal
 
 abbrev pub invariant-loop-j : goal.invariant-loop-j
-invariant-loop-j l = (l.j ≤ length l.loads) × (l.count ≡ length (pairs_to (row_losses l.row) l.loads l.c l.j))
-
-abbrev pub decreases-loop-j : goal.decreases-loop-j
-decreases-loop-j l = length l.loads - l.j
+invariant-loop-j l = (l.count ≡ length (pairs_to (row_losses l.row) l.loads l.c l.j))

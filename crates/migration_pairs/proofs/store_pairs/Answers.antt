@@ -15,10 +15,7 @@ use Rattle.migration_pairs.proofs.store_pairs.Goals as goal
 pub loop-j-init : goal.loop-j-init
 loop-j-init c =
     let a = c.args in
-    (omega arith, refl, rw (no_pairs (row_losses a.row) a.loads.now a.c) (none-appended a.form a.at a.file.now))
-
-pub bounds-row-j : goal.bounds-row-j
-bounds-row-j c = omega (arith, c.requires.row_ready.0.few)
+    (refl, rw (no_pairs (row_losses a.row) a.loads.now a.c) (none-appended a.form a.at a.file.now))
 
 pub share_of-quantity-requires : goal.share_of-quantity-requires
 share_of-quantity-requires c =
@@ -40,11 +37,11 @@ store_pair-place-requires c =
     (omega (
       arith,
       length_more lost a.loads.now a.c l.j q share,
-      l.invariant.2.place,
+      l.invariant.1.place,
       pairs-grow lost a.loads.now a.c (suc l.j) (length a.loads.now) (omega arith),
     )) in
     record {
-      quantity_bound = (le_trans room s.requires.basis.few, room-fewer a.form _ _ _ room (rw l.invariant.1 s.requires.basis.room));
+      quantity_bound = (le_trans room s.requires.basis.few, room-fewer a.form _ _ _ room (rw l.invariant.0 s.requires.basis.room));
       contract_fits = (s.requires.basis.fits, omega (arith, s.requires.row_ready.0.few), c.share_of-quantity.ensures.1);
     }
 
@@ -55,10 +52,9 @@ loop-j-preserved c =
     let a = c.args in
     let lost = row_losses a.row in
     let share = share-by_net a.row a.loads.now a.c l.j h.result.0 h.ensures.0 in (
-      omega arith,
-      c.store_pair-place.auto.file ∙ l.invariant.1,
+      c.store_pair-place.auto.file ∙ l.invariant.0,
       rw (add-one l.j, pairs-more lost a.loads.now a.c l.j h.result.0 share)
-          (more_appended a.form a.at (pairs_to lost a.loads.now a.c l.j) a.file.now l.file l.place l.invariant.2 _ _ _
+          (more_appended a.form a.at (pairs_to lost a.loads.now a.c l.j) a.file.now l.file l.place l.invariant.1 _ _ _
           (rw (add-one l.j) at c.store_pair-place.ensures)),
     )
 
@@ -66,4 +62,4 @@ pub returns : goal.returns
 returns c =
     let l = c.loop-j in
     let last : l.j ≡ length c.args.loads.now = omega arith in
-    rw last at l.invariant.2
+    rw last at l.invariant.1

@@ -1,4 +1,4 @@
--- The invariants and measures of `migration_pairs::store_pairs`.
+-- The invariant of `migration_pairs::store_pairs`.
 use mathlib.Core.Path.{◌≡◌}
 use Prim.Native.Nat.{◌-◌, ◌≤◌}
 use lib.ListN.{length}
@@ -8,7 +8,4 @@ use Rattle.book_growth.specs.Inner.{Appended}
 use Rattle.migration_pairs.proofs.store_pairs.Given as goal
 
 abbrev pub invariant-loop-j : goal.invariant-loop-j
-invariant-loop-j l = (l.j ≤ length l.loads) × (length l.file ≡ length l.initial.file) × Appended l.form l.at (pairs_to (row_losses l.row) l.loads l.c l.j) l.initial.file l.file l.place
-
-abbrev pub decreases-loop-j : goal.decreases-loop-j
-decreases-loop-j l = length l.loads - l.j
+invariant-loop-j l = (length l.file ≡ length l.initial.file) × Appended l.form l.at (pairs_to (row_losses l.row) l.loads l.c l.j) l.initial.file l.file l.place

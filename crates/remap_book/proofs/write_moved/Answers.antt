@@ -11,7 +11,7 @@ use Rattle.remap_book.proofs.write_moved.Goals as goal
 pub loop-i-init : goal.loop-i-init
 loop-i-init c =
     let a = c.args in
-    (omega arith, refl, no_rows a.form 0 (moved_at a.ends.now a.form a.book.now) _ 0 refl)
+    (refl, no_rows a.form 0 (moved_at a.ends.now a.form a.book.now) _ 0 refl)
 
 pub moved_contract-requires : goal.moved_contract-requires
 moved_contract-requires c =
@@ -22,7 +22,7 @@ pub store_contract-requires : goal.store_contract-requires
 store_contract-requires c =
     let l = c.loop-i in
     let s = c in
-    let room = record_room s.args.form l.i s.args.count _ (omega arith) s.requires.count_le_max_contracts.2 in record { i_bound = (omega arith, omega (arith, room, l.invariant.1, c.store_header.auto.file)); contract_fits = rw c.moved_contract.ensures (s.requires.by_index l.i (omega arith)).fits }
+    let room = record_room s.args.form l.i s.args.count _ (omega arith) s.requires.count_le_max_contracts.2 in record { i_bound = (omega arith, omega (arith, room, l.invariant.0, c.store_header.auto.file)); contract_fits = rw c.moved_contract.ensures (s.requires.by_index l.i (omega arith)).fits }
 
 pub loop-i-preserved : goal.loop-i-preserved
 loop-i-preserved c =
@@ -31,18 +31,17 @@ loop-i-preserved c =
     let l = s.loop-i in
     let g = moved_at a.ends.now a.form a.book.now in
     let stored = c.store_contract in (
-      omega arith,
-      stored.auto.file ∙ l.invariant.1,
-      row_appended a.form 0 g _ l.file _ l.i l.i (l.i + 1) refl l.invariant.2
+      stored.auto.file ∙ l.invariant.0,
+      row_appended a.form 0 g _ l.file _ l.i l.i (l.i + 1) refl l.invariant.1
           (rw (← c.moved_contract.ensures) stored.ensures),
     )
 
 pub shape_of-file : goal.shape_of-file
-shape_of-file c = c.loop-i.invariant.1 ∙ c.store_header.auto.file
+shape_of-file c = c.loop-i.invariant.0 ∙ c.store_header.auto.file
 
 pub returns : goal.returns
 returns c =
     let l = c.loop-i in
     let s = c in
     rows_written s.args.form s.args.count (moved_at s.args.ends.now s.args.form s.args.book.now) s.args.file.now _ l.file l.i
-    c.store_header.ensures l.invariant.2 (omega arith) (λ i h. (s.requires.by_index i h).fits)
+    c.store_header.ensures l.invariant.1 (omega arith) (λ i h. (s.requires.by_index i h).fits)

@@ -1,7 +1,7 @@
--- The invariants and measures of `remap_book::write_moved`.
+-- The invariant of `remap_book::write_moved`.
 use mathlib.Core.Path.{◌≡◌}
 use mathlib.Core.List.{List}
-use Prim.Native.Nat.{ℕ, ◌-◌, ◌≤◌}
+use Prim.Native.Nat.{ℕ}
 use lib.ListN.{length}
 use Rattle.lists.specs.Lists.{list_to}
 use Rattle.tariff.specs.declared.contracts.Contract.{Contract}
@@ -15,7 +15,4 @@ abbrev pub moved_at : List ℕ → Form → List ℕ → ℕ → Contract
 moved_at ends form book j = moved_by ends (contract_in form book j)
 
 abbrev pub invariant-loop-i : goal.invariant-loop-i
-invariant-loop-i l = (l.i ≤ l.count) × (length l.file ≡ length l.initial.file) × Appended l.form 0 (list_to l.i (moved_at l.ends l.form l.book)) l.initial.file l.file l.i
-
-abbrev pub decreases-loop-i : goal.decreases-loop-i
-decreases-loop-i l = l.count - l.i
+invariant-loop-i l = (length l.file ≡ length l.initial.file) × Appended l.form 0 (list_to l.i (moved_at l.ends l.form l.book)) l.initial.file l.file l.i

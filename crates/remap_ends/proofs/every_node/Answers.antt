@@ -7,16 +7,13 @@ use Rattle.remap_rules.proofs.Moving.{node_stored}
 use Rattle.remap_ends.proofs.every_node.Goals as goal
 
 pub loop-node-init : goal.loop-node-init
-loop-node-init c = (omega arith, refl, λ i h. absurd (omega arith))
+loop-node-init c = (refl, λ i h. absurd (omega arith))
 
 pub loop-node-preserved : goal.loop-node-preserved
 loop-node-preserved c =
     let l = c.loop-node in
-    (omega arith, simp length-set l.invariant.1, node_stored l.ends l.node (omega (arith, l.invariant.1)) l.invariant.2)
+    (simp length-set l.invariant.0, node_stored l.ends l.node (omega (arith, l.invariant.0)) l.invariant.1)
 
 pub returns : goal.returns
 unfolding moved_end
-returns c = let l = c.loop-node in record { size = l.invariant.1; each = λ e h. l.invariant.2 e (omega arith) }
-
-pub bounds-ends-node : goal.bounds-ends-node
-bounds-ends-node c = omega arith
+returns c = let l = c.loop-node in record { size = l.invariant.0; each = λ e h. l.invariant.1 e (omega arith) }

@@ -1,78 +1,50 @@
 -- `overload_set`: the bits from k on are known.
-use mathlib.Core.Path.{◌≡◌, sym}
+use mathlib.Core.Path.{◌≡◌, sym, ◌∙◌}
 use mathlib.Core.Bool.{Bool}
-use Prim.Native.Nat.{ℕ, ◌+◌, ◌-◌, ◌*◌, ◌^◌, ◌<◌}
-use native.Mathlib.Omega.{arith}
-use lib.ListN.{get_or}
-use Rattle.lists.specs.Sets.{set_of}
-use Rattle.lists.proofs.Sets.{set-start, set-one, set-turn, set-fits, set-end}
-use mir.Val.{bool_byte, to_z, of_z}
 use mathlib.Core.List.{List}
-use mir.Syntax.{w64}
+use Prim.Native.Nat.{ℕ, ◌+◌, ◌-◌, ◌*◌, ◌^◌, ◌<◌, ◌≤◌}
+use native.Mathlib.Omega.{arith}
 use lib.IntN.{ℤ, pos, nat_abs}
-use lib.Signed.{lt_z}
+use lib.ListN.{get_or}
+use mir.Syntax.{w64}
+use mir.Val.{bool_byte, to_z, of_z}
+use Rattle.std.specs.Ordering.{is_lt, int_cmp}
+use Rattle.lists.specs.Sets.{set_of}
+use Rattle.lists.proofs.Sets.{set-start, set-one, set-turn, set-fits}
 use Rattle.tariff.specs.declared.processes.Process.{Process}
 use Rattle.tariff.specs.Processes.{percent}
-use lib.Dec.{lit<}
-use Rattle.test_rules.proofs.Flowing.{kept-sized}
-use Rattle.test_rules.proofs.Judging.{over, released-small, over-is}
+use Rattle.tariff.specs.Units.{max_constraints}
+use Rattle.test_rules.proofs.Judging.{less-is, over, over-is}
 use Rattle.test_verdict.proofs.overload_set.Goals as goal
 
 pub loop-k-init : goal.loop-k-init
-loop-k-init c = let s = c in (omega arith, set-start s.args.constraints (over s.args.limits.now s.args.process s.args.flows.flows))
+loop-k-init c = set-start c.args.constraints (over c.args.limits.now c.args.process c.args.flows.flows)
 
-pub released-released-requires : goal.released-released-requires
-released-released-requires c = c.requires.good-limits.sized (c.loop-k.k - 1) (omega arith)
+-- bit k - 1 is what the test found, before the bits from k on
+module _ (limits : List ℕ) (process : Process) (cells : List ℤ) (n k s : ℕ) (r : ℤ) (b : Bool) (some : 0 < k) (below : k ≤ n)
+    (known : s ≡ set_of (n - k) (λ (j : ℕ). over limits process cells (k + j))) (sized : nat_abs (get_or cells (k - 1) (pos 0)) < 2 ^ 62)
+    (limit : r ≡ pos (get_or limits (k - 1) 0 * percent process * 1000)) (found : b ≡ is_lt (int_cmp r (to_z w64 (of_z w64 (get_or cells (k - 1) (pos 0)))))) where
+  bit_is : bool_byte b ≡ set_of 1 (λ (j : ℕ). over limits process cells (k - 1 + j))
+  bit_is = set-one b (over limits process cells) (k - 1) (sym (over-is limits process cells (k - 1) r b sized limit (found ∙ less-is r _)))
 
-pub exceeds-bit-requires : goal.exceeds-bit-requires
-exceeds-bit-requires c =
-    let s = c in
-    let k = c.loop-k.k - 1 in
-    let t : k < s.args.constraints = omega arith in
-    let flow = kept-sized (get_or s.args.flows.flows k (pos 0)) (2 ^ 62) (lit< tt) (omega (arith, s.requires.flows-sized k t)) in
-    let limit = released-small c.released-released.result.0 (get_or s.args.limits.now k 0) s.args.process (s.requires.good-limits.sized k t) c.released-released.ensures in
-    (omega (arith, flow, limit), omega (arith, flow, limit))
+  turn : s * 2 + bool_byte b ≡ set_of (n - (k - 1)) (λ (j : ℕ). over limits process cells (k - 1 + j))
+  turn = set-turn 1 n k (k - 1) (over limits process cells) s (bool_byte b) (omega arith) below known bit_is
 
--- bit k is what the test found
-bit_is : (limits : List ℕ) (process : Process) (cells : List ℤ) (k : ℕ) (r : ℤ) (b : Bool) → nat_abs (get_or cells k (pos 0)) < 2 ^ 62
-    → r ≡ pos (get_or limits k 0 * percent process * 1000) → b ≡ lt_z r (to_z w64 (of_z w64 (get_or cells k (pos 0))))
-    → bool_byte b ≡ set_of 1 (λ (j : ℕ). over limits process cells (k + j))
-bit_is limits process cells k r b h e f = set-one b (over limits process cells) k (sym (over-is limits process cells k r b h e f))
+  fits : n ≤ max_constraints → s * 2 + bool_byte b < 2 ^ 64
+  fits few = set-fits 1 n k (k - 1) (over limits process cells) s (bool_byte b) (omega arith) below known bit_is few
 
 pub loop-k-preserved : goal.loop-k-preserved
 loop-k-preserved c =
-    let s = c in
-    let l = c.loop-k in
-    let o = over s.args.limits.now s.args.process s.args.flows.flows in
-    let r = c.released-released in
-    let bit = bit_is s.args.limits.now s.args.process s.args.flows.flows (l.k - 1) r.result.0 c.exceeds-bit.result (s.requires.flows-sized (l.k - 1) (omega arith)) r.ensures c.exceeds-bit.ensures in
-    (omega arith, set-turn 1 s.args.constraints l.k (l.k - 1) o l.set (bool_byte c.exceeds-bit.result) (omega arith) l.invariant.0 l.invariant.1 bit)
-
-pub returns : goal.returns
-returns c =
-    let s = c in
-    let l = c.loop-k in
-    set-end s.args.constraints l.k l.set (over s.args.limits.now s.args.process s.args.flows.flows) (omega arith) l.invariant.1
-
-pub overflow_mul-set : goal.overflow_mul-set
-overflow_mul-set c =
-    let s = c in
-    let l = c.loop-k in
-    let o = over s.args.limits.now s.args.process s.args.flows.flows in
-    let r = c.released-released in
-    let bit = bit_is s.args.limits.now s.args.process s.args.flows.flows (l.k - 1) r.result.0 c.exceeds-bit.result (s.requires.flows-sized (l.k - 1) (omega arith)) r.ensures c.exceeds-bit.ensures in
-    let fits = set-fits 1 s.args.constraints l.k (l.k - 1) o l.set (bool_byte c.exceeds-bit.result) (omega arith) l.invariant.0 l.invariant.1 bit s.requires.few in
-    omega (arith, fits)
+    let k = c.loop-k.k in
+    turn c.args.limits.now c.args.process c.args.flows.flows c.args.constraints k c.loop-k.set c.released.result.0 c.lt-over.result (omega arith) (omega arith)
+    c.loop-k.invariant (c.requires.flows-sized (k - 1) (omega arith)) c.released.ensures c.lt-over.ensures
 
 pub overflow_add-set : goal.overflow_add-set
 overflow_add-set c =
-    let s = c in
-    let l = c.loop-k in
-    let o = over s.args.limits.now s.args.process s.args.flows.flows in
-    let r = c.released-released in
-    let bit = bit_is s.args.limits.now s.args.process s.args.flows.flows (l.k - 1) r.result.0 c.exceeds-bit.result (s.requires.flows-sized (l.k - 1) (omega arith)) r.ensures c.exceeds-bit.ensures in
-    let fits = set-fits 1 s.args.constraints l.k (l.k - 1) o l.set (bool_byte c.exceeds-bit.result) (omega arith) l.invariant.0 l.invariant.1 bit s.requires.few in
-    omega (arith, fits)
+    let k = c.loop-k.k in
+    let h = fits c.args.limits.now c.args.process c.args.flows.flows c.args.constraints k c.loop-k.set c.released.result.0 c.lt-over.result (omega arith) (omega arith)
+    c.loop-k.invariant (c.requires.flows-sized (k - 1) (omega arith)) c.released.ensures c.lt-over.ensures c.requires.few in
+    omega (arith, h)
 
-pub loop-k-smaller : goal.loop-k-smaller
-loop-k-smaller c = omega arith
+pub overflow_mul-set : goal.overflow_mul-set
+overflow_mul-set c = let h = overflow_add-set c in omega (arith, h)

@@ -1,12 +1,9 @@
--- The invariants and measures of `test_verdict::overload_set`.
+-- The invariant of `test_verdict::overload_set`.
 use mathlib.Core.Path.{◌≡◌}
-use Prim.Native.Nat.{ℕ, ◌+◌, ◌-◌, ◌≤◌}
+use Prim.Native.Nat.{ℕ, ◌+◌, ◌-◌}
 use Rattle.lists.specs.Sets.{set_of}
 use Rattle.test_rules.proofs.Judging.{over}
 use Rattle.test_verdict.proofs.overload_set.Given as goal
 
 abbrev pub invariant-loop-k : goal.invariant-loop-k
-invariant-loop-k l = (l.k ≤ l.constraints) × (l.set ≡ set_of (l.constraints - l.k) (λ (j : ℕ). over l.limits l.process l.cells (l.k + j)))
-
-abbrev pub decreases-loop-k : goal.decreases-loop-k
-decreases-loop-k l = l.k
+invariant-loop-k l = l.set ≡ set_of (l.constraints - l.k) (λ (j : ℕ). over l.limits l.process l.flows.flows (l.k + j))

@@ -1,7 +1,7 @@
 -- `put_report`.
 -- the tables before the reader fills them
-use Rattle.grid_rules.specs.declared.GridAnswer.TheVariants.{Read}
-use Rattle.grid_rules.specs.declared.GridAnswer.{GridAnswer}
+use Rattle.std.specs.Prelude.{Ok}
+use Rattle.grid_rules.specs.ReadGrid.{GridAnswer, grid_read}
 use Rattle.layouts.specs.declared.forms.Form.{Form}
 use mathlib.Core.Path.{◌≡◌}
 use mathlib.Core.List.{List}
@@ -32,21 +32,27 @@ unfolding places
 places-long = length-replicate {A = ℤ} program_factors (pos 0)
 
 -- the tables as the reader left them
-taken : (file : List ℕ) → (nodes constraints : ℕ) → (form : Form) → (limits : List ℕ) → (factors : List ℤ) → (answer : GridAnswer) → answer ≡ Read nodes constraints form
+taken : (file : List ℕ) → (nodes constraints : ℕ) → (form : Form) → (limits : List ℕ) → (factors : List ℤ) → (answer : GridAnswer) → answer ≡ grid_read nodes constraints form
     → ReadsWithin program_bytes (read_grid_call file cells places) answer limits factors → GridTaken (capped_checks program_bytes file) file nodes constraints limits factors
 taken file nodes constraints form limits factors answer told reads = within-taken _ cells places program_bytes _ _ _ _ _ (rw told at reads)
+
+pub of-table-requires : goal.of-table-requires
+unfolding cells places
+of-table-requires c = (taken _ c.in-Ok.grid.nodes c.in-Ok.grid.constraints _ _ _ _ c.in-Ok.is c.read_within.ensures).good-factors
 
 pub put_tested-requires : goal.put_tested-requires
 unfolding cells places
 put_tested-requires c =
-    let t = taken _ c.in-Read.nodes c.in-Read.constraints _ _ _ _ c.in-Read.is c.read_within.ensures in record { report_room_in_bounds = omega arith; good_cells = (t.good-limits, t.good-factors) }
+    let t = taken _ c.in-Ok.grid.nodes c.in-Ok.grid.constraints _ _ _ _ c.in-Ok.is c.read_within.ensures in
+    record { report_room_in_bounds = omega arith; good_cells = rw c.of-table.ensures.constraints_kept t.good-limits }
 
-pub returns-in-Refused : goal.returns-in-Refused
+pub returns-in-Err : goal.returns-in-Err
 unfolding report cells places
-returns-in-Refused c =
+returns-in-Err c =
     let r = c.read_within in
-    put_same (grid-refused _ _ cells places cells-long places-long _ _ _ (rw c.in-Refused.is at r.ensures)) c.put_refused.ensures
+    put_same (grid-refused _ _ cells places cells-long places-long _ _ _ (rw c.in-Err.is at r.ensures)) c.put_refused.ensures
 
-pub returns-in-Read : goal.returns-in-Read
+pub returns-in-Ok : goal.returns-in-Ok
 unfolding report cells places
-returns-in-Read c = put_same (grid-text _ _ _ _ _ _ (taken _ c.in-Read.nodes c.in-Read.constraints _ _ _ _ c.in-Read.is c.read_within.ensures)) c.put_tested.ensures
+returns-in-Ok c = put_same (grid-text _ _ _ _ _ _ (taken _ c.in-Ok.grid.nodes c.in-Ok.grid.constraints _ _ _ _ c.in-Ok.is c.read_within.ensures))
+    (let kept = c.of-table.ensures in rw (kept.nodes_kept, kept.constraints_kept, kept.cells_kept) at c.put_tested.ensures)

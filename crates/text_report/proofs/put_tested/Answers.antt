@@ -7,16 +7,16 @@ use Rattle.text_report.proofs.put_tested.Goals as goal
 
 pub put_lines-requires : goal.put_lines-requires
 put_lines-requires c =
-    record { report_room_in_bounds = omega (arith, c.requires.report_room_in_bounds); reportable = record { good-limits = c.requires.good_cells.0; good-factors = c.requires.good_cells.1; good_book = sym c.check_book.ensures ∙ c.in-Passed.is } }
+    record { report_room_in_bounds = omega (arith, c.requires.report_room_in_bounds); reportable = record { good-limits = c.requires.good_cells; good-factors = c.args.table.good; good_book = sym c.check_book.ensures ∙ c.in-Ok.is } }
 
-pub returns-in-Refused : goal.returns-in-Refused
-returns-in-Refused c =
+pub returns-in-Err : goal.returns-in-Err
+returns-in-Err c =
     let k = c.check_book in
-    let told = c.in-Refused.is in
+    let told = c.in-Err.is in
     put_same (book-refused _ _ _ _ (sym k.ensures ∙ told)) c.put_refused.ensures
 
-pub returns-in-Passed : goal.returns-in-Passed
-returns-in-Passed c =
+pub returns-in-Ok : goal.returns-in-Ok
+returns-in-Ok c =
     let k = c.check_book in
-    let told = c.in-Passed.is in
+    let told = c.in-Ok.is in
     put_same (book-text _ _ _ (sym k.ensures ∙ told)) c.put_lines.ensures

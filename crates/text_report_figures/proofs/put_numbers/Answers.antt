@@ -8,19 +8,18 @@ use Rattle.text_report_figures.proofs.put_numbers.Goals as goal
 
 pub loop-k-init : goal.loop-k-init
 unfolding numbers_to
-loop-k-init c = (omega arith, omega arith, put_none (omega arith), omega arith)
+loop-k-init c = (omega arith, put_none (omega arith), omega arith)
 
 pub loop-k-preserved : goal.loop-k-preserved
 loop-k-preserved c =
     let m = c.put_member-next in
     let l = c.loop-k in (
-      omega arith,
-      m.auto.buf ∙ l.invariant.1,
-      put_same (numbers_more c.args.at l.next c.args.set l.k l.invariant.2.place) (l.invariant.2 then m.ensures.put),
-      omega (arith, m.ensures.upper_bound, l.invariant.3),
+      m.auto.buf ∙ l.invariant.0,
+      put_same (numbers_more c.args.at l.next c.args.set l.k l.invariant.1.place) (l.invariant.1 then m.ensures.put),
+      omega (arith, m.ensures.upper_bound, l.invariant.2),
     )
 
 pub returns : goal.returns
 returns c =
     let l = c.loop-k in
-    let last : l.k ≡ c.args.constraints = omega arith in record { put = rw last at l.invariant.2; upper_bound = omega (arith, l.invariant.3, c.requires) }
+    let last : l.k ≡ c.args.constraints = omega arith in record { put = rw last at l.invariant.1; upper_bound = omega (arith, l.invariant.2, c.requires) }

@@ -13,7 +13,8 @@ use Rattle.tariff.specs.Units.{Grid, grid_of, factors_of}
 use Rattle.tariff.specs.ContractRules.{of_period}
 use Rattle.tariff.specs.Refusals.{given}
 use Rattle.layouts.specs.BookFile.{book_in}
-use Rattle.test_rules.specs.declared.TestAnswer.{TestAnswer}
+use Rattle.std.specs.Prelude.{Ok}
+use Rattle.test_rules.specs.declared.Verdict.{Verdict}
 use Rattle.test_rules.specs.TestBook.{test_outcome}
 use Rattle.test_rules.specs.Inner.{Judgeable, Judges}
 use Rattle.test_rules.proofs.Flowing.{carried_judgeable}
@@ -26,9 +27,9 @@ use Rattle.text_report_rules.proofs.Answering.{over-bound, line-text}
 use Rattle.text_report_lines.proofs.put_period_lines.Goals as goal
 
 pub carry-flows-requires : goal.carry-flows-requires
-carry-flows-requires c = let ok = c.requires.reportable in (ok.good-factors, ok.good_book)
+carry-flows-requires c = c.requires.reportable.good_book
 
--- ---- with the three answers
+-- ---- with the three verdicts
 
 module _ (nodes constraints : ℕ) (limits : List ℕ) (factors : List ℤ) (period : Period) (book : List ℕ) (reportable : Reportable nodes constraints limits factors book)
     (flows : Flows) (carried : Carries (factors_of nodes constraints factors) (of_period period (book_in book)) flows) where
@@ -38,38 +39,38 @@ module _ (nodes constraints : ℕ) (limits : List ℕ) (factors : List ℤ) (per
   abbrev grid : Grid
   grid = grid_of nodes constraints limits factors
 
-  -- the answer is the test's
-  abbrev Told : Process → TestAnswer → Type 0
-  Told process answer = Judges grid process (of_period period (book_in book)) answer
+  -- the verdict is the test's
+  abbrev Told : Process → Verdict → Type 0
+  Told process verdict = Judges grid process (of_period period (book_in book)) (Ok verdict)
 
-  by-flows : (process : Process) (answer : TestAnswer) → test_outcome answer ≡ given (judged_values limits process flows.flows constraints) → Told process answer
-  by-flows process = judges nodes constraints reportable.good-factors.few limits factors process period (book_in book) flows carried
+  by-flows : (process : Process) (verdict : Verdict) → test_outcome (Ok verdict) ≡ given (judged_values limits process flows.flows constraints) → Told process verdict
+  by-flows process verdict = judges nodes constraints reportable.good-factors.few limits factors process period (book_in book) flows carried (Ok verdict)
 
-  small : (process : Process) (answer : TestAnswer) → Told process answer → nat_abs (over_by answer) < 2 ^ 63
-  small process answer told = over-bound nodes constraints limits factors book process period answer told reportable
+  small : (process : Process) (verdict : Verdict) → Told process verdict → nat_abs (over_by verdict) < 2 ^ 63
+  small process verdict told = over-bound nodes constraints limits factors book process period verdict told reportable
 
-  text : (process : Process) (answer : TestAnswer) → Told process answer → line grid (book_in book) period process ≡ answer_line constraints period process answer
-  text process answer told = line-text nodes constraints limits factors book process period answer told
+  text : (process : Process) (verdict : Verdict) → Told process verdict → line grid (book_in book) period process ≡ answer_line constraints period process verdict
+  text process verdict told = line-text nodes constraints limits factors book process period verdict told
 
 pub verdict-annual-requires : goal.verdict-annual-requires
-verdict-annual-requires c = judgeable c.args.nodes c.args.constraints c.args.limits.now c.args.factors.now c.args.period c.args.book.now c.requires.reportable c.carry-flows.result c.carry-flows.ensures
+verdict-annual-requires c = judgeable c.args.table.nodes c.args.table.constraints c.args.limits.now c.args.table.cells.now c.args.period c.args.book.now c.requires.reportable c.carry-flows.result c.carry-flows.ensures
 
 pub verdict-lt-requires : goal.verdict-lt-requires
-verdict-lt-requires c = judgeable c.args.nodes c.args.constraints c.args.limits.now c.args.factors.now c.args.period c.args.book.now c.requires.reportable c.carry-flows.result c.carry-flows.ensures
+verdict-lt-requires c = judgeable c.args.table.nodes c.args.table.constraints c.args.limits.now c.args.table.cells.now c.args.period c.args.book.now c.requires.reportable c.carry-flows.result c.carry-flows.ensures
 
 pub verdict-monthly-requires : goal.verdict-monthly-requires
-verdict-monthly-requires c = judgeable c.args.nodes c.args.constraints c.args.limits.now c.args.factors.now c.args.period c.args.book.now c.requires.reportable c.carry-flows.result c.carry-flows.ensures
+verdict-monthly-requires c = judgeable c.args.table.nodes c.args.table.constraints c.args.limits.now c.args.table.cells.now c.args.period c.args.book.now c.requires.reportable c.carry-flows.result c.carry-flows.ensures
 
 pub put_line-first-requires : goal.put_line-first-requires
-put_line-first-requires c = (c.requires.reportable.good-factors.few, omega (arith, c.requires.period_lines_room_in_bounds), (small c.args.nodes c.args.constraints c.args.limits.now c.args.factors.now c.args.period c.args.book.now c.requires.reportable c.carry-flows.result c.carry-flows.ensures Annual _ (by-flows c.args.nodes c.args.constraints c.args.limits.now c.args.factors.now c.args.period c.args.book.now c.requires.reportable c.carry-flows.result c.carry-flows.ensures Annual _ c.verdict-annual.ensures)))
+put_line-first-requires c = (c.requires.reportable.good-factors.few, omega (arith, c.requires.period_lines_room_in_bounds), (small c.args.table.nodes c.args.table.constraints c.args.limits.now c.args.table.cells.now c.args.period c.args.book.now c.requires.reportable c.carry-flows.result c.carry-flows.ensures Annual _ (by-flows c.args.table.nodes c.args.table.constraints c.args.limits.now c.args.table.cells.now c.args.period c.args.book.now c.requires.reportable c.carry-flows.result c.carry-flows.ensures Annual _ c.verdict-annual.ensures)))
 
 pub put_line-second-requires : goal.put_line-second-requires
 put_line-second-requires c =
-    (c.requires.reportable.good-factors.few, omega (arith, c.requires.period_lines_room_in_bounds, c.put_line-first.ensures.upper_bound), (small c.args.nodes c.args.constraints c.args.limits.now c.args.factors.now c.args.period c.args.book.now c.requires.reportable c.carry-flows.result c.carry-flows.ensures TierLt _ (by-flows c.args.nodes c.args.constraints c.args.limits.now c.args.factors.now c.args.period c.args.book.now c.requires.reportable c.carry-flows.result c.carry-flows.ensures TierLt _ c.verdict-lt.ensures)))
+    (c.requires.reportable.good-factors.few, omega (arith, c.requires.period_lines_room_in_bounds, c.put_line-first.ensures.upper_bound), (small c.args.table.nodes c.args.table.constraints c.args.limits.now c.args.table.cells.now c.args.period c.args.book.now c.requires.reportable c.carry-flows.result c.carry-flows.ensures TierLt _ (by-flows c.args.table.nodes c.args.table.constraints c.args.limits.now c.args.table.cells.now c.args.period c.args.book.now c.requires.reportable c.carry-flows.result c.carry-flows.ensures TierLt _ c.verdict-lt.ensures)))
 
 pub put_line-requires : goal.put_line-requires
 put_line-requires c =
-    (c.requires.reportable.good-factors.few, omega (arith, c.requires.period_lines_room_in_bounds, c.put_line-first.ensures.upper_bound, c.put_line-second.ensures.upper_bound), (small c.args.nodes c.args.constraints c.args.limits.now c.args.factors.now c.args.period c.args.book.now c.requires.reportable c.carry-flows.result c.carry-flows.ensures Monthly _ (by-flows c.args.nodes c.args.constraints c.args.limits.now c.args.factors.now c.args.period c.args.book.now c.requires.reportable c.carry-flows.result c.carry-flows.ensures Monthly _ c.verdict-monthly.ensures)))
+    (c.requires.reportable.good-factors.few, omega (arith, c.requires.period_lines_room_in_bounds, c.put_line-first.ensures.upper_bound, c.put_line-second.ensures.upper_bound), (small c.args.table.nodes c.args.table.constraints c.args.limits.now c.args.table.cells.now c.args.period c.args.book.now c.requires.reportable c.carry-flows.result c.carry-flows.ensures Monthly _ (by-flows c.args.table.nodes c.args.table.constraints c.args.limits.now c.args.table.cells.now c.args.period c.args.book.now c.requires.reportable c.carry-flows.result c.carry-flows.ensures Monthly _ c.verdict-monthly.ensures)))
 
 pub returns : goal.returns
 unfolding period_lines
@@ -78,8 +79,8 @@ returns c =
     let p2 = c.put_line-second.ensures in
     let p3 = c.put_line.ensures in
     record {
-      put = put_same (text c.args.nodes c.args.constraints c.args.limits.now c.args.factors.now c.args.period c.args.book.now c.requires.reportable c.carry-flows.result c.carry-flows.ensures Annual _ (by-flows c.args.nodes c.args.constraints c.args.limits.now c.args.factors.now c.args.period c.args.book.now c.requires.reportable c.carry-flows.result c.carry-flows.ensures Annual _ c.verdict-annual.ensures)) p1.put
-          then put_same (text c.args.nodes c.args.constraints c.args.limits.now c.args.factors.now c.args.period c.args.book.now c.requires.reportable c.carry-flows.result c.carry-flows.ensures TierLt _ (by-flows c.args.nodes c.args.constraints c.args.limits.now c.args.factors.now c.args.period c.args.book.now c.requires.reportable c.carry-flows.result c.carry-flows.ensures TierLt _ c.verdict-lt.ensures)) p2.put
-          then put_same (text c.args.nodes c.args.constraints c.args.limits.now c.args.factors.now c.args.period c.args.book.now c.requires.reportable c.carry-flows.result c.carry-flows.ensures Monthly _ (by-flows c.args.nodes c.args.constraints c.args.limits.now c.args.factors.now c.args.period c.args.book.now c.requires.reportable c.carry-flows.result c.carry-flows.ensures Monthly _ c.verdict-monthly.ensures)) p3.put;
+      put = put_same (text c.args.table.nodes c.args.table.constraints c.args.limits.now c.args.table.cells.now c.args.period c.args.book.now c.requires.reportable c.carry-flows.result c.carry-flows.ensures Annual _ (by-flows c.args.table.nodes c.args.table.constraints c.args.limits.now c.args.table.cells.now c.args.period c.args.book.now c.requires.reportable c.carry-flows.result c.carry-flows.ensures Annual _ c.verdict-annual.ensures)) p1.put
+          then put_same (text c.args.table.nodes c.args.table.constraints c.args.limits.now c.args.table.cells.now c.args.period c.args.book.now c.requires.reportable c.carry-flows.result c.carry-flows.ensures TierLt _ (by-flows c.args.table.nodes c.args.table.constraints c.args.limits.now c.args.table.cells.now c.args.period c.args.book.now c.requires.reportable c.carry-flows.result c.carry-flows.ensures TierLt _ c.verdict-lt.ensures)) p2.put
+          then put_same (text c.args.table.nodes c.args.table.constraints c.args.limits.now c.args.table.cells.now c.args.period c.args.book.now c.requires.reportable c.carry-flows.result c.carry-flows.ensures Monthly _ (by-flows c.args.table.nodes c.args.table.constraints c.args.limits.now c.args.table.cells.now c.args.period c.args.book.now c.requires.reportable c.carry-flows.result c.carry-flows.ensures Monthly _ c.verdict-monthly.ensures)) p3.put;
       upper_bound = omega (arith, p1.upper_bound, p2.upper_bound, p3.upper_bound);
     }

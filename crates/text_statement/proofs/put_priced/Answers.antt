@@ -8,22 +8,30 @@ use Rattle.price_rules.proofs.Taken.{prices-taken}
 use Rattle.text_files.proofs.WithFiles.{prices-refused, prices-text}
 use Rattle.text_statement.proofs.put_priced.Goals as goal
 
+pub of-hour-requires : goal.of-hour-requires
+of-hour-requires c =
+    let a = c.args in
+    let taken = prices-taken a.constraints a.price_file.now _ _ _ (rw c.in-Ok.is at c.read_prices.ensures) in
+    record { good-factors = c.requires.good_factors.0; good-prices = taken.good-prices }
+
 pub put_settled-requires : goal.put_settled-requires
 put_settled-requires c =
-    let r = c.read_prices in
-    let a = c.args in
-    let taken = prices-taken a.constraints a.price_file.now _ _ _ (rw c.in-Read.is at r.ensures) in record { longest_statement_in_bounds = omega (arith, c.requires.longest_statement_in_bounds); hour = (record { good-factors = c.requires.good_factors.0; good-prices = taken.good-prices }, c.requires.good_factors.1) }
+    record {
+      longest_statement_in_bounds = omega (arith, c.requires.longest_statement_in_bounds);
+      book_value = rw c.of-hour.ensures.nodes_kept c.requires.good_factors.1;
+    }
 
-pub returns-in-Refused : goal.returns-in-Refused
-returns-in-Refused c =
+pub returns-in-Err : goal.returns-in-Err
+returns-in-Err c =
     let r = c.read_prices in
     let a = c.args in
-    put_same (prices-refused a.constraints a.price_file.now _ _ (length-replicate {A = ℕ} max_constraints 0) _ _ (rw c.in-Refused.is at r.ensures)) c.put_refused.ensures
+    put_same (prices-refused a.constraints a.price_file.now _ _ (length-replicate {A = ℕ} max_constraints 0) _ _ (rw c.in-Err.is at r.ensures)) c.put_refused.ensures
 
-pub returns-in-Read : goal.returns-in-Read
-returns-in-Read c =
-    let h = c.from_number-hour in
+pub returns-in-Ok : goal.returns-in-Ok
+returns-in-Ok c =
+    let h = c.from in
+    let kept = c.of-hour.ensures in
     let r = c.read_prices in
     let a = c.args in
-    let taken = prices-taken a.constraints a.price_file.now _ _ _ (rw c.in-Read.is at r.ensures) in
-    put_same (prices-text a.constraints a.price_file.now _ _ _ taken) (rw h.ensures at c.put_settled.ensures)
+    let taken = prices-taken a.constraints a.price_file.now _ _ _ (rw c.in-Ok.is at r.ensures) in
+    put_same (prices-text a.constraints a.price_file.now _ _ _ taken) (rw (h.ensures, kept.nodes_kept, kept.constraints_kept, kept.factors_kept, kept.prices_kept) at c.put_settled.ensures)

@@ -6,16 +6,22 @@ use Rattle.text_statement_lines.proofs.Settled.{settled_sized, settled_lines}
 use Rattle.text_statement.proofs.put_settled.Goals as goal
 
 pub settle-totals-requires : goal.settle-totals-requires
-settle-totals-requires c = record { hour = c.requires.hour; book_in_bounds = ((book-accepted c.args.nodes c.args.book.now c.requires.hour.1).few, (book-accepted c.args.nodes c.args.book.now c.requires.hour.1).few) }
+settle-totals-requires c =
+    let few = (book-accepted c.args.hour.factors.nodes c.args.book.now c.requires.book_value).few in
+    record { book_value = c.requires.book_value; book_in_bounds = (few, few) }
 
 pub contract_count-count-requires : goal.contract_count-count-requires
-contract_count-count-requires c = omega (arith, (book-accepted c.args.nodes c.args.book.now c.requires.hour.1).size)
+contract_count-count-requires c = omega (arith, (book-accepted c.args.hour.factors.nodes c.args.book.now c.requires.book_value).size)
 
 pub put_lines-requires : goal.put_lines-requires
 put_lines-requires c =
     let n = c.contract_count-count.ensures.0 in
     let t = c.settle-totals in
-    let o = book-accepted c.args.nodes c.args.book.now c.requires.hour.1 in record { count_le_max_contracts = (omega (arith, o.few, n), rw n (omega (arith, o.size)), omega (arith, o.few, n), omega (arith, o.few, n)); sized_figures = (settled_sized t.ensures n, omega (arith, c.requires.longest_statement_in_bounds, o.few, n)) }
+    let o = book-accepted c.args.hour.factors.nodes c.args.book.now c.requires.book_value in
+    record {
+      count_le_max_contracts = (omega (arith, o.few, n), rw n (omega (arith, o.size)), omega (arith, o.few, n), omega (arith, o.few, n));
+      sized_figures = (settled_sized t.ensures n, omega (arith, c.requires.longest_statement_in_bounds, o.few, n));
+    }
 
 pub returns : goal.returns
 returns c =

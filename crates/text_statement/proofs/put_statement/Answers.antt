@@ -15,20 +15,20 @@ pub put_booked-requires : goal.put_booked-requires
 put_booked-requires c =
     let r = c.read_within in
     let a = c.args in
-    (omega (arith, c.requires), (within-taken a.grid_file.now _ _ program_bytes _ _ _ _ _ (rw c.in-Read.is at r.ensures)).good-factors)
+    (omega (arith, c.requires), (within-taken a.grid_file.now _ _ program_bytes _ _ _ _ _ (rw c.in-Ok.is at r.ensures)).good-factors)
 
-pub returns-in-Refused : goal.returns-in-Refused
+pub returns-in-Err : goal.returns-in-Err
 unfolding statementOf
-returns-in-Refused c =
+returns-in-Err c =
     let r = c.read_within in
     let a = c.args in
     let limits = length-replicate {A = ℕ} max_constraints 0 in
     let factors = length-replicate {A = ℤ} program_factors (pos 0) in
-    put_same (grid-refused a.grid_file.now _ _ _ limits factors _ _ _ (rw c.in-Refused.is at r.ensures)) c.put_refused.ensures
+    put_same (grid-refused a.grid_file.now _ _ _ limits factors _ _ _ (rw c.in-Err.is at r.ensures)) c.put_refused.ensures
 
-pub returns-in-Read : goal.returns-in-Read
+pub returns-in-Ok : goal.returns-in-Ok
 unfolding statementOf
-returns-in-Read c =
+returns-in-Ok c =
     let r = c.read_within in
     let a = c.args in
-    put_same (grid-text a.grid_file.now _ _ _ _ _ (within-taken a.grid_file.now _ _ program_bytes _ _ _ _ _ (rw c.in-Read.is at r.ensures))) c.put_booked.ensures
+    put_same (grid-text a.grid_file.now _ _ _ _ _ (within-taken a.grid_file.now _ _ program_bytes _ _ _ _ _ (rw c.in-Ok.is at r.ensures))) c.put_booked.ensures

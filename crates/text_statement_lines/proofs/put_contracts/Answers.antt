@@ -12,7 +12,7 @@ use Rattle.text_statement_lines.proofs.put_contracts.Goals as goal
 
 pub loop-i-init : goal.loop-i-init
 unfolding lines_to
-loop-i-init c = (omega arith, omega arith, put_none (omega (arith, c.requires.count_in_bounds)), omega arith)
+loop-i-init c = (omega arith, put_none (omega (arith, c.requires.count_in_bounds)), omega arith)
 
 pub overflow_cast-size : goal.overflow_cast-size
 overflow_cast-size c = omega (arith, c.requires.by_index.1 c.loop-i.i (omega arith))
@@ -32,7 +32,7 @@ put_own-next-requires c =
         kept-cents (get_or a.cents.now l.i (pos 0)) (c.requires.by_index.0 l.i (omega arith)),
         c.requires.by_index.1 l.i (omega arith),
       );
-      longest_line_in_bounds = omega (arith, l.invariant.3, c.requires.count_in_bounds);
+      longest_line_in_bounds = omega (arith, l.invariant.2, c.requires.count_in_bounds);
     }
 
 pub loop-i-preserved : goal.loop-i-preserved
@@ -43,31 +43,12 @@ loop-i-preserved c =
     let a = c.args in
     let z = get_or a.cents.now l.i (pos 0) in
     let x = kept z (omega (arith, c.requires.by_index.0 l.i (omega arith))) in (
-      omega arith,
-      m.auto.buf ∙ l.invariant.1,
-      put_same (lines_more a.period (contract_in a.form a.book.now) a.cents.now a.priced.now l.i _ _ _ k.ensures x refl) (l.invariant.2 then m.ensures.put),
-      omega (arith, m.ensures.upper_bound, l.invariant.3),
+      m.auto.buf ∙ l.invariant.0,
+      put_same (lines_more a.period (contract_in a.form a.book.now) a.cents.now a.priced.now l.i _ _ _ k.ensures x refl) (l.invariant.1 then m.ensures.put),
+      omega (arith, m.ensures.upper_bound, l.invariant.2),
     )
 
 pub returns : goal.returns
 returns c =
     let l = c.loop-i in
-    let last : l.i ≡ c.args.count = omega arith in record { put = rw last at l.invariant.2; upper_bound = omega (arith, l.invariant.3, last) }
-
-pub offset_bounds-priced-i : goal.offset_bounds-priced-i
-offset_bounds-priced-i c = omega arith
-
-pub bounds-priced-i : goal.bounds-priced-i
-bounds-priced-i c = omega arith
-
-pub offset_bounds-cents-i : goal.offset_bounds-cents-i
-offset_bounds-cents-i c = omega arith
-
-pub bounds-cents-i : goal.bounds-cents-i
-bounds-cents-i c = omega arith
-
-pub overflow_add-i : goal.overflow_add-i
-overflow_add-i c = omega arith
-
-pub loop-i-smaller : goal.loop-i-smaller
-loop-i-smaller c = omega arith
+    let last : l.i ≡ c.args.count = omega arith in record { put = rw last at l.invariant.1; upper_bound = omega (arith, l.invariant.2, last) }

@@ -1,4 +1,4 @@
--- The invariants and measures of `text_statement_lines::put_contracts`.
+-- The invariant of `text_statement_lines::put_contracts`.
 use mathlib.Core.Path.{◌≡◌}
 use Prim.Native.Nat.{◌+◌, ◌-◌, ◌*◌, ◌≤◌}
 use lib.ListN.{length}
@@ -9,7 +9,4 @@ use Rattle.text_statement_lines.specs.Inner.{lines_to}
 use Rattle.text_statement_lines.proofs.put_contracts.Given as goal
 
 abbrev pub invariant-loop-i : goal.invariant-loop-i
-invariant-loop-i l = (l.i ≤ l.count) × (length l.buf ≡ length l.initial.buf) × Put l.initial.buf l.at (lines_to l.period (contract_in l.form l.book) l.cents l.priced l.i) l.buf l.next × (l.next ≤ l.at + longest_line * l.i)
-
-abbrev pub decreases-loop-i : goal.decreases-loop-i
-decreases-loop-i l = l.count - l.i
+invariant-loop-i l = (length l.buf ≡ length l.initial.buf) × Put l.initial.buf l.at (lines_to l.period (contract_in l.form l.book) l.cents l.priced l.i) l.buf l.next × (l.next ≤ l.at + longest_line * l.i)

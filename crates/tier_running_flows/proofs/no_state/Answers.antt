@@ -16,7 +16,7 @@ pub returns-then-numbers-counted : goal.returns-then-numbers-counted
 returns-then-numbers-counted c = let a = c.args in more_counted a.constraints a.numbers.now a.flows.now (omega arith)
 
 pub loop-k-init : goal.loop-k-init
-loop-k-init c = (omega arith, omega arith, any_of_start (beyond (get_or c.args.numbers.now 1 0)))
+loop-k-init c = (omega arith, any_of_start (beyond (get_or c.args.numbers.now 1 0)))
 
 pub returns-then-flow_beyond : goal.returns-then-flow_beyond
 returns-then-flow_beyond c =
@@ -25,7 +25,7 @@ returns-then-flow_beyond c =
     -- the answer is of the cell itself
     let same = c.flow_beyond.ensures ∙ ap (beyond (get_or a.numbers.now 1 0))
     (to_z-of_z w64 (get_or a.flows.now l.k (pos 0)) (record { sfits = c.flow_beyond-arg-1.given }) ∙ sym (get_or-take a.constraints a.flows.now l.k (pos 0) (omega arith))) in
-    flow-found a.constraints a.numbers.now a.flows.now l.invariant.1 l.k (cell_in a.flows.now a.constraints l.k c.requires.1 (omega arith))
+    flow-found a.constraints a.numbers.now a.flows.now l.invariant.0 l.k (cell_in a.flows.now a.constraints l.k c.requires.1 (omega arith))
     (sym same ∙ c.if-flow_beyond.true)
 
 pub loop-k-preserved : goal.loop-k-preserved
@@ -35,9 +35,8 @@ loop-k-preserved c =
     -- the answer is of the cell itself
     let same = c.flow_beyond.ensures ∙ ap (beyond (get_or a.numbers.now 1 0))
     (to_z-of_z w64 (get_or a.flows.now l.k (pos 0)) (record { sfits = c.flow_beyond-arg-1.given }) ∙ sym (get_or-take a.constraints a.flows.now l.k (pos 0) (omega arith))) in (
-      omega arith,
-      l.invariant.1,
-      any_of_good (beyond (get_or a.numbers.now 1 0)) (take a.constraints a.flows.now) l.k (pos 0) (cell_in a.flows.now a.constraints l.k c.requires.1 (omega arith)) l.invariant.2
+      l.invariant.0,
+      any_of_good (beyond (get_or a.numbers.now 1 0)) (take a.constraints a.flows.now) l.k (pos 0) (cell_in a.flows.now a.constraints l.k c.requires.1 (omega arith)) l.invariant.1
           (sym same ∙ c.if-flow_beyond.false),
     )
 
@@ -45,5 +44,5 @@ pub returns : goal.returns
 returns c =
     let a = c.args in
     let l = c.loop-k in
-    none_found a.constraints a.numbers.now a.flows.now l.invariant.1
-    (sym (any_of_end (beyond (get_or a.numbers.now 1 0)) (take a.constraints a.flows.now) l.k (omega (arith, length-take-le a.constraints a.flows.now c.requires.1)) l.invariant.2))
+    none_found a.constraints a.numbers.now a.flows.now l.invariant.0
+    (sym (any_of_end (beyond (get_or a.numbers.now 1 0)) (take a.constraints a.flows.now) l.k (omega (arith, length-take-le a.constraints a.flows.now c.requires.1)) l.invariant.1))

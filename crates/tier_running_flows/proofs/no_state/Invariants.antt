@@ -1,4 +1,4 @@
--- The invariants and measures of `tier_running_flows::no_state`.
+-- The invariant of `tier_running_flows::no_state`.
 use mathlib.Core.Path.{◌≡◌}
 use mathlib.Core.Bool.{false}
 use Prim.Native.Nat.{◌-◌, ◌≤◌}
@@ -9,7 +9,4 @@ use Rattle.tier_running_rules.proofs.Flowing.{beyond}
 use Rattle.tier_running_flows.proofs.no_state.Given as goal
 
 abbrev pub invariant-loop-k : goal.invariant-loop-k
-invariant-loop-k l = (l.k ≤ l.constraints) × (l.counted ≤ held_in l.numbers) × (any_of (beyond l.counted) (take l.k (take l.constraints l.flows)) ≡ false)
-
-abbrev pub decreases-loop-k : goal.decreases-loop-k
-decreases-loop-k l = l.constraints - l.k
+invariant-loop-k l = (l.counted ≤ held_in l.numbers) × (any_of (beyond l.counted) (take l.k (take l.constraints l.flows)) ≡ false)

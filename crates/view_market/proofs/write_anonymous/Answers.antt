@@ -15,7 +15,7 @@ use Rattle.view_market.proofs.write_anonymous.Goals as goal
 pub loop-i-init : goal.loop-i-init
 loop-i-init c =
     let a = c.args in
-    (omega arith, refl, no_rows a.form 0 (row_at a.form a.book.now) _ 0 refl)
+    (refl, no_rows a.form 0 (row_at a.form a.book.now) _ 0 refl)
 
 pub bits_at-own-requires : goal.bits_at-own-requires
 bits_at-own-requires c =
@@ -29,7 +29,7 @@ store_bits-requires c =
     let l = h.loop-i in
     let s = h in
     let room = record_room s.args.form l.i s.args.count _ (omega arith) s.requires.2 in
-    (omega arith, omega (arith, room, l.invariant.1, h.store_header.auto.file))
+    (omega arith, omega (arith, room, l.invariant.0, h.store_header.auto.file))
 
 pub loop-i-preserved : goal.loop-i-preserved
 loop-i-preserved c =
@@ -43,9 +43,8 @@ loop-i-preserved c =
     let bytes : contract_bytes a.form (g l.i) ≡ bits_bytes a.form k.cleared.result
     = ap (λ (x : Contract). contract_bytes a.form (anonymous x)) b.bits_at-own.ensures ∙ cleared_bytes a.form b.bits_at-own.result
     ∙ ap (bits_bytes a.form) (sym k.cleared.ensures) in (
-      omega arith,
-      stored.auto.file ∙ l.invariant.1,
-      row_appended a.form 0 g _ l.file _ l.i l.i (l.i + 1) refl l.invariant.2 (rw bytes stored.ensures),
+      stored.auto.file ∙ l.invariant.0,
+      row_appended a.form 0 g _ l.file _ l.i l.i (l.i + 1) refl l.invariant.1 (rw bytes stored.ensures),
     )
 
 pub returns : goal.returns
@@ -53,8 +52,8 @@ returns c =
     let l = c.loop-i in
     let s = c in
     rows_written s.args.form s.args.count (row_at s.args.form s.args.book.now) s.args.file.now _ l.file l.i
-    c.store_header.ensures l.invariant.2 (omega arith)
+    c.store_header.ensures l.invariant.1 (omega arith)
     (λ i h. anonymous-fits _ _ (contract-in_fits s.args.form s.args.book.now i))
 
 pub shape_of-file : goal.shape_of-file
-shape_of-file c = c.loop-i.invariant.1 ∙ c.store_header.auto.file
+shape_of-file c = c.loop-i.invariant.0 ∙ c.store_header.auto.file

@@ -1,22 +1,18 @@
--- `put_text`: what is copied so far.
-use mathlib.Core.Path.{refl}
+-- `put_text`: what is copied.
+use mathlib.Core.Path.{◌≡◌}
+use mathlib.Core.List.{List}
+use Prim.Native.Nat.{ℕ, ◌+◌, ◌≤◌}
 use native.Mathlib.Omega.{arith}
-use lib.ListN.{length-set}
-use lib.Seq.{take_all}
-use Rattle.text_format.proofs.Putting.{copy_turn}
+use borrow.Rule.Slice.PartMut.{put_mid}
+use lib.ListN.{length}
+use lib.Seq.{sets, sets-eq}
+use Rattle.std.proofs.Common.{append_assoc, drop-drop}
 use Rattle.text_format.proofs.texts.put_text.Goals as goal
 
-pub loop-i-init : goal.loop-i-init
-loop-i-init c = (omega arith, refl, refl)
-
-pub loop-i-preserved : goal.loop-i-preserved
-loop-i-preserved c =
-    let l = c.loop-i in
-    let a = c.args in
-    (omega arith, simp length-set l.invariant.1, copy_turn a.s.now a.buf.now l.buf a.at l.i (omega arith) l.invariant.2)
+copied : (buf s t : List ℕ) (at k : ℕ) → t ≡ s → k ≡ length s → at + length s ≤ length buf → put_mid at k buf t ≡ sets buf at s
+copied buf s t at k e l h = rw (e, l, sets-eq s buf at h) (simp (append_assoc, drop-drop))
 
 pub returns : goal.returns
 returns c =
-    let l = c.loop-i in
     let a = c.args in
-    record { cells = rw (take_all l.i a.s.now (omega arith)) at l.invariant.2; place = omega arith; room = omega arith }
+    record { cells = copied a.buf.now a.s.now _ a.at _ c.copy_from_slice.ensures.after (omega arith) c.requires; place = omega arith; room = omega arith }

@@ -1,4 +1,5 @@
 -- `add_award`: the checks before 21, then the flows, then the award's row.
+use Rattle.std.proofs.lemmas.Result.{err_from_is_err_and}
 use mathlib.Core.Path.{◌≡◌, sym, ap, ap₂, subst, ◌∙◌}
 use mathlib.Core.Bool.{Bool, cond}
 use mathlib.Core.List.{List}
@@ -50,24 +51,26 @@ module _ (q : AddAwardCall) where
     flows-by : (b : Bool) → over ≡ b → flows ≡ cond b q.flows added
     flows-by b e = t.flows-are ∙ ap (λ (b : Bool). cond b q.flows added) e
 
-pub returns-in-Refused : goal.returns-in-Refused
-returns-in-Refused c =
+pub returns-in_err-check_award : goal.returns-in_err-check_award
+returns-in_err-check_award c =
     let a = c.args in
     let q = call a.asked a.limits.now a.factors.now a.award.now a.awards.now a.numbers.now a.flows.now in
-    adds-refused q _ (field-refuses q c.check_award-checked.result c.check_award-checked.ensures _ c.in-Refused.is)
+    let p = err_from_is_err_and c.from_residual.result c.from_residual.ensures.1 in
+    rw (p.1, p.2)
+    (adds-refused q _ (field-refuses q c.check_award.result c.check_award.ensures _ c.in_err-check_award.was))
 
 pub contract_from-c-requires : goal.contract_from-c-requires
 contract_from-c-requires c =
     let a = c.args in
     let q = call a.asked a.limits.now a.factors.now a.award.now a.awards.now a.numbers.now a.flows.now in
-    let ok : Fields q (held_in q.numbers) = fields q (held_in q.numbers) (sym c.check_award-checked.ensures ∙ c.in_default.is) in
+    let ok : Fields q (held_in q.numbers) = fields q (held_in q.numbers) (sym c.check_award.ensures ∙ c.in_ok-check_award.was) in
     ok.before.award-long
 
 pub try_flows-over-requires : goal.try_flows-over-requires
 try_flows-over-requires c =
     let a = c.args in
     let q = call a.asked a.limits.now a.factors.now a.award.now a.awards.now a.numbers.now a.flows.now in
-    let ok : Fields q (held_in q.numbers) = fields q (held_in q.numbers) (sym c.check_award-checked.ensures ∙ c.in_default.is) in
+    let ok : Fields q (held_in q.numbers) = fields q (held_in q.numbers) (sym c.check_award.ensures ∙ c.in_ok-check_award.was) in
     let in_range = contract-in_range q.nodes (row_at q.award 0) (row-award q.nodes q.award ok.row).checks_pass in (
       ok.before.tables.process-number,
       record {
@@ -87,14 +90,14 @@ returns-then-over c =
     let w = c.try_flows-over in
     let t = tried q c.contract_from-c.result w.result w.new.numbers w.new.flows c.contract_from-c.ensures w.ensures in
     let over = c.if-over.true in
-    let refused = over-refuses q c.check_award-checked.result c.check_award-checked.ensures c.in_default.is (sym t.over-is ∙ over) in
+    let refused = over-refuses q c.check_award.result c.check_award.ensures c.in_ok-check_award.was (sym t.over-is ∙ over) in
     adds-21 q refused _ _ (numbers-by q w.result w.new.numbers w.new.flows t _ over) (flows-by q w.result w.new.numbers w.new.flows t _ over)
 
 pub store_award-requires : goal.store_award-requires
 store_award-requires c =
     let a = c.args in
     let q = call a.asked a.limits.now a.factors.now a.award.now a.awards.now a.numbers.now a.flows.now in
-    let ok : Fields q (held_in q.numbers) = fields q (held_in q.numbers) (sym c.check_award-checked.ensures ∙ c.in_default.is) in
+    let ok : Fields q (held_in q.numbers) = fields q (held_in q.numbers) (sym c.check_award.ensures ∙ c.in_ok-check_award.was) in
     let w = c.try_flows-over in
     let t = tried q c.contract_from-c.result w.result w.new.numbers w.new.flows c.contract_from-c.ensures w.ensures in
     -- the numbers before the award is stored
@@ -110,7 +113,7 @@ returns c =
     let t = tried q c.contract_from-c.result w.result w.new.numbers w.new.flows c.contract_from-c.ensures w.ensures in
     let counts = numbers-by q w.result w.new.numbers w.new.flows t _ c.if-over.false in
     let held = ap held_in counts ∙ (counts-kept (own_period q) q.numbers (counted_in q.numbers + 1)).1 in
-    let passes = held_passes q c.check_award-checked.result c.check_award-checked.ensures c.in_default.is (sym t.over-is ∙ c.if-over.false) in
+    let passes = held_passes q c.check_award.result c.check_award.ensures c.in_ok-check_award.was (sym t.over-is ∙ c.if-over.false) in
     adds-passed q passes _ _ _
     (c.store_award.ensures.0 ∙ ap₂ (λ (m : ℕ) (x : Contract). with_award_row m x q.awards) held c.contract_from-c.ensures)
     (c.store_award.ensures.1 ∙ ap₂ (λ (l : List ℕ) (m : ℕ). set l 0 (m + 1)) counts held) (flows-by q w.result w.new.numbers w.new.flows t _ c.if-over.false)

@@ -1,9 +1,10 @@
 -- `open_running`: where no check refuses, the numbers and the flows are cleared.
+use Rattle.std.proofs.lemmas.Result.{err_from_is_err_and}
 use mathlib.Core.Path.{◌≡◌, sym, ap, ◌∙◌}
 use mathlib.Core.Bool.{Bool}
 use mathlib.Core.List.{[], ◌∷◌}
 use lib.ListN.{length}
-use Rattle.tariff.specs.declared.refusals.Checked.{Checked}
+use Rattle.tariff.specs.Refusals.{Checked}
 use Rattle.tariff.specs.Refusals.{first}
 use Rattle.tier_rules.specs.Checks.{running_checks}
 use Rattle.tier_rules.specs.Cells.{opened_numbers, opened_flows}
@@ -21,14 +22,16 @@ found_of : (q : OpenRunningCall) (short : Bool) (checked : Checked)
 found_of q short checked e f =
     open_is q checked (e ∙ ap (λ (b : Bool). first (running_checks q.nodes q.constraints q.process q.period q.limits q.factors (short_if b ∷ []))) f)
 
-pub returns-in-Refused : goal.returns-in-Refused
-returns-in-Refused c =
+pub returns-in_err-check_tables : goal.returns-in_err-check_tables
+returns-in_err-check_tables c =
     let a = c.args in
     let t = a.asked in
     let q = open_running_on t.nodes t.constraints t.process t.period a.limits.now a.factors.now a.awards.now a.numbers.now a.flows.now in
     let found = found_of q _ _ c.check_tables.ensures c.state_short-short.ensures in
-    both-kept (open_running_checked q) (opened_numbers q.numbers) q.numbers (opened_flows q.flows) q.flows (OpensRunning q) (opens-running q)
-    c.check_tables.result found _ c.in-Refused.is
+    let p = err_from_is_err_and c.from_residual.result c.from_residual.ensures.1 in
+    rw (p.1, p.2)
+    (both-kept (open_running_checked q) (opened_numbers q.numbers) q.numbers (opened_flows q.flows) q.flows (OpensRunning q) (opens-running q)
+    c.check_tables.result found _ c.in_err-check_tables.was)
 
 pub clear_numbers-requires : goal.clear_numbers-requires
 clear_numbers-requires c =
@@ -36,7 +39,7 @@ clear_numbers-requires c =
     let t = a.asked in
     let q = open_running_on t.nodes t.constraints t.process t.period a.limits.now a.factors.now a.awards.now a.numbers.now a.flows.now in
     let found = found_of q _ _ c.check_tables.ensures c.state_short-short.ensures in
-    (openable q (sym found ∙ c.in-Passed.is)).numbers-long
+    (openable q (sym found ∙ c.in_ok-check_tables.was)).numbers-long
 
 pub clear_flows-requires : goal.clear_flows-requires
 clear_flows-requires c =
@@ -44,13 +47,13 @@ clear_flows-requires c =
     let t = a.asked in
     let q = open_running_on t.nodes t.constraints t.process t.period a.limits.now a.factors.now a.awards.now a.numbers.now a.flows.now in
     let found = found_of q _ _ c.check_tables.ensures c.state_short-short.ensures in
-    (openable q (sym found ∙ c.in-Passed.is)).flows_long
+    (openable q (sym found ∙ c.in_ok-check_tables.was)).flows_long
 
-pub returns-in-Passed : goal.returns-in-Passed
-returns-in-Passed c =
+pub returns : goal.returns
+returns c =
     let a = c.args in
     let t = a.asked in
     let q = open_running_on t.nodes t.constraints t.process t.period a.limits.now a.factors.now a.awards.now a.numbers.now a.flows.now in
     let found = found_of q _ _ c.check_tables.ensures c.state_short-short.ensures in
     both-made (open_running_checked q) (opened_numbers q.numbers) q.numbers (opened_flows q.flows) q.flows (OpensRunning q) (opens-running q)
-    c.check_tables.result found c.in-Passed.is _ _ c.clear_numbers.ensures c.clear_flows.ensures
+    c.check_tables.result found c.in_ok-check_tables.was _ _ c.clear_numbers.ensures c.clear_flows.ensures
