@@ -1,7 +1,7 @@
--- `weekday_number`: by its callee.
+-- `Month::weekday`: by its callee.
 use mathlib.Core.Path.{sym}
 use Rattle.date_rules.specs.Dates.{weekday_of}
-use Rattle.dates.proofs.weekday_number.Goals as goal
+use Rattle.dates.proofs.Month.weekday.Goals as goal
 
 pub returns : goal.returns
 unfolding weekday_of
