@@ -1,6 +1,6 @@
 -- Cells that are totals or not, and cells with flows added.
 use mathlib.Core.Path.{◌≡◌, sym, ap, ap₂, ◌∙◌}
-use mathlib.Core.Bool.{true, false}
+use mathlib.Core.Bool.{◌||◌, true, false}
 use mathlib.Core.List.{List}
 use Prim.Native.Nat.{ℕ, ◌+◌, ◌*◌, ◌^◌, ◌≤◌, ◌<◌}
 use native.Mathlib.Nat.{add-zero}
@@ -8,7 +8,7 @@ use native.Mathlib.Omega.{arith}
 use borrow.Author.Tests.{lt-ltb, le-ltb, ltb-false}
 use lib.Dec.{ltb}
 use lib.ListN.{length, get_or, take, drop}
-use lib.Seq.{get_or-take, get_or-drop}
+use lib.Seq.{get_or-take, get_or-drop, take_all}
 use lib.IntN.{ℤ, pos, nat_abs, ◌+ℤ◌}
 use mir.Syntax.{w64}
 use mir.Val.{to_z, of_z}
@@ -20,6 +20,11 @@ use Rattle.tariff.specs.Units.{max_flow}
 use Rattle.test_totals.specs.Totals.{max_summed, beyond, no_totals_of}
 
 -- ---- cells that are totals or not
+
+-- the first k cells by themselves
+pub cut_totals : (k count : ℕ) (flows : List ℤ) → k ≤ length flows → no_totals_of (length (take k flows)) count (take k flows) ≡ no_totals_of k count flows
+unfolding no_totals_of
+cut_totals k count flows long = ap (λ (l : List ℤ). ltb max_summed count || any_of (beyond count) l) (take_all (length (take k flows)) (take k flows) (omega arith))
 
 module _ (k count : ℕ) (flows : List ℤ) where
   pub too_many : max_summed < count → true ≡ no_totals_of k count flows
