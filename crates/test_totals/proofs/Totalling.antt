@@ -27,18 +27,6 @@ unfolding no_totals_of
 cut_totals k count flows long = ap (λ (l : List ℤ). ltb max_summed count || any_of (beyond count) l) (take_all (length (take k flows)) (take k flows) (omega arith))
 
 module _ (k count : ℕ) (flows : List ℤ) where
-  pub too_many : max_summed < count → true ≡ no_totals_of k count flows
-  unfolding no_totals_of
-  too_many h = sym (rw (lt-ltb max_summed count h))
-
-  pub flow-found : count ≤ max_summed → (j : ℕ) → j < length (take k flows) → beyond count (get_or (take k flows) j (pos 0)) ≡ true → true ≡ no_totals_of k count flows
-  unfolding no_totals_of
-  flow-found h j l e = sym (rw (le-ltb max_summed count h) (any_of_bad (beyond count) (take k flows) j (pos 0) l e))
-
-  pub none_found : count ≤ max_summed → any_of (beyond count) (take k flows) ≡ false → false ≡ no_totals_of k count flows
-  unfolding no_totals_of
-  none_found h e = sym (rw (le-ltb max_summed count h) e)
-
   module _ (long : k ≤ length flows) (told : no_totals_of k count flows ≡ false) where
     parts : (ltb max_summed count ≡ false) × (any_of (beyond count) (take k flows) ≡ false)
     unfolding no_totals_of
