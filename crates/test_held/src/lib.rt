@@ -21,7 +21,7 @@ fn flow_beyond(flow: i64, count: usize) -> bool
     ((MAX_FLOW * count) as u64) < flow.unsigned_abs()
 }
 
-// Whether one of the flows is.
+// Whether one of the flows is. The count is of contracts, and not of cells.
 pub fn flows_beyond(flows: &[i64], count: usize) -> bool
     requires { max_flow * count < 2 ^ 63 }
     ensures { result ≡ any_of (beyond count) flows.now }
@@ -29,7 +29,7 @@ pub fn flows_beyond(flows: &[i64], count: usize) -> bool
     flows.iter().any(|flow| flow_beyond(*flow, count))
 }
 
-// The first cells in an array, to be judged. `constraints ≤ max_constraints` is the array's length: a type for a count so bounded would stand in this contract alone.
+// The first cells in an array, to be judged. `constraints ≤ max_constraints` is the array's length: a type for such a count would stand in this contract alone.
 pub fn held_flows(constraints: usize, flows: &[i64]) -> Flows
     requires { (constraints ≤ max_constraints) × (constraints ≤ length flows.now) }
     ensures { SameFlows constraints flows.now result }

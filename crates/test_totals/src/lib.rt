@@ -17,7 +17,7 @@ use test_verdict::Loading;
 // Totals are of at most so many contracts, so that no sum leaves 64 bits.
 pub const MAX_SUMMED: usize = 20000000;
 
-// Whether flows are no totals of so many contracts.
+// Whether flows are no totals of so many contracts: here and below `count` is of contracts, and not of cells.
 fn no_totals(count: usize, flows: &[i64]) -> bool
     ensures { result ≡ no_totals_of (length flows.now) count flows.now }
 {
@@ -37,6 +37,7 @@ fn add_cells(constraints: usize, carried: Flows, out: &mut [i64])
 }
 
 // Adds the flow on each constraint of a period's contracts as they count to the totals in `flows`, and how many were counted to `count`.
+// Limits, factors and cells as C lends them.
 pub fn add_flows(
     asked: AskedFlows,
     limits: &[u64],
@@ -94,7 +95,8 @@ fn check_judged(
     Ok(())
 }
 
-// Judges totals of flows by the released limits of their constraints: whether the contracts that they are of are simultaneously feasible on them.
+// Judges totals of flows by the released limits of their constraints: whether the contracts that they are of are simultaneously feasible on them. Limits and
+// cells as C lends them.
 pub fn judge_flows(
     constraints: usize,
     process: u64,

@@ -29,7 +29,8 @@ fn put_tested(buf: &mut [u8], grid: GridTable, book: &[u8]) -> usize
     }
 }
 
-// The report on two files.
+// The report on two files. Not one function with `put_statement`: only the reading is the same, and `read_within` is that. The room is the caller's buffer's,
+// here and in `put_lines`: a type for it would be taken apart by each writer of `text_format`.
 fn put_report(grid_file: &[u8], book_file: &[u8], buf: &mut [u8]) -> usize
     requires { report_room ≤ length buf.old }
     ensures { Put (before buf) 0 (report grid_file.now book_file.now) (after buf) result }

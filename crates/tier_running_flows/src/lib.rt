@@ -14,7 +14,8 @@ use tariff::{Contract, Process};
 use test_rules::Flows;
 use test_verdict::Loading;
 
-// Whether the cells are no state's: more counted than held, or a flow beyond what they can make. Numbers and flows are two buffers everywhere, as C lends them.
+// Whether the cells are no state's: more counted than held, or a flow beyond what they can make. Numbers and flows stay two slices, here and below: C lends
+// them so, with more cells behind them.
 fn no_state(constraints: usize, numbers: &[u64], flows: &[i64]) -> bool
     requires { (state_numbers ≤ length numbers.now) × (constraints ≤ length flows.now) × (held_in numbers.now < max_contracts) }
     ensures { result ≡ no_state_of constraints numbers.now flows.now }

@@ -13,7 +13,7 @@ use layouts::CONTRACT_CELLS;
 use tariff::{Contract, Period, Process, Refusal};
 use test_terms::Asked;
 
-// Stores an award behind those held.
+// Stores an award behind those held. Awards, numbers and flows stay three buffers, here and below: C lends them so, with more cells behind them.
 fn store_award(c: Contract, awards: &mut [u64], numbers: &mut [u64])
     requires { (awards_cells ≤ length awards.old) × (state_numbers ≤ length numbers.old) × (held_in numbers.old < max_contracts) }
     ensures { (after awards ≡ with_award_row (held_in (before numbers)) c (before awards))

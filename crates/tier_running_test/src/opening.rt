@@ -6,7 +6,7 @@ use tariff::Refusal;
 use test_terms::Asked;
 use tier_rules::{FLOWS, NUMBERS};
 
-// Opens a running test of a grid, a process and a period in three lent buffers.
+// Opens a running test of a grid, a process and a period in three lent buffers, which stay apart as C lends them.
 pub fn open_running(
     asked: Asked,
     limits: &[u64],
