@@ -4,13 +4,12 @@
 ghost use Rattle.std.specs.Prelude.{◌≤◌, length};
 ghost use Rattle.lists.specs.Lent.{before, after};
 ghost use Rattle.text_format.specs.Inner.{Put};
-ghost use Rattle.tariff.specs.Units.{grid_of, max_limit};
-ghost use Rattle.grid_tables.specs.Inner.{GoodCells};
+ghost use Rattle.grid_tables.specs.Grids.{grid_by};
 ghost use Rattle.text_files.specs.WithFiles.{with_book};
 ghost use Rattle.text_report_rules.specs.Report.{report_lines};
 ghost use Rattle.text_report_rules.specs.WriteReport.{report, report_room, report_call, WritesReport};
 
-use grid_tables::FactorTable;
+use grid_tables::GridTable;
 use layouts::{PROGRAM_FACTORS, PROGRAM_GRID_BYTES};
 use tariff::{MAX_CONSTRAINTS, Refusal};
 use text_report_lines::put_lines;
@@ -18,20 +17,20 @@ use text_report_lines::put_lines;
 // Every report fits into so many bytes.
 pub const REPORT_ROOM: usize = 2048;
 
-// The report on a book's file against a grid in tables.
-fn put_tested(buf: &mut [u8], table: FactorTable, limits: &[u64], book: &[u8]) -> usize
-    requires report_room_in_bounds { report_room ≤ length buf.old }
-    requires good_cells { GoodCells max_limit table.constraints limits.now }
-    ensures { Put (before buf) 0 (with_book table.entry.nodes book.now
-        (report_lines (grid_of table.entry.nodes table.entry.constraints limits.now table.entry.cells.now))) (after buf) result }
+// The report on a book's file against a grid in tables. Not one function with the statement's `put_booked`: what follows the check of the book takes other
+// tables, and a closure for it would need the check's facts as its own.
+fn put_tested(buf: &mut [u8], grid: GridTable, book: &[u8]) -> usize
+    requires { report_room ≤ length buf.old }
+    ensures { Put (before buf) 0 (with_book grid.entry.factors.nodes book.now (report_lines (grid_by grid.entry))) (after buf) result }
 {
-    match book_checks::check_book(table.nodes, book) {
+    match book_checks::check_book(grid.factors.nodes, book) {
         Err(refusal) => text_format::put_refused(buf, b"book", refusal),
-        Ok(()) => put_lines(buf, table, limits, book),
+        Ok(()) => put_lines(buf, grid, book),
     }
 }
 
-// The report on two files.
+// The report on two files. Not one function with `put_statement`: only the reading is the same, and `read_within` is that. The room is the caller's buffer's,
+// here and in `put_lines`: a type for it would be taken apart by each writer of `text_format`.
 fn put_report(grid_file: &[u8], book_file: &[u8], buf: &mut [u8]) -> usize
     requires { report_room ≤ length buf.old }
     ensures { Put (before buf) 0 (report grid_file.now book_file.now) (after buf) result }
@@ -41,8 +40,8 @@ fn put_report(grid_file: &[u8], book_file: &[u8], buf: &mut [u8]) -> usize
     match grid_reading::read_within(PROGRAM_GRID_BYTES, grid_file, &mut limits, &mut factors) {
         Err(refusal) => text_format::put_refused(buf, b"grid", refusal),
         Ok(grid) => {
-            let table = FactorTable::of(grid.nodes, grid.constraints, &factors);
-            put_tested(buf, table, &limits, book_file)
+            let tables = GridTable::of(grid.nodes, grid.constraints, &limits, &factors);
+            put_tested(buf, tables, book_file)
         }
     }
 }

@@ -1,13 +1,12 @@
 -- `put_tested`.
 use mathlib.Core.Path.{sym, ◌∙◌}
-use native.Mathlib.Omega.{arith}
 use Rattle.text_format.proofs.Putting.{put_same}
 use Rattle.text_files.proofs.WithFiles.{book-refused, book-text}
 use Rattle.text_report.proofs.put_tested.Goals as goal
 
 pub put_lines-requires : goal.put_lines-requires
 put_lines-requires c =
-    record { report_room_in_bounds = omega (arith, c.requires.report_room_in_bounds); reportable = record { good-limits = c.requires.good_cells; good-factors = c.args.table.good; good_book = sym c.check_book.ensures ∙ c.in-Ok.is } }
+    record { report_room_in_bounds = c.requires; reportable = record { good-limits = c.args.grid.good; good-factors = c.args.grid.factors.good; good_book = sym c.check_book.ensures ∙ c.in-Ok.is } }
 
 pub returns-in-Err : goal.returns-in-Err
 returns-in-Err c =

@@ -3,7 +3,7 @@ use Rattle.test_rules.specs.Carried.{Carries}
 use Rattle.test_rules.specs.declared.Flows.{Flows}
 use Rattle.tariff.specs.declared.contracts.Period.{Period}
 use mathlib.Core.List.{List}
-use mathlib.Core.Path.{◌≡◌}
+use mathlib.Core.Path.{◌≡◌, ◌∙◌}
 use Prim.Native.Nat.{◌^◌, ◌<◌, ℕ}
 use native.Mathlib.Omega.{arith}
 use lib.IntN.{nat_abs, ℤ}
@@ -46,31 +46,30 @@ module _ (nodes constraints : ℕ) (limits : List ℕ) (factors : List ℤ) (per
   by-flows : (process : Process) (verdict : Verdict) → test_outcome (Ok verdict) ≡ given (judged_values limits process flows.flows constraints) → Told process verdict
   by-flows process verdict = judges nodes constraints reportable.good-factors.few limits factors process period (book_in book) flows carried (Ok verdict)
 
+  -- the loading's is that of the flows it was made of
+  told : {k : ℕ} {ls : List ℕ} {held : Flows} → k ≡ constraints → ls ≡ limits → held ≡ flows → (process : Process) (verdict : Verdict)
+      → test_outcome (Ok verdict) ≡ given (judged_values ls process held.flows k) → Told process verdict
+  told a b d process verdict e = by-flows process verdict (e ∙ (λ i. given (judged_values (b i) process (d i).flows (a i))))
+
   small : (process : Process) (verdict : Verdict) → Told process verdict → nat_abs (over_by verdict) < 2 ^ 63
   small process verdict told = over-bound nodes constraints limits factors book process period verdict told reportable
 
   text : (process : Process) (verdict : Verdict) → Told process verdict → line grid (book_in book) period process ≡ answer_line constraints period process verdict
   text process verdict told = line-text nodes constraints limits factors book process period verdict told
 
-pub verdict-annual-requires : goal.verdict-annual-requires
-verdict-annual-requires c = judgeable c.args.table.nodes c.args.table.constraints c.args.limits.now c.args.table.cells.now c.args.period c.args.book.now c.requires.reportable c.carry-flows.result c.carry-flows.ensures
-
-pub verdict-lt-requires : goal.verdict-lt-requires
-verdict-lt-requires c = judgeable c.args.table.nodes c.args.table.constraints c.args.limits.now c.args.table.cells.now c.args.period c.args.book.now c.requires.reportable c.carry-flows.result c.carry-flows.ensures
-
-pub verdict-monthly-requires : goal.verdict-monthly-requires
-verdict-monthly-requires c = judgeable c.args.table.nodes c.args.table.constraints c.args.limits.now c.args.table.cells.now c.args.period c.args.book.now c.requires.reportable c.carry-flows.result c.carry-flows.ensures
+pub of-loading-requires : goal.of-loading-requires
+of-loading-requires c = judgeable c.args.grid.factors.nodes c.args.grid.factors.constraints c.args.grid.limits.now c.args.grid.factors.cells.now c.args.period c.args.book.now c.requires.reportable c.carry-flows.result c.carry-flows.ensures
 
 pub put_line-first-requires : goal.put_line-first-requires
-put_line-first-requires c = (c.requires.reportable.good-factors.few, omega (arith, c.requires.period_lines_room_in_bounds), (small c.args.table.nodes c.args.table.constraints c.args.limits.now c.args.table.cells.now c.args.period c.args.book.now c.requires.reportable c.carry-flows.result c.carry-flows.ensures Annual _ (by-flows c.args.table.nodes c.args.table.constraints c.args.limits.now c.args.table.cells.now c.args.period c.args.book.now c.requires.reportable c.carry-flows.result c.carry-flows.ensures Annual _ c.verdict-annual.ensures)))
+put_line-first-requires c = (c.requires.reportable.good-factors.few, omega (arith, c.requires.period_lines_room_in_bounds), (small c.args.grid.factors.nodes c.args.grid.factors.constraints c.args.grid.limits.now c.args.grid.factors.cells.now c.args.period c.args.book.now c.requires.reportable c.carry-flows.result c.carry-flows.ensures Annual _ (told c.args.grid.factors.nodes c.args.grid.factors.constraints c.args.grid.limits.now c.args.grid.factors.cells.now c.args.period c.args.book.now c.requires.reportable c.carry-flows.result c.carry-flows.ensures c.of-loading.ensures.constraints_kept c.of-loading.ensures.limits_kept c.of-loading.ensures.flows_kept Annual _ c.verdict-annual.ensures)))
 
 pub put_line-second-requires : goal.put_line-second-requires
 put_line-second-requires c =
-    (c.requires.reportable.good-factors.few, omega (arith, c.requires.period_lines_room_in_bounds, c.put_line-first.ensures.upper_bound), (small c.args.table.nodes c.args.table.constraints c.args.limits.now c.args.table.cells.now c.args.period c.args.book.now c.requires.reportable c.carry-flows.result c.carry-flows.ensures TierLt _ (by-flows c.args.table.nodes c.args.table.constraints c.args.limits.now c.args.table.cells.now c.args.period c.args.book.now c.requires.reportable c.carry-flows.result c.carry-flows.ensures TierLt _ c.verdict-lt.ensures)))
+    (c.requires.reportable.good-factors.few, omega (arith, c.requires.period_lines_room_in_bounds, c.put_line-first.ensures.upper_bound), (small c.args.grid.factors.nodes c.args.grid.factors.constraints c.args.grid.limits.now c.args.grid.factors.cells.now c.args.period c.args.book.now c.requires.reportable c.carry-flows.result c.carry-flows.ensures TierLt _ (told c.args.grid.factors.nodes c.args.grid.factors.constraints c.args.grid.limits.now c.args.grid.factors.cells.now c.args.period c.args.book.now c.requires.reportable c.carry-flows.result c.carry-flows.ensures c.of-loading.ensures.constraints_kept c.of-loading.ensures.limits_kept c.of-loading.ensures.flows_kept TierLt _ c.verdict-lt.ensures)))
 
 pub put_line-requires : goal.put_line-requires
 put_line-requires c =
-    (c.requires.reportable.good-factors.few, omega (arith, c.requires.period_lines_room_in_bounds, c.put_line-first.ensures.upper_bound, c.put_line-second.ensures.upper_bound), (small c.args.table.nodes c.args.table.constraints c.args.limits.now c.args.table.cells.now c.args.period c.args.book.now c.requires.reportable c.carry-flows.result c.carry-flows.ensures Monthly _ (by-flows c.args.table.nodes c.args.table.constraints c.args.limits.now c.args.table.cells.now c.args.period c.args.book.now c.requires.reportable c.carry-flows.result c.carry-flows.ensures Monthly _ c.verdict-monthly.ensures)))
+    (c.requires.reportable.good-factors.few, omega (arith, c.requires.period_lines_room_in_bounds, c.put_line-first.ensures.upper_bound, c.put_line-second.ensures.upper_bound), (small c.args.grid.factors.nodes c.args.grid.factors.constraints c.args.grid.limits.now c.args.grid.factors.cells.now c.args.period c.args.book.now c.requires.reportable c.carry-flows.result c.carry-flows.ensures Monthly _ (told c.args.grid.factors.nodes c.args.grid.factors.constraints c.args.grid.limits.now c.args.grid.factors.cells.now c.args.period c.args.book.now c.requires.reportable c.carry-flows.result c.carry-flows.ensures c.of-loading.ensures.constraints_kept c.of-loading.ensures.limits_kept c.of-loading.ensures.flows_kept Monthly _ c.verdict-monthly.ensures)))
 
 pub returns : goal.returns
 unfolding period_lines
@@ -79,8 +78,8 @@ returns c =
     let p2 = c.put_line-second.ensures in
     let p3 = c.put_line.ensures in
     record {
-      put = put_same (text c.args.table.nodes c.args.table.constraints c.args.limits.now c.args.table.cells.now c.args.period c.args.book.now c.requires.reportable c.carry-flows.result c.carry-flows.ensures Annual _ (by-flows c.args.table.nodes c.args.table.constraints c.args.limits.now c.args.table.cells.now c.args.period c.args.book.now c.requires.reportable c.carry-flows.result c.carry-flows.ensures Annual _ c.verdict-annual.ensures)) p1.put
-          then put_same (text c.args.table.nodes c.args.table.constraints c.args.limits.now c.args.table.cells.now c.args.period c.args.book.now c.requires.reportable c.carry-flows.result c.carry-flows.ensures TierLt _ (by-flows c.args.table.nodes c.args.table.constraints c.args.limits.now c.args.table.cells.now c.args.period c.args.book.now c.requires.reportable c.carry-flows.result c.carry-flows.ensures TierLt _ c.verdict-lt.ensures)) p2.put
-          then put_same (text c.args.table.nodes c.args.table.constraints c.args.limits.now c.args.table.cells.now c.args.period c.args.book.now c.requires.reportable c.carry-flows.result c.carry-flows.ensures Monthly _ (by-flows c.args.table.nodes c.args.table.constraints c.args.limits.now c.args.table.cells.now c.args.period c.args.book.now c.requires.reportable c.carry-flows.result c.carry-flows.ensures Monthly _ c.verdict-monthly.ensures)) p3.put;
+      put = put_same (text c.args.grid.factors.nodes c.args.grid.factors.constraints c.args.grid.limits.now c.args.grid.factors.cells.now c.args.period c.args.book.now c.requires.reportable c.carry-flows.result c.carry-flows.ensures Annual _ (told c.args.grid.factors.nodes c.args.grid.factors.constraints c.args.grid.limits.now c.args.grid.factors.cells.now c.args.period c.args.book.now c.requires.reportable c.carry-flows.result c.carry-flows.ensures c.of-loading.ensures.constraints_kept c.of-loading.ensures.limits_kept c.of-loading.ensures.flows_kept Annual _ c.verdict-annual.ensures)) p1.put
+          then put_same (text c.args.grid.factors.nodes c.args.grid.factors.constraints c.args.grid.limits.now c.args.grid.factors.cells.now c.args.period c.args.book.now c.requires.reportable c.carry-flows.result c.carry-flows.ensures TierLt _ (told c.args.grid.factors.nodes c.args.grid.factors.constraints c.args.grid.limits.now c.args.grid.factors.cells.now c.args.period c.args.book.now c.requires.reportable c.carry-flows.result c.carry-flows.ensures c.of-loading.ensures.constraints_kept c.of-loading.ensures.limits_kept c.of-loading.ensures.flows_kept TierLt _ c.verdict-lt.ensures)) p2.put
+          then put_same (text c.args.grid.factors.nodes c.args.grid.factors.constraints c.args.grid.limits.now c.args.grid.factors.cells.now c.args.period c.args.book.now c.requires.reportable c.carry-flows.result c.carry-flows.ensures Monthly _ (told c.args.grid.factors.nodes c.args.grid.factors.constraints c.args.grid.limits.now c.args.grid.factors.cells.now c.args.period c.args.book.now c.requires.reportable c.carry-flows.result c.carry-flows.ensures c.of-loading.ensures.constraints_kept c.of-loading.ensures.limits_kept c.of-loading.ensures.flows_kept Monthly _ c.verdict-monthly.ensures)) p3.put;
       upper_bound = omega (arith, p1.upper_bound, p2.upper_bound, p3.upper_bound);
     }
