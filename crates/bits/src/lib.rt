@@ -11,6 +11,7 @@ mod writer;
 pub use writer::{put, put_last, store2, store6, store7};
 
 // The bytes of `s` from `first` on, `count` of them, as one number. Where `count` is a constant the compiler makes one load of it, or two.
+// `count` says how many are taken, not how long `s` is: as a slice they would be cut out by each caller in place of here.
 pub fn window(s: &[u8], first: usize, count: usize) -> u64
     requires count_in_bounds { first + count ≤ length s.now }
     requires count_bound { count ≤ 8 }
@@ -37,7 +38,7 @@ pub fn part(v: u64, low: usize, width: usize) -> u64
     (v >> low) % (1u64 << width)
 }
 
-// The field out of the `count` bytes from its first on.
+// The field out of the `count` bytes from its first on: `count` is `window`'s, for the same reason.
 fn cut(s: &[u8], offset: usize, width: usize, count: usize) -> u64
     requires { (offset % 8 + width ≤ 8 * count) × (offset / 8 + count ≤ length s.now) × (count ≤ 5) × (width ≤ 32) }
     ensures { (result ≡ field_of s.now offset width) × (result < 2 ^ width) }

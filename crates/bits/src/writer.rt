@@ -16,6 +16,7 @@ fn join(a: u64, v: u64, width: usize) -> u64
 }
 
 // Stores the `count` lowest bytes of `v` from place `at` on. Where `count` is a constant the compiler makes as few stores of it as there can be.
+// `count` is of the bytes of `v`, which `buf` is longer than.
 fn store(buf: &mut [u8], at: usize, count: usize, v: u64)
     requires { (at + count ≤ length buf.old) × (count ≤ 8) }
     ensures { after buf ≡ take at (before buf) ++ digits 8 count v ++ drop (at + count) (before buf) }
@@ -23,7 +24,7 @@ fn store(buf: &mut [u8], at: usize, count: usize, v: u64)
     buf[at..at + count].copy_from_slice(&v.to_be_bytes()[8 - count..]);
 }
 
-// Stores the two lowest bytes of `v` from place `at` on.
+// Stores the two lowest bytes of `v` from place `at` on. This, `store6` and `store7` stay: `store` in their place would owe `count ≤ 8` at each call.
 pub fn store2(buf: &mut [u8], at: usize, v: u64)
     requires { at + 2 ≤ length buf.old }
     ensures { after buf ≡ take at (before buf) ++ digits 8 2 v ++ drop (at + 2) (before buf) }
