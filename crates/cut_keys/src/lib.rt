@@ -16,6 +16,7 @@ use cut_needs::ExcessTable;
 use cut_rules::KEY_BASE;
 use tariff::{Contract, MAX_CONSTRAINTS, Quantity};
 use test_terms::Tested;
+use test_verdict::Loading;
 
 // The key of a contract that is of the period and has a cut.
 fn key_of(excesses: ExcessTable, c: Contract, number: usize) -> Option<u64>
@@ -57,19 +58,14 @@ pub fn row_keys(test: Tested, keys: &mut [u64]) -> usize
     ensures keys_value { take result (after keys)
         ≡ map row_key (least_cuts (grid_by test.entry.grid) test.entry.process test.entry.period (book_in test.entry.book.now)) }
 {
-    let constraints = test.grid.factors.constraints;
-    let carried = test_flows::carry(test.grid.factors, test.period, test.book);
-    if test_verdict::overload_set(constraints, test.process, test.grid.limits, carried) == 0 {
+    let grid = test.grid;
+    let flows = test_flows::carry(grid.factors, test.period, test.book);
+    let loading = Loading::of(grid.factors.constraints, grid.limits, flows);
+    if loading.overload_set(test.process) == 0 {
         return 0;
     }
     let mut cells = [0i64; MAX_CONSTRAINTS];
-    test_excesses::fill_excess(
-        constraints,
-        test.process,
-        test.grid.limits,
-        carried,
-        &mut cells,
-    );
+    test_excesses::fill_excess(loading, test.process, &mut cells);
     let count = collect_keys(ExcessTable::of(test, &cells), keys);
     sorting::sort(&mut keys[..count]);
     count
