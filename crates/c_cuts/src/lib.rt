@@ -1,7 +1,7 @@
 // The least cuts that clear a book, for C: the rows go into lent cells, and the answer is the refusal's number, 0 for none.
+// C calls each operation by a name of its own and with raw parameters, so a body that only passes the answer on is written out for each.
 #![tactic(auto)]
 
-ghost use Rattle.lists.specs.Lent.{before};
 ghost use Rattle.test_rules.specs.TestBook.{test_call};
 ghost use Rattle.cut_rules.specs.FindCuts.{FindsCutsForC};
 

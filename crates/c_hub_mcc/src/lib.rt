@@ -1,7 +1,6 @@
 // Finding a hub's MCC for C: the two figures go into lent cells, and the answer is the refusal's number, 0 for none.
 #![tactic(auto)]
 
-ghost use Rattle.lists.specs.Lent.{before};
 ghost use Rattle.hub_mcc.specs.FindHubMcc.{find_hub_mcc_call, FindsHubMccForC};
 
 // Finds the MCC of a hub of nodes and weights, as quotient rounded down and remainder.

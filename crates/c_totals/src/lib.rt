@@ -1,7 +1,8 @@
 // A test of any size, for C: figures go into lent cells, and the answer is the refusal's number, 0 for none.
+// C calls each operation by a name of its own and with raw parameters, so a body that only passes the answer on is written out for each.
 #![tactic(auto)]
 
-ghost use Rattle.lists.specs.Lent.{before, after};
+ghost use Rattle.lists.specs.Lent.{after};
 ghost use Rattle.test_totals.specs.AddFlows.{add_flows_call, AddsFlowsForC};
 ghost use Rattle.test_totals.specs.JudgeFlows.{judge_call, JudgesFlowsForC};
 
