@@ -1,7 +1,7 @@
 -- Counts of overloaded constraints, what is left of a set's number, and the constraints listed: one constraint more.
 use mathlib.Core.Path.{◌≡◌, refl, sym, ap, ◌∙◌}
 use mathlib.Core.Logic.{⊎_elim}
-use mathlib.Core.Bool.{Bool, true, false, cond}
+use mathlib.Core.Bool.{Bool, true, false, cond, true≢false}
 use mathlib.Core.List.{List}
 use Prim.Native.Nat.{ℕ, zero, suc, ◌+◌, ◌/◌, ◌^◌, ◌≤◌, ◌<◌}
 use native.Mathlib.Nat.{div-one, add-zero, le_of_eq, le_trans, le-add_right, eq-or-lt_of_le}
@@ -9,7 +9,8 @@ use native.Mathlib.Numerals.{add-one}
 use native.Mathlib.Omega.{arith}
 use borrow.Author.Tests.{ltb-true, ltb-false}
 use lib.Dec.{ltb}
-use lib.ListN.{get_or}
+use lib.ListN.{length, get_or, set, length-set}
+use lib.Seq.{get_or-set_same, get_or-set_other}
 use Rattle.lists.specs.Sets.{count_of}
 use Rattle.exposure_rules.proofs.Bounds.{by_bool}
 use Rattle.exposure_rules.proofs.Sets.{half-on, counts_start, counts-one, counts-none}
@@ -39,6 +40,24 @@ counted-most true c k d h e = omega arith
 counted-most false c k d h e = omega arith
 
 -- ---- the list, one constraint more
+
+pub noted_on : (b : Bool) (k count r : ℕ) (old new : List ℕ) → b ≡ true → count < length old → new ≡ set old count k → r ≡ count + 1 → Noted b k count old new r
+noted_on b k count r old new t h e q =
+    record {
+      length-kept = ap length e ∙ length-set old count k;
+      counts = rw t q;
+      kept = λ j l. ap (λ (cells : List ℕ). get_or cells j 0) e ∙ get_or-set_other old count j k 0 (λ s. absurd (omega arith));
+      noted = λ s. ap (λ (cells : List ℕ). get_or cells count 0) e ∙ get_or-set_same old count k 0 h;
+    }
+
+pub noted_off : (b : Bool) (k count r : ℕ) (old new : List ℕ) → b ≡ false → new ≡ old → r ≡ count → Noted b k count old new r
+noted_off b k count r old new f e q =
+    record {
+      length-kept = ap length e;
+      counts = rw f (q ∙ sym (add-zero count));
+      kept = λ j l. ap (λ (cells : List ℕ). get_or cells j 0) e;
+      noted = λ s. absurd (true≢false (sym s ∙ f));
+    }
 
 count-mono : (b : ℕ → Bool) (j k : ℕ) → j ≤ k → count_of j b ≤ count_of k b
 unfolding count_of
