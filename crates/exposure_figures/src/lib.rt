@@ -103,7 +103,10 @@ pub fn rent(grid: GridTable, process: Process, prices: &[u64]) -> Owed
 {
     let constraints = grid.factors.constraints;
     let mut total = Owed { whole: 0, parts: 0 };
-    for (limit, price) in grid.limits[..constraints].iter().zip(&prices[..constraints]) {
+    for (limit, price) in grid.limits[..constraints]
+        .iter()
+        .zip(&prices[..constraints])
+    {
         total = total + rent_at(process, *limit, *price);
     }
     total

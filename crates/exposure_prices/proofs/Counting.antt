@@ -9,8 +9,8 @@ use native.Mathlib.Numerals.{add-one}
 use native.Mathlib.Omega.{arith}
 use borrow.Author.Tests.{ltb-true, ltb-false}
 use lib.Dec.{ltb}
-use lib.ListN.{length, get_or, set, length-set}
-use lib.Seq.{get_or-set_same, get_or-set_other}
+use lib.ListN.{length, get_or, set, take, length-set}
+use lib.Seq.{get_or-take, get_or-set_same, get_or-set_other}
 use Rattle.lists.specs.Sets.{count_of}
 use Rattle.exposure_rules.proofs.Bounds.{by_bool}
 use Rattle.exposure_rules.proofs.Sets.{half-on, counts_start, counts-one, counts-none}
@@ -67,6 +67,17 @@ count-mono b j zero h = rw (none j h) (omega arith)
     none j h = omega arith
 count-mono b j (suc k) h = ⊎_elim (λ e. le_of_eq (ap (λ (x : ℕ). count_of x b) e))
     (λ l. le_trans (count-mono b j k (omega arith)) (le-add_right (count_of k b) (cond (b k) 1 0))) (eq-or-lt_of_le h)
+
+-- the list without the cells behind it
+pub listed-front : (b : ℕ → Bool) (k count : ℕ) (over : List ℕ) → count ≡ count_of k b → Listed k b over → Listed k b (take count over)
+listed-front b k count over e l =
+    record {
+      at = λ j h t. get_or-take count over (count_of j b) 0 (inside j h t) ∙ l.at j h t;
+      below = λ s h. rw (get_or-take count over s 0 (rw e h)) (l.below s h);
+    }
+  where
+    inside : (j : ℕ) → j < k → b j ≡ true → count_of j b < count
+    inside j h t = let one = counts-one b j t in let up = count-mono b (suc j) k h in omega (arith, e, one, up)
 
 pub list_start : (b : ℕ → Bool) (over : List ℕ) → Listed 0 b over
 unfolding count_of

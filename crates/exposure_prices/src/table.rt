@@ -1,5 +1,5 @@
 // The excesses of a test, in range, so that no sum of them is tested.
-ghost use Rattle.std.specs.Prelude.{◌≡◌, length};
+ghost use Rattle.std.specs.Prelude.{length};
 ghost use Rattle.exposure_prices.specs.Inner.{Excesses};
 
 // The excesses of a test's constraints, one for each.
@@ -7,13 +7,4 @@ ghost use Rattle.exposure_prices.specs.Inner.{Excesses};
 pub struct ExcessTable<'a> {
     pub cells: &'a [i64],
     pub ghost sized: { Excesses (length cells.now) cells.now },
-}
-
-impl<'a> ExcessTable<'a> {
-    pub fn of(cells: &'a [i64]) -> Self
-        requires { Excesses (length cells.now) cells.now }
-        ensures { result.cells.now ≡ cells.now }
-    {
-        ExcessTable { cells }
-    }
 }
