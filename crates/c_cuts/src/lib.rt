@@ -8,6 +8,7 @@ ghost use Rattle.cut_rules.specs.FindCuts.{FindsCutsForC};
 use test_terms::Asked;
 
 // Lists each contract of the period whose quantity, lowered alone, makes a failing book pass, with the least such cut, and gives how many there are.
+// Its body is that of `crr_find_flows` and of the running test's entries but for what is called: C calls each by its own name, and all answer by `answer_cell`.
 #[unsafe(no_mangle)]
 pub extern "C" fn crr_find_cuts(
     nodes: usize,

@@ -1,7 +1,7 @@
 // The least cut of one contract of a tested book that takes every excess away.
 #![tactic(auto)]
 
-ghost use Rattle.std.specs.Prelude.{◌≡◌, cond, ℕ, ◌^◌, ◌≤◌, ◌<◌, leb, pos, nat_abs, ◌-ℤ◌, ◌<ℤ◌, ◌≤ℤ◌};
+ghost use Rattle.std.specs.Prelude.{◌≡◌, cond, ℕ, ◌≤◌, ◌<◌, leb, pos, nat_abs, ◌-ℤ◌, ◌<ℤ◌, ◌≤ℤ◌};
 ghost use Rattle.tariff.specs.Units.{max_factor, max_quantity};
 ghost use Rattle.tariff.specs.ContractRules.{counted, InRange};
 ghost use Rattle.cut_rules.specs.Inner.{need_at, raised_to};
@@ -23,7 +23,7 @@ pub struct ExcessTable<'a> {
 
 // The cut that an overload needs: so many times the slope is at least the overload. 0 where the slope is not above 0, or where that is more than `most`.
 fn cut_needed(over: Flow, slope: Flow, most: Quantity) -> Quantity
-    requires { (pos 0 <ℤ over.0) × (nat_abs over.0 < 2 ^ 63) × (nat_abs slope.0 < 2 ^ 63) }
+    requires { pos 0 <ℤ over.0 }
     ensures { result.0 ≡ cond (leb (need_at over.0 slope.0) most.0) (need_at over.0 slope.0) 0 }
 {
     if slope.0 <= 0 {
@@ -37,7 +37,7 @@ fn cut_needed(over: Flow, slope: Flow, most: Quantity) -> Quantity
 }
 
 // The need raised to what an overload asks at two factors, and 0 where no cut up to `most` is enough. It divides only where the need is short.
-// Its bounds are asked as facts: a `Quantity` may also be a load or a sum, a `Flow` any i64 and a factor a cell of a lent table, so no type of theirs has them.
+// Its bounds are asked as facts: a `Quantity` may also be a load or a sum, and a factor is a cell of a lent table, so no type of theirs has them.
 fn raised(
     over: Flow,
     kind: Kind,
@@ -47,7 +47,7 @@ fn raised(
     need: Quantity,
 ) -> Quantity
     requires source_bound { (nat_abs source ≤ max_factor) × (nat_abs sink ≤ max_factor) × (need.0 ≤ most.0) × (most.0 ≤ max_quantity) }
-    requires pos_bound { (pos 0 <ℤ over.0) × (nat_abs over.0 < 2 ^ 63) }
+    requires pos_bound { pos 0 <ℤ over.0 }
     ensures { result.0 ≡ raised_to over.0 (counted kind (source -ℤ sink)) most.0 need.0 }
 {
     let relief = need.counted_flow(kind, source, sink);
@@ -101,7 +101,8 @@ impl<'a> ExcessTable<'a> {
     }
 
     // The cut that a contract's overloads need, up to its quantity: the least, where it is enough at every constraint.
-    // A contract that does not relieve an overload is left at once, with 0.
+    // A contract that does not relieve an overload is left at once, with 0. That its ends and quantity are in range is asked here and below, one fact at a time:
+    // a type for such a contract would be made for each contract of the book, to be read by these alone.
     fn least_need(self, c: Contract) -> Quantity
         requires { InRange self.test.grid.factors.nodes c }
         ensures { (result.0 ≤ c.quantity.0) × (cut_by self.entry c ≡ cond (enough_by self.entry c result.0) result.0 0) }

@@ -62,7 +62,7 @@ pub fn all_mccs(hour: HourTable) -> [Mcc; MAX_NODES]
     mccs
 }
 
-// Finds the MCC of all nodes, one cell each.
+// Finds the MCC of all nodes, one cell each. C lends the tables one by one, and nothing of them is checked yet: `HourTable` is for what is.
 pub fn find_mcc(
     nodes: usize,
     constraints: usize,

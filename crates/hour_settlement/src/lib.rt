@@ -12,6 +12,7 @@ use hour_rules::Totals;
 use tariff::{Period, Refusal};
 
 // The checks of settling an hour, with `cells` cells for the cents and `sets` for the sets: the tables', the book's own, 9.
+// Here and in the entry the tables stand apart as C lends them: nothing of them is checked yet, and `HourTable` is for what is.
 fn check_settle(
     nodes: usize,
     constraints: usize,

@@ -12,15 +12,15 @@ use tariff::{MAX_BALANCE, MAX_COORDINATORS, MAX_DEMAND, Refusal};
 // The least balance.
 const MIN_BALANCE: i64 = -MAX_BALANCE;
 
-// 26, of the count: none, or too many. One function for this and the count of LSEs (migration_transfers) would be `zero_or_above` again, with both bounds handed in.
+// 26, of the count: none, or too many. `migration_transfers::entity_count_bad` is the same of LSEs: what the two share is `zero_or_above`.
 fn count_bad(count: usize) -> bool
     ensures { result ≡ (coordinator_count count).fails }
 {
     tariff::zero_or_above(count as u64, MAX_COORDINATORS as u64)
 }
 
-// 26, of the balance: the least i64 has no size in an i64, so it is compared first. With `factor_bad` (grid_tables) it shares two comparisons alone: one function
-// would take all four numbers and say nothing of either check.
+// 26, of the balance: the least i64 has no size in an i64, so it is compared first. As short as `grid_tables::factor_bad`, of other bounds: one function of both
+// would take the bounds, and ask that the one is the other's opposite.
 fn balance_bad(balance: i64) -> bool
     ensures { result ≡ (balance_range balance).fails }
 {
