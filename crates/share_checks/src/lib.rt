@@ -19,7 +19,8 @@ fn count_bad(count: usize) -> bool
     tariff::zero_or_above(count as u64, MAX_COORDINATORS as u64)
 }
 
-// 26, of the balance: the least i64 has no size in an i64, so it is compared first.
+// 26, of the balance: the least i64 has no size in an i64, so it is compared first. As short as `grid_tables::factor_bad`, of other bounds: one function of both
+// would take the bounds, and ask that the one is the other's opposite.
 fn balance_bad(balance: i64) -> bool
     ensures { result ≡ (balance_range balance).fails }
 {
