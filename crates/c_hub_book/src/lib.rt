@@ -6,6 +6,7 @@ ghost use Rattle.lists.specs.Lent.{before, after};
 ghost use Rattle.hub_book.specs.AddHubContract.{hub_call, AddsHubForC};
 
 // Adds the contracts that a hub contract becomes to a book's file for a grid of `nodes` nodes, and gives the new file's length.
+// Its body is `crr_migrate_load`'s but for the entry: C calls each by its own name, and both hand the answer on by `answer_cell`.
 #[unsafe(no_mangle)]
 pub extern "C" fn crr_add_hub_contract(
     nodes: usize,

@@ -7,6 +7,7 @@ ghost use Rattle.migration_rules.specs.Transfers.{row_lists};
 ghost use Rattle.migration_book.specs.MigrateLoad.{migrate_load_call, MigratesLoadForC};
 
 // Migrates the contracts of LSEs that lost load, in a book's file for a grid of `nodes` nodes, and gives the new file's length.
+// Its body is `crr_add_hub_contract`'s but for the entry, as said there.
 #[unsafe(no_mangle)]
 pub extern "C" fn crr_migrate_load(
     nodes: usize,

@@ -23,7 +23,7 @@ fn check_nets(entities: usize, lists: RowLists, place: &[i64]) -> Result<(), Ref
     Ok(())
 }
 
-// A net as a cell of a table.
+// A net as a cell of a table. The bound is a cell's, which `Transfer` says nothing of, as units say none of their own: a sum of them is one too.
 fn cell_of(net: Transfer) -> i64
     requires { nat_abs net.0 < 2 ^ 63 }
     ensures { result ≡ net.0 }
@@ -31,7 +31,7 @@ fn cell_of(net: Transfer) -> i64
     net.0
 }
 
-// One loser's row, a cell for each gainer, from cell `at` on.
+// One loser's row, a cell for each gainer, from cell `at` on. `entities ≤ max_entities` and `SizedSquare` stay clauses, as said in migration_transfers.
 fn fill_row(entities: usize, row: Row, nets: &mut [i64], at: usize)
     requires { (entities ≤ max_entities) × (at + entities ≤ length nets.old) × SizedRow row × (at ≤ max_entities * max_entities) }
     ensures { after nets ≡ overwrite_at at (row_cells entities row) (before nets) }

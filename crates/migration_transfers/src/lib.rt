@@ -15,7 +15,8 @@ use tariff::{
     MAX_CUSTOMERS, MAX_ENTITIES, MAX_LOAD, MAX_RATE, MAX_ROWS, Quantity, Refusal, Transfer,
 };
 
-// Net transfers: a row for each loser, a cell in it for each gainer.
+// Net transfers: a row for each loser, a cell in it for each gainer. It stays an array of arrays passed by value (document 01), which has no ghost field: so
+// `SizedSquare` and `SizedRow` are asked for by those that read it.
 pub type Square = [[Transfer; MAX_ENTITIES]; MAX_ENTITIES];
 
 // One loser's row of them.
@@ -28,7 +29,7 @@ fn entity_bad(entities: usize, number: u64) -> bool
     tariff::zero_or_above(number, entities as u64)
 }
 
-// How many LSEs there are: none, or too many.
+// How many LSEs there are: none, or too many. `share_checks::count_bad` is the same of coordinators: what the two share is `zero_or_above`.
 fn entity_count_bad(entities: usize) -> bool
     ensures { result ≡ (entity_count entities).fails }
 {
@@ -171,7 +172,8 @@ pub fn row_of(number: u64) -> usize
     (number - 1) as usize
 }
 
-// What a loser's row says is lost to all of so many LSEs.
+// What a loser's row says is lost to all of so many LSEs. `entities ≤ max_entities` is asked for here and wherever a row or a square is gone through: a type for
+// the count would be made of `loads.len()` or of C's number at each call and taken apart again for a range.
 fn lost_by(row: Row, entities: usize) -> Quantity
     requires { (entities ≤ max_entities) × SizedRow row }
     ensures { (i : ℕ) → result.0 ≡ losses_to (row_losses row) i entities }

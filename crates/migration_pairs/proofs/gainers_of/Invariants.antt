@@ -1,5 +1,4 @@
 -- The invariant of `migration_pairs::gainers_of`.
-use Prim.Native.Nat.{◌-◌, ◌≤◌}
 use Rattle.migration_pairs.specs.Inner.{GainersOf}
 use Rattle.migration_pairs.proofs.gainers_of.Given as goal
 
