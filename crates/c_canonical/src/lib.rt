@@ -6,6 +6,7 @@ ghost use Rattle.lists.specs.Lent.{before, after};
 ghost use Rattle.canonical_rules.specs.CanonicalBook.{canonical_book_call, WritesCanonicalBookForC};
 
 // Writes the canonical form of a book's file for a grid of `nodes` nodes, and gives its length.
+// Its name and parameters are those of crr.h: functions of this shape pass on one answer each.
 #[unsafe(no_mangle)]
 pub extern "C" fn crr_write_canonical_book(
     nodes: usize,

@@ -35,7 +35,8 @@ fn bits_of(form: Form, v: u64) -> u64
     }
 }
 
-// Stores the row whose number is `v` as contract i of a book in a form.
+// Stores the row whose number is `v` as contract i of a book in a form. Here and below the file is lent and written, so that it and its form are no `Contracts`,
+// which are shared bytes to be read.
 fn store_row(file: &mut [u8], form: Form, i: usize, v: u64)
     requires { (i < 1024) × (book_bytes_of form i + record_bytes form ≤ length file.old) × RowOf form v }
     ensures { after file ≡ take (book_bytes_of form i) (before file) ++ row_bytes form v ++ drop (book_bytes_of form i + record_bytes form) (before file) }

@@ -76,7 +76,7 @@ fn row_quantity(row: u64) -> Quantity
     Quantity(row % QUANTITIES)
 }
 
-// The number of the row of the same five with this quantity.
+// The number of the row of the same five with this quantity. A `Quantity` may be a book's 20 bits before any check, so that its bound is asked for here.
 fn row_with(row: u64, quantity: Quantity) -> u64
     requires { quantity.0 ≤ max_quantity }
     ensures { result ≡ number_at_of quantity.0 row }

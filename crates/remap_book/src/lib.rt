@@ -33,7 +33,7 @@ fn moved_contract(contracts: Contracts, i: usize, ends: &[u16]) -> Contract
     }
 }
 
-// Writes the book of the contracts in their form, with their ends moved.
+// Writes the book of the contracts in their form, with their ends moved: a loop like that of `view_market::write_anonymous`, which says why it is not one with it.
 fn write_moved(contracts: Contracts, ends: &[u16], file: &mut [u8])
     requires count_in_bounds { book_bytes_of contracts.form contracts.count ≤ length file.old }
     requires by_index { (i : ℕ) → i < contracts.count → Movable contracts.form ends.now (contract_in contracts.form contracts.file.now i) }

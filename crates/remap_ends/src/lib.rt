@@ -8,7 +8,7 @@ ghost use Rattle.remap_rules.specs.Inner.{Moves, Listed};
 
 use tariff::MAX_NODES;
 
-// Where each node goes by no pair: nowhere else.
+// Where each node goes by no pair: nowhere else. `nodes` is a bare count, whose bound `Listed` has for the caller: no table stands beside it that a type could tie.
 fn every_node(nodes: usize) -> [u16; MAX_NODES]
     requires { nodes ≤ max_nodes }
     ensures { Moves nodes [] [] result }

@@ -14,7 +14,7 @@ use book_bits::{Contracts, NARROW_END_WIDTH, WIDE_END_WIDTH};
 use layouts::Form;
 use tariff::{MAX_HOLDER, Refusal};
 
-// The holder among a contract's bits.
+// The holder among a contract's bits. The form is matched as in `book_bits::bits_at`, but each arm calls its own function with its own width.
 fn holder_of(form: Form, v: u64) -> u64
     ensures { result ≡ (contract_for (end_width form) v).holder }
 {

@@ -30,7 +30,8 @@ fn cleared(form: Form, v: u64) -> u64
     }
 }
 
-// Writes the book of the contracts in their form, without their holders.
+// Writes the book of the contracts in their form, without their holders. `remap_book::write_moved` stores contracts and this their bits: one function of both
+// would take the store as a closure, say of any contract what these say of theirs, and be no plainer. The file is lent and written, so it has its own bound.
 fn write_anonymous(contracts: Contracts, file: &mut [u8])
     requires { book_bytes_of contracts.form contracts.count ≤ length file.old }
     ensures { after file ≡ overwrite (book_file contracts.entry.form
@@ -43,7 +44,7 @@ fn write_anonymous(contracts: Contracts, file: &mut [u8])
     }
 }
 
-// All checks, with `bytes` lent bytes for the view: the book's own, 9.
+// All checks, with `bytes` lent bytes for the view: the book's own, 9. A list of checks, as the reader's is: the last has its own place and length.
 fn check_market_view(nodes: usize, book: &[u8], bytes: usize) -> Result<(), Refusal>
     ensures { (place : List ℕ) → length place ≡ bytes → result ≡ market_view_checked (market_view_call nodes book.now place) }
 {
