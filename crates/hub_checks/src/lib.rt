@@ -25,7 +25,8 @@ fn weights_bad(weights: &[u64]) -> bool
     weights.iter().any(|weight| weight_bad(*weight))
 }
 
-// The weights together. Any 64-bit numbers may be listed: they are added once each is known to be in range.
+// The weights together. Any 64-bit numbers may be listed: they are added once each is known to be in range. `total_of` (share_checks) is the same call of the
+// library: what keeps each sum small, and what each promises of it, differs.
 fn total_weight(weights: &[u64]) -> u64
     requires { (length weights.now ≤ max_hub_nodes) × (any_of weight_bad_of weights.now ≡ false) }
     ensures { result ≡ sum_by_of (λ w. w) weights.now }

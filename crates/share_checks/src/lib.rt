@@ -12,21 +12,22 @@ use tariff::{MAX_BALANCE, MAX_COORDINATORS, MAX_DEMAND, Refusal};
 // The least balance.
 const MIN_BALANCE: i64 = -MAX_BALANCE;
 
-// 26, of the count: none, or too many.
+// 26, of the count: none, or too many. One function for this and the count of LSEs (migration_transfers) would be `zero_or_above` again, with both bounds handed in.
 fn count_bad(count: usize) -> bool
     ensures { result ≡ (coordinator_count count).fails }
 {
     tariff::zero_or_above(count as u64, MAX_COORDINATORS as u64)
 }
 
-// 26, of the balance: the least i64 has no size in an i64, so it is compared first.
+// 26, of the balance: the least i64 has no size in an i64, so it is compared first. With `factor_bad` (grid_tables) it shares two comparisons alone: one function
+// would take all four numbers and say nothing of either check.
 fn balance_bad(balance: i64) -> bool
     ensures { result ≡ (balance_range balance).fails }
 {
     balance < MIN_BALANCE || MAX_BALANCE < balance
 }
 
-// The total of the demands.
+// The total of the demands. `total_weight` (hub_checks) is the same call of the library: what keeps each sum small, and what each promises of it, differs.
 pub fn total_of(demands: &[u64]) -> u64
     requires { DemandsIn demands.now }
     ensures { (result ≡ total_demand demands.now) × (result ≤ max_demand_total) }
