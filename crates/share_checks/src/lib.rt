@@ -27,7 +27,7 @@ fn balance_bad(balance: i64) -> bool
     balance < MIN_BALANCE || MAX_BALANCE < balance
 }
 
-// The total of the demands.
+// The total of the demands. As `hub_checks::total_weight`, the library's `sum` under another bound: there is nothing more to share.
 pub fn total_of(demands: &[u64]) -> u64
     requires { DemandsIn demands.now }
     ensures { (result ≡ total_demand demands.now) × (result ≤ max_demand_total) }
