@@ -40,7 +40,7 @@ fn check_input(
     migration_transfers::check_figures(lists, loads)
 }
 
-// How many contracts the book grows to.
+// How many contracts the book grows to. `MigrationReady` stays a clause here and below: `Migration` says why.
 fn grown_count(migration: Migration, square: Square) -> usize
     requires { MigrationReady square migration.loads.now }
     ensures { result ≡ migration.entry.contracts.count + length (new_of migration.entry square) }

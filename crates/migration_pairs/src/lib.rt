@@ -64,7 +64,7 @@ fn with_net(gainers: Gainers, net: Transfer) -> Gainers
     Gainers { count, least }
 }
 
-// Those of a loser among so many LSEs, by its row.
+// Those of a loser among so many LSEs, by its row. `SizedRow` and `entities ≤ max_entities` stay clauses, as said in migration_transfers.
 pub fn gainers_of(row: Row, entities: usize) -> Gainers
     requires { SizedRow row × (entities ≤ max_entities) }
     ensures { GainersOf row entities result }
