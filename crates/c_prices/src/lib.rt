@@ -24,7 +24,7 @@ pub extern "C" fn crr_read_prices(
     }
 }
 
-// Writes the first `constraints` prices as a file of a period, and gives its length.
+// Writes the first `constraints` prices as a file of a period, and gives its length. One answer passed on as other entries do: C calls each by its own name.
 #[unsafe(no_mangle)]
 pub extern "C" fn crr_write_prices(
     period: u64,

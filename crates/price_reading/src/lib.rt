@@ -13,7 +13,7 @@ ghost use Rattle.price_rules.specs.ReadPrices.{read_prices_call, read_prices_che
 use layouts::{PRICE_HEADER_BITS, PRICE_WIDTH};
 use tariff::{MAX_CONSTRAINTS, MAX_PRICE, Period, Refusal};
 
-// The reader's checks on a file of the right length.
+// The reader's checks on a file of the right length. Asked in a clause, of the one caller that has just checked it: a type would be no plainer.
 fn check_figures(constraints: usize, file: &[u8], prices: &[u64]) -> Result<(), Refusal>
     requires { (constraints ≤ max_constraints) × (length file.now ≡ price_bytes constraints) }
     ensures { result ≡ first (

@@ -19,7 +19,8 @@ use layouts::{PROGRAM_FACTORS, PROGRAM_GRID_BYTES};
 use tariff::{MAX_CONSTRAINTS, MAX_CONTRACTS, Period, Refusal};
 use text_statement_lines::{LONGEST_STATEMENT, SettledBook};
 
-// The lines of an hour whose tables and book no check refuses.
+// The lines of an hour whose tables and book no check refuses. The buffer's room is asked here and of the three that hand it on: a type with the bound would lend
+// the buffer once more for each part that is put.
 fn put_settled(buf: &mut [u8], hour: HourTable, period: Period, book: &[u8]) -> usize
     requires longest_statement_in_bounds { longest_statement ≤ length buf.old }
     requires book_value { first (book_checks hour.factors.nodes book.now) ≡ passed }
@@ -28,11 +29,15 @@ fn put_settled(buf: &mut [u8], hour: HourTable, period: Period, book: &[u8]) -> 
     let mut cents = [0i64; MAX_CONTRACTS];
     let mut priced = [0u64; MAX_CONTRACTS];
     let totals = hour_contracts::settle(hour, period, book, &mut cents, &mut priced);
-    let settled = SettledBook::of(Contracts::of(book), &cents, &priced);
+    let settled = SettledBook {
+        contracts: Contracts::of(book),
+        cents: &cents,
+        priced: &priced,
+    };
     text_statement_lines::put_lines(buf, period, settled, totals)
 }
 
-// The statement of a grid and a book that are accepted.
+// The statement of a grid and a book that are accepted. Of the book's bytes, of which `settle` asks the same: a type for them would be taken apart at once.
 fn put_priced(buf: &mut [u8], grid: FactorTable, book: &[u8], price_file: &[u8]) -> usize
     requires longest_statement_in_bounds { longest_statement ≤ length buf.old }
     requires book_value { first (book_checks grid.nodes book.now) ≡ passed }
@@ -49,7 +54,8 @@ fn put_priced(buf: &mut [u8], grid: FactorTable, book: &[u8], price_file: &[u8])
     }
 }
 
-// The statement of a grid that is accepted.
+// The statement of a grid that is accepted. Each step checks a file and goes on with its own figures, as the report's do: one function for all would take what
+// follows as a closure, with its promise beside.
 fn put_booked(buf: &mut [u8], grid: FactorTable, book: &[u8], price_file: &[u8]) -> usize
     requires { longest_statement ≤ length buf.old }
     ensures { Put (before buf) 0

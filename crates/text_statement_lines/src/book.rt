@@ -27,19 +27,6 @@ pub struct SettledBook<'a> {
 }
 
 impl<'a> SettledBook<'a> {
-    pub fn of(contracts: Contracts<'a>, cents: &'a [i64], priced: &'a [u64]) -> Self
-        requires { SizedCells contracts.count cents.now priced.now }
-        ensures contracts_kept { result.contracts ≡ contracts.entry }
-        ensures cents_kept { result.cents.now ≡ cents.now }
-        ensures priced_kept { result.priced.now ≡ priced.now }
-    {
-        SettledBook {
-            contracts,
-            cents,
-            priced,
-        }
-    }
-
     // What the line of contract i tells.
     pub fn line(self, i: usize) -> Line
         requires { i < self.contracts.count }

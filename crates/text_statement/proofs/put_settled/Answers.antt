@@ -16,22 +16,22 @@ of-requires c =
     let o = book-accepted c.args.hour.factors.nodes c.args.book.now c.requires.book_value in
     (omega (arith, o.size), omega (arith, o.size))
 
-pub of-settled-requires : goal.of-settled-requires
-of-settled-requires c =
+pub invariant_of-settled : goal.invariant_of-settled
+invariant_of-settled c =
     let few = (book-accepted c.args.hour.factors.nodes c.args.book.now c.requires.book_value).few in
-    rw c.of.ensures.2 (settled_sized c.settle-totals.ensures few (omega (arith, few)) (omega (arith, few)))
+    record { sized = rw c.of.ensures.2 (settled_sized c.settle-totals.ensures few (omega (arith, few)) (omega (arith, few))) }
 
 pub put_lines-requires : goal.put_lines-requires
 put_lines-requires c =
     let few = (book-accepted c.args.hour.factors.nodes c.args.book.now c.requires.book_value).few in
+    let count = c.of.ensures.2 in
     record {
-      bounded = rw (c.of-settled.ensures.contracts_kept, c.of.ensures.2) c.settle-totals.ensures.bounded;
-      in_bounds = rw (c.of-settled.ensures.contracts_kept, c.of.ensures.2) (omega (arith, c.requires.longest_statement_in_bounds, few));
+      bounded = rw count c.settle-totals.ensures.bounded;
+      in_bounds = rw count (omega (arith, c.requires.longest_statement_in_bounds, few));
     }
 
 pub returns : goal.returns
 unfolding settled_lines_of
 returns c =
     let of = c.of.ensures in
-    let kept = c.of-settled.ensures in
-    put_same (settled_lines c.settle-totals.ensures) (rw (kept.contracts_kept, kept.cents_kept, kept.priced_kept, of.0, of.1, of.2) at c.put_lines.ensures)
+    put_same (settled_lines c.settle-totals.ensures) (rw (of.0, of.1, of.2) at c.put_lines.ensures)
