@@ -52,7 +52,13 @@ pub fn check_figures(grid: CountedFile, limits: &[u64], factors: &[i64]) -> Resu
 {
     let size = grid.size;
     let used = size.used_bits();
-    if runs::field_above(grid.bytes, size.header, LIMIT_WIDTH, size.constraints, MAX_LIMIT) {
+    if runs::field_above(
+        grid.bytes,
+        size.header,
+        LIMIT_WIDTH,
+        size.constraints,
+        MAX_LIMIT,
+    ) {
         return Err(Refusal::LimitRange);
     }
     if factor_bad_in(grid) {
