@@ -11,11 +11,11 @@ use Rattle.text_files.proofs.WithFiles.{grid-refused, grid-text}
 use Rattle.text_statement.specs.WriteStatement.{statement as statementOf}
 use Rattle.text_statement.proofs.put_statement.Goals as goal
 
+pub of-table-requires : goal.of-table-requires
+of-table-requires c = (within-taken c.args.grid_file.now _ _ program_bytes _ _ _ _ _ (rw c.in-Ok.is at c.read_within.ensures)).good-factors
+
 pub put_booked-requires : goal.put_booked-requires
-put_booked-requires c =
-    let r = c.read_within in
-    let a = c.args in
-    (omega (arith, c.requires), (within-taken a.grid_file.now _ _ program_bytes _ _ _ _ _ (rw c.in-Ok.is at r.ensures)).good-factors)
+put_booked-requires c = omega (arith, c.requires)
 
 pub returns-in-Err : goal.returns-in-Err
 unfolding statementOf
@@ -31,4 +31,6 @@ unfolding statementOf
 returns-in-Ok c =
     let r = c.read_within in
     let a = c.args in
-    put_same (grid-text a.grid_file.now _ _ _ _ _ (within-taken a.grid_file.now _ _ program_bytes _ _ _ _ _ (rw c.in-Ok.is at r.ensures))) c.put_booked.ensures
+    let kept = c.of-table.ensures in
+    put_same (grid-text a.grid_file.now _ _ _ _ _ (within-taken a.grid_file.now _ _ program_bytes _ _ _ _ _ (rw c.in-Ok.is at r.ensures)))
+    (rw (kept.nodes_kept, kept.constraints_kept, kept.cells_kept) at c.put_booked.ensures)
