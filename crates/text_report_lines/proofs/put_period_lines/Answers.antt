@@ -20,10 +20,10 @@ use Rattle.test_rules.specs.Inner.{Judgeable, Judges}
 use Rattle.test_rules.proofs.Flowing.{carried_judgeable}
 use Rattle.test_verdict.specs.Judged.{judged_values}
 use Rattle.test_verdict.proofs.Judging.{judges}
-use Rattle.text_format.proofs.Putting.{put_same, ◌then◌}
+use Rattle.text_format.proofs.Putting.{puts_same, ◌and◌}
 use Rattle.text_report_rules.specs.Report.{line, period_lines}
-use Rattle.text_report_rules.specs.Inner.{answer_line, over_by, Reportable}
-use Rattle.text_report_rules.proofs.Answering.{over-bound, line-text}
+use Rattle.text_report_rules.specs.Inner.{answer_line, Reportable}
+use Rattle.text_report_rules.proofs.Answering.{line-text}
 use Rattle.text_report_lines.proofs.put_period_lines.Goals as goal
 
 pub carry-flows-requires : goal.carry-flows-requires
@@ -39,48 +39,34 @@ module _ (nodes constraints : ℕ) (limits : List ℕ) (factors : List ℤ) (per
   abbrev grid : Grid
   grid = grid_of nodes constraints limits factors
 
-  -- the verdict is the test's
-  abbrev Told : Process → Verdict → Type 0
-  Told process verdict = Judges grid process (of_period period (book_in book)) (Ok verdict)
-
-  by-flows : (process : Process) (verdict : Verdict) → test_outcome (Ok verdict) ≡ given (judged_values limits process flows.flows constraints) → Told process verdict
-  by-flows process verdict = judges nodes constraints reportable.good-factors.few limits factors process period (book_in book) flows carried (Ok verdict)
-
-  small : (process : Process) (verdict : Verdict) → Told process verdict → nat_abs (over_by verdict) < 2 ^ 63
-  small process verdict told = over-bound nodes constraints limits factors book process period verdict told reportable
-
-  text : (process : Process) (verdict : Verdict) → Told process verdict → line grid (book_in book) period process ≡ answer_line constraints period process verdict
-  text process verdict told = line-text nodes constraints limits factors book process period verdict told
+  -- the verdict is the test's, so its line is
+  text : (process : Process) (verdict : Verdict) → test_outcome (Ok verdict) ≡ given (judged_values limits process flows.flows constraints)
+      → line grid (book_in book) period process ≡ answer_line period process verdict
+  text process verdict told =
+      let few = reportable.good-factors.few in
+      line-text nodes constraints limits factors book process period verdict
+      (judges nodes constraints few limits factors process period (book_in book) flows carried (Ok verdict) told) few
 
 pub verdict-annual-requires : goal.verdict-annual-requires
-verdict-annual-requires c = judgeable c.args.table.nodes c.args.table.constraints c.args.limits.now c.args.table.cells.now c.args.period c.args.book.now c.requires.reportable c.carry-flows.result c.carry-flows.ensures
+verdict-annual-requires c =
+    let a = c.args in
+    judgeable a.table.nodes a.table.constraints a.limits.now a.table.cells.now a.period a.book.now c.requires.reportable c.carry-flows.result c.carry-flows.ensures
 
 pub verdict-lt-requires : goal.verdict-lt-requires
-verdict-lt-requires c = judgeable c.args.table.nodes c.args.table.constraints c.args.limits.now c.args.table.cells.now c.args.period c.args.book.now c.requires.reportable c.carry-flows.result c.carry-flows.ensures
+verdict-lt-requires c =
+    let a = c.args in
+    judgeable a.table.nodes a.table.constraints a.limits.now a.table.cells.now a.period a.book.now c.requires.reportable c.carry-flows.result c.carry-flows.ensures
 
 pub verdict-monthly-requires : goal.verdict-monthly-requires
-verdict-monthly-requires c = judgeable c.args.table.nodes c.args.table.constraints c.args.limits.now c.args.table.cells.now c.args.period c.args.book.now c.requires.reportable c.carry-flows.result c.carry-flows.ensures
+verdict-monthly-requires c =
+    let a = c.args in
+    judgeable a.table.nodes a.table.constraints a.limits.now a.table.cells.now a.period a.book.now c.requires.reportable c.carry-flows.result c.carry-flows.ensures
 
-pub put_line-first-requires : goal.put_line-first-requires
-put_line-first-requires c = (c.requires.reportable.good-factors.few, omega (arith, c.requires.period_lines_room_in_bounds), (small c.args.table.nodes c.args.table.constraints c.args.limits.now c.args.table.cells.now c.args.period c.args.book.now c.requires.reportable c.carry-flows.result c.carry-flows.ensures Annual _ (by-flows c.args.table.nodes c.args.table.constraints c.args.limits.now c.args.table.cells.now c.args.period c.args.book.now c.requires.reportable c.carry-flows.result c.carry-flows.ensures Annual _ c.verdict-annual.ensures)))
-
-pub put_line-second-requires : goal.put_line-second-requires
-put_line-second-requires c =
-    (c.requires.reportable.good-factors.few, omega (arith, c.requires.period_lines_room_in_bounds, c.put_line-first.ensures.upper_bound), (small c.args.table.nodes c.args.table.constraints c.args.limits.now c.args.table.cells.now c.args.period c.args.book.now c.requires.reportable c.carry-flows.result c.carry-flows.ensures TierLt _ (by-flows c.args.table.nodes c.args.table.constraints c.args.limits.now c.args.table.cells.now c.args.period c.args.book.now c.requires.reportable c.carry-flows.result c.carry-flows.ensures TierLt _ c.verdict-lt.ensures)))
-
-pub put_line-requires : goal.put_line-requires
-put_line-requires c =
-    (c.requires.reportable.good-factors.few, omega (arith, c.requires.period_lines_room_in_bounds, c.put_line-first.ensures.upper_bound, c.put_line-second.ensures.upper_bound), (small c.args.table.nodes c.args.table.constraints c.args.limits.now c.args.table.cells.now c.args.period c.args.book.now c.requires.reportable c.carry-flows.result c.carry-flows.ensures Monthly _ (by-flows c.args.table.nodes c.args.table.constraints c.args.limits.now c.args.table.cells.now c.args.period c.args.book.now c.requires.reportable c.carry-flows.result c.carry-flows.ensures Monthly _ c.verdict-monthly.ensures)))
-
-pub returns : goal.returns
+pub returns-clause-put : goal.returns-clause-put
 unfolding period_lines
-returns c =
-    let p1 = c.put_line-first.ensures in
-    let p2 = c.put_line-second.ensures in
-    let p3 = c.put_line.ensures in
-    record {
-      put = put_same (text c.args.table.nodes c.args.table.constraints c.args.limits.now c.args.table.cells.now c.args.period c.args.book.now c.requires.reportable c.carry-flows.result c.carry-flows.ensures Annual _ (by-flows c.args.table.nodes c.args.table.constraints c.args.limits.now c.args.table.cells.now c.args.period c.args.book.now c.requires.reportable c.carry-flows.result c.carry-flows.ensures Annual _ c.verdict-annual.ensures)) p1.put
-          then put_same (text c.args.table.nodes c.args.table.constraints c.args.limits.now c.args.table.cells.now c.args.period c.args.book.now c.requires.reportable c.carry-flows.result c.carry-flows.ensures TierLt _ (by-flows c.args.table.nodes c.args.table.constraints c.args.limits.now c.args.table.cells.now c.args.period c.args.book.now c.requires.reportable c.carry-flows.result c.carry-flows.ensures TierLt _ c.verdict-lt.ensures)) p2.put
-          then put_same (text c.args.table.nodes c.args.table.constraints c.args.limits.now c.args.table.cells.now c.args.period c.args.book.now c.requires.reportable c.carry-flows.result c.carry-flows.ensures Monthly _ (by-flows c.args.table.nodes c.args.table.constraints c.args.limits.now c.args.table.cells.now c.args.period c.args.book.now c.requires.reportable c.carry-flows.result c.carry-flows.ensures Monthly _ c.verdict-monthly.ensures)) p3.put;
-      upper_bound = omega (arith, p1.upper_bound, p2.upper_bound, p3.upper_bound);
-    }
+returns-clause-put c =
+    let a = c.args in
+    let line = text a.table.nodes a.table.constraints a.limits.now a.table.cells.now a.period a.book.now c.requires.reportable c.carry-flows.result c.carry-flows.ensures in
+    puts_same (line Annual _ c.verdict-annual.ensures) c.put_line.ensures.put
+    and puts_same (line TierLt _ c.verdict-lt.ensures) c.put_line-2.ensures.put
+    and puts_same (line Monthly _ c.verdict-monthly.ensures) c.put_line-3.ensures.put
