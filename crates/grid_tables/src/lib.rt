@@ -12,7 +12,7 @@ ghost use Rattle.grid_tables.specs.Inner.{hour_table_checks};
 
 mod table;
 
-pub use table::{FactorTable, HourTable};
+pub use table::{FactorTable, GridTable, HourTable};
 use tariff::{MAX_CONSTRAINTS, MAX_FACTOR, MAX_LIMIT, MAX_PRICE, Refusal};
 
 // Whether a cell is above `most`.

@@ -4,12 +4,11 @@
 ghost use Rattle.std.specs.Prelude.{◌≡◌, ◌≤◌, length};
 ghost use Rattle.lists.specs.Lists.{list_to};
 ghost use Rattle.lists.specs.Lent.{before, after, overwrite};
-ghost use Rattle.test_rules.specs.Inner.{Judgeable};
 ghost use Rattle.test_excesses.specs.Inner.{excess_in, terms_of};
 
 use tariff::{Flow, Period, Process};
-use test_rules::Flows;
 use test_terms::Asked;
+use test_verdict::Loading;
 
 // The terms of a test, checked: how many nodes and constraints its tables have, the process and the period.
 #[derive(Clone, Copy)]
@@ -35,18 +34,12 @@ impl Terms {
 }
 
 // The excesses of all constraints, into the first cells of `out`.
-pub fn fill_excess(
-    constraints: usize,
-    process: Process,
-    limits: &[u64],
-    carried: Flows,
-    out: &mut [i64],
-)
-    requires { Judgeable constraints limits.now carried × (constraints ≤ length out.old) }
-    ensures { after out ≡ overwrite (list_to constraints (excess_in limits.now process carried.flows)) (before out) }
+pub fn fill_excess(loading: Loading, process: Process, out: &mut [i64])
+    requires { loading.constraints ≤ length out.old }
+    ensures { after out ≡ overwrite (list_to loading.entry.constraints (excess_in loading.entry.limits.now process loading.entry.flows.flows)) (before out) }
 {
-    for k in 0..constraints {
-        let excess = Flow(carried.flows[k]) - process.released(limits[k]);
+    for k in 0..loading.constraints {
+        let excess = Flow(loading.flows.flows[k]) - process.released(loading.limits[k]);
         out[k] = excess.0;
     }
 }

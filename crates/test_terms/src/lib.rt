@@ -1,4 +1,4 @@
-// The terms of a test as they are asked, by number, and the checks of tables by them.
+// The terms of a test as they are asked, by number, the checks of tables by them, and the test that they ask for, checked.
 #![tactic(auto)]
 
 ghost use Rattle.std.specs.Prelude.{◌≡◌};
@@ -6,7 +6,10 @@ ghost use Rattle.lists.specs.Lent.{before};
 ghost use Rattle.tariff.specs.Refusals.{first};
 ghost use Rattle.grid_tables.specs.TableChecks.{grid_table_checks};
 
+mod tested;
+
 use tariff::Refusal;
+pub use tested::Tested;
 
 // What a test is asked beside its tables and its book: nothing here is checked yet.
 #[derive(Clone, Copy)]

@@ -15,10 +15,10 @@ use Rattle.tariff.specs.declared.processes.Process.{Process}
 use Rattle.tariff.specs.Processes.{percent}
 use Rattle.tariff.specs.Units.{max_constraints}
 use Rattle.test_rules.proofs.Judging.{less-is, over, over-is}
-use Rattle.test_verdict.proofs.overload_set.Goals as goal
+use Rattle.test_verdict.proofs.loading.Loading.overload_set.Goals as goal
 
 pub loop-k-init : goal.loop-k-init
-loop-k-init c = set-start c.args.constraints (over c.args.limits.now c.args.process c.args.flows.flows)
+loop-k-init c = set-start c.args.self.constraints (over c.args.self.limits.now c.args.process c.args.self.flows.flows)
 
 -- bit k - 1 is what the test found, before the bits from k on
 module _ (limits : List ℕ) (process : Process) (cells : List ℤ) (n k s : ℕ) (r : ℤ) (b : Bool) (some : 0 < k) (below : k ≤ n)
@@ -36,14 +36,14 @@ module _ (limits : List ℕ) (process : Process) (cells : List ℤ) (n k s : ℕ
 pub loop-k-preserved : goal.loop-k-preserved
 loop-k-preserved c =
     let k = c.loop-k.k in
-    turn c.args.limits.now c.args.process c.args.flows.flows c.args.constraints k c.loop-k.set c.released.result.0 c.lt-over.result (omega arith) (omega arith)
-    c.loop-k.invariant (c.requires.flows-sized (k - 1) (omega arith)) c.released.ensures c.lt-over.ensures
+    turn c.args.self.limits.now c.args.process c.args.self.flows.flows c.args.self.constraints k c.loop-k.set c.released.result.0 c.lt-over.result (omega arith) (omega arith)
+    c.loop-k.invariant (c.args.self.judgeable.flows-sized (k - 1) (omega arith)) c.released.ensures c.lt-over.ensures
 
 pub overflow_add-set : goal.overflow_add-set
 overflow_add-set c =
     let k = c.loop-k.k in
-    let h = fits c.args.limits.now c.args.process c.args.flows.flows c.args.constraints k c.loop-k.set c.released.result.0 c.lt-over.result (omega arith) (omega arith)
-    c.loop-k.invariant (c.requires.flows-sized (k - 1) (omega arith)) c.released.ensures c.lt-over.ensures c.requires.few in
+    let h = fits c.args.self.limits.now c.args.process c.args.self.flows.flows c.args.self.constraints k c.loop-k.set c.released.result.0 c.lt-over.result (omega arith) (omega arith)
+    c.loop-k.invariant (c.args.self.judgeable.flows-sized (k - 1) (omega arith)) c.released.ensures c.lt-over.ensures c.args.self.judgeable.few in
     omega (arith, h)
 
 pub overflow_mul-set : goal.overflow_mul-set
