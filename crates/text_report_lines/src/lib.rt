@@ -1,18 +1,21 @@
 // The report's lines: one for each period and process, under the heading.
 #![tactic(auto)]
 
-ghost use Rattle.std.specs.Prelude.{◌++◌, ◌+◌, ◌≤◌};
+ghost use Rattle.std.specs.Prelude.{◌≡◌, ◌++◌, ◌+◌, ◌≤◌};
 ghost use Rattle.text_format.specs.Ascii.{ascii};
 ghost use Rattle.text_format.specs.Inner.{HasRoom, Puts};
-ghost use Rattle.tariff.specs.Units.{grid_of};
+ghost use Rattle.tariff.specs.Refusals.{passed, first};
 ghost use Rattle.layouts.specs.BookFile.{book_in};
+ghost use Rattle.grid_tables.specs.Grids.{grid_by};
+ghost use Rattle.book_rules.specs.BookChecks.{book_checks};
 ghost use Rattle.text_report_rules.specs.Report.{period_word, process_word, period_lines, report_lines};
 ghost use Rattle.text_report_rules.specs.WriteReport.{report_room};
-ghost use Rattle.text_report_rules.specs.Inner.{Reportable, answer_line, period_room, process_room, line_room, period_lines_room};
+ghost use Rattle.text_report_rules.specs.Inner.{answer_line, period_room, process_room, line_room, period_lines_room};
 
-use grid_tables::FactorTable;
+use grid_tables::GridTable;
 use tariff::{Period, Process};
 use test_rules::Verdict;
+use test_verdict::Loading;
 use text_format::Text;
 use text_report_figures::put_figures;
 
@@ -55,37 +58,29 @@ fn put_line(text: &mut Text, period: Period, process: Process, verdict: Verdict)
 }
 
 // The three lines of one period. Its flows are summed once.
-fn put_period_lines(
-    text: &mut Text,
-    table: FactorTable,
-    period: Period,
-    limits: &[u64],
-    book: &[u8],
-)
+fn put_period_lines(text: &mut Text, grid: GridTable, period: Period, book: &[u8])
     requires period_lines_room_in_bounds { HasRoom text.old period_lines_room }
-    requires reportable { Reportable table.nodes table.constraints limits.now table.cells.now book.now }
-    ensures put { Puts text.old (period_lines (grid_of table.entry.nodes table.entry.constraints limits.now table.entry.cells.now)
-        (book_in book.now) period) text.new }
+    requires book_accepted { first (book_checks grid.factors.nodes book.now) ≡ passed }
+    ensures put { Puts text.old (period_lines (grid_by grid.entry) (book_in book.now) period) text.new }
     ensures upper_bound { text.new.at ≤ text.old.at + period_lines_room }
 {
-    let constraints = table.constraints;
-    let flows = test_flows::carry(table, period, book);
-    let annual = test_verdict::verdict(constraints, Process::Annual, limits, flows);
-    let lt = test_verdict::verdict(constraints, Process::TierLt, limits, flows);
-    let monthly = test_verdict::verdict(constraints, Process::Monthly, limits, flows);
+    let flows = test_flows::carry(grid.factors, period, book);
+    let loading = Loading::of(grid.factors.constraints, grid.limits, flows);
+    let annual = loading.verdict(Process::Annual);
+    let lt = loading.verdict(Process::TierLt);
+    let monthly = loading.verdict(Process::Monthly);
     put_line(text, period, Process::Annual, annual);
     put_line(text, period, Process::TierLt, lt);
     put_line(text, period, Process::Monthly, monthly);
 }
 
 // The heading and the six lines.
-pub fn put_lines(text: &mut Text, table: FactorTable, limits: &[u64], book: &[u8])
+pub fn put_lines(text: &mut Text, grid: GridTable, book: &[u8])
     requires report_room_in_bounds { HasRoom text.old report_room }
-    requires reportable { Reportable table.nodes table.constraints limits.now table.cells.now book.now }
-    ensures { Puts text.old (report_lines (grid_of table.entry.nodes table.entry.constraints limits.now table.entry.cells.now)
-        (book_in book.now)) text.new }
+    requires book_accepted { first (book_checks grid.factors.nodes book.now) ≡ passed }
+    ensures { Puts text.old (report_lines (grid_by grid.entry) (book_in book.now)) text.new }
 {
     text.put(b"period,process,verdict,overloaded,lowest,excess,constraints\n");
-    put_period_lines(text, table, Period::OffPeak, limits, book);
-    put_period_lines(text, table, Period::OnPeak, limits, book);
+    put_period_lines(text, grid, Period::OffPeak, book);
+    put_period_lines(text, grid, Period::OnPeak, book);
 }

@@ -2,13 +2,10 @@
 use mathlib.Core.Path.{◌≡◌, refl, sym, ap, ◌∙◌}
 use mathlib.Core.Bool.{Bool, true, false, cond}
 use mathlib.Core.List.{List, [], ◌∷◌, ◌++◌, append_assoc}
-use Prim.Native.Nat.{ℕ, ◌^◌, ◌≤◌, ◌<◌}
+use Prim.Native.Nat.{ℕ, ◌≤◌}
 use native.Mathlib.Omega.{arith}
-use borrow.Author.Tests.{eqb-false}
 use lib.Dec.{eqb}
-use lib.ListN.{length}
-use lib.IntN.{ℤ, pos, nat_abs}
-use Rattle.lists.specs.Lists.{Each}
+use lib.IntN.{ℤ, pos}
 use Rattle.text_format.specs.Ascii.{ascii}
 use Rattle.text_format.specs.Decimal.{decimal, decimal_z}
 use Rattle.tariff.specs.declared.contracts.Contract.{Contract}
@@ -16,16 +13,9 @@ use Rattle.tariff.specs.declared.contracts.Period.{Period}
 use Rattle.tariff.specs.declared.processes.Process.{Process}
 use Rattle.tariff.specs.Refusals.{Outcome, given}
 use Rattle.tariff.specs.Units.{Grid, grid_of, max_constraints}
-use Rattle.tariff.specs.ContractRules.{of_period, InRange}
-use Rattle.tariff.specs.Inner.{FactorsInRange, LimitsInRange}
+use Rattle.tariff.specs.ContractRules.{of_period}
 use Rattle.tariff.specs.Feasibility.{excess, overloaded, overload_set, overload_count, lowest_overload}
-use Rattle.tariff.proofs.Answers.{never_given}
-use Rattle.tariff.proofs.Overloads.{pass_is_empty_set, fails-lowest}
-use Rattle.tariff.proofs.Sizes.{excess-sized, of_period-in_range}
 use Rattle.layouts.specs.BookFile.{book_in}
-use Rattle.layouts.proofs.BookFile.{length-book_in}
-use Rattle.grid_tables.proofs.Cells.{cut-sized}
-use Rattle.book_rules.proofs.Accepted.{book-accepted, all-in_range}
 use Rattle.test_rules.specs.declared.Verdict.{Verdict}
 use Rattle.std.specs.Prelude.{Ok}
 use Rattle.test_rules.specs.declared.Verdict.TheVariants.{Pass, Fail}

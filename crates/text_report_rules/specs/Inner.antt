@@ -1,23 +1,13 @@
--- What inner functions and proofs say of the report: its parts as they are put one behind the other and their longest texts, and what is reported on.
-use Rattle.std.specs.Prelude.{◌≡◌, Bool, cond, List, [], ◌++◌, ℕ, ◌+◌, ◌*◌, ◌/◌, ◌%◌, ◌^◌, eqb, length, ℤ}
+-- What inner functions and proofs say of the report: its parts as they are put one behind the other, and their longest texts.
+use Rattle.std.specs.Prelude.{Bool, cond, List, [], ◌++◌, ℕ, ◌+◌, ◌*◌, ◌/◌, ◌%◌, ◌^◌, eqb, length, ℤ}
 use Rattle.text_format.specs.Ascii.{ascii}
 use Rattle.text_format.specs.Decimal.{decimal, decimal_z}
 use Rattle.tariff.specs.declared.contracts.Period.{Period}
 use Rattle.tariff.specs.declared.processes.Process.{Process}
-use Rattle.tariff.specs.Refusals.{passed}
-use Rattle.tariff.specs.Units.{max_constraints, max_limit}
-use Rattle.tariff.specs.Refusals.{first}
-use Rattle.grid_tables.specs.Inner.{GoodFactors, GoodCells}
-use Rattle.book_rules.specs.BookChecks.{book_checks}
+use Rattle.tariff.specs.Units.{max_constraints}
 use Rattle.test_rules.specs.declared.Verdict.{Verdict}
 use Rattle.test_rules.specs.declared.Verdict.TheVariants.{Pass, Fail}
 use Rattle.text_report_rules.specs.Report.{period_word, process_word, numbers_to}
-
--- tables and a book that the test accepts in every process and period
-pub record Reportable (n k : ℕ) (limits : List ℕ) (factors : List ℤ) (book : List ℕ) : Type 0 where
-  pub good-limits : GoodCells max_limit k limits
-  pub good-factors : GoodFactors n k factors
-  pub good_book : first (book_checks n book) ≡ passed
 
 -- bit k of a set
 abbrev pub in_set : ℕ → ℕ → Bool

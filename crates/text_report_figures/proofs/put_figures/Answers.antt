@@ -13,7 +13,7 @@ use Rattle.text_report_figures.proofs.put_figures.Goals as goal
 pub put_decimal-requires : goal.put_decimal-requires
 put_decimal-requires c =
     let p = c.put-in-Fail.ensures in
-    omega (arith, p.same_length, p.put.place, length-decimal c.in-Fail.count, c.requires)
+    omega (arith, p.same_length, p.put.place, length-decimal c.in-Fail.count, length-decimal c.in-Fail.lowest, c.requires)
 
 pub put_decimal-requires-in-Fail : goal.put_decimal-requires-in-Fail
 put_decimal-requires-in-Fail c =

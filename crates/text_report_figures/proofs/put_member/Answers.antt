@@ -13,7 +13,7 @@ use Rattle.text_format.specs.declared.Text.{Text}
 use Rattle.text_format.proofs.Digits.{decimal-below}
 use Rattle.text_format.proofs.Putting.{puts_none, puts_same, ◌and◌}
 use Rattle.text_report_rules.specs.Inner.{in_set, member}
-use Rattle.text_report_rules.proofs.Members.{not_member, first_member, next-member}
+use Rattle.text_report_rules.proofs.Members.{first_member, next-member}
 use Rattle.text_report_figures.proofs.put_member.Goals as goal
 use Rattle.text_report_figures.proofs.put_member.Goals.{then-text-first, else-text-first}
 
@@ -38,22 +38,25 @@ pub put_decimal-requires : goal.put_decimal-requires
 put_decimal-requires c =
     let a = c.args in
     let b : Begun a.first a.set a.k a.text.now c.if-text-first.text = elim c.if-text-first.branch [
-      then-text-first w ↦ later _ _ _ _ _ c.if-set-k-ne1.false w.if-text-first.true (rw w.text-is w.put_char.ensures)
-    | else-text-first w ↦ at_first _ _ _ _ _ c.if-set-k-ne1.false w.if-text-first.false (omega (arith, c.requires.1)) w.text-is ] in
+      | then-text-first w ↦ later _ _ _ _ _ c.if-set-k-ne1.false w.if-text-first.true (rw w.text-is w.put_char.ensures)
+      | else-text-first w ↦ at_first _ _ _ _ _ c.if-set-k-ne1.false w.if-text-first.false (omega (arith, c.requires.1)) w.text-is
+    ] in
     omega (arith, b.put.same_length, b.put.put.place, b.short, two_digits a.k c.requires.0, c.requires.1)
 
 pub returns-clause-put : goal.returns-clause-put
 returns-clause-put c =
     let a = c.args in
     let b : Begun a.first a.set a.k a.text.now c.if-text-first.text = elim c.if-text-first.branch [
-      then-text-first w ↦ later _ _ _ _ _ c.if-set-k-ne1.false w.if-text-first.true (rw w.text-is w.put_char.ensures)
-    | else-text-first w ↦ at_first _ _ _ _ _ c.if-set-k-ne1.false w.if-text-first.false (omega (arith, c.requires.1)) w.text-is ] in
+      | then-text-first w ↦ later _ _ _ _ _ c.if-set-k-ne1.false w.if-text-first.true (rw w.text-is w.put_char.ensures)
+      | else-text-first w ↦ at_first _ _ _ _ _ c.if-set-k-ne1.false w.if-text-first.false (omega (arith, c.requires.1)) w.text-is
+    ] in
     puts_same b.whole (b.put and c.put_decimal.ensures.put)
 
 pub returns-clause-upper_bound : goal.returns-clause-upper_bound
 returns-clause-upper_bound c =
     let a = c.args in
     let b : Begun a.first a.set a.k a.text.now c.if-text-first.text = elim c.if-text-first.branch [
-      then-text-first w ↦ later _ _ _ _ _ c.if-set-k-ne1.false w.if-text-first.true (rw w.text-is w.put_char.ensures)
-    | else-text-first w ↦ at_first _ _ _ _ _ c.if-set-k-ne1.false w.if-text-first.false (omega (arith, c.requires.1)) w.text-is ] in
+      | then-text-first w ↦ later _ _ _ _ _ c.if-set-k-ne1.false w.if-text-first.true (rw w.text-is w.put_char.ensures)
+      | else-text-first w ↦ at_first _ _ _ _ _ c.if-set-k-ne1.false w.if-text-first.false (omega (arith, c.requires.1)) w.text-is
+    ] in
     omega (arith, b.put.put.place, b.short, c.put_decimal.ensures.put.put.place, two_digits a.k c.requires.0)

@@ -1,5 +1,4 @@
 -- `put_numbers`.
-use mathlib.Core.Path.{◌≡◌, ◌∙◌}
 use native.Mathlib.Omega.{arith}
 use Rattle.text_report_rules.specs.Report.{numbers_to}
 use Rattle.text_format.proofs.Putting.{puts_none, puts_same, ◌and◌}
@@ -13,8 +12,7 @@ loop-k-init c = (puts_none (omega (arith, c.requires)), omega arith)
 pub loop-k-preserved : goal.loop-k-preserved
 loop-k-preserved c =
     let m = c.put_member.ensures in
-    let l = c.loop-k in
-    (
+    let l = c.loop-k in (
       puts_same (numbers_more c.args.text.now.at l.text.at c.args.set l.k l.invariant.0.put.place) (l.invariant.0 and m.put),
       omega (arith, m.upper_bound, l.invariant.1),
     )

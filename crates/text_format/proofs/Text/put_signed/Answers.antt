@@ -2,7 +2,7 @@
 -- what is put, by the sign
 use mathlib.Core.Path.{◌≡◌, refl, ap, ◌∙◌}
 use mathlib.Core.Bool.{true, false}
-use mathlib.Core.List.{List, [], ◌∷◌, ◌++◌}
+use mathlib.Core.List.{List, ◌∷◌, ◌++◌}
 use Prim.Native.Nat.{ℕ}
 use native.Mathlib.Omega.{arith}
 use lib.ListN.{length, length-append}
@@ -39,14 +39,16 @@ pub put_decimal-requires : goal.put_decimal-requires
 put_decimal-requires c =
     let n = c.unsigned_abs in
     let s : Signed c.args.self.now c.if-z-lt0.self c.args.z n.result = elim c.if-z-lt0.branch [
-      then-z-lt0 w ↦ rw w.self-is (record { sign = _; put = w.put_char.ensures; whole = negative c.args.z c.ranges.z n.result n.ensures.value w.if-z-lt0.true })
-    | else-z-lt0 w ↦ rw w.self-is (record { sign = _; put = puts_none (omega (arith, c.requires)); whole = positive c.args.z c.ranges.z n.result n.ensures.value w.if-z-lt0.false }) ] in
+      | then-z-lt0 w ↦ rw w.self-is (record { sign = _; put = w.put_char.ensures; whole = negative c.args.z c.ranges.z n.result n.ensures.value w.if-z-lt0.true })
+      | else-z-lt0 w ↦ rw w.self-is (record { sign = _; put = puts_none (omega (arith, c.requires)); whole = positive c.args.z c.ranges.z n.result n.ensures.value w.if-z-lt0.false })
+    ] in
     omega (arith, s.put.same_length, s.put.put.place, c.requires, ap length s.whole ∙ length-append s.sign (decimal n.result))
 
 pub returns-clause-put : goal.returns-clause-put
 returns-clause-put c =
     let n = c.unsigned_abs in
     let s : Signed c.args.self.now c.if-z-lt0.self c.args.z n.result = elim c.if-z-lt0.branch [
-      then-z-lt0 w ↦ rw w.self-is (record { sign = _; put = w.put_char.ensures; whole = negative c.args.z c.ranges.z n.result n.ensures.value w.if-z-lt0.true })
-    | else-z-lt0 w ↦ rw w.self-is (record { sign = _; put = puts_none (omega (arith, c.requires)); whole = positive c.args.z c.ranges.z n.result n.ensures.value w.if-z-lt0.false }) ] in
+      | then-z-lt0 w ↦ rw w.self-is (record { sign = _; put = w.put_char.ensures; whole = negative c.args.z c.ranges.z n.result n.ensures.value w.if-z-lt0.true })
+      | else-z-lt0 w ↦ rw w.self-is (record { sign = _; put = puts_none (omega (arith, c.requires)); whole = positive c.args.z c.ranges.z n.result n.ensures.value w.if-z-lt0.false })
+    ] in
     puts_same s.whole (s.put and c.put_decimal.ensures.put)
