@@ -45,6 +45,7 @@ pub struct GridTable<'a> {
 }
 
 impl<'a> GridTable<'a> {
+    // Not one function with those of `HourTable` and `test_verdict::Loading`: each makes its own type of its own facts.
     pub fn of(nodes: usize, constraints: usize, limits: &'a [u64], factors: &'a [i64]) -> Self
         requires { GoodCells max_limit constraints limits.now × GoodFactors nodes constraints factors.now }
         ensures nodes_kept { result.factors.nodes ≡ nodes }

@@ -33,7 +33,8 @@ fn no_flows() -> Flows
     }
 }
 
-// One step: the contracts from number `from` up to `upto`, those of the other period left out.
+// One step: the contracts from number `from` up to `upto`, those of the other period left out. A step by two numbers is document 01's form: `Flows` go by
+// value from step to step.
 fn step(
     flows: Flows,
     table: FactorTable,
@@ -74,7 +75,8 @@ pub fn add_flow(flows: &mut [i64; MAX_CONSTRAINTS], c: Contract, table: FactorTa
     }
 }
 
-// The flows of a book's contracts of one period, those of the other period left out.
+// The flows of a book's contracts of one period, those of the other period left out. It takes no `Tested`: finding flows has no process, and the report judges
+// the same flows in three.
 pub fn carry(table: FactorTable, period: Period, book: &[u8]) -> Flows
     requires { first (book_checks table.nodes book.now) ≡ passed }
     ensures { Carries (factors_of table.entry.nodes table.entry.constraints table.entry.cells.now)

@@ -28,7 +28,7 @@ pub struct AskedFlows {
     pub period: u64,
 }
 
-// The test's checks up to 7, of what is asked and its tables.
+// The test's checks up to 7, of what is asked and its tables, which are no `GridTable` before them.
 pub fn check_tables(asked: Asked, limits: &[u64], factors: &[i64]) -> Result<(), Refusal>
     ensures { result ≡ first (grid_table_checks asked.nodes asked.constraints asked.process asked.period limits.now factors.now) }
 {

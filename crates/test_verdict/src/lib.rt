@@ -13,7 +13,7 @@ use tariff::Refusal;
 use test_rules::Verdict;
 use test_terms::{Asked, Tested};
 
-// The test's checks: those of the tables, then the book's own.
+// The test's checks: those of the tables, then the book's own. Limits and factors as C lends them: only what passes is `Tested`.
 pub fn check_test(asked: Asked, limits: &[u64], factors: &[i64], book: &[u8]) -> Result<(), Refusal>
     ensures { result ≡ test_checked (asked_test asked limits.now factors.now book.now) }
 {

@@ -21,6 +21,7 @@ pub struct Loading<'a> {
 }
 
 impl<'a> Loading<'a> {
+    // Not one function with `GridTable::of`: another type, of other facts. The count stands beside the limits, since more may stand behind them.
     pub fn of(constraints: usize, limits: &'a [u64], flows: Flows) -> Self
         requires { Judgeable constraints limits.now flows }
         ensures constraints_kept { result.constraints ≡ constraints }

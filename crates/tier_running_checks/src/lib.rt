@@ -28,7 +28,7 @@ fn counts_bad(asked: Asked) -> bool
     nodes_bad | (constraints_bad | (process_bad | period_bad))
 }
 
-// 9 for the three buffers, by their lengths.
+// 9 for the three buffers, by their lengths. They stay apart, as C lends them to opening and adding.
 pub fn state_short(awards: usize, numbers: usize, flows: usize) -> bool
     ensures { result ≡ state_short_of awards numbers flows }
 {
@@ -38,7 +38,7 @@ pub fn state_short(awards: usize, numbers: usize, flows: usize) -> bool
     awards_short | (numbers_short | flows_short)
 }
 
-// 2, 3, 16, 17, 9, 6, 7, where `short` says whether some buffer is too short.
+// 2, 3, 16, 17, 9, 6, 7, where `short` says whether some buffer is too short. Limits and factors are no `GridTable` yet.
 pub fn check_tables(
     asked: Asked,
     limits: &[u64],
