@@ -1,4 +1,4 @@
-// Parts of a text put at a place, each giving the place behind it: for a caller that hands the place on itself.
+// Parts of a text put at a place, each giving the place behind it: for text_statement_lines and text_statement, which hand the place on themselves.
 ghost use Rattle.std.specs.Prelude.{[], ◌∷◌, ◌+◌, ◌^◌, ◌≤◌, ◌<◌, length, nat_abs};
 ghost use Rattle.lists.specs.Lent.{before, after};
 ghost use Rattle.text_format.specs.Decimal.{decimal, decimal_z};
@@ -36,6 +36,7 @@ pub fn put_decimal(buf: &mut [u8], at: usize, n: u64) -> usize
     text.at
 }
 
+// Its callers know the bound on z; `Text::put_signed` does without.
 pub fn put_signed(buf: &mut [u8], at: usize, z: i64) -> usize
     requires { (at + length (decimal_z z) ≤ length buf.old) × (nat_abs z < 2 ^ 63) }
     ensures put { Put (before buf) at (decimal_z z) (after buf) result }

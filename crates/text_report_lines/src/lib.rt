@@ -57,7 +57,7 @@ fn put_line(text: &mut Text, period: Period, process: Process, verdict: Verdict)
     text.put_char(b'\n');
 }
 
-// The three lines of one period. Its flows are summed once.
+// The three lines of one period. Its flows are summed once. The book is accepted for all processes and periods: `test_terms::Tested` is of one of each.
 fn put_period_lines(text: &mut Text, grid: GridTable, period: Period, book: &[u8])
     requires period_lines_room_in_bounds { HasRoom text.old period_lines_room }
     requires book_accepted { first (book_checks grid.factors.nodes book.now) ≡ passed }
