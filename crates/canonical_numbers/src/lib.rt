@@ -4,7 +4,7 @@
 ghost use Rattle.std.specs.Prelude.{◌≡◌, map, ◌+◌, ◌≤◌, ◌<◌, length, take};
 ghost use Rattle.lists.specs.Lists.{Each, list_to};
 ghost use Rattle.lists.specs.Lent.{before, after};
-ghost use Rattle.tariff.specs.Units.{max_contracts, max_quantity};
+ghost use Rattle.tariff.specs.Units.{max_quantity};
 ghost use Rattle.layouts.specs.BookFile.{contract_in};
 ghost use Rattle.layouts.specs.Inner.{contract_for};
 ghost use Rattle.canonical_rules.specs.Canonical.{canonical};

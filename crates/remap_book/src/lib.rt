@@ -1,7 +1,7 @@
 // Remapping a book (document 02, paper 6): a list of old and new node numbers, applied to both ends of each contract, one pair after another.
 #![tactic(auto)]
 
-ghost use Rattle.std.specs.Prelude.{◌≡◌, ℕ, ◌+◌, ◌≤◌, ◌<◌, length, get_or};
+ghost use Rattle.std.specs.Prelude.{◌≡◌, ℕ, ◌≤◌, ◌<◌, length, get_or};
 ghost use Rattle.lists.specs.Lists.{list_to};
 ghost use Rattle.lists.specs.Lent.{before, after, overwrite};
 ghost use Rattle.layouts.specs.BookFile.{book_bytes_of, book_file, contract_in};

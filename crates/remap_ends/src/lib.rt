@@ -2,7 +2,6 @@
 #![tactic(auto)]
 
 ghost use Rattle.std.specs.Prelude.{[], ◌≤◌};
-ghost use Rattle.lists.specs.Lent.{before};
 ghost use Rattle.tariff.specs.Units.{max_nodes};
 ghost use Rattle.remap_rules.specs.Inner.{Moves, Listed};
 
