@@ -8,6 +8,7 @@ ghost use Rattle.exposure_bounds.specs.FindExposure.{FindsExposureForC};
 use test_terms::Asked;
 
 // Finds the least and the most that a book can cost, each as whole cents and parts, and prices that cost the least, one cell for each constraint.
+// C calls it by this name and lends a cell for each figure, as with `crr_find_shortfall`, so each is written out.
 #[unsafe(no_mangle)]
 pub extern "C" fn crr_find_exposure(
     nodes: usize,

@@ -8,6 +8,7 @@ ghost use Rattle.exposure_shortfall.specs.FindShortfall.{FindsShortfallForC};
 use test_terms::Asked;
 
 // Finds net payment, rent and shortfall of a book at a price list, each as whole cents and parts.
+// C calls it by this name and lends a cell for each figure, as with `crr_find_exposure`, so each is written out.
 #[unsafe(no_mangle)]
 pub extern "C" fn crr_find_shortfall(
     nodes: usize,

@@ -67,7 +67,8 @@ fn set_sums(figures: &[i64], sums: &mut [i64])
     }
 }
 
-// A contract's spread × quantity at each of the listed constraints.
+// A contract's spread × quantity at each of the listed constraints. `InRange` is asked here and by `add_contract`: a value of a table and a contract would be
+// made anew for each contract that is read, and say no more.
 fn fill_spreads(table: FactorTable, over: &[usize], c: Contract, figures: &mut [i64])
     requires { InRange table.nodes c × Chosen table.constraints (length over.now) over.now × (length over.now ≤ length figures.old) }
     ensures { Filled (length over.now) (λ (s : ℕ). raw_in table.entry.constraints table.entry.cells.now c (get_or over.now s 0)) (before figures) (after figures) }

@@ -49,7 +49,8 @@ pub fn shortfall_at(tested: Tested, prices: &[u64]) -> Shortfall
     }
 }
 
-// 9 for each table and for the prices, 6, 7, 15. The tables are as C lends them, and become a `GridTable` once nothing here refuses them.
+// 9 for each table and for the prices, 6, 7, 15. Counts and tables stand apart, as C lends them: they become a `Tested` and an `HourTable` once nothing here
+// refuses them. That the counts are few was checked before, or their product might not fit.
 fn check_cells(
     nodes: usize,
     constraints: usize,
