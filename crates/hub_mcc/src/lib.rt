@@ -35,8 +35,8 @@ fn check_hub_mcc(
     hub_checks::check_hub(nodes, hub, weights)
 }
 
-// The sum of weight × MCC over the hub's nodes: no other node's MCC is worked out. The two lists of a hub meet only here, so a type for them would be made by
-// the entry to be taken apart at once.
+// The sum of weight × MCC over the hub's nodes: no other node's MCC is worked out. Of a checked hub this loop alone reads the two lists: a type for them
+// would be made by the entry to be taken apart at once.
 fn weighted_sum(hour: HourTable, hub: &[u64], weights: &[u64]) -> WeightedMcc
     requires { IsHub hour.factors.nodes hub.now weights.now }
     ensures result_value { result.0 ≡ hub_sum (factors_by hour.entry) (prices_by hour.entry) hub.now weights.now }
