@@ -3,7 +3,6 @@
 
 ghost use Rattle.std.specs.Prelude.{◌≡◌, [], ℕ, ◌-◌, ◌≤◌, ◌<◌, length};
 ghost use Rattle.lists.specs.Lists.{any_of};
-ghost use Rattle.lists.specs.Lent.{before};
 ghost use Rattle.tariff.specs.Refusals.{first};
 ghost use Rattle.tariff.specs.Units.{max_entities};
 ghost use Rattle.migration_rules.specs.Transfers.{entity_count, entity_bad_of, row_bad_of, migration_rows_in};

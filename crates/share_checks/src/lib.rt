@@ -2,7 +2,6 @@
 #![tactic(auto)]
 
 ghost use Rattle.std.specs.Prelude.{◌≡◌, ◌≤◌, ◌<◌};
-ghost use Rattle.lists.specs.Lent.{before};
 ghost use Rattle.tariff.specs.Checks.{coordinator_count, balance_range};
 ghost use Rattle.share_rules.specs.ShareBalance.{share_call, share_checked, total_demand};
 ghost use Rattle.share_rules.specs.Inner.{max_demand_total, DemandsIn};
