@@ -13,6 +13,7 @@ ghost use Rattle.exposure_bounds.specs.Inner.{contracts_by, AreExcesses, BestSet
 
 use exposure_figures::Exact;
 use exposure_prices::{Best, ExcessTable};
+use exposure_sets::Listing;
 use tariff::{MAX_CONSTRAINTS, Refusal};
 use test_terms::{Asked, Tested};
 use test_verdict::{Loading, check_test};
@@ -37,7 +38,8 @@ fn worst_set(tested: Tested, over: &[usize]) -> Best
     ensures { BestSet (grid_by tested.entry.grid) tested.entry.process (contracts_by tested.entry) (2 ^ length over.now) result }
 {
     let mut costs = [0i64; MOST_SETS];
-    exposure_sets::set_costs(tested, over, &mut costs);
+    let listing = Listing { tested, over };
+    exposure_sets::set_costs(listing, &mut costs);
     exposure_prices::best_of(&costs[..exposure_sets::set_count(over.len())])
 }
 

@@ -2,35 +2,20 @@
 // of those of smaller sets, one constraint at a time.
 #![tactic(auto)]
 
-ghost use Rattle.std.specs.Prelude.{◌≡◌, ℕ, ◌+◌, ◌*◌, ◌^◌, ◌≤◌, ◌<◌, length, get_or, pos, nat_abs};
+ghost use Rattle.std.specs.Prelude.{◌≡◌, ℕ, ◌+◌, ◌*◌, ◌^◌, ◌≤◌, ◌<◌, length, pos, nat_abs};
 ghost use Rattle.lists.specs.Lent.{before, after};
 ghost use Rattle.tariff.specs.ContractRules.{InRange, counted, of_period};
 ghost use Rattle.tariff.specs.Inner.{max_released};
 ghost use Rattle.layouts.specs.BookFile.{book_in};
 ghost use Rattle.grid_tables.specs.Grids.{grid_by};
-ghost use Rattle.exposure_sets.specs.Inner.{
-  cell_in_of,
-  Chosen,
-  max_row,
-  SmallCells,
-  Grown,
-  Sums,
-  Filled,
-  Added,
-  AddedSmall,
-  raw_in,
-  due_in,
-  fixed_in,
-  option_in,
-  book_fixed,
-  book_options,
-  UnitCosts,
-};
+ghost use Rattle.exposure_sets.specs.Inner.{cell_in_of, max_row, SmallCells, Grown, Sums, Filled, Added, AddedSmall, UnitCosts};
+ghost use Rattle.exposure_sets.specs.Listings.{count_by, raw_by, due_by, fixed_by, option_by, book_fixed_by, book_options_by};
+
+mod listing;
 
 use book_bits::Contracts;
-use grid_tables::{FactorTable, GridTable};
-use tariff::{Amount, Contract, Flow, Kind, Period, Process};
-use test_terms::Tested;
+pub use listing::Listing;
+use tariff::{Amount, Contract, Flow, Kind};
 
 // Of how many constraints every set is tried, and how many sets they have.
 const MOST_LISTED: usize = 10;
@@ -67,26 +52,27 @@ fn set_sums(figures: &[i64], sums: &mut [i64])
     }
 }
 
-// A contract's spread × quantity at each of the listed constraints. `InRange` is asked here and by `add_contract`: a value of a table and a contract would be
+// A contract's spread × quantity at each of the listed constraints. `InRange` is asked here and by `add_contract`: a value of a list and a contract would be
 // made anew for each contract that is read, and say no more.
-fn fill_spreads(table: FactorTable, over: &[usize], c: Contract, figures: &mut [i64])
-    requires { InRange table.nodes c × Chosen table.constraints (length over.now) over.now × (length over.now ≤ length figures.old) }
-    ensures { Filled (length over.now) (λ (s : ℕ). raw_in table.entry.constraints table.entry.cells.now c (get_or over.now s 0)) (before figures) (after figures) }
+fn fill_spreads(listing: Listing, c: Contract, figures: &mut [i64])
+    requires { InRange listing.tested.grid.factors.nodes c × (count_by listing ≤ length figures.old) }
+    ensures { Filled (count_by listing.entry) (raw_by listing.entry c) (before figures) (after figures) }
 {
-    let source = table.row(c.source);
-    let sink = table.row(c.sink);
-    for (t, k) in over.iter().enumerate() {
+    let source = listing.tested.grid.factors.row(c.source);
+    let sink = listing.tested.grid.factors.row(c.sink);
+    for (t, k) in listing.over.iter().enumerate() {
         figures[t] = c.quantity.flow(source[*k], sink[*k]).0;
     }
 }
 
 // The rent at one cent at each of the listed constraints, negative.
-fn fill_rents(grid: GridTable, process: Process, over: &[usize], figures: &mut [i64])
-    requires { Chosen grid.factors.constraints (length over.now) over.now × (length over.now ≤ length figures.old) }
-    ensures { Filled (length over.now) (λ (s : ℕ). due_in grid.entry.limits.now process (get_or over.now s 0)) (before figures) (after figures) }
+fn fill_rents(listing: Listing, figures: &mut [i64])
+    requires { count_by listing ≤ length figures.old }
+    ensures { Filled (count_by listing.entry) (due_by listing.entry) (before figures) (after figures) }
 {
-    for (t, k) in over.iter().enumerate() {
-        let x = Flow(0) - process.released(grid.limits[*k]);
+    let tested = listing.tested;
+    for (t, k) in listing.over.iter().enumerate() {
+        let x = Flow(0) - tested.process.released(tested.grid.limits[*k]);
         figures[t] = x.0;
     }
 }
@@ -107,76 +93,63 @@ fn add_counted(kind: Kind, figures: &[i64], totals: &mut [i64])
 // What a contract of the period pays at one cent: an obligation's added to its constraints' totals, an option's to its sets' costs. `sums` is a place for what
 // an option pays.
 fn add_contract(
-    table: FactorTable,
-    period: Period,
-    over: &[usize],
+    listing: Listing,
     c: Contract,
     row: &mut [i64],
     sums: &mut [i64],
     costs: &mut [i64],
 )
-    requires ends { InRange table.nodes c × Chosen table.constraints (length over.now) over.now × (length over.now ≤ length row.old) }
-    requires sums_len { (length sums.old ≡ 1024) × (length costs.old ≡ 1024) × SmallCells (2 ^ 61) (length over.now) row.old
-        × SmallCells (2 ^ 61) (2 ^ length over.now) costs.old }
-    ensures { AddedSmall max_released (length over.now) (fixed_in table.entry.constraints table.entry.cells.now over.now period c) (before row) (after row)
-        × AddedSmall (max_released * 10) (2 ^ length over.now)
-        (option_in table.entry.constraints table.entry.cells.now over.now (length over.now) period c) (before costs) (after costs)
+    requires ends { InRange listing.tested.grid.factors.nodes c × (count_by listing ≤ length row.old) }
+    requires sums_len { (length sums.old ≡ 1024) × (length costs.old ≡ 1024) × SmallCells (2 ^ 61) (count_by listing) row.old
+        × SmallCells (2 ^ 61) (2 ^ count_by listing) costs.old }
+    ensures { AddedSmall max_released (count_by listing.entry) (fixed_by listing.entry c) (before row) (after row)
+        × AddedSmall (max_released * 10) (2 ^ count_by listing.entry) (option_by listing.entry c) (before costs) (after costs)
         × (length (after sums) ≡ 1024) }
 {
-    if c.period == period {
+    if c.period == listing.tested.period {
+        let count = listing.over.len();
         let mut cells = [0i64; MOST_LISTED];
-        let figures = &mut cells[..over.len()];
-        fill_spreads(table, over, c, figures);
+        let figures = &mut cells[..count];
+        fill_spreads(listing, c, figures);
         match c.kind {
             Kind::Obligation => add_counted(Kind::Obligation, figures, row),
             Kind::Option => {
                 set_sums(figures, sums);
-                add_counted(Kind::Option, &sums[..set_count(over.len())], costs);
+                add_counted(Kind::Option, &sums[..set_count(count)], costs);
             }
         }
     }
 }
 
 // What the book's contracts of the period pay at one cent: obligations to the totals of constraints, options to the costs of sets.
-fn add_book(tested: Tested, over: &[usize], row: &mut [i64], sums: &mut [i64], costs: &mut [i64])
-    requires chosen { Chosen tested.grid.factors.constraints (length over.now) over.now × (length over.now ≤ length row.old) }
-    requires sums_len { (length sums.old ≡ 1024) × (length costs.old ≡ 1024) × SmallCells max_released (length over.now) row.old
-        × SmallCells (max_released * 10) (2 ^ length over.now) costs.old }
-    ensures added { Added (length over.now)
-        (book_fixed tested.entry.grid.factors.constraints tested.entry.grid.factors.cells.now over.now tested.entry.period tested.entry.book.now)
-        (before row) (after row) × SmallCells max_row (length over.now) (after row) }
-    ensures added_2 { Added (2 ^ length over.now)
-        (book_options tested.entry.grid.factors.constraints tested.entry.grid.factors.cells.now over.now (length over.now) tested.entry.period
-        tested.entry.book.now) (before costs) (after costs)
-        × SmallCells (max_row * 10) (2 ^ length over.now) (after costs) × (length (after sums) ≡ 1024) }
+fn add_book(listing: Listing, row: &mut [i64], sums: &mut [i64], costs: &mut [i64])
+    requires room { count_by listing ≤ length row.old }
+    requires sums_len { (length sums.old ≡ 1024) × (length costs.old ≡ 1024) × SmallCells max_released (count_by listing) row.old
+        × SmallCells (max_released * 10) (2 ^ count_by listing) costs.old }
+    ensures added { Added (count_by listing.entry) (book_fixed_by listing.entry) (before row) (after row)
+        × SmallCells max_row (count_by listing.entry) (after row) }
+    ensures added_2 { Added (2 ^ count_by listing.entry) (book_options_by listing.entry) (before costs) (after costs)
+        × SmallCells (max_row * 10) (2 ^ count_by listing.entry) (after costs) × (length (after sums) ≡ 1024) }
 {
-    let contracts = Contracts::of(tested.book);
+    let contracts = Contracts::of(listing.tested.book);
     for i in 0..contracts.len() {
         let c = contracts.at(i);
-        add_contract(
-            tested.grid.factors,
-            tested.period,
-            over,
-            c,
-            row,
-            sums,
-            costs,
-        );
+        add_contract(listing, c, row, sums, costs);
     }
 }
 
 // What one cent costs on every set of the listed constraints, in 10^-8 cents, into the first cells of `costs`, which are 0.
-pub fn set_costs(tested: Tested, over: &[usize], costs: &mut [i64])
-    requires { Chosen tested.grid.factors.constraints (length over.now) over.now × (length costs.old ≡ 1024)
-        × ((m : ℕ) → m < 1024 → cell_in_of costs.old m ≡ pos 0) }
-    ensures { UnitCosts (grid_by tested.entry.grid) tested.entry.process
-        (of_period tested.entry.period (book_in tested.entry.book.now)) over.now (length over.now) (after costs) }
+pub fn set_costs(listing: Listing, costs: &mut [i64])
+    requires { (length costs.old ≡ 1024) × ((m : ℕ) → m < 1024 → cell_in_of costs.old m ≡ pos 0) }
+    ensures { UnitCosts (grid_by listing.entry.tested.grid) listing.entry.tested.process
+        (of_period listing.entry.tested.period (book_in listing.entry.tested.book.now)) listing.entry.over.now (count_by listing.entry) (after costs) }
 {
+    let count = listing.over.len();
     let mut cells = [0i64; MOST_LISTED];
-    let row = &mut cells[..over.len()];
+    let row = &mut cells[..count];
     let mut sums = [0i64; MOST_SETS];
-    fill_rents(tested.grid, tested.process, over, row);
-    add_book(tested, over, row, &mut sums, costs);
+    fill_rents(listing, row);
+    add_book(listing, row, &mut sums, costs);
     set_sums(row, &mut sums);
-    add_counted(Kind::Obligation, &sums[..set_count(over.len())], costs);
+    add_counted(Kind::Obligation, &sums[..set_count(count)], costs);
 }

@@ -8,16 +8,17 @@ use Rattle.exposure_bounds.specs.Inner.{contracts_by}
 use Rattle.exposure_bounds.proofs.Units.{front_figures, front-best}
 use Rattle.exposure_bounds.proofs.worst_set.Goals as goal
 
-pub set_costs-requires : goal.set_costs-requires
+pub invariant_of-listing : goal.invariant_of-listing
 unfolding overload_count
-set_costs-requires c =
+invariant_of-listing c =
     let t = c.args.tested in
     let few = c.requires.few in
-    let counts : length c.args.over.now ≡ count_of t.grid.factors.constraints (overloaded (grid_by t.grid) t.process (contracts_by t)) = few.1 in (
-      record { few = few.0; narrow = t.grid.factors.good.few; long = omega arith; each = λ i h. c.requires.listed.below i (rw (← counts) h) },
-      refl,
-      λ m h. get_or-replicate {A = ℤ} 1024 m (pos 0) (pos 0) h,
-    )
+    let counts : length c.args.over.now ≡ count_of t.grid.factors.constraints (overloaded (grid_by t.grid) t.process (contracts_by t)) = few.1 in record {
+      chosen = record { few = few.0; narrow = t.grid.factors.good.few; long = omega arith; each = λ i h. c.requires.listed.below i (rw (← counts) h) };
+    }
+
+pub set_costs-requires : goal.set_costs-requires
+set_costs-requires c = (refl, λ m h. get_or-replicate {A = ℤ} 1024 m (pos 0) (pos 0) h)
 
 pub best_of-requires : goal.best_of-requires
 best_of-requires c =

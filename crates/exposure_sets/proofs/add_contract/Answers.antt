@@ -16,8 +16,8 @@ add_counted-requires-in-Option c =
     let f = c.fill_spreads.ensures in
     let x = c.set_sums.ensures in
     let n = c.set_count in
-    let few = c.requires.ends.1.few in
-    let count = length a.over.now in
+    let few = c.args.listing.chosen.few in
+    let count = length a.listing.over.now in
     let figures = c.fill_spreads.new.figures in
     let long : length figures ≡ count = f.length-kept ∙ length-take-le count _ few in
     let sums : Sums count (cell_in_of figures) c.set_sums.new.sums = rw long at x.0 in
@@ -28,19 +28,19 @@ add_counted-requires-in-Option c =
 pub returns-in-Option : goal.returns-in-Option
 returns-in-Option c =
     let a = c.args in
-    let own = sym (c.eq.ensures ∙ period_told a.c.period a.period) ∙ c.if-eq.true in
+    let own = sym (c.eq.ensures ∙ period_told a.c.period a.listing.tested.period) ∙ c.if-eq.true in
     let f = c.fill_spreads.ensures in
     let kind = c.in-Option.is in
     let x = c.set_sums.ensures in
     let n = c.set_count in
-    let few = c.requires.ends.1.few in
-    let count = length a.over.now in
+    let few = c.args.listing.chosen.few in
+    let count = length a.listing.over.now in
     let figures = c.fill_spreads.new.figures in
     let long : length figures ≡ count = f.length-kept ∙ length-take-le count _ few in
     let sums : Sums count (cell_in_of figures) c.set_sums.new.sums = rw long at x.0 in
     let added = front-added Option n.result c.set_sums.new.sums a.costs.now _ (omega (arith, n.ensures.2, x.1)) c.add_counted-in-Option.ensures in (
-      no_obligation a.table.constraints a.table.cells.now a.over.now count a.period a.c own _ _ f kind max_released a.row.now,
-      rw n.ensures.0 at (option_added a.table.constraints a.table.cells.now a.over.now count a.period a.c own _ _ f kind n.result
+      no_obligation a.listing.tested.grid.factors.constraints a.listing.tested.grid.factors.cells.now a.listing.over.now count a.listing.tested.period a.c own _ _ f kind max_released a.row.now,
+      rw n.ensures.0 at (option_added a.listing.tested.grid.factors.constraints a.listing.tested.grid.factors.cells.now a.listing.over.now count a.listing.tested.period a.c own _ _ f kind n.result
           c.set_sums.new.sums a.costs.now _ n.ensures.0 few sums added),
       x.1,
     )

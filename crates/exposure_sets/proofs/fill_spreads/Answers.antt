@@ -12,12 +12,12 @@ pub loop-t-preserved : goal.loop-t-preserved
 loop-t-preserved c =
     let a = c.args in
     let l = c.loop-t in
-    let n = a.table.nodes in
-    let m = a.table.constraints in
-    let fs = a.table.cells.now in
+    let n = a.listing.tested.grid.factors.nodes in
+    let m = a.listing.tested.grid.factors.constraints in
+    let fs = a.listing.tested.grid.factors.cells.now in
     let own = c.requires.0 in
-    let k = get_or a.over.now l.t 0 in
-    let b = c.requires.1.each l.t (omega arith) in
+    let k = get_or a.listing.over.now l.t 0 in
+    let b = a.listing.chosen.each l.t (omega arith) in
     let from = c.row-source.ensures in
     let to = c.row-sink.ensures in
     let source = get_or c.row-source.result.now k (pos 0) in
@@ -28,5 +28,5 @@ loop-t-preserved c =
     (back sink (omega (arith, to.sized k b)) ∙ to.cell k b ∙ sym (cell_of n m fs a.c.sink k own.sink-below b)) in
     let small = part_small c.flow.result.0 (to_z w64 (of_z w64 source)) (to_z w64 (of_z w64 sink)) Obligation a.c.quantity.0 c.flow.ensures
     (kept-sized source max_factor (lit< tt) (from.sized k b)) (kept-sized sink max_factor (lit< tt) (to.sized k b)) own.quantity-sized in
-    let raw : ℕ → ℤ = λ t. raw_in m fs a.c (get_or a.over.now t 0) in
-    filled-kept raw l.t c.flow.result.0 a.figures.now l.figures (omega (arith, l.auto.figures, c.requires.2)) y (omega (arith, small)) l.invariant
+    let raw : ℕ → ℤ = λ t. raw_in m fs a.c (get_or a.listing.over.now t 0) in
+    filled-kept raw l.t c.flow.result.0 a.figures.now l.figures (omega (arith, l.auto.figures, c.requires.1)) y (omega (arith, small)) l.invariant

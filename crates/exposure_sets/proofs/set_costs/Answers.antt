@@ -13,8 +13,8 @@ use Rattle.exposure_sets.proofs.set_costs.Goals as goal
 
 pub add_counted-requires : goal.add_counted-requires
 add_counted-requires c =
-    let over = c.args.over.now in
-    let chosen = c.requires.0 in
+    let over = c.args.listing.over.now in
+    let chosen = c.args.listing.chosen in
     let e = c.add_book.ensures in
     let x = c.set_sums.ensures in
     let n = c.set_count in
@@ -22,16 +22,16 @@ add_counted-requires c =
     let row = c.add_book.new.row in
     let long : length row ≡ count = e.added.0.length-kept ∙ c.fill_rents.ensures.length-kept ∙ length-take-le count _ chosen.few in
     let sums : Sums count (cell_in_of row) c.set_sums.new.sums = rw long at x.0 in
-    front-ready n.result c.set_sums.new.sums c.add_book.new.costs n.ensures.2 x.1 (e.added_2.0.length-kept ∙ c.requires.1)
+    front-ready n.result c.set_sums.new.sums c.add_book.new.costs n.ensures.2 x.1 (e.added_2.0.length-kept ∙ c.requires.0)
     (sums_small max_row count n.result (cell_in_of row) c.set_sums.new.sums n.ensures.0 chosen.few e.added.1 sums)
     (λ m h. omega (arith, e.added_2.1 m (rw n.ensures.0 at h)))
 
 pub returns : goal.returns
 returns c =
     let a = c.args in
-    let t = a.tested in
-    let over = a.over.now in
-    let chosen = c.requires.0 in
+    let t = a.listing.tested in
+    let over = a.listing.over.now in
+    let chosen = c.args.listing.chosen in
     let f = c.fill_rents in
     let e = c.add_book in
     let x = c.set_sums in
@@ -50,9 +50,9 @@ returns c =
           let l : m < n.result = rw n.ensures.0 h in
           unit_is t.grid.factors.nodes t.grid.factors.constraints t.grid.limits.now t.grid.factors.cells.now t.process t.period t.book.now over
           count chosen each m rents row _ _ _ _ f.ensures.each e.ensures.added.0.each
-          (c.requires.2 m (omega (arith, l, n.ensures.2))) (e.ensures.added_2.0.each m h) (sums m h) (added.each m l);
+          (c.requires.1 m (omega (arith, l, n.ensures.2))) (e.ensures.added_2.0.each m h) (sums m h) (added.each m l);
       sized = λ m h.
           let l : m < n.result = rw n.ensures.0 h in
           rw (added.each m l) (omega (arith, nat_abs_add (options m) (cell_in_of x.new.sums m), e.ensures.added_2.1 m h, small m l));
-      length-is = added.length-kept ∙ e.ensures.added_2.0.length-kept ∙ c.requires.1;
+      length-is = added.length-kept ∙ e.ensures.added_2.0.length-kept ∙ c.requires.0;
     }
