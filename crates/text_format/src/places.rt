@@ -1,4 +1,5 @@
 // Parts of a text put at a place, each giving the place behind it: for text_statement_lines and text_statement, which hand the place on themselves.
+// One function for all four would take the part as a closure: each says of another part what `Text` puts.
 ghost use Rattle.std.specs.Prelude.{[], ◌∷◌, ◌+◌, ◌^◌, ◌≤◌, ◌<◌, length, nat_abs};
 ghost use Rattle.lists.specs.Lent.{before, after};
 ghost use Rattle.text_format.specs.Decimal.{decimal, decimal_z};
