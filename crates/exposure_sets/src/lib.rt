@@ -92,13 +92,7 @@ fn add_counted(kind: Kind, figures: &[i64], totals: &mut [i64])
 
 // What a contract of the period pays at one cent: an obligation's added to its constraints' totals, an option's to its sets' costs. `sums` is a place for what
 // an option pays.
-fn add_contract(
-    listing: Listing,
-    c: Contract,
-    row: &mut [i64],
-    sums: &mut [i64],
-    costs: &mut [i64],
-)
+fn add_contract(listing: Listing, c: Contract, row: &mut [i64], sums: &mut [i64], costs: &mut [i64])
     requires ends { InRange listing.tested.grid.factors.nodes c × (count_by listing ≤ length row.old) }
     requires sums_len { (length sums.old ≡ 1024) × (length costs.old ≡ 1024) × SmallCells (2 ^ 61) (count_by listing) row.old
         × SmallCells (2 ^ 61) (2 ^ count_by listing) costs.old }
