@@ -52,8 +52,8 @@ fn set_sums(figures: &[i64], sums: &mut [i64])
     }
 }
 
-// A contract's spread × quantity at each of the listed constraints. `InRange` is asked here and by `add_contract`: a value of a list and a contract would be
-// made anew for each contract that is read, and say no more.
+// A contract's spread × quantity at each of the listed constraints. That a place has a cell for each of them (`count_by`) is asked by each function that fills
+// one: the places differ and are lent to be written, so no one value has them.
 fn fill_spreads(listing: Listing, c: Contract, figures: &mut [i64])
     requires { InRange listing.tested.grid.factors.nodes c × (count_by listing ≤ length figures.old) }
     ensures { Filled (count_by listing.entry) (raw_by listing.entry c) (before figures) (after figures) }
