@@ -1,5 +1,5 @@
 -- What is paid at one cent at the places of a list, and on its sets.
-use Rattle.std.specs.Prelude.{List, ℕ, length, get_or, ℤ}
+use Rattle.std.specs.Prelude.{ℕ, length, get_or, ℤ}
 use Rattle.tariff.specs.declared.contracts.Contract.{Contract}
 use Rattle.exposure_sets.specs.declared.listing.Listing.{Listing}
 use Rattle.exposure_sets.specs.Inner.{raw_in, due_in, fixed_in, option_in, book_fixed, book_options}

@@ -52,8 +52,8 @@ fn set_sums(figures: &[i64], sums: &mut [i64])
     }
 }
 
-// A contract's spread × quantity at each of the listed constraints. `InRange` is asked here and by `add_contract`: a value of a list and a contract would be
-// made anew for each contract that is read, and say no more.
+// A contract's spread × quantity at each of the listed constraints. That a place has a cell for each of them (`count_by`) is asked by each function that fills
+// one: the places differ and are lent to be written, so no one value has them.
 fn fill_spreads(listing: Listing, c: Contract, figures: &mut [i64])
     requires { InRange listing.tested.grid.factors.nodes c × (count_by listing ≤ length figures.old) }
     ensures { Filled (count_by listing.entry) (raw_by listing.entry c) (before figures) (after figures) }
@@ -92,13 +92,7 @@ fn add_counted(kind: Kind, figures: &[i64], totals: &mut [i64])
 
 // What a contract of the period pays at one cent: an obligation's added to its constraints' totals, an option's to its sets' costs. `sums` is a place for what
 // an option pays.
-fn add_contract(
-    listing: Listing,
-    c: Contract,
-    row: &mut [i64],
-    sums: &mut [i64],
-    costs: &mut [i64],
-)
+fn add_contract(listing: Listing, c: Contract, row: &mut [i64], sums: &mut [i64], costs: &mut [i64])
     requires ends { InRange listing.tested.grid.factors.nodes c × (count_by listing ≤ length row.old) }
     requires sums_len { (length sums.old ≡ 1024) × (length costs.old ≡ 1024) × SmallCells (2 ^ 61) (count_by listing) row.old
         × SmallCells (2 ^ 61) (2 ^ count_by listing) costs.old }
