@@ -7,7 +7,8 @@ ghost use Rattle.lists.specs.Lent.{before, after};
 
 use crate::{BitWriter, part};
 
-// `v`, of `width` bits, behind the bits of `a`, of which the highest are lost.
+// `v`, of `width` bits, behind the bits of `a`, of which the highest are lost. Value and width stay two parameters, here and below:
+// most widths are constants of a file's form, and a type of both would be made at each call.
 fn join(a: u64, v: u64, width: usize) -> u64
     requires { (v < 2 ^ width) × (width ≤ 32) }
     ensures { (held : ℕ) → held + width ≤ 64 → result % 2 ^ (held + width) ≡ a % 2 ^ held * 2 ^ width + v }

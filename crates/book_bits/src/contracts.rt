@@ -39,7 +39,8 @@ impl<'a> Contracts<'a> {
         self.count
     }
 
-    // Contract i. Like `bits_at` but for the function that it calls: one of both would take that function and be no plainer.
+    // Contract i. Loops count i: an iterator would be a type with laws of its own, and most of them need i besides.
+    // Like `bits_at` but for the function that it calls: one of both would take that function and be no plainer.
     pub fn at(self, i: usize) -> Contract
         requires { i < self.count }
         ensures { result ≡ contract_in self.entry.form self.entry.file.now i }

@@ -1,7 +1,7 @@
 // Lent tables: the search for a figure out of range, and the checks that operations on a grid's tables and an hour's tables share.
 #![tactic(auto)]
 
-ghost use Rattle.std.specs.Prelude.{◌≡◌, false, [], ◌∷◌, ◌+◌, ◌*◌, ◌≤◌, ◌<◌, leb, length, take};
+ghost use Rattle.std.specs.Prelude.{◌≡◌, [], ◌∷◌, ◌*◌, ◌≤◌, ◌<◌, leb, length, take};
 ghost use Rattle.lists.specs.Lists.{any_of, above};
 ghost use Rattle.lists.specs.Lent.{before};
 ghost use Rattle.tariff.specs.Units.{max_nodes, max_constraints};

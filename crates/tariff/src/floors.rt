@@ -1,4 +1,5 @@
 // Division of a figure of either sign, rounded down. Below zero it goes by -1 - z, which is not negative.
+// Not by `div_euclid`: it divides by an `i64`, and d is a `u64`.
 ghost use Rattle.std.specs.Prelude.{◌≡◌, ◌<◌};
 ghost use Rattle.integers.specs.Division.{floor_div, floor_mod};
 

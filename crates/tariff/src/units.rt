@@ -285,7 +285,7 @@ impl Transfer {
     }
 }
 
-// 10^-8 MW.
+// 10^-8 MW. Its cells are written by `.0`, in three places: a `From` would be no plainer.
 #[derive(Clone, Copy, Debug, PartialEq, Eq, PartialOrd, Ord)]
 pub struct Flow(pub i64);
 
