@@ -2,11 +2,8 @@
 #![tactic(auto)]
 
 mod figures;
-mod places;
 mod refused;
 mod texts;
-
-pub use places::{put_char, put_decimal, put_refused, put_signed, put_text};
 
 // A text that is put into a lent buffer: the place behind what stands there. How much room is left is no ghost field of it: each part asks for its own, and each
 // put leaves less.

@@ -1,11 +1,10 @@
-// The hour statement's lines, put into a lent buffer. Each function puts a part of them at a place and gives the place behind it.
+// The hour statement's lines, put into a lent buffer.
 #![tactic(auto)]
 
 ghost use Rattle.std.specs.Prelude.{◌≡◌, [], ◌∷◌, ◌++◌, ◌+◌, ◌*◌, ◌≤◌, ◌<◌, length, nat_abs};
-ghost use Rattle.lists.specs.Lent.{before, after};
 ghost use Rattle.text_format.specs.Ascii.{ascii};
 ghost use Rattle.text_format.specs.Decimal.{decimal};
-ghost use Rattle.text_format.specs.Inner.{Put};
+ghost use Rattle.text_format.specs.Inner.{HasRoom, Puts};
 ghost use Rattle.tariff.specs.Units.{per_cent};
 ghost use Rattle.hour_rules.specs.Inner.{Bounded};
 ghost use Rattle.text_statement_lines.specs.Lines.{heading, kind_word, contract_line, line_of, sum_line, exact_line, longest_line, longest_sum, longest_exact};
@@ -16,6 +15,7 @@ mod book;
 pub use book::{Line, SettledBook};
 use hour_rules::Totals;
 use tariff::{Kind, MAX_CONTRACTS, Period};
+use text_format::Text;
 
 // The first line.
 const HEADING: [u8; 34] = *b"contract,holder,kind,cents,priced\n";
@@ -33,13 +33,13 @@ pub const LONGEST_STATEMENT: usize = HEADING.len()
     + LONGEST_EXACT;
 
 // A number and the character behind it.
-fn put_number(buf: &mut [u8], at: usize, number: u64, behind: u8) -> usize
-    requires { at + length (decimal number) + 1 ≤ length buf.old }
-    ensures put { Put (before buf) at (decimal number ++ behind ∷ []) (after buf) result }
-    ensures value { result ≡ at + length (decimal number) + 1 }
+fn put_number(text: &mut Text, number: u64, behind: u8)
+    requires { HasRoom text.old (length (decimal number) + 1) }
+    ensures put { Puts text.old (decimal number ++ behind ∷ []) text.new }
+    ensures value { text.new.at ≡ text.old.at + length (decimal number) + 1 }
 {
-    let end = text_format::put_decimal(buf, at, number);
-    text_format::put_char(buf, end, behind)
+    text.put_decimal(number);
+    text.put_char(behind);
 }
 
 // The kind's word and a comma.
@@ -53,78 +53,74 @@ fn kind_field(kind: Kind) -> &'static [u8; 4]
 }
 
 // The line of one contract.
-fn put_contract(buf: &mut [u8], at: usize, line: Line) -> usize
-    requires { at + longest_line ≤ length buf.old }
-    ensures put { Put (before buf) at (contract_line line.number line.contract line.cents line.priced) (after buf) result }
-    ensures upper_bound { result ≤ at + longest_line }
+fn put_contract(text: &mut Text, line: Line)
+    requires { HasRoom text.old longest_line }
+    ensures put { Puts text.old (contract_line line.number line.contract line.cents line.priced) text.new }
+    ensures upper_bound { text.new.at ≤ text.old.at + longest_line }
 {
-    let holder = put_number(buf, at, line.number, b',');
-    let kind = put_number(buf, holder, line.contract.holder, b',');
-    let figure = text_format::put_text(buf, kind, kind_field(line.contract.kind));
-    let comma = text_format::put_signed(buf, figure, line.cents);
-    let size = text_format::put_char(buf, comma, b',');
-    put_number(buf, size, line.priced, b'\n')
+    put_number(text, line.number, b',');
+    put_number(text, line.contract.holder, b',');
+    text.put(kind_field(line.contract.kind));
+    text.put_signed(line.cents);
+    text.put_char(b',');
+    put_number(text, line.priced, b'\n');
 }
 
 // The line of a contract of the period; nothing for the other period's.
-fn put_own(buf: &mut [u8], at: usize, period: Period, line: Line) -> usize
-    requires { at + longest_line ≤ length buf.old }
-    ensures put { Put (before buf) at (line_of period line.number line.contract line.cents line.priced) (after buf) result }
-    ensures upper_bound { result ≤ at + longest_line }
+fn put_own(text: &mut Text, period: Period, line: Line)
+    requires { HasRoom text.old longest_line }
+    ensures put { Puts text.old (line_of period line.number line.contract line.cents line.priced) text.new }
+    ensures upper_bound { text.new.at ≤ text.old.at + longest_line }
 {
     if line.contract.period == period {
-        put_contract(buf, at, line)
-    } else {
-        at
+        put_contract(text, line);
     }
 }
 
 // The lines of a book's contracts.
-fn put_contracts(buf: &mut [u8], at: usize, period: Period, book: SettledBook) -> usize
-    requires { at + longest_line * book.contracts.count ≤ length buf.old }
-    ensures put { Put (before buf) at (lines_by period book.entry) (after buf) result }
-    ensures upper_bound { result ≤ at + longest_line * book.entry.contracts.count }
+fn put_contracts(text: &mut Text, period: Period, book: SettledBook)
+    requires { HasRoom text.old (longest_line * book.contracts.count) }
+    ensures put { Puts text.old (lines_by period book.entry) text.new }
+    ensures upper_bound { text.new.at ≤ text.old.at + longest_line * book.entry.contracts.count }
 {
-    let mut next = at;
     for i in 0..book.contracts.len() {
-        next = put_own(buf, next, period, book.line(i));
+        put_own(text, period, book.line(i));
     }
-    next
 }
 
 // The sum of the rounded cents.
-fn put_sum(buf: &mut [u8], at: usize, sum: i64) -> usize
-    requires { (nat_abs sum ≤ max_line_total) × (at + longest_sum ≤ length buf.old) }
-    ensures put { Put (before buf) at (sum_line sum) (after buf) result }
-    ensures upper_bound { result ≤ at + longest_sum }
+fn put_sum(text: &mut Text, sum: i64)
+    requires { (nat_abs sum ≤ max_line_total) × HasRoom text.old longest_sum }
+    ensures put { Puts text.old (sum_line sum) text.new }
+    ensures upper_bound { text.new.at ≤ text.old.at + longest_sum }
 {
-    let word = text_format::put_text(buf, at, b"sum,");
-    let figure = text_format::put_signed(buf, word, sum);
-    text_format::put_char(buf, figure, b'\n')
+    text.put(b"sum,");
+    text.put_signed(sum);
+    text.put_char(b'\n');
 }
 
 // The exact total: whole cents and parts.
-fn put_exact(buf: &mut [u8], at: usize, whole: i64, parts: u64) -> usize
-    requires { (nat_abs whole ≤ max_line_total) × (parts < per_cent) × (at + longest_exact ≤ length buf.old) }
-    ensures put { Put (before buf) at (exact_line whole parts) (after buf) result }
-    ensures upper_bound { result ≤ at + longest_exact }
+fn put_exact(text: &mut Text, whole: i64, parts: u64)
+    requires { (nat_abs whole ≤ max_line_total) × (parts < per_cent) × HasRoom text.old longest_exact }
+    ensures put { Puts text.old (exact_line whole parts) text.new }
+    ensures upper_bound { text.new.at ≤ text.old.at + longest_exact }
 {
-    let word = text_format::put_text(buf, at, b"exact,");
-    let cents = text_format::put_signed(buf, word, whole);
-    let comma = text_format::put_char(buf, cents, b',');
-    put_number(buf, comma, parts, b'\n')
+    text.put(b"exact,");
+    text.put_signed(whole);
+    text.put_char(b',');
+    put_number(text, parts, b'\n');
 }
 
-// All lines, at the front: the heading, the contracts of the period, the sum and the exact total. In a frame of its own: where LLVM takes it into its
-// caller's, this keeps the nodes' congestion components twice, 32,000 bytes more than CRR_TEXT_STACK_BYTES leaves.
+// All lines: the heading, the contracts of the period, the sum and the exact total. In a frame of its own: where LLVM takes it into its caller's, this keeps the
+// nodes' congestion components twice, 32,000 bytes more than CRR_TEXT_STACK_BYTES leaves.
 #[inline(never)]
-pub fn put_lines(buf: &mut [u8], period: Period, book: SettledBook, totals: Totals) -> usize
+pub fn put_lines(text: &mut Text, period: Period, book: SettledBook, totals: Totals)
     requires bounded { Bounded book.contracts.count totals }
-    requires in_bounds { length heading + longest_line * book.contracts.count + longest_sum + longest_exact ≤ length buf.old }
-    ensures { Put (before buf) 0 (settled_lines_of period book.entry totals) (after buf) result }
+    requires in_bounds { HasRoom text.old (length heading + longest_line * book.contracts.count + longest_sum + longest_exact) }
+    ensures { Puts text.old (settled_lines_of period book.entry totals) text.new }
 {
-    let first = text_format::put_text(buf, 0, &HEADING);
-    let second = put_contracts(buf, first, period, book);
-    let third = put_sum(buf, second, totals.sum);
-    put_exact(buf, third, totals.whole, totals.parts)
+    text.put(&HEADING);
+    put_contracts(text, period, book);
+    put_sum(text, totals.sum);
+    put_exact(text, totals.whole, totals.parts);
 }

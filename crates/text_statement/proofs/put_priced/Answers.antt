@@ -1,9 +1,8 @@
 -- `put_priced`: where the prices are read, an hour is settled.
 use mathlib.Core.List.{List}
 use Prim.Native.Nat.{ℕ}
-use native.Mathlib.Omega.{arith}
 use lib.ListN.{length-replicate}
-use Rattle.text_format.proofs.Putting.{put_same}
+use Rattle.text_format.proofs.Putting.{puts_same}
 use Rattle.tariff.specs.declared.contracts.Period.{Period}
 use Rattle.tariff.specs.Units.{factors_of, max_constraints}
 use Rattle.layouts.specs.BookFile.{book_in}
@@ -19,18 +18,9 @@ of-hour-requires c =
     let taken = prices-taken a.grid.constraints a.price_file.now _ _ _ (rw c.in-Ok.is at c.read_prices.ensures) in
     record { good-factors = a.grid.good; good-prices = taken.good-prices }
 
-pub put_settled-requires : goal.put_settled-requires
-put_settled-requires c =
-    record {
-      longest_statement_in_bounds = omega (arith, c.requires.longest_statement_in_bounds);
-      book_value = rw c.of-hour.ensures.nodes_kept c.requires.book_value;
-    }
-
 pub returns-in-Err : goal.returns-in-Err
 returns-in-Err c =
-    let r = c.read_prices in
-    let a = c.args in
-    put_same (prices-refused a.grid.constraints a.price_file.now _ _ (length-replicate {A = ℕ} max_constraints 0) _ _ (rw c.in-Err.is at r.ensures)) c.put_refused.ensures
+    puts_same (prices-refused _ _ _ _ (length-replicate {A = ℕ} max_constraints 0) _ _ (rw c.in-Err.is at c.read_prices.ensures)) c.put_refused.ensures
 
 pub returns-in-Ok : goal.returns-in-Ok
 returns-in-Ok c =
@@ -39,5 +29,5 @@ returns-in-Ok c =
     let a = c.args in
     let taken = prices-taken a.grid.constraints a.price_file.now _ _ _ (rw c.in-Ok.is at r.ensures) in
     let text : Period → List ℕ → List ℕ = λ t p. lines (factors_of a.grid.nodes a.grid.constraints a.grid.cells.now) p t (book_in a.book.now) in
-    put_same (rw (period-of_number c.in-Ok.period) at (prices-text a.grid.constraints a.price_file.now text _ _ taken))
+    puts_same (rw (period-of_number c.in-Ok.period) at (prices-text a.grid.constraints a.price_file.now text _ _ taken))
     (rw (kept.nodes_kept, kept.constraints_kept, kept.factors_kept, kept.prices_kept) at c.put_settled.ensures)

@@ -1,6 +1,6 @@
 -- `put_settled`: what settling leaves fits the lines.
 use native.Mathlib.Omega.{arith}
-use Rattle.text_format.proofs.Putting.{put_same}
+use Rattle.text_format.proofs.Putting.{puts_same}
 use Rattle.book_rules.proofs.Accepted.{book-accepted}
 use Rattle.text_statement_lines.specs.Inner.{settled_lines_of}
 use Rattle.text_statement_lines.proofs.Settled.{settled_sized, settled_lines}
@@ -21,17 +21,8 @@ invariant_of-settled c =
     let few = (book-accepted c.args.hour.factors.nodes c.args.book.now c.requires.book_value).few in
     record { sized = rw c.of.ensures.2 (settled_sized c.settle-totals.ensures few (omega (arith, few)) (omega (arith, few))) }
 
-pub put_lines-requires : goal.put_lines-requires
-put_lines-requires c =
-    let few = (book-accepted c.args.hour.factors.nodes c.args.book.now c.requires.book_value).few in
-    let count = c.of.ensures.2 in
-    record {
-      bounded = rw count c.settle-totals.ensures.bounded;
-      in_bounds = rw count (omega (arith, c.requires.longest_statement_in_bounds, few));
-    }
-
 pub returns : goal.returns
 unfolding settled_lines_of
 returns c =
     let of = c.of.ensures in
-    put_same (settled_lines c.settle-totals.ensures) (rw (of.0, of.1, of.2) at c.put_lines.ensures)
+    puts_same (settled_lines c.settle-totals.ensures) (rw (of.0, of.1, of.2) at c.put_lines.ensures)
