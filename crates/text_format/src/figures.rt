@@ -1,4 +1,4 @@
-// Figures in decimal digits.
+// Figures in decimal digits. Not by `Display`: only a text in a `String` has promised bytes, and there is no heap.
 ghost use Rattle.std.specs.Prelude.{◌≡◌, ◌+◌, ◌≤◌, length};
 ghost use Rattle.lists.specs.Lent.{after};
 ghost use Rattle.text_format.specs.Decimal.{decimal, decimal_z};
@@ -28,7 +28,8 @@ fn count_digits(n: u64) -> usize
     }
 }
 
-// Stores the digits of `n` into a place for just so many, from the last to the first.
+// Stores the digits of `n` into a place for just so many, from the last to the first. By index: over `iter_mut().rev()`, which was tried, the invariant would
+// speak of cells that are still lent.
 fn store_digits(place: &mut [u8], n: u64)
     requires { length place.old ≡ length (decimal n) }
     ensures { after place ≡ decimal n }
