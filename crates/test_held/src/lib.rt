@@ -3,7 +3,6 @@
 
 ghost use Rattle.std.specs.Prelude.{◌≡◌, ◌*◌, ◌^◌, ◌≤◌, ◌<◌, length};
 ghost use Rattle.lists.specs.Lists.{any_of};
-ghost use Rattle.lists.specs.Lent.{before};
 ghost use Rattle.tariff.specs.Units.{max_constraints, max_flow};
 ghost use Rattle.test_held.specs.Inner.{SameFlows, beyond};
 
@@ -14,7 +13,7 @@ use test_rules::Flows;
 const MAX_FLOW: usize = 200000000000;
 
 // Whether a flow is larger than so many contracts can make.
-fn flow_beyond(flow: i64, count: usize) -> bool
+pub fn flow_beyond(flow: i64, count: usize) -> bool
     requires { max_flow * count < 2 ^ 63 }
     ensures { result ≡ beyond count flow }
 {
@@ -30,6 +29,7 @@ pub fn flows_beyond(flows: &[i64], count: usize) -> bool
 }
 
 // The first cells in an array, to be judged. `constraints ≤ max_constraints` is the array's length: a type for such a count would stand in this contract alone.
+// The count stands beside the cells, as C gives it.
 pub fn held_flows(constraints: usize, flows: &[i64]) -> Flows
     requires { (constraints ≤ max_constraints) × (constraints ≤ length flows.now) }
     ensures { SameFlows constraints flows.now result }

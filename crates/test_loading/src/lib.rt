@@ -14,6 +14,7 @@ use test_rules::Flows;
 use test_terms::{Asked, AskedFlows};
 
 // The flows carried, into the first cells of `out`. `constraints ≤ max_constraints` is the array's length; no `Loading`, since no limit is read here.
+// The count stands beside the cells, as C gives it.
 pub fn fill_flows(constraints: usize, carried: Flows, out: &mut [i64])
     requires constraints_le_max_constraints { (constraints ≤ max_constraints) × (constraints ≤ length out.old) }
     requires by_index { (k : ℕ) → k < constraints → nat_abs (get_or carried.flows k (pos 0)) < 2 ^ 62 }

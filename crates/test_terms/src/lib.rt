@@ -2,7 +2,6 @@
 #![tactic(auto)]
 
 ghost use Rattle.std.specs.Prelude.{◌≡◌};
-ghost use Rattle.lists.specs.Lent.{before};
 ghost use Rattle.tariff.specs.Refusals.{first};
 ghost use Rattle.grid_tables.specs.TableChecks.{grid_table_checks};
 
@@ -12,6 +11,7 @@ use tariff::Refusal;
 pub use tested::Tested;
 
 // What a test is asked beside its tables and its book: nothing here is checked yet.
+// Process and period are numbers, as C gives them: 16 and 17 refuse those of none.
 #[derive(Clone, Copy)]
 pub struct Asked {
     pub nodes: usize,
@@ -20,7 +20,7 @@ pub struct Asked {
     pub period: u64,
 }
 
-// What finding flows is asked: a test's terms without the process.
+// What finding flows is asked: a test's terms without the process. A struct of its own: C's entries that find flows are given no process.
 #[derive(Clone, Copy)]
 pub struct AskedFlows {
     pub nodes: usize,

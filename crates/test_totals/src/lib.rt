@@ -1,7 +1,7 @@
 // A feasibility test of any size, step by step: a book's flows added to running totals, and totals judged.
 #![tactic(auto)]
 
-ghost use Rattle.std.specs.Prelude.{◌≡◌, ◌≤◌, length};
+ghost use Rattle.std.specs.Prelude.{◌≡◌, length};
 ghost use Rattle.lists.specs.Lent.{before, after, overwrite};
 ghost use Rattle.test_totals.specs.Totals.{no_totals_of};
 ghost use Rattle.test_totals.specs.AddFlows.{add_flows_call, AddsFlows};
@@ -26,6 +26,7 @@ fn no_totals(count: usize, flows: &[i64]) -> bool
 
 // Adds the flows carried to the first cells of `out`. Not one function with `test_excesses::fill_excess`: a sum with what stood there and a difference from
 // what is released, under facts of their own; a closure for each would be longer than both.
+// By index: the count stands beside the cells, as C gives it; a zip was tried, and did not prove: the library's laws of zips are of cells that are only read.
 fn add_cells(constraints: usize, carried: Flows, out: &mut [i64])
     requires { Addable constraints carried out.old }
     ensures { after out ≡ overwrite (with_flows constraints carried (before out)) (before out) }

@@ -21,7 +21,8 @@ pub struct Loading<'a> {
 }
 
 impl<'a> Loading<'a> {
-    // Not one function with `GridTable::of`: another type, of other facts. The count stands beside the limits, since more may stand behind them.
+    // Not one function with `GridTable::of`: another type, of other facts. The count stands beside the limits: a slice cut to it would be cut by
+    // each of the six callers, with a law that its limits are the table's.
     pub fn of(constraints: usize, limits: &'a [u64], flows: Flows) -> Self
         requires { Judgeable constraints limits.now flows }
         ensures constraints_kept { result.constraints ≡ constraints }
@@ -36,6 +37,7 @@ impl<'a> Loading<'a> {
     }
 
     // The set of overloaded constraints, from its highest bit down: bit k is set where the flow on constraint k exceeds its released limit.
+    // By index: flows and limits at one number; zips would be nested.
     pub fn overload_set(self, process: Process) -> u64
         ensures { result ≡ set_of self.entry.constraints (λ (k : ℕ).
             lt_z (pos (get_or self.entry.limits.now k 0 * percent process * 1000)) (get_or self.entry.flows.flows k (pos 0))) }

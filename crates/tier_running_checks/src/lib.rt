@@ -1,8 +1,7 @@
 // The checks of opening and adding: as the test does up to 7, with the lent buffers under the 9.
 #![tactic(auto)]
 
-ghost use Rattle.std.specs.Prelude.{◌≡◌, [], ◌∷◌, length};
-ghost use Rattle.lists.specs.Lent.{before};
+ghost use Rattle.std.specs.Prelude.{◌≡◌, [], ◌∷◌};
 ghost use Rattle.tariff.specs.Refusals.{first};
 ghost use Rattle.tier_rules.specs.Checks.{running_checks};
 ghost use Rattle.tier_rules.specs.Cells.{held_in};

@@ -24,17 +24,20 @@ fn no_state(constraints: usize, numbers: &[u64], flows: &[i64]) -> bool
     numbers[0] < counted || test_held::flows_beyond(&flows[..constraints], counted as usize)
 }
 
-// The flows with an award's.
+// The flows with an award's. `InRange` is a clause: a type for a contract in range would be made for each contract of a book.
 fn flows_with(table: FactorTable, c: Contract, numbers: &[u64], flows: &[i64]) -> Flows
     requires { InRange table.nodes c × StateLike table.constraints numbers.now flows.now }
     ensures { FlowsWith (factors_of table.entry.nodes table.entry.constraints table.entry.cells.now) c flows.now result }
 {
     let mut tried = test_held::held_flows(table.constraints, flows);
-    test_flows::add_flow(&mut tried.flows, c, table);
+    let source = table.row(c.source);
+    let sink = table.row(c.sink);
+    test_flows::add_flow(&mut tried.flows, c, source, sink);
     tried
 }
 
 // Adds the flows and the count of an award that is of the period (`own`), and says whether 21 comes instead.
+// A `bool`, as each check's: 21 is the one refusal, and `AddsFlows` speaks of the buffers by it.
 pub fn add_flows(
     own: bool,
     grid: GridTable,

@@ -24,6 +24,7 @@ fn store_award(c: Contract, awards: &mut [u64], numbers: &mut [u64])
 }
 
 // Tries the flows of an award: those of one of the period are added, unless 21 comes instead, which it says.
+// A `bool`, as each check's: 21 is the one refusal, and `AddsFlows` speaks of the buffers by it.
 fn try_flows(
     asked: Asked,
     grid: GridTable,
