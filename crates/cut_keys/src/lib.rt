@@ -18,7 +18,7 @@ use tariff::{Contract, MAX_CONSTRAINTS, Quantity};
 use test_terms::Tested;
 use test_verdict::Loading;
 
-// The key of a contract that is of the period and has a cut.
+// The key of a contract that is of the period and has a cut. `InRange` is asked as `ExcessTable::least_cut` asks it.
 fn key_of(excesses: ExcessTable, c: Contract, number: usize) -> Option<u64>
     requires { InRange excesses.test.grid.factors.nodes c × (number < 1024) }
     ensures { result ≡ cond (ltb 0 (own_cut_by excesses.entry c)) (Some (cut_key (own_cut_by excesses.entry c) number)) None }

@@ -18,6 +18,7 @@ fn store_rows(keys: &[u64], numbers: &mut [u64], cuts: &mut [u64])
     ensures numbers_value { after numbers ≡ overwrite (numbers_of keys.now (length keys.now)) (before numbers) }
     ensures cuts_value { after cuts ≡ overwrite (cuts_of keys.now (length keys.now)) (before cuts) }
 {
+    // By index: two slices are written at it.
     for (i, key) in keys.iter().enumerate() {
         numbers[i] = key % KEY_BASE;
         cuts[i] = key / KEY_BASE;

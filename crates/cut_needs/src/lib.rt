@@ -59,10 +59,12 @@ fn raised(
 }
 
 // The lowest overloaded constraint: none stands before it.
+// The table may be longer than the constraints: `Excesses` says it by both.
 fn first_overload(constraints: usize, excesses: &[i64]) -> usize
     requires { Excesses constraints excesses.now }
     ensures { (result ≤ constraints) × ((j : ℕ) → j < result → cell_at excesses.now j ≤ℤ pos 0) }
 {
+    // By number: its contract says that none stands before it, also where none is found.
     for k in 0..constraints {
         if 0 < excesses[k] {
             return k;
@@ -71,7 +73,7 @@ fn first_overload(constraints: usize, excesses: &[i64]) -> usize
     constraints
 }
 
-// Where the overloaded constraints end: none stands from there on.
+// Where the overloaded constraints end: none stands from there on. By both, and by number, as above.
 fn overloads_end(constraints: usize, excesses: &[i64]) -> usize
     requires { Excesses constraints excesses.now }
     ensures { (result ≤ constraints) × ((j : ℕ) → result ≤ j → j < constraints → cell_at excesses.now j ≤ℤ pos 0) }
@@ -138,7 +140,7 @@ impl<'a> ExcessTable<'a> {
         true
     }
 
-    // The least cut of a contract, and 0 for none.
+    // The least cut of a contract, and 0 for none, here and above: `need_at`, `raised_to` (cut_rules) and `cut_in` have 0 for none, and no cut is 0.
     pub fn least_cut(self, c: Contract) -> Quantity
         requires { InRange self.test.grid.factors.nodes c }
         ensures { (result.0 ≡ cut_by self.entry c) × (result.0 ≤ max_quantity) }

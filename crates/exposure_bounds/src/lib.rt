@@ -13,16 +13,10 @@ ghost use Rattle.exposure_bounds.specs.Inner.{contracts_by, AreExcesses, BestSet
 
 use exposure_figures::Exact;
 use exposure_prices::{Best, ExcessTable};
-use exposure_sets::Listing;
+use exposure_sets::{Listing, MOST_LISTED, MOST_SETS};
 use tariff::{MAX_CONSTRAINTS, Refusal};
 use test_terms::{Asked, Tested};
 use test_verdict::{Loading, check_test};
-
-// Of how many overloaded constraints every set is tried.
-const FEW_OVERLOADS: usize = 10;
-
-// How many sets they have at most.
-const MOST_SETS: usize = 1024;
 
 // The least and the most that a book can cost.
 #[derive(Clone, Copy)]
@@ -78,7 +72,7 @@ fn expose(tested: Tested, prices: &mut [u64]) -> Exposure
     };
     let mut over = [0usize; MAX_CONSTRAINTS];
     let count = exposure_prices::fill_over(excesses, &mut over);
-    if count <= FEW_OVERLOADS {
+    if count <= MOST_LISTED {
         let best = worst_set(tested, &over[..count]);
         exposure_prices::fill_set(excesses, best.set, prices);
         Exposure {

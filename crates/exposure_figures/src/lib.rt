@@ -1,16 +1,13 @@
 // Figures in 10^-8 cents that may exceed 64 bits, and the congestion rent of all constraints as one.
 #![tactic(auto)]
 
-ghost use Rattle.std.specs.Prelude.{◌≡◌, ℕ, ◌+◌, ◌*◌, ◌^◌, ◌≤◌, ◌<◌, pos, nat_abs, ◌-ℤ◌};
-ghost use Rattle.std.specs.Int.Signed.{lt_z};
+ghost use Rattle.std.specs.Prelude.{◌≡◌, ℕ, ◌+◌, ◌*◌, ◌^◌, ◌≤◌, ◌<◌, pos, ◌-ℤ◌};
 ghost use Rattle.integers.specs.Sums.{sum_to};
-ghost use Rattle.lists.specs.Lent.{before};
-ghost use Rattle.tariff.specs.Units.{max_limit, max_price, per_cent};
+ghost use Rattle.tariff.specs.Units.{max_constraints, max_limit, max_price, per_cent};
 ghost use Rattle.tariff.specs.Processes.{percent};
 ghost use Rattle.grid_tables.specs.Inner.{GoodCells};
 ghost use Rattle.exposure_figures.specs.Inner.{exact_of, Exactly, rent_in, rent_of, max_rent, max_rent_cents, RentBounded, Paid};
 
-use grid_tables::GridTable;
 use std::ops::{Add, Sub};
 use tariff::{PER_CENT, Process};
 
@@ -21,7 +18,7 @@ pub struct Exact {
     pub parts: u64,
 }
 
-// A rent, which is never below 0.
+// A rent, which is never below 0, so whole cents of their own type: its sum has no sign to carry.
 #[derive(Clone, Copy, Debug, PartialEq, Eq, PartialOrd, Ord)]
 pub struct Owed {
     pub whole: u64,
@@ -51,7 +48,7 @@ impl Add<u64> for Owed {
 }
 
 impl Owed {
-    // The same as a figure that may be below 0.
+    // The same as a figure that may be below 0. No `From`, which asks nothing: the rent's bound is what makes its whole cents fit.
     pub fn exact(self) -> Exact
         requires { RentBounded 64 self }
         ensures { Exactly (pos (rent_of self)) result }
@@ -96,17 +93,12 @@ fn rent_at(process: Process, limit: u64, price: u64) -> u64
 }
 
 // The rent of all constraints.
-pub fn rent(grid: GridTable, process: Process, prices: &[u64]) -> Owed
-    requires { GoodCells max_price grid.factors.constraints prices.now }
-    ensures { (pos (rent_of result) ≡ sum_to grid.entry.factors.constraints (λ (j : ℕ). pos (rent_in grid.entry.limits.now process prices.now j)))
-        × RentBounded 64 result }
+pub fn rent(constraints: usize, process: Process, limits: &[u64], prices: &[u64]) -> Owed
+    requires { (constraints ≤ max_constraints) × GoodCells max_limit constraints limits.now × GoodCells max_price constraints prices.now }
+    ensures { (pos (rent_of result) ≡ sum_to constraints (λ (j : ℕ). pos (rent_in limits.now process prices.now j))) × RentBounded 64 result }
 {
-    let constraints = grid.factors.constraints;
     let mut total = Owed { whole: 0, parts: 0 };
-    for (limit, price) in grid.limits[..constraints]
-        .iter()
-        .zip(&prices[..constraints])
-    {
+    for (limit, price) in limits[..constraints].iter().zip(&prices[..constraints]) {
         total = total + rent_at(process, *limit, *price);
     }
     total

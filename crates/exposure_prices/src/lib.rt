@@ -119,6 +119,7 @@ pub fn fill_set(excesses: ExcessTable, set: u64, prices: &mut [u64])
     ensures { after prices ≡ overwrite (highest_where (length excesses.entry.cells.now) (set_in excesses.entry.cells.now set)) (before prices) }
 {
     let mut left = set;
+    // By index: what is written is said cell by cell (`set_in`).
     for (k, price) in prices[..excesses.cells.len()].iter_mut().enumerate() {
         *price = price_at(excesses.cells[k], left % 2 == 1);
         left = set_left(excesses.cells[k], left);

@@ -2,7 +2,7 @@
 ghost use Rattle.std.specs.Prelude.{length};
 ghost use Rattle.exposure_prices.specs.Inner.{Excesses};
 
-// The excesses of a test's constraints, one for each.
+// The excesses of a test's constraints, one for each. Not `cut_needs::ExcessTable`: sums need each excess bounded and no test beside them.
 #[derive(Clone, Copy)]
 pub struct ExcessTable<'a> {
     pub cells: &'a [i64],

@@ -18,9 +18,9 @@ pub use listing::Listing;
 use tariff::{Amount, Contract, Flow, Kind};
 
 // Of how many constraints every set is tried, and how many sets they have.
-const MOST_LISTED: usize = 10;
+pub const MOST_LISTED: usize = 10;
 
-const MOST_SETS: usize = 1024;
+pub const MOST_SETS: usize = 1024;
 
 // How many sets so many constraints have.
 pub fn set_count(count: usize) -> usize
@@ -30,7 +30,7 @@ pub fn set_count(count: usize) -> usize
     1usize << count
 }
 
-// The sums of n sets, and of n more: each has x in addition.
+// The sums of n sets, and of n more: each has x in addition. n is not the slice's length: n more sums go behind the n that there are, in one slice, so by index.
 fn grow(n: usize, x: Flow, sums: &mut [i64])
     requires { (n + n ≤ length sums.old) × (n ≤ 512) × (nat_abs x.0 ≤ max_row) × SmallCells (max_row * 10) n sums.old }
     ensures { Grown n x.0 (before sums) (after sums) }
@@ -42,9 +42,9 @@ fn grow(n: usize, x: Flow, sums: &mut [i64])
 }
 
 // The sum of each set's figures.
-fn set_sums(figures: &[i64], sums: &mut [i64])
-    requires { (length figures.now ≤ 10) × SmallCells max_row (length figures.now) figures.now × (length sums.old ≡ 1024) }
-    ensures { Sums (length figures.now) (cell_in_of figures.now) (after sums) × (length (after sums) ≡ 1024) }
+fn set_sums(figures: &[i64], sums: &mut [i64; MOST_SETS])
+    requires { (length figures.now ≤ 10) × SmallCells max_row (length figures.now) figures.now }
+    ensures { Sums (length figures.now) (cell_in_of figures.now) (after sums) }
 {
     sums[0] = 0;
     for (t, figure) in figures.iter().enumerate() {
@@ -60,6 +60,7 @@ fn fill_spreads(listing: Listing, c: Contract, figures: &mut [i64])
 {
     let source = listing.tested.grid.factors.row(c.source);
     let sink = listing.tested.grid.factors.row(c.sink);
+    // By index: what is written is said cell by cell (`Filled`, `Added`).
     for (t, k) in listing.over.iter().enumerate() {
         figures[t] = c.quantity.flow(source[*k], sink[*k]).0;
     }
@@ -92,13 +93,17 @@ fn add_counted(kind: Kind, figures: &[i64], totals: &mut [i64])
 
 // What a contract of the period pays at one cent: an obligation's added to its constraints' totals, an option's to its sets' costs. `sums` is a place for what
 // an option pays.
-fn add_contract(listing: Listing, c: Contract, row: &mut [i64], sums: &mut [i64], costs: &mut [i64])
+fn add_contract(
+    listing: Listing,
+    c: Contract,
+    row: &mut [i64],
+    sums: &mut [i64; MOST_SETS],
+    costs: &mut [i64; MOST_SETS],
+)
     requires ends { InRange listing.tested.grid.factors.nodes c × (count_by listing ≤ length row.old) }
-    requires sums_len { (length sums.old ≡ 1024) × (length costs.old ≡ 1024) × SmallCells (2 ^ 61) (count_by listing) row.old
-        × SmallCells (2 ^ 61) (2 ^ count_by listing) costs.old }
+    requires small { SmallCells (2 ^ 61) (count_by listing) row.old × SmallCells (2 ^ 61) (2 ^ count_by listing) costs.old }
     ensures { AddedSmall max_released (count_by listing.entry) (fixed_by listing.entry c) (before row) (after row)
-        × AddedSmall (max_released * 10) (2 ^ count_by listing.entry) (option_by listing.entry c) (before costs) (after costs)
-        × (length (after sums) ≡ 1024) }
+        × AddedSmall (max_released * 10) (2 ^ count_by listing.entry) (option_by listing.entry c) (before costs) (after costs) }
 {
     if c.period == listing.tested.period {
         let count = listing.over.len();
@@ -116,14 +121,18 @@ fn add_contract(listing: Listing, c: Contract, row: &mut [i64], sums: &mut [i64]
 }
 
 // What the book's contracts of the period pay at one cent: obligations to the totals of constraints, options to the costs of sets.
-fn add_book(listing: Listing, row: &mut [i64], sums: &mut [i64], costs: &mut [i64])
+fn add_book(
+    listing: Listing,
+    row: &mut [i64],
+    sums: &mut [i64; MOST_SETS],
+    costs: &mut [i64; MOST_SETS],
+)
     requires room { count_by listing ≤ length row.old }
-    requires sums_len { (length sums.old ≡ 1024) × (length costs.old ≡ 1024) × SmallCells max_released (count_by listing) row.old
-        × SmallCells (max_released * 10) (2 ^ count_by listing) costs.old }
+    requires small { SmallCells max_released (count_by listing) row.old × SmallCells (max_released * 10) (2 ^ count_by listing) costs.old }
     ensures added { Added (count_by listing.entry) (book_fixed_by listing.entry) (before row) (after row)
         × SmallCells max_row (count_by listing.entry) (after row) }
     ensures added_2 { Added (2 ^ count_by listing.entry) (book_options_by listing.entry) (before costs) (after costs)
-        × SmallCells (max_row * 10) (2 ^ count_by listing.entry) (after costs) × (length (after sums) ≡ 1024) }
+        × SmallCells (max_row * 10) (2 ^ count_by listing.entry) (after costs) }
 {
     let contracts = Contracts::of(listing.tested.book);
     for i in 0..contracts.len() {
@@ -133,8 +142,8 @@ fn add_book(listing: Listing, row: &mut [i64], sums: &mut [i64], costs: &mut [i6
 }
 
 // What one cent costs on every set of the listed constraints, in 10^-8 cents, into the first cells of `costs`, which are 0.
-pub fn set_costs(listing: Listing, costs: &mut [i64])
-    requires { (length costs.old ≡ 1024) × ((m : ℕ) → m < 1024 → cell_in_of costs.old m ≡ pos 0) }
+pub fn set_costs(listing: Listing, costs: &mut [i64; MOST_SETS])
+    requires { (m : ℕ) → m < 1024 → cell_in_of costs.old m ≡ pos 0 }
     ensures { UnitCosts (grid_by listing.entry.tested.grid) listing.entry.tested.process
         (of_period listing.entry.tested.period (book_in listing.entry.tested.book.now)) listing.entry.over.now (count_by listing.entry) (after costs) }
 {

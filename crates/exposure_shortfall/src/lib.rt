@@ -41,7 +41,8 @@ pub fn shortfall_at(tested: Tested, prices: &[u64]) -> Shortfall
         whole: totals.whole,
         parts: totals.parts,
     };
-    let owed = exposure_figures::rent(tested.grid, tested.process, prices);
+    let grid = tested.grid;
+    let owed = exposure_figures::rent(factors.constraints, tested.process, grid.limits, prices);
     Shortfall {
         payment,
         rent: owed.exact(),
@@ -84,6 +85,7 @@ fn check_cells(
 }
 
 // The checks of the tables, as C lends them: 2, 3, 16, 17, those of the cells.
+// As `grid_tables::check_grid_tables` but for the cells' checks, among which the prices' stand.
 fn check_tables(
     asked: Asked,
     limits: &[u64],

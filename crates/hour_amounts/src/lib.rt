@@ -1,7 +1,7 @@
 // What a contract adds to an hour: its amount in cents and exactly, with the set of constraints that priced it, and the totals with one amount more.
 #![tactic(auto)]
 
-ghost use Rattle.std.specs.Prelude.{◌≡◌, ◌≤◌, ℤ, pos, nat_abs, ◌+ℤ◌};
+ghost use Rattle.std.specs.Prelude.{◌≡◌, ℤ, pos, ◌+ℤ◌};
 ghost use Rattle.tariff.specs.Units.{max_contracts};
 ghost use Rattle.tariff.specs.Inner.{max_amount};
 ghost use Rattle.tariff.specs.ContractRules.{InRange};

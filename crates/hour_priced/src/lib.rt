@@ -2,9 +2,9 @@
 // A set is made from its highest bit down, eight bits at once.
 #![tactic(auto)]
 
-ghost use Rattle.std.specs.Prelude.{◌≡◌, ℕ, ◌+◌, ◌-◌, ◌*◌, ◌/◌, ◌^◌, ◌<◌};
+ghost use Rattle.std.specs.Prelude.{◌≡◌, ℕ, ◌+◌, ◌-◌, ◌*◌, ◌/◌, ◌^◌, ◌≤◌, ◌<◌, length};
 ghost use Rattle.lists.specs.Sets.{set_of};
-ghost use Rattle.lists.specs.Lent.{before};
+ghost use Rattle.tariff.specs.Units.{max_constraints};
 ghost use Rattle.tariff.specs.ContractRules.{InRange};
 ghost use Rattle.tariff.specs.Settlement.{priced_set_of};
 ghost use Rattle.grid_tables.specs.Hours.{factors_by, prices_by};
@@ -14,6 +14,7 @@ use grid_tables::{FactorTable, HourTable};
 use tariff::{Contract, Price};
 
 // Whether the factors in two cells differ, as a bit.
+// Here and below `FactorRow` is asked of another count and another cell at each step, so that no type holds it.
 fn differ(factors: &[i64], a: usize, b: usize) -> u64
     requires { FactorRow factors.now a 1 × FactorRow factors.now b 1 }
     ensures { (result ≡ set_of 1 (differ_at factors.now a b)) × (result < 2) }
@@ -76,12 +77,15 @@ fn differ_set(table: FactorTable, source: usize, sink: usize) -> u64
 }
 
 // The constraints whose price isn't 0.
-pub fn posted_set(hour: HourTable) -> u64
-    ensures { result ≡ posted_in hour.entry.factors.constraints hour.entry.prices.now }
+// Its own prices and no `HourTable`: they need not be in range.
+pub fn posted_set(constraints: usize, prices: &[u64]) -> u64
+    requires { (constraints ≤ max_constraints) × (constraints ≤ length prices.now) }
+    ensures { result ≡ posted_in constraints prices.now }
 {
     let mut set = 0u64;
-    for k in (0..hour.factors.constraints).rev() {
-        let bit = (Price(0) < Price(hour.prices[k])) as u64;
+    // By number from the last, as the invariant counts the bits that are made.
+    for k in (0..constraints).rev() {
+        let bit = (Price(0) < Price(prices[k])) as u64;
         set = set * 2 + bit;
     }
     set

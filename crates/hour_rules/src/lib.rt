@@ -25,7 +25,7 @@ impl<'a> PricedHour<'a> {
         PricedHour {
             tables,
             period,
-            posted: hour_priced::posted_set(tables),
+            posted: hour_priced::posted_set(tables.factors.constraints, tables.prices),
         }
     }
 }
@@ -39,6 +39,7 @@ pub struct PricedAmount {
 }
 
 // The totals of contracts settled: the sum of the rounded cents, and the exact total as whole cents rounded down and parts.
+// Whole cents and parts stand here by themselves: `Exact` is of exposure_figures, on which settling doesn't stand, and a sum goes with both.
 #[derive(Clone, Copy)]
 pub struct Totals {
     pub sum: i64,

@@ -12,7 +12,7 @@ ghost use Rattle.hub_book.specs.Inner.{term_checks, given_checks, terms_call, ro
 use book_bits::Contracts;
 use tariff::{Contract, Kind, MAX_HOLDER, MAX_HUB_NODES, Period, Quantity, Refusal};
 
-// What a hub contract says beside its hub and its quantity.
+// What a hub contract says beside its hub and its quantity. Kind and period are numbers as C gives them: `check_terms` refuses those that are none (17, 18).
 #[derive(Clone, Copy)]
 struct Terms {
     kind: u64,
@@ -65,7 +65,7 @@ fn check_given(
     hub_checks::check_shape(hub, weights)
 }
 
-// The contract of row i.
+// The contract of row i. Sources and quantities are two lists, of which the first `made` count, here and below: `HubRoom` and `grown_front` say the rows so.
 fn row_at(terms: Terms, sources: &[u64], quantities: &[u64], i: usize) -> Contract
     requires { (i < length sources.now) × (i < length quantities.now) }
     ensures { result ≡ row_contract terms sources.now quantities.now i }

@@ -2,7 +2,6 @@
 #![tactic(auto)]
 
 ghost use Rattle.std.specs.Prelude.{◌≡◌, ◌≤◌, nat_abs};
-ghost use Rattle.lists.specs.Lent.{before};
 ghost use Rattle.tariff.specs.Inner.{max_weighted};
 ghost use Rattle.grid_tables.specs.Hours.{factors_by, prices_by};
 ghost use Rattle.hub_rules.specs.Hubs.{hub_sum};
@@ -43,9 +42,9 @@ fn weighted_sum(hour: HourTable, hub: &[u64], weights: &[u64]) -> WeightedMcc
     ensures result_bound { nat_abs result.0 ≤ max_weighted }
 {
     let mut sum = WeightedMcc(0);
-    for (i, node) in hub.iter().enumerate() {
+    for (node, weight) in hub.iter().zip(weights) {
         let mcc = hour_mcc::node_mcc(hour, *node as usize);
-        sum = sum + mcc.weighted(weights[i]);
+        sum = sum + mcc.weighted(*weight);
     }
     sum
 }

@@ -48,8 +48,8 @@ worst_set-best-requires-clause-few c =
     let count = c.fill_over-count.result in
     let counted : count ≡ count_of k (above_in cells) = rw found.long at e.0 in
     let counts : count ≡ overload_count g t.process cs = counted ∙ count-is g t.process cs cells found.are in
-    let long : length (take count c.fill_over-count.new.over) ≡ count = length-take-le count _ (omega (arith, c.if-count-le-FEW_OVERLOADS.true, e.2)) in
-    (rw long c.if-count-le-FEW_OVERLOADS.true, long ∙ counts)
+    let long : length (take count c.fill_over-count.new.over) ≡ count = length-take-le count _ (omega (arith, c.if-count-le-MOST_LISTED.true, e.2)) in
+    (rw long c.if-count-le-MOST_LISTED.true, long ∙ counts)
 
 pub worst_set-best-requires-clause-listed : goal.worst_set-best-requires-clause-listed
 unfolding overload_count
@@ -68,8 +68,8 @@ worst_set-best-requires-clause-listed c =
     let listed : Listed k (above_in cells) c.fill_over-count.new.over = rw found.long at e.1 in
     listed-front (overloaded g t.process cs) k count _ counts (listed-over g t.process cs cells found.are _ listed)
 
-pub returns-then-count-le-FEW_OVERLOADS : goal.returns-then-count-le-FEW_OVERLOADS
-returns-then-count-le-FEW_OVERLOADS c =
+pub returns-then-count-le-MOST_LISTED : goal.returns-then-count-le-MOST_LISTED
+returns-then-count-le-MOST_LISTED c =
     let t = c.args.tested in
     let g = grid_by t.grid in
     let k = t.grid.factors.constraints in
@@ -81,7 +81,7 @@ returns-then-count-le-FEW_OVERLOADS c =
     let count = c.fill_over-count.result in
     let counted : count ≡ count_of k (above_in cells) = rw found.long at e.0 in
     let counts : count ≡ overload_count g t.process cs = counted ∙ count-is g t.process cs cells found.are in
-    let few = c.if-count-le-FEW_OVERLOADS.true in
+    let few = c.if-count-le-MOST_LISTED.true in
     let best = c.worst_set-best in
     let long : length (take count c.fill_over-count.new.over) ≡ count = length-take-le count _ (omega (arith, few, e.2)) in
     let own : BestSet g t.process cs (2 ^ count) best.result = rw long at best.ensures in
@@ -99,8 +99,8 @@ better_prices-least-requires-clause-are_excesses c =
     let found = filled t c.carry-carried.result c.carry-carried.ensures c.of-loading.result of.constraints_kept of.limits_kept of.flows_kept _ _ c.fill_excess.ensures in
     (found.long, found.are)
 
-pub returns-else-count-le-FEW_OVERLOADS : goal.returns-else-count-le-FEW_OVERLOADS
-returns-else-count-le-FEW_OVERLOADS c =
+pub returns-else-count-le-MOST_LISTED : goal.returns-else-count-le-MOST_LISTED
+returns-else-count-le-MOST_LISTED c =
     let t = c.args.tested in
     let g = grid_by t.grid in
     let k = t.grid.factors.constraints in
@@ -114,5 +114,5 @@ returns-else-count-le-FEW_OVERLOADS c =
     let counts : count ≡ overload_count g t.process cs = counted ∙ count-is g t.process cs cells found.are in
     let above : pos c.total_above.result ≡ sum_to k (λ j. max0 (cell_at cells j)) = rw found.long at c.total_above.ensures.0 in
     let all = ap (λ (z : ℤ). z *ℤ pos max_price) above ∙ most-is g t.process cs cells found.are in
-    many_exposed g t.process cs _ _ _ count counts (omega (arith, c.if-count-le-FEW_OVERLOADS.false)) c.better_prices-least.ensures
+    many_exposed g t.process cs _ _ _ count counts (omega (arith, c.if-count-le-MOST_LISTED.false)) c.better_prices-least.ensures
     (subst (λ (z : ℤ). Exactly z c.at_highest-most.result) all c.at_highest-most.ensures)

@@ -1,5 +1,5 @@
 -- `worst_set`: the largest of the sets' costs at one cent.
-use Rattle.std.proofs.Common.{◌≡◌, refl, arith, length, ℤ, pos}
+use Rattle.std.proofs.Common.{◌≡◌, arith, length, ℤ, pos}
 use Rattle.std.proofs.Math.ListN.{get_or-replicate}
 use Rattle.lists.specs.Sets.{count_of}
 use Rattle.tariff.specs.Feasibility.{overloaded, overload_count}
@@ -18,7 +18,7 @@ invariant_of-listing c =
     }
 
 pub set_costs-requires : goal.set_costs-requires
-set_costs-requires c = (refl, λ m h. get_or-replicate {A = ℤ} 1024 m (pos 0) (pos 0) h)
+set_costs-requires c m h = get_or-replicate {A = ℤ} 1024 m (pos 0) (pos 0) h
 
 pub best_of-requires : goal.best_of-requires
 best_of-requires c =

@@ -5,4 +5,4 @@ use Rattle.exposure_figures.specs.Inner.{rent_in, rent_of, RentBounded}
 use Rattle.exposure_figures.proofs.rent.Given as goal
 
 abbrev pub invariant-loop-limit : goal.invariant-loop-limit
-invariant-loop-limit l = (pos (rent_of l.total) ≡ sum_to (length l.yielded) (λ (j : ℕ). pos (rent_in l.grid.limits.now l.process l.prices j))) × RentBounded (length l.yielded) l.total
+invariant-loop-limit l = (pos (rent_of l.total) ≡ sum_to (length l.yielded) (λ (j : ℕ). pos (rent_in l.limits l.process l.prices j))) × RentBounded (length l.yielded) l.total

@@ -22,7 +22,7 @@ of-contracts-requires c =
 
 pub loop-i-init : goal.loop-i-init
 loop-i-init c =
-    (c.requires.sums_len.0, upto_start max_released _ _ _ c.requires.sums_len.2, upto_start (max_released * 10) _ _ _ c.requires.sums_len.3)
+    (upto_start max_released _ _ _ c.requires.small.0, upto_start (max_released * 10) _ _ _ c.requires.small.1)
 
 pub add_contract-requires-clause-ends : goal.add_contract-requires-clause-ends
 add_contract-requires-clause-ends c =
@@ -32,7 +32,7 @@ add_contract-requires-clause-ends c =
     let read = c.at-c.ensures ∙ ap₂ (λ (f : Form) (s : List ℕ). contract_in f s l.i) kept.1 kept.0 in
     let own : InRange t.grid.factors.nodes c.at-c.result =
     rw read ((book-accepted t.grid.factors.nodes t.book.now t.accepted).each l.i (omega (arith, kept.2, c.len-i-end.ensures.0))) in
-    (own, omega (arith, c.requires.room, l.invariant.1.length-kept))
+    (own, omega (arith, c.requires.room, l.invariant.0.length-kept))
 
 pub loop-i-preserved : goal.loop-i-preserved
 loop-i-preserved c =
@@ -48,9 +48,8 @@ loop-i-preserved c =
     let fixed-part = subst (λ (d : Contract). AddedSmall max_released count (fixed_in k fs a.listing.over.now t.period d) l.row c.add_contract.new.row) read e.0 in
     let option-part = subst (λ (d : Contract). AddedSmall (max_released * 10) (2 ^ count) (option_in k fs a.listing.over.now count t.period d) l.costs
     c.add_contract.new.costs) read e.1 in (
-      e.2,
-      upto_next max_released count _ a.row.now l.i l.row _ l.invariant.1 fixed-part,
-      upto_next (max_released * 10) (2 ^ count) _ a.costs.now l.i l.costs _ l.invariant.2 option-part,
+      upto_next max_released count _ a.row.now l.i l.row _ l.invariant.0 fixed-part,
+      upto_next (max_released * 10) (2 ^ count) _ a.costs.now l.i l.costs _ l.invariant.1 option-part,
     )
 
 pub returns-clause-added : goal.returns-clause-added
@@ -60,7 +59,7 @@ returns-clause-added c =
     let l = c.loop-i in
     let last : l.i ≡ contract_count_in t.book.now = omega (arith, c.of-contracts.ensures.2, c.len-i-end.ensures.0) in
     upto_end max_released (length a.listing.over.now) (fixed t.grid.factors.constraints t.grid.factors.cells.now a.listing.over.now t.period t.book.now) a.row.now l.i _ l.row
-    last (book-accepted t.grid.factors.nodes t.book.now t.accepted).few l.invariant.1
+    last (book-accepted t.grid.factors.nodes t.book.now t.accepted).few l.invariant.0
 
 pub returns-clause-added_2 : goal.returns-clause-added_2
 returns-clause-added_2 c =
@@ -69,5 +68,5 @@ returns-clause-added_2 c =
     let l = c.loop-i in
     let count = length a.listing.over.now in
     let last : l.i ≡ contract_count_in t.book.now = omega (arith, c.of-contracts.ensures.2, c.len-i-end.ensures.0) in
-    let o = upto_end (max_released * 10) (2 ^ count) (options t.grid.factors.constraints t.grid.factors.cells.now a.listing.over.now count t.period t.book.now) a.costs.now
-    l.i _ l.costs last (book-accepted t.grid.factors.nodes t.book.now t.accepted).few l.invariant.2 in (o.0, o.1, l.invariant.0)
+    upto_end (max_released * 10) (2 ^ count) (options t.grid.factors.constraints t.grid.factors.cells.now a.listing.over.now count t.period t.book.now) a.costs.now
+    l.i _ l.costs last (book-accepted t.grid.factors.nodes t.book.now t.accepted).few l.invariant.1

@@ -20,10 +20,10 @@ add_counted-requires-in-Option c =
     let count = length a.listing.over.now in
     let figures = c.fill_spreads.new.figures in
     let long : length figures ≡ count = f.length-kept ∙ length-take-le count _ few in
-    let sums : Sums count (cell_in_of figures) c.set_sums.new.sums = rw long at x.0 in
+    let sums : Sums count (cell_in_of figures) c.set_sums.new.sums = rw long at x in
     let small = sums_small max_released count n.result (cell_in_of figures) c.set_sums.new.sums n.ensures.0 few f.sized sums in
-    front-ready n.result c.set_sums.new.sums a.costs.now n.ensures.2 x.1 c.requires.sums_len.1 (λ m h. omega (arith, small m h))
-    (λ m h. c.requires.sums_len.3 m (rw n.ensures.0 at h))
+    front-ready n.result c.set_sums.new.sums a.costs.now n.ensures.2 (omega arith) (omega arith) (λ m h. omega (arith, small m h))
+    (λ m h. c.requires.small.1 m (rw n.ensures.0 at h))
 
 pub returns-in-Option : goal.returns-in-Option
 returns-in-Option c =
@@ -37,10 +37,9 @@ returns-in-Option c =
     let count = length a.listing.over.now in
     let figures = c.fill_spreads.new.figures in
     let long : length figures ≡ count = f.length-kept ∙ length-take-le count _ few in
-    let sums : Sums count (cell_in_of figures) c.set_sums.new.sums = rw long at x.0 in
-    let added = front-added Option n.result c.set_sums.new.sums a.costs.now _ (omega (arith, n.ensures.2, x.1)) c.add_counted-in-Option.ensures in (
+    let sums : Sums count (cell_in_of figures) c.set_sums.new.sums = rw long at x in
+    let added = front-added Option n.result c.set_sums.new.sums a.costs.now _ (omega (arith, n.ensures.2)) c.add_counted-in-Option.ensures in (
       no_obligation a.listing.tested.grid.factors.constraints a.listing.tested.grid.factors.cells.now a.listing.over.now count a.listing.tested.period a.c own _ _ f kind max_released a.row.now,
       rw n.ensures.0 at (option_added a.listing.tested.grid.factors.constraints a.listing.tested.grid.factors.cells.now a.listing.over.now count a.listing.tested.period a.c own _ _ f kind n.result
           c.set_sums.new.sums a.costs.now _ n.ensures.0 few sums added),
-      x.1,
     )

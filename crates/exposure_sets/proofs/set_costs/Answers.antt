@@ -21,8 +21,8 @@ add_counted-requires c =
     let count = length over in
     let row = c.add_book.new.row in
     let long : length row ≡ count = e.added.0.length-kept ∙ c.fill_rents.ensures.length-kept ∙ length-take-le count _ chosen.few in
-    let sums : Sums count (cell_in_of row) c.set_sums.new.sums = rw long at x.0 in
-    front-ready n.result c.set_sums.new.sums c.add_book.new.costs n.ensures.2 x.1 (e.added_2.0.length-kept ∙ c.requires.0)
+    let sums : Sums count (cell_in_of row) c.set_sums.new.sums = rw long at x in
+    front-ready n.result c.set_sums.new.sums c.add_book.new.costs n.ensures.2 (omega arith) (omega arith)
     (sums_small max_row count n.result (cell_in_of row) c.set_sums.new.sums n.ensures.0 chosen.few e.added.1 sums)
     (λ m h. omega (arith, e.added_2.1 m (rw n.ensures.0 at h)))
 
@@ -41,8 +41,8 @@ returns c =
     let row = cell_in_of e.new.row in
     let options = cell_in_of e.new.costs in
     let long : length e.new.row ≡ count = e.ensures.added.0.length-kept ∙ f.ensures.length-kept ∙ length-take-le count _ chosen.few in
-    let sums : Sums count row x.new.sums = rw long at x.ensures.0 in
-    let added = front-added Obligation n.result x.new.sums e.new.costs _ (omega (arith, n.ensures.2, x.ensures.1)) c.add_counted.ensures in
+    let sums : Sums count row x.new.sums = rw long at x.ensures in
+    let added = front-added Obligation n.result x.new.sums e.new.costs _ (omega (arith, n.ensures.2)) c.add_counted.ensures in
     let small = sums_small max_row count n.result row x.new.sums n.ensures.0 chosen.few e.ensures.added.1 sums in
     let each = (book-accepted t.grid.factors.nodes t.book.now t.accepted).each in
     record {
@@ -50,9 +50,9 @@ returns c =
           let l : m < n.result = rw n.ensures.0 h in
           unit_is t.grid.factors.nodes t.grid.factors.constraints t.grid.limits.now t.grid.factors.cells.now t.process t.period t.book.now over
           count chosen each m rents row _ _ _ _ f.ensures.each e.ensures.added.0.each
-          (c.requires.1 m (omega (arith, l, n.ensures.2))) (e.ensures.added_2.0.each m h) (sums m h) (added.each m l);
+          (c.requires m (omega (arith, l, n.ensures.2))) (e.ensures.added_2.0.each m h) (sums m h) (added.each m l);
       sized = λ m h.
           let l : m < n.result = rw n.ensures.0 h in
           rw (added.each m l) (omega (arith, nat_abs_add (options m) (cell_in_of x.new.sums m), e.ensures.added_2.1 m h, small m l));
-      length-is = added.length-kept ∙ e.ensures.added_2.0.length-kept ∙ c.requires.0;
+      length-is = omega arith;
     }

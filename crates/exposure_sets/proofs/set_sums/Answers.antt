@@ -1,5 +1,5 @@
 -- `set_sums`: the sums of the places passed.
-use Rattle.std.proofs.Common.{◌∙◌, arith, length, pos}
+use Rattle.std.proofs.Common.{◌≡◌, ◌∙◌, arith, length, pos}
 use Rattle.std.proofs.Math.ListN.{length-set}
 use Rattle.std.proofs.Math.Seq.{get_or-set_same}
 use Rattle.integers.proofs.Machine.{back}
@@ -10,7 +10,8 @@ use Rattle.exposure_sets.proofs.set_sums.Goals as goal
 pub loop-t-init : goal.loop-t-init
 loop-t-init c =
     let cells = c.args.sums.now in
-    summed-start _ _ (length-set cells 0 (pos 0) ∙ c.requires.2) (get_or-set_same cells 0 (pos 0) (pos 0) (omega (arith, c.requires.2)))
+    let long : length cells ≡ 1024 = omega arith in
+    summed-start _ _ (length-set cells 0 (pos 0) ∙ long) (get_or-set_same cells 0 (pos 0) (pos 0) (omega (arith, long)))
 
 pub grow-requires : goal.grow-requires
 grow-requires c =
