@@ -19,7 +19,7 @@ use test_verdict::Loading;
 use text_format::Text;
 use text_report_figures::put_figures;
 
-// The period's word and a comma. A match for each kind of word, as `put_kind` of text_statement_lines has for its own: one function for both would take the
+// The period's word and a comma. A match for each kind of word, as `kind_field` of text_statement_lines has for its own: one function for both would take the
 // words as parameters, and nothing of it would be left.
 fn put_period(text: &mut Text, period: Period)
     requires { HasRoom text.old period_room }
