@@ -39,7 +39,7 @@ fn check_bits(nodes: usize, v: u64, width: usize) -> Result<(), Refusal>
     )
 }
 
-// The checks of contract i of a book.
+// The checks of contract i of a book. Its two arms are as `book_bits::contract_at`'s, each with its width as a constant.
 fn check_at(nodes: usize, contracts: Contracts, i: usize) -> Result<(), Refusal>
     requires { i < contracts.count }
     ensures { result ≡ first (contract_checks nodes (contract_in contracts.entry.form contracts.entry.file.now i)) }

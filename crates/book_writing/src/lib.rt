@@ -55,7 +55,8 @@ fn check_write(
 // Writes the header and the first `contracts` rows in a form, as `hub_book::write_grown` and `view_market::write_anonymous` do with what they have: a row's
 // bits, a contract, a contract's bits. One function of the three would take that as a closure, say of any row what these say of theirs, and be no plainer.
 fn write_contracts(form: Form, cells: &[u64], contracts: usize, file: &mut [u8])
-    requires contracts_le_max_contracts { (contracts ≤ max_contracts) × (contract_cells * contracts ≤ length cells.now) × (book_bytes_of form contracts ≤ length file.old) }
+    requires contracts_le_max_contracts { (contracts ≤ max_contracts) × (contract_cells * contracts ≤ length cells.now)
+        × (book_bytes_of form contracts ≤ length file.old) }
     requires by_index { (i : ℕ) → i < contracts → RowFits form cells.now (contract_cells * i) }
     ensures { after file ≡ overwrite (book_file form (rows_in contracts cells.now)) (before file) }
 {

@@ -22,7 +22,8 @@ pub extern "C" fn crr_migrate_load(
     file: &mut [u8],
     bytes: &mut usize,
 ) -> u64
-    ensures { MigratesLoadForC (migrate_load_call nodes period book.now (row_lists classes.now customers.now rates.now olds.now news.now) loads.now file) result (after file) bytes }
+    ensures { MigratesLoadForC (migrate_load_call nodes period book.now (row_lists classes.now customers.now rates.now olds.now news.now) loads.now file)
+        result (after file) bytes }
 {
     let answer = migration_book::migrate_load(
         nodes, period, book, classes, customers, rates, olds, news, loads, file,

@@ -8,6 +8,7 @@ use test_rules::Verdict;
 use test_terms::Asked;
 
 // Tests a book's bytes against grid tables for a process and a period, and gives the test's figures: on a pass all are 0, and only then is the set.
+// Four cells are lent one by one: a function of both entries would take the answer and each of them.
 #[unsafe(no_mangle)]
 pub extern "C" fn crr_test_book(
     nodes: usize,

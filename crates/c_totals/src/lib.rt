@@ -35,6 +35,7 @@ pub extern "C" fn crr_add_flows(
 }
 
 // Judges totals of flows by the released limits of their constraints, and gives the test's figures: on a pass all are 0, and only then is the set.
+// Four cells are lent one by one: a function of both entries would take the answer and each of them.
 #[unsafe(no_mangle)]
 pub extern "C" fn crr_judge_flows(
     constraints: usize,

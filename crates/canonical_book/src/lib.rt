@@ -44,7 +44,7 @@ fn store_row(file: &mut [u8], form: Form, i: usize, v: u64)
     book_bits::store_bits(file, form, i, bits_of(form, v));
 }
 
-// Writes the book of the rows that have these numbers.
+// Writes the book of the rows that have these numbers. As `book_writing::write_contracts` says of itself and the like.
 fn write_rows(form: Form, rows: &[u64], file: &mut [u8])
     requires rows_le_max_contracts { (length rows.now ≤ max_contracts) × (book_bytes_of form (length rows.now) ≤ length file.old) }
     requires by_index { (i : ℕ) → i < length rows.now → RowOf form (get_or rows.now i 0) }

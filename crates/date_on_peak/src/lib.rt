@@ -48,13 +48,14 @@ pub fn on_peak_day(month: Month, day: u64) -> bool
     weekday != 1 || !is_holiday(month, day - 1)
 }
 
-// A month's on-peak hours by the rule. The table is not read.
+// A month's on-peak hours by the rule. The table is not read. By numbers: `month_exists_of` asks more than a `Month` has.
 pub fn hours_by_rule(year: u64, month: u64) -> u64
     requires { month_exists_of year month ≡ true }
     ensures { (result ≡ on_peak_hours year month) × (result ≤ hoursADay * 31) }
 {
     let given = Month { year, month };
     let mut count = 0;
+    // From 0, as `on_peak_hours` counts the days: day + 1 is the date's.
     for day in 0..month_days(year, month) {
         if on_peak_day(given, day + 1) {
             count += 1;

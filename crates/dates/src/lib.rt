@@ -61,6 +61,7 @@ fn length_before(leap: bool, month: usize) -> u64
     if leap { before + 1 } else { before }
 }
 
+// Year and month are numbers here and below: `exists` asks before there is a `Month`, and `month_later` asks of January 2038.
 pub fn month_days(year: u64, month: u64) -> u64
     requires { month ≤ 12 }
     ensures { (result ≡ month_days_of year month) × (result ≤ 31) }
@@ -78,7 +79,7 @@ impl Month {
         365 * p + p / 4 - p / 100 + p / 400 + before + day
     }
 
-    // 1, Monday, to 7.
+    // 1, Monday, to 7: `weekday_of` has a number, and C is given it.
     pub fn weekday(self, day: u64) -> u64
         requires { (1 ≤ day) × (day ≤ 31) }
         ensures { result ≡ weekday_of self.year self.month day }
@@ -108,6 +109,7 @@ impl Date {
         if !self.exists() {
             return Err(Refusal::NoSuchDate);
         }
+        // Here and in date_period a `Month` is made where the date is known to exist: a method would ask that again.
         let month = Month {
             year: self.year,
             month: self.month,

@@ -23,7 +23,7 @@ use migration_pairs::Base;
 use migration_transfers::{RowLists, Square};
 use tariff::{Period, Refusal};
 
-// The checks before the square: 17, the book's own, 22.
+// The checks before the square: 17, the book's own, 22. The period is C's number: 17 is looked for here.
 fn check_input(
     nodes: usize,
     period: u64,
@@ -63,6 +63,7 @@ fn grown_count(migration: Migration, square: Square) -> usize
 }
 
 // Stores the new contracts behind the old ones, base contract by base contract.
+// Each loop makes its own base: a function of both would be owed `RowReady` in a clause once more.
 fn store_grown(file: &mut [u8], migration: Migration, square: Square) -> usize
     requires ready { MigrationReady square migration.loads.now }
     requires roomy { Roomy migration.contracts.form (old_of migration) (new_of migration square) file.old }
@@ -140,7 +141,8 @@ pub fn migrate_load(
     loads: &[u64],
     file: &mut [u8],
 ) -> Result<usize, Refusal>
-    ensures { MigratesLoad (migrate_load_call nodes period book.now (row_lists classes.now customers.now rates.now olds.now news.now) loads.now file) result (after file) }
+    ensures { MigratesLoad (migrate_load_call nodes period book.now (row_lists classes.now customers.now rates.now olds.now news.now) loads.now file)
+        result (after file) }
 {
     let lists = RowLists {
         classes,

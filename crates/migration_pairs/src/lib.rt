@@ -29,14 +29,15 @@ fn pair_count(base: Base) -> usize
     ensures { (result ≡ length (pairs_by base.entry)) × (result ≤ 32) }
 {
     let mut count = 0;
-    for j in 0..base.loads.len() {
-        let share = migration_shares::share_of(base.contract, base.row[j], base.loads);
+    for net in &base.row[..base.loads.len()] {
+        let share = migration_shares::share_of(base.contract, *net, base.loads);
         count += migration_shares::pair_size(share);
     }
     count
 }
 
 // How many LSEs gain of a loser, and the least net that one of them gains: 0 where none does.
+// No `Option` for the least: a net of 0 is no gain, and its share is nought as that of none.
 #[derive(Clone, Copy)]
 pub struct Gainers {
     pub count: usize,
@@ -73,8 +74,8 @@ pub fn gainers_of(row: Row, entities: usize) -> Gainers
         count: 0,
         least: Transfer(0),
     };
-    for j in 0..entities {
-        gainers = with_net(gainers, row[j]);
+    for net in &row[..entities] {
+        gainers = with_net(gainers, *net);
     }
     gainers
 }
@@ -124,11 +125,9 @@ fn gained_by(c: Contract, gainer: u64, quantity: Quantity) -> Contract
 {
     Contract {
         kind: Kind::Obligation,
-        period: c.period,
         holder: gainer,
-        source: c.source,
-        sink: c.sink,
         quantity,
+        ..c
     }
 }
 
@@ -138,11 +137,10 @@ fn countered_by(c: Contract, quantity: Quantity) -> Contract
 {
     Contract {
         kind: Kind::Obligation,
-        period: c.period,
-        holder: c.holder,
         source: c.sink,
         sink: c.source,
         quantity,
+        ..c
     }
 }
 

@@ -44,7 +44,7 @@ pub struct MovedRow {
     pub new: u64,
 }
 
-// Rows as five lists, each with a cell for a row. Classes have no effect.
+// Rows as five lists, as C lends them, each with a cell for a row. Classes have no effect.
 #[derive(Clone, Copy)]
 pub struct RowLists<'a> {
     pub classes: &'a [u8],
@@ -97,12 +97,7 @@ fn rows_bad(entities: usize, lists: RowLists) -> bool
     requires { EqualLists lists.customers.now lists.rates.now lists.olds.now lists.news.now }
     ensures { result ≡ any_of (row_bad_of entities) (migration_rows_in (lists_of lists.entry)) }
 {
-    for i in 0..lists.customers.len() {
-        if row_bad(entities, lists.row(i)) {
-            return true;
-        }
-    }
-    false
+    (0..lists.customers.len()).any(|i| row_bad(entities, lists.row(i)))
 }
 
 // 22: a count, a figure or an LSE number outside its range, unequal lists, or a row whose old and new LSE are one.
@@ -162,6 +157,7 @@ pub fn net_square(lists: RowLists) -> Square
 }
 
 // The row of the LSE of this number in a square, and the first one where it is no LSE's.
+// Not an `Option`: a holder that is no LSE's has no new contracts by any row, and callers index with what comes.
 pub fn row_of(number: u64) -> usize
     ensures { (result < max_entities) × (0 < number → number ≤ max_entities → result ≡ number - 1) }
 {

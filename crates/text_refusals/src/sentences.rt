@@ -1,5 +1,5 @@
 // The sentences, one behind the other by rising numbers, and where each ends: proved to be those of specs/Sentences.antt.
-ghost use Rattle.std.specs.Prelude.{◌≡◌, ◌-◌, ◌≤◌, ◌<◌, length, get_or};
+ghost use Rattle.std.specs.Prelude.{◌≡◌, ◌-◌, ◌≤◌, length, get_or};
 ghost use Rattle.lists.specs.Lent.{before, after};
 ghost use Rattle.text_format.specs.Inner.{Put};
 ghost use Rattle.text_refusals.specs.Inner.{numbers, ends, part, all_bytes};

@@ -35,15 +35,12 @@ fn row_bytes(form: Form) -> usize
 }
 
 // 1 where the holder has contract i, else 0.
+// `contracts` and `holder` go together below: a struct of both would have no fact of its own, and put `self.` before each.
 fn held_at(contracts: Contracts, holder: u64, i: usize) -> usize
     requires { i < contracts.count }
     ensures { (result ≡ length (held_at_of holder i (contract_in contracts.entry.form contracts.entry.file.now i))) × (result ≤ 1) }
 {
-    if holder_of(contracts.form, contracts.bits_at(i)) == holder {
-        1
-    } else {
-        0
-    }
+    usize::from(holder_of(contracts.form, contracts.bits_at(i)) == holder)
 }
 
 // How many of the contracts the holder has.

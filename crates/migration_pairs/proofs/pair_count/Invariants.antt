@@ -5,5 +5,5 @@ use Rattle.migration_rules.specs.ContractRules.{pairs_to}
 use Rattle.migration_transfers.specs.Squares.{row_losses}
 use Rattle.migration_pairs.proofs.pair_count.Given as goal
 
-abbrev pub invariant-loop-j : goal.invariant-loop-j
-invariant-loop-j l = (l.count ≡ length (pairs_to (row_losses l.base.row) l.base.loads.now l.base.contract l.j))
+abbrev pub invariant-loop-net : goal.invariant-loop-net
+invariant-loop-net l = (l.count ≡ length (pairs_to (row_losses l.fn.base.row) l.fn.base.loads.now l.fn.base.contract l.net-index))
