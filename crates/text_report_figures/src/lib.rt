@@ -7,7 +7,6 @@ ghost use Rattle.tariff.specs.Units.{max_constraints};
 ghost use Rattle.text_report_rules.specs.Report.{numbers_to};
 ghost use Rattle.text_report_rules.specs.Inner.{in_set, member, answer_figures, member_room, numbers_room, figures_room};
 
-use tariff::MAX_CONSTRAINTS;
 use test_rules::Verdict;
 use text_format::Text;
 
@@ -26,22 +25,23 @@ fn put_member(text: &mut Text, first: usize, set: u64, k: usize)
     text.put_decimal(k as u64);
 }
 
-// The set's constraints, from the lowest on, separated by blanks.
-fn put_numbers(text: &mut Text, set: u64)
-    requires { HasRoom text.old numbers_room }
-    ensures put { Puts text.old (numbers_to max_constraints (in_set set)) text.new }
+// The set's constraints, from the lowest on, separated by blanks. `constraints ≤ max_constraints` stays a clause, here and below: a room for so many numbers is
+// what it bounds.
+fn put_numbers(text: &mut Text, constraints: usize, set: u64)
+    requires { (constraints ≤ max_constraints) × HasRoom text.old numbers_room }
+    ensures put { Puts text.old (numbers_to constraints (in_set set)) text.new }
     ensures upper_bound { text.new.at ≤ text.old.at + numbers_room }
 {
     let first = text.at;
-    for k in 0..MAX_CONSTRAINTS {
+    for k in 0..constraints {
         put_member(text, first, set, k);
     }
 }
 
 // The verdict, and where the test fails how many constraints are overloaded, the lowest, the excess there, and all of them.
-pub fn put_figures(text: &mut Text, verdict: Verdict)
-    requires { HasRoom text.old figures_room }
-    ensures put { Puts text.old (answer_figures verdict) text.new }
+pub fn put_figures(text: &mut Text, constraints: usize, verdict: Verdict)
+    requires { (constraints ≤ max_constraints) × HasRoom text.old figures_room }
+    ensures put { Puts text.old (answer_figures constraints verdict) text.new }
     ensures upper_bound { text.new.at ≤ text.old.at + figures_room }
 {
     match verdict {
@@ -59,7 +59,7 @@ pub fn put_figures(text: &mut Text, verdict: Verdict)
             text.put_char(b',');
             text.put_signed(excess.0);
             text.put_char(b',');
-            put_numbers(text, set);
+            put_numbers(text, constraints, set);
         }
     }
 }

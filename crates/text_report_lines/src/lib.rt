@@ -4,6 +4,7 @@
 ghost use Rattle.std.specs.Prelude.{◌≡◌, ◌++◌, ◌+◌, ◌≤◌};
 ghost use Rattle.text_format.specs.Ascii.{ascii};
 ghost use Rattle.text_format.specs.Inner.{HasRoom, Puts};
+ghost use Rattle.tariff.specs.Units.{max_constraints};
 ghost use Rattle.tariff.specs.Refusals.{passed, first};
 ghost use Rattle.layouts.specs.BookFile.{book_in};
 ghost use Rattle.grid_tables.specs.Grids.{grid_by};
@@ -46,14 +47,14 @@ fn put_process(text: &mut Text, process: Process)
 }
 
 // The line of one period and process, from the test's answer.
-fn put_line(text: &mut Text, period: Period, process: Process, verdict: Verdict)
-    requires { HasRoom text.old line_room }
-    ensures put { Puts text.old (answer_line period process verdict) text.new }
+fn put_line(text: &mut Text, constraints: usize, period: Period, process: Process, verdict: Verdict)
+    requires { (constraints ≤ max_constraints) × HasRoom text.old line_room }
+    ensures put { Puts text.old (answer_line constraints period process verdict) text.new }
     ensures upper_bound { text.new.at ≤ text.old.at + line_room }
 {
     put_period(text, period);
     put_process(text, process);
-    put_figures(text, verdict);
+    put_figures(text, constraints, verdict);
     text.put_char(b'\n');
 }
 
@@ -64,14 +65,15 @@ fn put_period_lines(text: &mut Text, grid: GridTable, period: Period, book: &[u8
     ensures put { Puts text.old (period_lines (grid_by grid.entry) (book_in book.now) period) text.new }
     ensures upper_bound { text.new.at ≤ text.old.at + period_lines_room }
 {
+    let constraints = grid.factors.constraints;
     let flows = test_flows::carry(grid.factors, period, book);
-    let loading = Loading::of(grid.factors.constraints, grid.limits, flows);
+    let loading = Loading::of(constraints, grid.limits, flows);
     let annual = loading.verdict(Process::Annual);
     let lt = loading.verdict(Process::TierLt);
     let monthly = loading.verdict(Process::Monthly);
-    put_line(text, period, Process::Annual, annual);
-    put_line(text, period, Process::TierLt, lt);
-    put_line(text, period, Process::Monthly, monthly);
+    put_line(text, constraints, period, Process::Annual, annual);
+    put_line(text, constraints, period, Process::TierLt, lt);
+    put_line(text, constraints, period, Process::Monthly, monthly);
 }
 
 // The heading and the six lines.

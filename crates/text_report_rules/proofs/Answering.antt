@@ -2,7 +2,7 @@
 use mathlib.Core.Path.{◌≡◌, refl, sym, ap, ◌∙◌}
 use mathlib.Core.Bool.{Bool, true, false, cond}
 use mathlib.Core.List.{List, [], ◌∷◌, ◌++◌, append_assoc}
-use Prim.Native.Nat.{ℕ, ◌≤◌}
+use Prim.Native.Nat.{ℕ}
 use native.Mathlib.Omega.{arith}
 use lib.Dec.{eqb}
 use lib.IntN.{ℤ, pos}
@@ -12,7 +12,7 @@ use Rattle.tariff.specs.declared.contracts.Contract.{Contract}
 use Rattle.tariff.specs.declared.contracts.Period.{Period}
 use Rattle.tariff.specs.declared.processes.Process.{Process}
 use Rattle.tariff.specs.Refusals.{Outcome, given}
-use Rattle.tariff.specs.Units.{Grid, grid_of, max_constraints}
+use Rattle.tariff.specs.Units.{Grid, grid_of}
 use Rattle.tariff.specs.ContractRules.{of_period}
 use Rattle.tariff.specs.Feasibility.{excess, overloaded, overload_set, overload_count, lowest_overload}
 use Rattle.layouts.specs.BookFile.{book_in}
@@ -23,7 +23,7 @@ use Rattle.test_rules.specs.TestBook.{test_outcome, test_values}
 use Rattle.test_rules.specs.Inner.{Judges}
 use Rattle.text_report_rules.specs.Report.{period_word, process_word, numbers_to, figures, line}
 use Rattle.text_report_rules.specs.Inner.{in_set, failed, answer_figures, answer_line}
-use Rattle.text_report_rules.proofs.Members.{numbers-all}
+use Rattle.text_report_rules.proofs.Members.{numbers-set}
 
 -- ---- the answer's figures
 
@@ -56,28 +56,25 @@ module _ (g : Grid) (process : Process) (cs : List Contract) where
   unfolding test_values
   pass_told e = pass_values (eqb (overload_set g process cs) 0) (ap (λ (o : Outcome). o.values) e)
 
-  numbers-are : g.factors.constraints ≤ max_constraints → (set : ℕ) → set ≡ overload_set g process cs
-      → numbers_to max_constraints (in_set set) ≡ numbers_to g.factors.constraints (overloaded g process cs)
+  numbers-are : (set : ℕ) → set ≡ overload_set g process cs → numbers_to g.factors.constraints (in_set set) ≡ numbers_to g.factors.constraints (overloaded g process cs)
   unfolding overload_set
-  numbers-are few set e =
-      ap (λ (s : ℕ). numbers_to max_constraints (in_set s)) e ∙ numbers-all max_constraints g.factors.constraints (overloaded g process cs) few
+  numbers-are set e = ap (λ (s : ℕ). numbers_to g.factors.constraints (in_set s)) e ∙ numbers-set g.factors.constraints (overloaded g process cs)
 
-  answer-figures : g.factors.constraints ≤ max_constraints → (v : Verdict) → test_outcome (Ok v) ≡ given (test_values g process cs)
-      → answer_figures v ≡ figures g process cs
+  answer-figures : (v : Verdict) → test_outcome (Ok v) ≡ given (test_values g process cs) → answer_figures g.factors.constraints v ≡ figures g process cs
   unfolding figures failed
-  answer-figures few Pass e = rw (pass_told e)
-  answer-figures few (Fail set count lowest over) e =
+  answer-figures Pass e = rw (pass_told e)
+  answer-figures (Fail set count lowest over) e =
       let f = fail_told set count lowest over.0 e in
       rw f.some_set
-      (λ t. ascii "fail," ++ decimal (f.count-is t) ++ ascii "," ++ decimal (f.lowest-is t) ++ ascii "," ++ decimal_z (f.over-is t) ++ ascii "," ++ numbers-are few set f.set_is t)
+      (λ t. ascii "fail," ++ decimal (f.count-is t) ++ ascii "," ++ decimal (f.lowest-is t) ++ ascii "," ++ decimal_z (f.over-is t) ++ ascii "," ++ numbers-are set f.set_is t)
 
 -- ---- one line
 
 module _ (n k : ℕ) (ls : List ℕ) (fs : List ℤ) (book : List ℕ) (process : Process) (period : Period) (v : Verdict)
     (h : Judges (grid_of n k ls fs) process (of_period period (book_in book)) (Ok v)) where
-  pub line-text : k ≤ max_constraints → line (grid_of n k ls fs) (book_in book) period process ≡ answer_line period process v
+  pub line-text : line (grid_of n k ls fs) (book_in book) period process ≡ answer_line k period process v
   unfolding line
-  line-text few i =
+  line-text i =
       append_assoc (period_word period ++ ascii ",") (process_word process) (ascii ",") i
-      ++ sym (answer-figures (grid_of n k ls fs) process (of_period period (book_in book)) few v h.figures) i
+      ++ sym (answer-figures (grid_of n k ls fs) process (of_period period (book_in book)) v h.figures) i
       ++ ascii "\n"

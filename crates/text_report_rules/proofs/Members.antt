@@ -1,9 +1,8 @@
 -- Laws of the numbers in a set as text.
-use mathlib.Core.Path.{◌≡◌, refl, sym, ap, ap₂, ◌∙◌}
+use mathlib.Core.Path.{◌≡◌, refl, sym, ap, ap₂}
 use mathlib.Core.Bool.{Bool, true, false, cond}
-use mathlib.Core.List.{List, [], ◌++◌, append-nil}
-use Prim.Native.Nat.{ℕ, zero, suc, ◌+◌, ◌-◌, ◌/◌, ◌%◌, ◌^◌, ◌≤◌, ◌<◌}
-use native.Mathlib.Nat.{add-zero, div-eq_of_lt, pow-le-pow_right}
+use mathlib.Core.List.{List, [], ◌++◌}
+use Prim.Native.Nat.{ℕ, zero, suc, ◌+◌, ◌/◌, ◌%◌, ◌^◌, ◌<◌}
 use native.Mathlib.Numerals.{add-one}
 use native.Mathlib.Omega.{arith}
 use borrow.Author.Tests.{eqb-true, eqb-false, eq-eqb, ne_eqb}
@@ -12,7 +11,7 @@ use lib.ListN.{length}
 use Rattle.text_format.specs.Ascii.{ascii}
 use Rattle.text_format.specs.Decimal.{decimal}
 use Rattle.lists.specs.Sets.{set_of}
-use Rattle.lists.proofs.Sets.{set-bit, set-lt}
+use Rattle.lists.proofs.Sets.{set-bit}
 use Rattle.text_report_rules.specs.Report.{numbers_to, blank_after}
 use Rattle.text_report_rules.specs.Inner.{in_set, member}
 
@@ -52,27 +51,9 @@ numbers-cong (suc k) f g h =
     ap₂ (λ (l : List ℕ) (b : Bool). l ++ cond b (blank_after l ++ decimal k) []) (numbers-cong k f g (λ j b. h j (omega arith))) (h k (omega arith))
 
 -- the bits of a function's set are the function's
-numbers-set : (k : ℕ) (f : ℕ → Bool) → numbers_to k (in_set (set_of k f)) ≡ numbers_to k f
+pub numbers-set : (k : ℕ) (f : ℕ → Bool) → numbers_to k (in_set (set_of k f)) ≡ numbers_to k f
 numbers-set k f = numbers-cong k _ f (λ j h. rw (set-bit k f j h) (bit (f j)))
   where
     bit : (b : Bool) → eqb (cond b 1 0) 1 ≡ b
     bit true = refl
     bit false = refl
-
--- the numbers from k on add nothing to a set of numbers below k
-module _ (set k : ℕ) (below : set < 2 ^ k) where
-  none_past : (d : ℕ) → in_set set (k + d) ≡ false
-  none_past d =
-      let less : set < 2 ^ (k + d) = omega (arith, pow-le-pow_right {n = 2} (omega arith) {i = k} {j = k + d} (omega arith)) in
-      rw (div-eq_of_lt less) refl
-
-  numbers-past : (d : ℕ) → numbers_to (k + d) (in_set set) ≡ numbers_to k (in_set set)
-  unfolding numbers_to
-  numbers-past zero = rw (add-zero k) refl
-  numbers-past (suc d) = let more : k + suc d ≡ suc (k + d) = omega arith in rw (more, none_past d, append-nil) (numbers-past d)
-
--- so all that the set of a function has are the function's numbers
-pub numbers-all : (n k : ℕ) (f : ℕ → Bool) → k ≤ n → numbers_to n (in_set (set_of k f)) ≡ numbers_to k f
-numbers-all n k f h =
-    let all : n ≡ k + (n - k) = omega arith in
-    ap (λ (m : ℕ). numbers_to m (in_set (set_of k f))) all ∙ numbers-past (set_of k f) k (set-lt k f) (n - k) ∙ numbers-set k f

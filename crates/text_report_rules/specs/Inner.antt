@@ -17,18 +17,19 @@ in_set set k = eqb (set / 2 ^ k % 2) 1
 unfoldable pub member : ℕ → ℕ → ℕ → List ℕ
 member at next k = cond (eqb next at) [] (ascii " ") ++ decimal k
 
-unfoldable pub failed : ℕ → ℕ → ℕ → ℤ → List ℕ
-failed set count lowest over =
-    ascii "fail," ++ decimal count ++ ascii "," ++ decimal lowest ++ ascii "," ++ decimal_z over ++ ascii "," ++ numbers_to max_constraints (in_set set)
+unfoldable pub failed : ℕ → ℕ → ℕ → ℕ → ℤ → List ℕ
+failed constraints set count lowest over =
+    ascii "fail," ++ decimal count ++ ascii "," ++ decimal lowest ++ ascii "," ++ decimal_z over ++ ascii "," ++ numbers_to constraints (in_set set)
 
 -- the figures of a verdict
-abbrev pub answer_figures : Verdict → List ℕ
-answer_figures Pass = ascii "pass,0,,,"
-answer_figures (Fail set count lowest over) = failed set count lowest over.0
+abbrev pub answer_figures : ℕ → Verdict → List ℕ
+answer_figures constraints Pass = ascii "pass,0,,,"
+answer_figures constraints (Fail set count lowest over) = failed constraints set count lowest over.0
 
 -- its line
-abbrev pub answer_line : Period → Process → Verdict → List ℕ
-answer_line period process verdict = period_word period ++ ascii "," ++ (process_word process ++ ascii ",") ++ answer_figures verdict ++ ascii "\n"
+abbrev pub answer_line : ℕ → Period → Process → Verdict → List ℕ
+answer_line constraints period process verdict =
+    period_word period ++ ascii "," ++ (process_word process ++ ascii ",") ++ answer_figures constraints verdict ++ ascii "\n"
 
 -- ---- the most characters of each part, where a figure is any of 64 bits
 

@@ -7,7 +7,7 @@ use Rattle.text_report_figures.proofs.put_numbers.Goals as goal
 
 pub loop-k-init : goal.loop-k-init
 unfolding numbers_to
-loop-k-init c = (puts_none (omega (arith, c.requires)), omega arith)
+loop-k-init c = (puts_none (omega (arith, c.requires.1)), omega arith)
 
 pub loop-k-preserved : goal.loop-k-preserved
 loop-k-preserved c =

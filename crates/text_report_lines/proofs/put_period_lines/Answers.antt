@@ -34,13 +34,13 @@ module _ (grid : GridTable) (period : Period) (book : List ℕ) (flows : Flows)
   text : (loading : Loading) → loading.constraints ≡ grid.factors.constraints → loading.limits.now ≡ grid.limits.now → loading.flows ≡ flows
       → (process : Process) (verdict : Verdict)
       → test_outcome (Ok verdict) ≡ given (judged_values loading.limits.now process loading.flows.flows loading.constraints)
-      → line (grid_by grid) (book_in book) period process ≡ answer_line period process verdict
+      → line (grid_by grid) (book_in book) period process ≡ answer_line grid.factors.constraints period process verdict
   text loading same_constraints same_limits same_flows process verdict told =
       let g = grid.factors in
       let own : test_outcome (Ok verdict) ≡ given (judged_values grid.limits.now process flows.flows g.constraints)
       = told ∙ (λ i. given (judged_values (same_limits i) process (same_flows i).flows (same_constraints i))) in
       line-text g.nodes g.constraints grid.limits.now g.cells.now book process period verdict
-      (judges g.nodes g.constraints g.good.few grid.limits.now g.cells.now process period (book_in book) flows carried (Ok verdict) own) g.good.few
+      (judges g.nodes g.constraints g.good.few grid.limits.now g.cells.now process period (book_in book) flows carried (Ok verdict) own)
 
 pub of-loading-requires : goal.of-loading-requires
 of-loading-requires c =
