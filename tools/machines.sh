@@ -25,15 +25,14 @@ flags_for() { # MACHINE
 }
 
 # What becomes of the attributes of functions, which name the first machine's processor and ask for its
-# probes of the stack. Windows has probes of its own; WebAssembly stops where the stack ends, and its
-# addresses are of 32 bits: where the module compares two as numbers of 64, they are widened.
+# probes of the stack. Windows has probes of its own; WebAssembly stops where the stack ends.
 attributes_for() { # MACHINE
     local processor=' "target-cpu"="x86-64"' probes=' "probe-stack"="inline-asm" "stack-probe-size"="3072"'
     case $1 in
     "$hwcaps") echo "s/$processor/ \"target-cpu\"=\"x86-64-v3\"/" ;;
     aarch64-linux) echo "s/$processor//" ;;
     x86-64-windows) echo "s/$probes//" ;;
-    wasm32) echo "s/$processor//; s/$probes//; s/= ptrtoaddr ptr /= ptrtoint ptr /" ;;
+    wasm32) echo "s/$processor//; s/$probes//" ;;
     esac
 }
 
@@ -63,13 +62,21 @@ words_for() { # MODULE.bc
     done < "$1.words"
 }
 
+# The text of a module as a machine's pointers want it.
+pointers_for() { # MACHINE TEXT.ll
+    case $1 in
+    wasm32) tools/pointers < "$2" ;;
+    *) cat "$2" ;;
+    esac
+}
+
 # An object for a machine from the text of a module; but for the target, clang is told what rattle told it.
 object_for() { # MACHINE TEXT.ll OBJECT
     local flags lines words
     read -ra flags <<< "$(flags_for "$1")"
     lines=$(target_lines "${flags[@]}")
     mapfile -t words < <(words_for "${2%.ll}.bc")
-    { echo "$lines" && sed "/^target /d; $(attributes_for "$1")" "$2"; } > "$3.ll"
+    { echo "$lines" && pointers_for "$1" "$2" | sed "/^target /d; $(attributes_for "$1")"; } > "$3.ll"
     "$(kit_tools)/clang" "${flags[@]}" "${words[@]}" -c -x ir "$3.ll" -o "$3"
     rm "$3.ll"
 }
@@ -118,7 +125,7 @@ wasm_library() { # FILE OBJECT..
 modules_stamp() { # CRATE..
     local modules=("${@/#/target/modules/}")
     # The folder of the kit's toolchain is told to clang, and no code comes of it.
-    { rt version && cat tools/machines.sh include/crr.h "${modules[@]/%/.bc}" && grep -v ^--sysroot= "${modules[@]/%/.bc.words}"; } | sha256sum
+    { rt version && cat tools/machines.sh tools/pointers include/crr.h "${modules[@]/%/.bc}" && grep -v ^--sysroot= "${modules[@]/%/.bc.words}"; } | sha256sum
 }
 
 # The library for a machine, into its folder, unless that was made from the same modules in the same way.

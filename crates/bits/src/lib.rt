@@ -1,7 +1,7 @@
 // Bit fields of any width at any bit offset of a slice of bytes, the most significant bit first: read, written, and taken as two's complement.
 #![tactic(auto)]
 
-ghost use Rattle.std.specs.Prelude.{◌≡◌, ℕ, ◌+◌, ◌-◌, ◌*◌, ◌/◌, ◌%◌, ◌^◌, ◌≤◌, ◌<◌, length, take, drop};
+ghost use Rattle.std.specs.Prelude.{◌≡◌, ◌+◌, ◌-◌, ◌*◌, ◌/◌, ◌%◌, ◌^◌, ◌≤◌, ◌<◌, length, take, drop};
 ghost use Rattle.std.specs.Int.Signed.{mag};
 ghost use Rattle.bits.specs.Bits.{number, field as field_of};
 ghost use Rattle.bits.specs.Signed.{of_int, to_int};
@@ -11,6 +11,7 @@ mod writer;
 pub use writer::{put, put_last, store2, store6, store7};
 
 // The bytes of `s` from `first` on, `count` of them, as one number. Where `count` is a constant the compiler makes one load of it, or two.
+// `count` says how many are taken, not how long `s` is: as a slice they would be cut out by each caller in place of here.
 pub fn window(s: &[u8], first: usize, count: usize) -> u64
     requires count_in_bounds { first + count ≤ length s.now }
     requires count_bound { count ≤ 8 }
@@ -21,7 +22,7 @@ pub fn window(s: &[u8], first: usize, count: usize) -> u64
     u64::from_be_bytes(bytes)
 }
 
-// Eight bytes from `first` on.
+// Eight bytes from `first` on: `window` in its place would owe `count ≤ 8` at each call.
 pub fn window8(s: &[u8], first: usize) -> u64
     requires { first + 8 ≤ length s.now }
     ensures { result ≡ number 8 (take 8 (drop first s.now)) }
@@ -37,7 +38,7 @@ pub fn part(v: u64, low: usize, width: usize) -> u64
     (v >> low) % (1u64 << width)
 }
 
-// The field out of the `count` bytes from its first on.
+// The field out of the `count` bytes from its first on: `count` is `window`'s, for the same reason.
 fn cut(s: &[u8], offset: usize, width: usize, count: usize) -> u64
     requires { (offset % 8 + width ≤ 8 * count) × (offset / 8 + count ≤ length s.now) × (count ≤ 5) × (width ≤ 32) }
     ensures { (result ≡ field_of s.now offset width) × (result < 2 ^ width) }
@@ -106,6 +107,7 @@ pub fn unsigned(z: i64, width: usize) -> u64
 }
 
 // Where a writer stands: `at` whole bytes are written, and `held` bits more wait, less than four bytes of them, the lowest of `bits`.
+// The bytes are lent beside it: `put`, which docs/DEMANDS.md names, promises of both apart (`written`, `WritesOn`).
 #[derive(Clone, Copy)]
 pub struct BitWriter {
     pub at: usize,

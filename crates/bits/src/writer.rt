@@ -7,7 +7,8 @@ ghost use Rattle.lists.specs.Lent.{before, after};
 
 use crate::{BitWriter, part};
 
-// `v`, of `width` bits, behind the bits of `a`, of which the highest are lost.
+// `v`, of `width` bits, behind the bits of `a`, of which the highest are lost. Value and width stay two parameters, here and below:
+// most widths are constants of a file's form, and a type of both would be made at each call.
 fn join(a: u64, v: u64, width: usize) -> u64
     requires { (v < 2 ^ width) × (width ≤ 32) }
     ensures { (held : ℕ) → held + width ≤ 64 → result % 2 ^ (held + width) ≡ a % 2 ^ held * 2 ^ width + v }
@@ -16,6 +17,7 @@ fn join(a: u64, v: u64, width: usize) -> u64
 }
 
 // Stores the `count` lowest bytes of `v` from place `at` on. Where `count` is a constant the compiler makes as few stores of it as there can be.
+// `count` is of the bytes of `v`, which `buf` is longer than.
 fn store(buf: &mut [u8], at: usize, count: usize, v: u64)
     requires { (at + count ≤ length buf.old) × (count ≤ 8) }
     ensures { after buf ≡ take at (before buf) ++ digits 8 count v ++ drop (at + count) (before buf) }
@@ -23,7 +25,7 @@ fn store(buf: &mut [u8], at: usize, count: usize, v: u64)
     buf[at..at + count].copy_from_slice(&v.to_be_bytes()[8 - count..]);
 }
 
-// Stores the two lowest bytes of `v` from place `at` on.
+// Stores the two lowest bytes of `v` from place `at` on. This, `store6` and `store7` stay: `store` in their place would owe `count ≤ 8` at each call.
 pub fn store2(buf: &mut [u8], at: usize, v: u64)
     requires { at + 2 ≤ length buf.old }
     ensures { after buf ≡ take at (before buf) ++ digits 8 2 v ++ drop (at + 2) (before buf) }

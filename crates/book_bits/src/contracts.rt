@@ -8,7 +8,8 @@ ghost use Rattle.layouts.specs.Inner.{contract_for};
 use layouts::Form;
 use tariff::Contract;
 
-// The first `count` contracts of a book's bytes in a form.
+// The first `count` contracts of a book's bytes in a form, to be read. Bytes that are being written have no such type: they are lent by `&mut`, and what a
+// ghost field said of their length would be owed anew at each store. There, and in the functions below that one contract is read by, file and form stay apart.
 #[derive(Clone, Copy)]
 pub struct Contracts<'a> {
     pub file: &'a [u8],
@@ -38,7 +39,8 @@ impl<'a> Contracts<'a> {
         self.count
     }
 
-    // Contract i.
+    // Contract i. Loops count i: an iterator would be a type with laws of its own, and most of them need i besides.
+    // Like `bits_at` but for the function that it calls: one of both would take that function and be no plainer.
     pub fn at(self, i: usize) -> Contract
         requires { i < self.count }
         ensures { result ≡ contract_in self.entry.form self.entry.file.now i }

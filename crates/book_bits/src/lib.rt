@@ -85,7 +85,8 @@ pub fn book_form(file: &[u8]) -> Form
     }
 }
 
-// The parts of the contract whose bits are the lowest of `v`, its ends of `width` bits.
+// The parts of the contract whose bits are the lowest of `v`, its ends of `width` bits. Each has its own place and width, as `spare_bits` has: one function for
+// two of them would take these as arguments, which `bits::part` does.
 pub fn kind_in(v: u64, width: usize) -> Kind
     requires { width ≤ 12 }
     ensures { result ≡ (contract_for width v).kind }
@@ -151,6 +152,7 @@ fn contract_of(v: u64, width: usize) -> Contract
 }
 
 // The eight bytes that end with contract i of a book's bytes, as one number: the header's two bytes stand before the first contract, so they are there.
+// It, `store_bits` and view_holder's `holder_of` match the form alike, but each arm calls its own function with its own numbers.
 pub fn bits_at(file: &[u8], form: Form, i: usize) -> u64
     requires { (i < 1024) × (book_bytes_of form i + record_bytes form ≤ length file.now) }
     ensures { contract_in form file.now i ≡ contract_for (end_width form) result }
@@ -161,7 +163,7 @@ pub fn bits_at(file: &[u8], form: Form, i: usize) -> u64
     }
 }
 
-// Contract i of a book's bytes in a form.
+// Contract i of a book's bytes in a form. Canonical books' `number_at` has the same two arms, with other functions in them.
 pub fn contract_at(file: &[u8], form: Form, i: usize) -> Contract
     requires { (i < 1024) × (book_bytes_of form i + record_bytes form ≤ length file.now) }
     ensures { result ≡ contract_in form file.now i }

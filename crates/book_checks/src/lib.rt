@@ -1,17 +1,14 @@
 // The checks that every operation on a book has: a contract's own, the book's, and those of a book that is handed in with a node count.
 #![tactic(auto)]
 
-ghost use Rattle.std.specs.Prelude.{◌≡◌, ◌+◌, ◌≤◌, ◌<◌, length};
-ghost use Rattle.lists.specs.Lent.{before};
+ghost use Rattle.std.specs.Prelude.{◌≡◌, ◌≤◌, ◌<◌};
 ghost use Rattle.tariff.specs.Refusals.{first};
-ghost use Rattle.tariff.specs.Units.{max_contracts};
-ghost use Rattle.layouts.specs.Forms.{record_bytes};
-ghost use Rattle.layouts.specs.BookFile.{book_bytes_of, contract_in};
+ghost use Rattle.layouts.specs.BookFile.{contract_in};
 ghost use Rattle.layouts.specs.Inner.{contract_for};
 ghost use Rattle.book_rules.specs.BookChecks.{checks_to, contract_checks, book_checks, own_checks};
 ghost use Rattle.book_rules.specs.Inner.{number_checks};
 
-use book_bits::{NARROW_END_WIDTH, WIDE_END_WIDTH};
+use book_bits::{Contracts, NARROW_END_WIDTH, WIDE_END_WIDTH};
 use layouts::{BOOK_HEADER_BYTES, Form};
 use tariff::{MAX_CONTRACTS, Refusal};
 
@@ -42,32 +39,23 @@ fn check_bits(nodes: usize, v: u64, width: usize) -> Result<(), Refusal>
     )
 }
 
-// The checks of contract i of a book's bytes.
-fn check_at(nodes: usize, file: &[u8], form: Form, i: usize) -> Result<(), Refusal>
-    requires { (i < 1024) × (book_bytes_of form i + record_bytes form ≤ length file.now) }
-    ensures { result ≡ first (contract_checks nodes (contract_in form file.now i)) }
+// The checks of contract i of a book. Its two arms are as `book_bits::contract_at`'s, each with its width as a constant.
+fn check_at(nodes: usize, contracts: Contracts, i: usize) -> Result<(), Refusal>
+    requires { i < contracts.count }
+    ensures { result ≡ first (contract_checks nodes (contract_in contracts.entry.form contracts.entry.file.now i)) }
 {
-    match form {
-        Form::Narrow => check_bits(
-            nodes,
-            book_bits::bits_at(file, Form::Narrow, i),
-            NARROW_END_WIDTH,
-        ),
-        Form::Wide => check_bits(
-            nodes,
-            book_bits::bits_at(file, Form::Wide, i),
-            WIDE_END_WIDTH,
-        ),
+    match contracts.form {
+        Form::Narrow => check_bits(nodes, contracts.bits_at(i), NARROW_END_WIDTH),
+        Form::Wide => check_bits(nodes, contracts.bits_at(i), WIDE_END_WIDTH),
     }
 }
 
 // The checks of a book's contracts, one after the other.
-fn check_contracts(nodes: usize, file: &[u8], form: Form, count: usize) -> Result<(), Refusal>
-    requires { (count ≤ max_contracts) × (book_bytes_of form count ≤ length file.now) }
-    ensures { result ≡ first (checks_to count (λ i. contract_checks nodes (contract_in form file.now i))) }
+fn check_contracts(nodes: usize, contracts: Contracts) -> Result<(), Refusal>
+    ensures { result ≡ first (checks_to contracts.entry.count (λ i. contract_checks nodes (contract_in contracts.entry.form contracts.entry.file.now i))) }
 {
-    for i in 0..count {
-        check_at(nodes, file, form, i)?;
+    for i in 0..contracts.len() {
+        check_at(nodes, contracts, i)?;
     }
     Ok(())
 }
@@ -90,7 +78,7 @@ pub fn check_book(nodes: usize, file: &[u8]) -> Result<(), Refusal>
     if file.len() != form.book_bytes(count) {
         return Err(Refusal::FileLength);
     }
-    check_contracts(nodes, file, form, count)
+    check_contracts(nodes, Contracts { file, form, count })
 }
 
 // The own checks of a book that is handed in for a grid of `nodes` nodes: 2, then the book's.

@@ -12,7 +12,8 @@ ghost use Rattle.book_growth.specs.Inner.{growth_checks, Whole};
 use layouts::Form;
 use tariff::{MAX_CONTRACTS, Refusal};
 
-// Begins a book of `grown` contracts with those of a book: its bytes under a new header.
+// Begins a book of `grown` contracts with those of a book: its bytes under a new header. Its bytes are copied and no contract is read, so no `Contracts` is asked
+// for, and `grown` is of the file that is written.
 pub fn keep_contracts(book: &[u8], form: Form, grown: usize, file: &mut [u8])
     requires { Whole form book.now × (grown ≤ max_contracts) × (length book.now ≤ length file.old) }
     ensures { after file ≡ overwrite (book_front form grown (book_in book.now)) (before file) }

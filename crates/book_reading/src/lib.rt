@@ -5,16 +5,16 @@ ghost use Rattle.std.specs.Prelude.{◌≡◌, ℕ, ◌*◌, ◌≤◌, length};
 ghost use mathlib.Core.List.{List, flat_map};
 ghost use Rattle.lists.specs.Lent.{before, after, overwrite};
 ghost use Rattle.lists.specs.Lists.{list_to};
-ghost use Rattle.tariff.specs.Units.{max_contracts};
-ghost use Rattle.layouts.specs.BookFile.{book_bytes_of, contract_in};
+ghost use Rattle.layouts.specs.BookFile.{contract_in};
 ghost use Rattle.layouts.specs.BookTable.{contract_cells, cells_of};
 ghost use Rattle.book_rules.specs.ReadBook.{read_book_call, read_book_checked, ReadsBook};
 
+use book_bits::Contracts;
 use book_rules::BookRead;
-use layouts::{CONTRACT_CELLS, Form};
+use layouts::CONTRACT_CELLS;
 use tariff::Refusal;
 
-// The reader's checks, for a table of so many cells: 2, the book's own, 9.
+// The reader's checks, for a table of so many cells: 2, the book's own, 9. A list of checks, as the market view's is: the last has its own table and length.
 fn check_read(nodes: usize, file: &[u8], cells: usize) -> Result<(), Refusal>
     ensures { (table : List ℕ) → length table ≡ cells → result ≡ read_book_checked (read_book_call nodes file.now table) }
 {
@@ -25,13 +25,13 @@ fn check_read(nodes: usize, file: &[u8], cells: usize) -> Result<(), Refusal>
     Ok(())
 }
 
-// Stores the contracts of a file in a form into the first cells.
-fn read_contracts(file: &[u8], form: Form, contracts: usize, book: &mut [u64])
-    requires { (contracts ≤ max_contracts) × (book_bytes_of form contracts ≤ length file.now) × (contract_cells * contracts ≤ length book.old) }
-    ensures { after book ≡ overwrite (flat_map cells_of (list_to contracts (contract_in form file.now))) (before book) }
+// Stores a book's contracts into the first cells.
+fn read_contracts(contracts: Contracts, book: &mut [u64])
+    requires { contract_cells * contracts.count ≤ length book.old }
+    ensures { after book ≡ overwrite (flat_map cells_of (list_to contracts.entry.count (contract_in contracts.entry.form contracts.entry.file.now))) (before book) }
 {
-    for i in 0..contracts {
-        let c = book_bits::contract_at(file, form, i);
+    for i in 0..contracts.len() {
+        let c = contracts.at(i);
         book_rows::store_row(book, CONTRACT_CELLS * i, c);
     }
 }
@@ -41,8 +41,10 @@ pub fn read_book(nodes: usize, file: &[u8], book: &mut [u64]) -> Result<BookRead
     ensures { ReadsBook (read_book_call nodes file.now (before book)) result (after book) }
 {
     check_read(nodes, file, book.len())?;
-    let contracts = book_bits::contract_count(file);
-    let form = book_bits::book_form(file);
-    read_contracts(file, form, contracts, book);
-    Ok(BookRead { contracts, form })
+    let contracts = Contracts::of(file);
+    read_contracts(contracts, book);
+    Ok(BookRead {
+        contracts: contracts.count,
+        form: contracts.form,
+    })
 }

@@ -13,7 +13,8 @@ use book_bits::HOLDERS;
 use layouts::{CONTRACT_CELLS, Form};
 use tariff::{Contract, Kind, MAX_HOLDER, Period, Quantity, Refusal};
 
-// Stores a contract into the six cells from `at` on.
+// Stores a contract into the six cells from `at` on. This and the next ones take the table and a row's first cell, as `row_from` and `row_checks` say a row:
+// six cells as an array would have to be made of a table's slice by each caller, and said to be that table's row.
 pub fn store_row(book: &mut [u64], at: usize, c: Contract)
     requires { at + contract_cells ≤ length book.old }
     ensures { after book ≡ take at (before book) ++ cells_of c ++ drop (at + contract_cells) (before book) }
@@ -41,7 +42,7 @@ pub fn contract_from(cells: &[u64], at: usize) -> Contract
     }
 }
 
-// A row's checks, its ends held to be below a number: 17, 18, 11, 13.
+// A row's checks, its ends held to be below a number: 17, 18, 11, 13. The bound of `i` is what keeps its first cell's number from overflow.
 pub fn check_row(below: usize, cells: &[u64], i: usize) -> Result<(), Refusal>
     requires { (i < max_contracts) × (contract_cells * i + contract_cells ≤ length cells.now) }
     ensures { result ≡ first (row_checks below cells.now i) }

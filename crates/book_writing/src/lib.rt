@@ -14,7 +14,8 @@ ghost use Rattle.book_rules.specs.Inner.{RowFits};
 use layouts::{CONTRACT_CELLS, Form};
 use tariff::{MAX_CONTRACTS, Refusal};
 
-// The checks of the first `contracts` rows, one after the other.
+// The checks of the first `contracts` rows, one after the other. Here and below the table and the count stand as C gives them: the paper's table can be longer
+// than its rows, and `row_checks` and `rows_in` say it by both.
 fn check_rows(below: usize, contracts: usize, cells: &[u64]) -> Result<(), Refusal>
     requires { (contracts ≤ max_contracts) × (contract_cells * contracts ≤ length cells.now) }
     ensures { result ≡ first (checks_to contracts (row_checks below cells.now)) }
@@ -51,9 +52,11 @@ fn check_write(
     Ok(())
 }
 
-// Writes the header and the first `contracts` rows in a form.
+// Writes the header and the first `contracts` rows in a form, as `hub_book::write_grown` and `view_market::write_anonymous` do with what they have: a row's
+// bits, a contract, a contract's bits. One function of the three would take that as a closure, say of any row what these say of theirs, and be no plainer.
 fn write_contracts(form: Form, cells: &[u64], contracts: usize, file: &mut [u8])
-    requires contracts_le_max_contracts { (contracts ≤ max_contracts) × (contract_cells * contracts ≤ length cells.now) × (book_bytes_of form contracts ≤ length file.old) }
+    requires contracts_le_max_contracts { (contracts ≤ max_contracts) × (contract_cells * contracts ≤ length cells.now)
+        × (book_bytes_of form contracts ≤ length file.old) }
     requires by_index { (i : ℕ) → i < contracts → RowFits form cells.now (contract_cells * i) }
     ensures { after file ≡ overwrite (book_file form (rows_in contracts cells.now)) (before file) }
 {

@@ -1,13 +1,14 @@
 // What a book can cost, for C: prices and figures go into lent cells, and the answer is the refusal's number, 0 for none.
+// C calls each operation by a name of its own and with raw parameters, so a body that only passes the answer on is written out for each.
 #![tactic(auto)]
 
-ghost use Rattle.lists.specs.Lent.{before};
 ghost use Rattle.test_rules.specs.TestBook.{test_call};
 ghost use Rattle.exposure_bounds.specs.FindExposure.{FindsExposureForC};
 
 use test_terms::Asked;
 
 // Finds the least and the most that a book can cost, each as whole cents and parts, and prices that cost the least, one cell for each constraint.
+// C calls it by this name and lends a cell for each figure, as with `crr_find_shortfall`, so each is written out.
 #[unsafe(no_mangle)]
 pub extern "C" fn crr_find_exposure(
     nodes: usize,

@@ -1,7 +1,7 @@
 // Finding a hub's MCC for C: the two figures go into lent cells, and the answer is the refusal's number, 0 for none.
+// C calls each operation by a name of its own and with raw parameters, so a body that only passes the answer on is written out for each.
 #![tactic(auto)]
 
-ghost use Rattle.lists.specs.Lent.{before};
 ghost use Rattle.hub_mcc.specs.FindHubMcc.{find_hub_mcc_call, FindsHubMccForC};
 
 // Finds the MCC of a hub of nodes and weights, as quotient rounded down and remainder.

@@ -1,4 +1,5 @@
 // How full the constraints are, for C: figures go into lent cells, and the answer is the refusal's number, 0 for none.
+// C calls each operation by a name of its own and with raw parameters, so a body that only passes the answer on is written out for each.
 #![tactic(auto)]
 
 ghost use Rattle.lists.specs.Lent.{before, after};

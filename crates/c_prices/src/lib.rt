@@ -1,4 +1,5 @@
 // The price file's two operations for C: figures go into lent cells, and the answer is the refusal's number, 0 for none.
+// C calls each operation by a name of its own and with raw parameters, so a body that only passes the answer on is written out for each.
 #![tactic(auto)]
 
 ghost use Rattle.lists.specs.Lent.{before, after};
@@ -15,11 +16,16 @@ pub extern "C" fn crr_read_prices(
 ) -> u64
     ensures { ReadsPricesForC (read_prices_call constraints file.now (before prices)) result (after prices) period }
 {
-    let answer = price_reading::read_prices(constraints, file, prices);
-    tariff::answer_cell(answer, period)
+    match price_reading::read_prices(constraints, file, prices) {
+        Err(refusal) => refusal.number(),
+        Ok(found) => {
+            *period = found as u64;
+            0
+        }
+    }
 }
 
-// Writes the first `constraints` prices as a file of a period, and gives its length.
+// Writes the first `constraints` prices as a file of a period, and gives its length. One answer passed on as other entries do: C calls each by its own name.
 #[unsafe(no_mangle)]
 pub extern "C" fn crr_write_prices(
     period: u64,

@@ -1,7 +1,8 @@
 // A test of any size, for C: figures go into lent cells, and the answer is the refusal's number, 0 for none.
+// C calls each operation by a name of its own and with raw parameters, so a body that only passes the answer on is written out for each.
 #![tactic(auto)]
 
-ghost use Rattle.lists.specs.Lent.{before, after};
+ghost use Rattle.lists.specs.Lent.{after};
 ghost use Rattle.test_totals.specs.AddFlows.{add_flows_call, AddsFlowsForC};
 ghost use Rattle.test_totals.specs.JudgeFlows.{judge_call, JudgesFlowsForC};
 
@@ -34,6 +35,7 @@ pub extern "C" fn crr_add_flows(
 }
 
 // Judges totals of flows by the released limits of their constraints, and gives the test's figures: on a pass all are 0, and only then is the set.
+// Four cells are lent one by one: a function of both entries would take the answer and each of them.
 #[unsafe(no_mangle)]
 pub extern "C" fn crr_judge_flows(
     constraints: usize,

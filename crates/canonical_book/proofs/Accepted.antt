@@ -4,8 +4,8 @@ use mathlib.Core.List.{List, [], ◌∷◌, map}
 use Prim.Native.Nat.{ℕ, zero, suc, ◌≤◌, ◌<◌}
 use native.Mathlib.Omega.{arith}
 use borrow.Author.Tests.{lt-ltb, le-ltb}
-use lib.ListN.{length, get_or, take, length-map}
-use lib.Seq.{length-take-le, get_or-take}
+use lib.ListN.{length, get_or, length-map}
+use Rattle.std.proofs.lemmas.List.{take_all}
 use Rattle.lists.specs.Lists.{Each, list_to}
 use Rattle.lists.proofs.Lists.{map-list_to, take-is_list_to}
 use Rattle.tariff.specs.declared.contracts.Contract.{Contract}
@@ -41,17 +41,18 @@ rows_back : (form : Form) (rows : List Contract) → Each (ContractFits (end_wid
 rows_back form [] f = refl
 rows_back form (r ∷ rows) f = ap₂ ◌∷◌ (contract-back form r f.0 (row_number r) refl) (rows_back form rows f.1)
 
-module _ (form : Form) (rows : List Contract) (fits : Each (ContractFits (end_width form)) rows) (cells : List ℕ) (r : ℕ) (le : r ≤ length cells)
-    (e : take r cells ≡ map row_number rows) where
-  pub rows-count : r ≡ length rows
-  rows-count = sym (length-take-le r cells le) ∙ ap length e ∙ length-map rows row_number
+module _ (form : Form) (rows : List Contract) (fits : Each (ContractFits (end_width form)) rows) (cells : List ℕ) (e : cells ≡ map row_number rows) where
+  pub rows-count : length cells ≡ length rows
+  rows-count = ap length e ∙ length-map rows row_number
 
-  pub row_at : (i : ℕ) → i < r → RowOf form (get_or cells i 0)
-  row_at i h = rw (get_or-take r cells i 0 h) at (rw (← e) at (rows_at form rows fits i (omega (arith, rows-count))))
+  pub row_at : (i : ℕ) → i < length cells → RowOf form (get_or cells i 0)
+  row_at i h = rw e (rows_at form rows fits i (omega (arith, rows-count)))
 
-  pub rows_are : list_to r (λ i. contract_for 12 (get_or cells i 0)) ≡ rows
+  pub rows_are : list_to (length cells) (λ i. contract_for 12 (get_or cells i 0)) ≡ rows
   rows_are =
-      sym (map-list_to r (λ i. get_or cells i 0) (contract_for 12)) ∙ ap (map (contract_for 12)) (sym (take-is_list_to r cells 0 le) ∙ e) ∙ rows_back form rows fits
+      sym (map-list_to (length cells) (λ i. get_or cells i 0) (contract_for 12))
+      ∙ ap (map (contract_for 12)) (sym (take-is_list_to (length cells) cells 0 (omega arith)) ∙ take_all (length cells) cells (omega arith) ∙ e)
+      ∙ rows_back form rows fits
 
 -- ---- an accepted book
 

@@ -6,7 +6,9 @@ use Prim.Native.Nat.{ℕ, ◌+◌, ◌≤◌, ◌<◌}
 use native.Mathlib.Numerals.{add-one}
 use native.Mathlib.Omega.{arith}
 use lib.ListN.{length, get_or, take, drop, set, length-set, drop_of_length-le}
-use lib.Seq.{take-suc-set, take-set-le, drop-cons, drop-set-lt}
+use lib.Seq.{take-suc-set, drop-cons, drop-set-lt}
+use Rattle.std.specs.Prelude.{Some, None}
+use Rattle.std.proofs.lemmas.Option.{cond_some, none-some}
 use Rattle.lists.specs.Lists.{Each}
 use Rattle.lists.proofs.Lists.{each_at}
 use Rattle.lists.proofs.Fill.{drop-later}
@@ -22,6 +24,10 @@ walk_begins : (vs : List ℕ) → 0 < length vs → numbers_from (get_or vs 0 0)
 unfolding walk
 walk_begins [] h = absurd (omega arith)
 walk_begins (v ∷ vs) h = refl
+
+none_out : (b : Bool) (v : ℕ) → cond b (Some v) None ≡ None → b ≡ false
+none_out true v e = absurd (none-some v (sym e))
+none_out false v e = refl
 
 -- after i cells: rows are out, at the front of the cells, and a row is pending
 pub record Walking (cells₀ cells : List ℕ) (row rows i : ℕ) : Type 0 where
@@ -65,24 +71,31 @@ module _ (cells₀ : List ℕ) (all : Each SizedQuantity cells₀) where
       unfolding walk_from
       walked b e = rw (next-cell h, ← cell_read h, ← e)
 
-      turn : (b : Bool) → goes five_in_of quantity_in number_at row next ≡ b
-          → take (rows + cond b 1 0) (set cells rows (out five_in_of quantity_in number_at row next)) ++ tail ≡ take rows cells ++ numbers_from row (drop i cells₀)
-      turn true e =
-          rw (add-one rows, take-suc-set cells rows (out five_in_of quantity_in number_at row next) (omega (arith, w.few, w.size)), walked true e)
-          (append_assoc (take rows cells) (out five_in_of quantity_in number_at row next ∷ []) tail)
-      turn false e =
-          ap (λ (n : ℕ). take n (set cells rows (out five_in_of quantity_in number_at row next)) ++ tail) {x = rows + 0} {y = rows} (omega arith)
-          ∙ rw (take-set-le rows cells rows (out five_in_of quantity_in number_at row next) (omega arith), walked false e)
-
-      pub walking_next : Walking cells₀ (set cells rows s.out) s.pending (rows + s.goes) (i + 1)
-      walking_next =
+      -- a row goes out, into the next cell
+      pub row_out : (v : ℕ) → s.out ≡ Some v → Walking cells₀ (set cells rows v) s.pending (rows + 1) (i + 1)
+      row_out v is =
+          let went : (goes five_in_of quantity_in number_at row next ≡ true) × (out five_in_of quantity_in number_at row next ≡ v) = cond_some _ _ v (sym step.out-is ∙ is) in
           record {
-            few = omega (arith, step.few, w.few);
+            few = omega (arith, w.few);
             within = omega arith;
-            size = length-set cells rows s.out ∙ w.size;
+            size = length-set cells rows v ∙ w.size;
             sized = step.sized;
-            rest = drop-set-lt (i + 1) cells rows s.out (omega (arith, w.few)) ∙ drop-later cells cells₀ i (i + 1) (omega arith) w.rest;
-            done = rw (step.goes-is, step.pending-is, step.out-is) (turn (goes five_in_of quantity_in number_at row next) refl) ∙ w.done;
+            rest = drop-set-lt (i + 1) cells rows v (omega (arith, w.few)) ∙ drop-later cells cells₀ i (i + 1) (omega arith) w.rest;
+            done = rw (step.pending-is, add-one rows, take-suc-set cells rows v (omega (arith, w.few, w.size)))
+                (append_assoc (take rows cells) (v ∷ []) tail ∙ ap (λ (l : List ℕ). take rows cells ++ l) (sym (rw went.1 at (walked true went.0)))) ∙ w.done;
+          }
+
+      -- none does
+      pub row_kept : s.out ≡ None → Walking cells₀ cells s.pending rows (i + 1)
+      row_kept is =
+          let stayed = none_out _ _ (sym step.out-is ∙ is) in
+          record {
+            few = omega (arith, w.few);
+            within = omega arith;
+            size = w.size;
+            sized = step.sized;
+            rest = drop-later cells cells₀ i (i + 1) (omega arith) w.rest;
+            done = rw step.pending-is (ap (λ (l : List ℕ). take rows cells ++ l) (sym (walked false stayed))) ∙ w.done;
           }
 
     -- the row that is pending at the end goes out

@@ -9,8 +9,7 @@ ghost use Rattle.cut_list.specs.Inner.{numbers_of, cuts_of, ListsRows};
 
 use cut_rules::KEY_BASE;
 use tariff::{MAX_CONTRACTS, Refusal};
-use test_excesses::Terms;
-use test_terms::Asked;
+use test_terms::{Asked, Tested};
 use test_verdict::check_test;
 
 // Takes keys apart: the contracts' numbers, and their cuts.
@@ -19,6 +18,7 @@ fn store_rows(keys: &[u64], numbers: &mut [u64], cuts: &mut [u64])
     ensures numbers_value { after numbers ≡ overwrite (numbers_of keys.now (length keys.now)) (before numbers) }
     ensures cuts_value { after cuts ≡ overwrite (cuts_of keys.now (length keys.now)) (before cuts) }
 {
+    // By index: two slices are written at it.
     for (i, key) in keys.iter().enumerate() {
         numbers[i] = key % KEY_BASE;
         cuts[i] = key / KEY_BASE;
@@ -41,6 +41,7 @@ fn list_rows(keys: &[u64], numbers: &mut [u64], cuts: &mut [u64]) -> Result<usiz
 }
 
 // Lists each contract of the period whose quantity, lowered alone, makes a failing book pass, with the least such cut: by cut, then by contract number.
+// The C interface lends the tables, of which nothing is checked yet, one by one.
 pub fn find_cuts(
     asked: Asked,
     limits: &[u64],
@@ -53,7 +54,7 @@ pub fn find_cuts(
 {
     check_test(asked, limits, factors, book)?;
     let mut keys = [0u64; MAX_CONTRACTS];
-    let terms = Terms::from_asked(asked);
-    let listed = cut_keys::row_keys(terms, limits, factors, book, &mut keys);
+    let test = Tested::of(asked, limits, factors, book);
+    let listed = cut_keys::row_keys(test, &mut keys);
     list_rows(&keys[..listed], numbers, cuts)
 }

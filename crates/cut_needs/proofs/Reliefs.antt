@@ -12,7 +12,7 @@ use Rattle.std.specs.Int.{div_ceil}
 use Rattle.std.specs.Ordering.{is_lt, int_cmp}
 use Rattle.std.proofs.Math.Nat.{div-add-mod, mod-lt}
 use Rattle.std.proofs.lemmas.Nat.{div-mul-add}
-use lib.Dec.{T, leb}
+use lib.Dec.{T, leb, lit<}
 use lib.ListN.{get_or}
 use lib.IntN.{ℤ, pos, negsuc, nat_abs, ◌-ℤ◌, ◌*ℤ◌}
 use lib.Signed.{◌≤ℤ◌, ◌<ℤ◌, lt_z, le_z, non_neg, lt_z_yes, lt_z_no, le_z_yes}
@@ -23,13 +23,14 @@ use Rattle.integers.proofs.Linear.{⊖s, not_≤ℤ}
 use Rattle.tariff.specs.declared.contracts.Contract.{Contract}
 use Rattle.tariff.specs.declared.contracts.Kind.{Kind}
 use Rattle.tariff.specs.Units.{max_factor, max_quantity, max_flow}
-use Rattle.tariff.specs.ContractRules.{counted}
+use Rattle.tariff.specs.ContractRules.{counted, InRange}
+use Rattle.grid_tables.specs.Inner.{GoodFactors, RowOf}
+use Rattle.grid_tables.proofs.Factors.{factor-cell}
 use Rattle.test_flow_laws.proofs.Additive.{counted-product}
 use Rattle.cut_rules.specs.Inner.{need_at}
 use Rattle.cut_rules.proofs.Needs.{is_true}
 use Rattle.cut_rules.proofs.Turns.{need-sizes}
-use Rattle.test_rules.specs.Inner.{Ends}
-use Rattle.test_rules.proofs.Flowing.{rows-kept, part_small}
+use Rattle.test_rules.proofs.Flowing.{kept-sized, part_small}
 use Rattle.test_rules.proofs.Judging.{less-is}
 use Rattle.cut_needs.specs.Inner.{slope_from, slope_in}
 
@@ -44,27 +45,31 @@ relief_of d x y z t hx hy e = e ∙ rw (back x (omega arith), back y (omega arit
 pub relief_sized : (d : Kind) (x y z : ℤ) (t : ℕ) → nat_abs x ≤ max_factor → nat_abs y ≤ max_factor → t ≤ max_quantity → z ≡ counted d ((kept x -ℤ kept y) *ℤ pos t) → nat_abs z ≤ max_flow
 relief_sized d x y z t hx hy h e = part_small z x y d t (e ∙ rw (back x (omega arith), back y (omega arith))) hx hy h
 
-module _ (k : ℕ) (fs : List ℤ) (c : Contract) (ends : Ends k fs c) (j : ℕ) (b : j < k) where
+-- on constraint j, by the rows of a contract's ends
+module _ (n k : ℕ) (fs : List ℤ) (good : GoodFactors n k fs) (c : Contract) (own : InRange n c) (source sink : List ℤ) (from : RowOf n k fs c.source source)
+    (to : RowOf n k fs c.sink sink) (j : ℕ) (b : j < k) where
   -- the factors of both ends
   abbrev x : ℤ
-  x = get_or fs (c.source * k + j) (pos 0)
+  x = get_or source j (pos 0)
 
   abbrev y : ℤ
-  y = get_or fs (c.sink * k + j) (pos 0)
+  y = get_or sink j (pos 0)
+
+  spread-is : counted c.kind (x -ℤ y) ≡ slope_in k fs c j
+  unfolding slope_from
+  spread-is = rw (from.cell j b, to.cell j b, factor-cell n k fs good c.source j own.source-below b, factor-cell n k fs good c.sink j own.sink-below b)
 
   pub factors-kept : (nat_abs (kept x) ≤ max_factor) × (nat_abs (kept y) ≤ max_factor)
-  factors-kept = rows-kept k fs c ends j b
+  factors-kept = (kept-sized x max_factor (lit< tt) (from.sized j b), kept-sized y max_factor (lit< tt) (to.sized j b))
 
   pub relief_is : (z : ℤ) (t : ℕ) → z ≡ counted c.kind ((kept x -ℤ kept y) *ℤ pos t) → z ≡ slope_in k fs c j *ℤ pos t
-  unfolding slope_from
-  relief_is z t e = relief_of c.kind x y z t (ends.source-sized j b) (ends.sink-sized j b) e
+  relief_is z t e = relief_of c.kind x y z t (from.sized j b) (to.sized j b) e ∙ ap (λ (s : ℤ). s *ℤ pos t) spread-is
 
   pub slope-is : counted c.kind (kept x -ℤ kept y) ≡ slope_in k fs c j
-  unfolding slope_from
-  slope-is = rw (back x (omega (arith, ends.source-sized j b)), back y (omega (arith, ends.sink-sized j b)))
+  slope-is = rw (back x (omega (arith, from.sized j b)), back y (omega (arith, to.sized j b))) spread-is
 
   pub relief_small : (z : ℤ) (t : ℕ) → t ≤ max_quantity → z ≡ counted c.kind ((kept x -ℤ kept y) *ℤ pos t) → nat_abs z ≤ max_flow
-  relief_small z t h e = relief_sized c.kind x y z t (ends.source-sized j b) (ends.sink-sized j b) h e
+  relief_small z t h e = relief_sized c.kind x y z t (from.sized j b) (to.sized j b) h e
 
 -- the comparison: r is what it says of an excess x, kept as v, and a flow z
 module _ (x v z p : ℤ) (same : v ≡ x) (is : z ≡ p) (r : Bool) (found : r ≡ is_lt (int_cmp z v)) where

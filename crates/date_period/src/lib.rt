@@ -5,7 +5,7 @@ ghost use Rattle.std.specs.Prelude.{◌≡◌, true};
 ghost use Rattle.date_rules.specs.Dates.{date_exists};
 ghost use Rattle.date_period.specs.HourPeriod.{within, period_number, period_is, TellsPeriod};
 
-use dates::Date;
+use dates::{Date, Month};
 use tariff::{Period, Refusal};
 
 fn is_within(first: u64, last: u64, hour: u64) -> bool
@@ -18,7 +18,11 @@ fn period_at(date: Date, hour: u64) -> Period
     requires { date_exists date.year date.month date.day ≡ true }
     ensures { period_number result ≡ period_is date hour }
 {
-    if is_within(7, 22, hour) && date_on_peak::on_peak_day(date.year, date.month, date.day) {
+    let month = Month {
+        year: date.year,
+        month: date.month,
+    };
+    if is_within(7, 22, hour) && date_on_peak::on_peak_day(month, date.day) {
         Period::OnPeak
     } else {
         Period::OffPeak

@@ -1,7 +1,7 @@
 // Dates of January 2010 to December 2037 (document 02, paper 1): month lengths, weekdays, the date one month later.
 #![tactic(auto)]
 
-ghost use Rattle.std.specs.Prelude.{◌≡◌, ◌≤◌, ◌<◌};
+ghost use Rattle.std.specs.Prelude.{◌≡◌, ◌≤◌};
 ghost use Rattle.date_rules.specs.Dates.{leap, month_length_of, length_before_of, month_days_of, day_number_of, weekday_of, last_year, month_exists_of, date_exists};
 ghost use Rattle.dates.specs.Weekday.{TellsWeekday};
 ghost use Rattle.dates.specs.MonthLater.{ReachesMonthLater};
@@ -18,6 +18,14 @@ pub struct Date {
     pub year: u64,
     pub month: u64,
     pub day: u64,
+}
+
+// A month that the calendar reaches, so that a day's number is not too large.
+#[derive(Clone, Copy)]
+pub struct Month {
+    pub year: u64,
+    pub month: u64,
+    pub ghost reached: { (1 ≤ year) × (year ≤ last_year) × (month ≤ 12) },
 }
 
 fn leap_year(year: u64) -> bool
@@ -53,6 +61,7 @@ fn length_before(leap: bool, month: usize) -> u64
     if leap { before + 1 } else { before }
 }
 
+// Year and month are numbers here and below: `exists` asks before there is a `Month`, and `month_later` asks of January 2038.
 pub fn month_days(year: u64, month: u64) -> u64
     requires { month ≤ 12 }
     ensures { (result ≡ month_days_of year month) × (result ≤ 31) }
@@ -60,21 +69,23 @@ pub fn month_days(year: u64, month: u64) -> u64
     month_length(leap_year(year), month as usize)
 }
 
-fn day_number(year: u64, month: u64, day: u64) -> u64
-    requires { (1 ≤ year) × (year ≤ last_year) × (month ≤ 12) × (day ≤ 31) }
-    ensures { (result ≡ day_number_of year month day) × (day ≤ result) }
-{
-    let p = year - 1;
-    let before = length_before(leap_year(year), month as usize);
-    365 * p + p / 4 - p / 100 + p / 400 + before + day
-}
+impl Month {
+    fn day_number(self, day: u64) -> u64
+        requires { day ≤ 31 }
+        ensures { (result ≡ day_number_of self.year self.month day) × (day ≤ result) }
+    {
+        let p = self.year - 1;
+        let before = length_before(leap_year(self.year), self.month as usize);
+        365 * p + p / 4 - p / 100 + p / 400 + before + day
+    }
 
-// 1, Monday, to 7.
-pub fn weekday_number(year: u64, month: u64, day: u64) -> u64
-    requires { (1 ≤ year) × (year ≤ last_year) × (month ≤ 12) × (1 ≤ day) × (day ≤ 31) }
-    ensures { result ≡ weekday_of year month day }
-{
-    (day_number(year, month, day) - 1) % 7 + 1
+    // 1, Monday, to 7: `weekday_of` has a number, and C is given it.
+    pub fn weekday(self, day: u64) -> u64
+        requires { (1 ≤ day) × (day ≤ 31) }
+        ensures { result ≡ weekday_of self.year self.month day }
+    {
+        (self.day_number(day) - 1) % 7 + 1
+    }
 }
 
 pub fn month_exists(year: u64, month: u64) -> bool
@@ -98,7 +109,12 @@ impl Date {
         if !self.exists() {
             return Err(Refusal::NoSuchDate);
         }
-        Ok(weekday_number(self.year, self.month, self.day))
+        // Here and in date_period a `Month` is made where the date is known to exist: a method would ask that again.
+        let month = Month {
+            year: self.year,
+            month: self.month,
+        };
+        Ok(month.weekday(self.day))
     }
 
     // The date one month later, the day cut to the month's last. Checks: 19 of the date given, 19 of the date reached.

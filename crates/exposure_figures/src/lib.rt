@@ -1,10 +1,8 @@
 // Figures in 10^-8 cents that may exceed 64 bits, and the congestion rent of all constraints as one.
 #![tactic(auto)]
 
-ghost use Rattle.std.specs.Prelude.{◌≡◌, ℕ, ◌+◌, ◌*◌, ◌^◌, ◌≤◌, ◌<◌, pos, nat_abs, ◌-ℤ◌};
-ghost use Rattle.std.specs.Int.Signed.{lt_z};
+ghost use Rattle.std.specs.Prelude.{◌≡◌, ℕ, ◌+◌, ◌*◌, ◌^◌, ◌≤◌, ◌<◌, pos, ◌-ℤ◌};
 ghost use Rattle.integers.specs.Sums.{sum_to};
-ghost use Rattle.lists.specs.Lent.{before};
 ghost use Rattle.tariff.specs.Units.{max_constraints, max_limit, max_price, per_cent};
 ghost use Rattle.tariff.specs.Processes.{percent};
 ghost use Rattle.grid_tables.specs.Inner.{GoodCells};
@@ -20,7 +18,7 @@ pub struct Exact {
     pub parts: u64,
 }
 
-// A rent, which is never below 0.
+// A rent, which is never below 0, so whole cents of their own type: its sum has no sign to carry.
 #[derive(Clone, Copy, Debug, PartialEq, Eq, PartialOrd, Ord)]
 pub struct Owed {
     pub whole: u64,
@@ -50,7 +48,7 @@ impl Add<u64> for Owed {
 }
 
 impl Owed {
-    // The same as a figure that may be below 0.
+    // The same as a figure that may be below 0. No `From`, which asks nothing: the rent's bound is what makes its whole cents fit.
     pub fn exact(self) -> Exact
         requires { RentBounded 64 self }
         ensures { Exactly (pos (rent_of self)) result }

@@ -5,9 +5,8 @@ use mathlib.Core.List.{List, ◌++◌}
 use Prim.Native.Nat.{ℕ, ◌+◌, ◌≤◌, ◌<◌}
 use native.Mathlib.Omega.{arith}
 use lib.ListN.{length, take, drop, set, length-set}
-use lib.Seq.{take_all, length-take-le, get_or-take}
-use Rattle.std.proofs.lemmas.List.{length-take}
-use lib.IntN.{ℤ, pos, nat_abs}
+use lib.Seq.{take_all, length-take-le}
+use lib.IntN.{ℤ, nat_abs}
 use mir.Syntax.{w64}
 use mir.Val.{to_z, of_z}
 use Rattle.integers.proofs.Machine.{back}
@@ -27,12 +26,6 @@ read_excess n cells e k h = let sized = e.sized k h in (back (cell_at cells k) (
 
 pub sized-read : (n : ℕ) (cells : List ℤ) → Excesses n cells → (k : ℕ) → k < n → nat_abs (to_z w64 (of_z w64 (cell_at cells k))) ≤ max_excess
 sized-read n cells e k h = let read = read_excess n cells e k h in rw read.0 read.1
-
--- the same of one in a slice of the first n
-pub read_front : (n : ℕ) (cells : List ℤ) → Excesses n cells → (k : ℕ) → k < length (take n cells) → (k < n) × (to_z w64 (of_z w64 (cell_at (take n cells) k)) ≡ cell_at cells k)
-read_front n cells e k h =
-    let inside : k < n = omega (arith, length-take n cells) in
-    (inside, rw (get_or-take n cells k (pos 0) inside) (read_excess n cells e k inside).0)
 
 -- of n cells the first k hold the prices of the first k constraints
 pub record Filling (n : ℕ) (chosen : ℕ → Bool) (k : ℕ) (cells : List ℕ) : Type 0 where

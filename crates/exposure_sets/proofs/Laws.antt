@@ -10,7 +10,7 @@ use native.Mathlib.Omega.{arith}
 use borrow.Author.Tests.{ltb-true, ltb-false}
 use lib.Dec.{eqb, ltb}
 use lib.ListN.{length, get_or, set, take, length-set}
-use lib.Seq.{get_or-set_same, get_or-set_other, get_or-take}
+use lib.Seq.{get_or-set_same, get_or-set_other, get_or-take, length-take-le}
 use lib.Pow.{pow-add, pow_pos, pow_mono}
 use lib.IntN.{ℤ, pos, nat_abs, ◌+ℤ◌, ◌-ℤ◌, ◌*ℤ◌, +ℤ_idl, +ℤ_idr}
 use mir.Syntax.{w64}
@@ -229,9 +229,6 @@ filled-end x t count old cells all f = rw all at f
 
 -- ---- what is added
 
-pub pow_most : (count n : ℕ) → n ≡ 2 ^ count → count ≤ 10 → n ≤ 1024
-pow_most count n e few = rw e (pow_mono {i = count} {j = 10} few)
-
 pub added-small : (b n : ℕ) (f g : ℕ → ℤ) (old new : List ℤ) → ((m : ℕ) → m < n → (f m ≡ g m) × (nat_abs (g m) ≤ b)) → Added n f old new
     → AddedSmall b n g old new
 added-small b n f g old new same a =
@@ -295,6 +292,28 @@ module _ (k : ℕ) (fs : List ℤ) (over : List ℕ) (count : ℕ) (t : Period) 
           ap (counted Option) (s m (rw en at h) ∙ bit_cong (cell_in_of figures) figure m count f.each) ∙ sym (option_is true Option p e m),
           rw (option_is true Option p e m) (le_trans (counted-sized Option (bit_sum figure m count)) (set-small max_released figure m count few figure-small)),
         ))
+
+-- ---- sums of which the first n are added as they count
+
+pub front-ready : (n : ℕ) (sums costs : List ℤ) → n ≤ 1024 → length sums ≡ 1024 → length costs ≡ 1024 → SmallCells (max_row * 10) n sums
+    → SmallCells (2 ^ 61) n costs → (length (take n sums) ≤ 1024) × (length (take n sums) ≤ length costs)
+    × SmallCells (max_row * 10) (length (take n sums)) (take n sums) × SmallCells (2 ^ 61) (length (take n sums)) costs
+front-ready n sums costs most ls lc s c =
+    let long : length (take n sums) ≡ n = length-take-le n sums (omega (arith, most, ls)) in (
+      rw long most,
+      rw long (omega (arith, most, lc)),
+      λ m h. let l : m < n = rw long at h in rw (get_or-take n sums m (pos 0) l) (s m l),
+      λ m h. let l : m < n = rw long at h in c m l,
+    )
+
+pub front-added : (d : Kind) (n : ℕ) (sums old new : List ℤ) → n ≤ length sums
+    → Added (length (take n sums)) (λ (m : ℕ). counted d (cell_in_of (take n sums) m)) old new → Added n (λ (m : ℕ). counted d (cell_in_of sums m)) old new
+front-added d n sums old new h a =
+    let long : length (take n sums) ≡ n = length-take-le n sums h in
+    record {
+      length-kept = a.length-kept;
+      each = λ m l. a.each m (rw long l) ∙ ap (λ (z : ℤ). cell_in_of old m +ℤ counted d z) (get_or-take n sums m (pos 0) l);
+    }
 
 -- one contract more
 sum_more : (A S x : ℤ) → A +ℤ S +ℤ x ≡ A +ℤ (S +ℤ x)
@@ -370,6 +389,9 @@ in_period false d x m t = ap (λ (z : ℤ). z +ℤ pos 0) (bit_zero m t)
 
 -- ---- what the sums mean: the contracts of the period, by the grid's factors and limits
 
+pub cell_of : (n k : ℕ) (fs : List ℤ) (s j : ℕ) → s < n → j < k → get_or fs (s * k + j) (pos 0) ≡ factor (factors_of n k fs) s j
+cell_of n k fs s j hs hj = sym (get_or-take (n * k) fs (s * k + j) (pos 0) (place-in n k s j hs hj))
+
 module _ (n k : ℕ) (ls : List ℕ) (fs : List ℤ) (process : Process) (t : Period) (book : List ℕ) (over : List ℕ) (count : ℕ) (chosen : Chosen k count over)
     (ok : (i : ℕ) → i < contract_count_in book → InRange n (contract_at book i)) (m : ℕ) where
   abbrev g : Grid
@@ -378,11 +400,8 @@ module _ (n k : ℕ) (ls : List ℕ) (fs : List ℤ) (process : Process) (t : Pe
   abbrev cs : List Contract
   cs = of_period t (book_in book)
 
-  cell : (s j : ℕ) → s < n → j < k → get_or fs (s * k + j) (pos 0) ≡ factor (factors_of n k fs) s j
-  cell s j hs hj = sym (get_or-take (n * k) fs (s * k + j) (pos 0) (place-in n k s j hs hj))
-
   raw_is : (c : Contract) → InRange n c → (j : ℕ) → j < k → raw_in k fs c j ≡ raw_of g process cs over count c j
-  raw_is c h j b = ap₂ (λ (x y : ℤ). (x -ℤ y) *ℤ pos c.quantity.0) (cell c.source j h.source-below b) (cell c.sink j h.sink-below b)
+  raw_is c h j b = ap₂ (λ (x y : ℤ). (x -ℤ y) *ℤ pos c.quantity.0) (cell_of n k fs c.source j h.source-below b) (cell_of n k fs c.sink j h.sink-below b)
 
   abbrev raw : ℕ → ℕ → ℤ
   raw i s = raw_in k fs (contract_at book i) (get_or over s 0)

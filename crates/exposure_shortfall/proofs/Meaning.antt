@@ -1,5 +1,5 @@
 -- What the figures mean: net payment, rent and shortfall of document 01, and the promise.
-use mathlib.Core.Path.{◌≡◌, refl, sym, ap, ap₂, ◌∙◌}
+use mathlib.Core.Path.{◌≡◌, refl, sym, ap, ap₂, ◌∙◌, subst}
 use mathlib.Core.List.{List, [], ◌∷◌}
 use Prim.Native.Nat.{ℕ, ◌*◌}
 use lib.ListN.{take}
@@ -13,7 +13,7 @@ use Rattle.tariff.specs.declared.processes.Process.{Process}
 use Rattle.tariff.specs.declared.refusals.Refusal.{Refusal}
 use Rattle.tariff.specs.Refusals.{Checked, passed}
 use Rattle.std.specs.Prelude.{Ok, Err}
-use Rattle.tariff.specs.Units.{grid_of, factors_of}
+use Rattle.tariff.specs.Units.{Grid, grid_of, factors_of}
 use Rattle.tariff.specs.ContractRules.{of_period}
 use Rattle.tariff.specs.Processes.{percent}
 use Rattle.tariff.specs.Feasibility.{released}
@@ -48,6 +48,15 @@ module _ (n k : ℕ) (ls : List ℕ) (fs : List ℤ) (process : Process) (t : Pe
         rent-is = exactly_of r.rent (owes ∙ rent-is) rents;
         shortfall-is = exactly_of r.shortfall (ap₂ ◌-ℤ◌ (paid.is ∙ payment-is) (owes ∙ rent-is)) short;
       }
+
+-- the same of what is equal to them
+pub costs-kept : {g h : Grid} {p q : Process} {cs ds : List Contract} {ps qs : List ℕ} → g ≡ h → p ≡ q → cs ≡ ds → ps ≡ qs → (r : Shortfall)
+    → Costs g p cs ps r → Costs h q ds qs r
+costs-kept {g} {h} {p} {q} {cs} {ds} {ps} {qs} same-grid same-process same-contracts same-prices r costs =
+    let grids = subst (λ (x : Grid). Costs x p cs ps r) same-grid costs in
+    let processes = subst (λ (x : Process). Costs h x cs ps r) same-process grids in
+    let contracts = subst (λ (x : List Contract). Costs h q x ps r) same-contracts processes in
+    subst (λ (x : List ℕ). Costs h q ds x r) same-prices contracts
 
 -- ---- the promise
 

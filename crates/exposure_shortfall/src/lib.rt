@@ -3,12 +3,12 @@
 
 ghost use Rattle.std.specs.Prelude.{◌≡◌, ◌≤◌, take};
 ghost use Rattle.lists.specs.Lent.{before};
-ghost use Rattle.tariff.specs.Refusals.{passed, first};
-ghost use Rattle.tariff.specs.Units.{grid_of, max_constraints, max_limit, max_nodes};
+ghost use Rattle.tariff.specs.Refusals.{first};
+ghost use Rattle.tariff.specs.Units.{max_constraints, max_nodes, max_price};
 ghost use Rattle.tariff.specs.ContractRules.{of_period};
 ghost use Rattle.layouts.specs.BookFile.{book_in};
-ghost use Rattle.grid_tables.specs.Inner.{GoodCells, Hour};
-ghost use Rattle.book_rules.specs.BookChecks.{book_checks};
+ghost use Rattle.grid_tables.specs.Inner.{GoodCells};
+ghost use Rattle.grid_tables.specs.Grids.{grid_by};
 ghost use Rattle.test_terms.specs.Calls.{asked_test};
 ghost use Rattle.exposure_shortfall.specs.FindShortfall.{FindsShortfall};
 ghost use Rattle.exposure_shortfall.specs.Inner.{cell_checks, table_checks, Costs};
@@ -16,8 +16,7 @@ ghost use Rattle.exposure_shortfall.specs.Inner.{cell_checks, table_checks, Cost
 use exposure_figures::Exact;
 use grid_tables::HourTable;
 use tariff::{MAX_CONSTRAINTS, MAX_CONTRACTS, MAX_LIMIT, MAX_PRICE, Refusal};
-use test_excesses::Terms;
-use test_terms::Asked;
+use test_terms::{Asked, Tested};
 
 // What a book costs at a price list.
 #[derive(Clone, Copy)]
@@ -28,27 +27,22 @@ pub struct Shortfall {
 }
 
 // What a book costs at a price list, where no check refuses: its exact total is what settling the hour gives.
-pub fn shortfall_at(
-    terms: Terms,
-    limits: &[u64],
-    factors: &[i64],
-    prices: &[u64],
-    book: &[u8],
-) -> Shortfall
-    requires good_cells { GoodCells max_limit terms.constraints limits.now × Hour terms.nodes terms.constraints factors.now prices.now }
-    requires book_value { first (book_checks terms.nodes book.now) ≡ passed }
-    ensures { Costs (grid_of terms.nodes terms.constraints limits.now factors.now) terms.process
-        (of_period terms.period (book_in (book.now))) (take terms.constraints (prices.now)) result }
+pub fn shortfall_at(tested: Tested, prices: &[u64]) -> Shortfall
+    requires { GoodCells max_price tested.grid.factors.constraints prices.now }
+    ensures { Costs (grid_by tested.entry.grid) tested.entry.process
+        (of_period tested.entry.period (book_in tested.entry.book.now)) (take tested.entry.grid.factors.constraints prices.now) result }
 {
     let mut cents = [0i64; MAX_CONTRACTS];
     let mut priced = [0u64; MAX_CONTRACTS];
-    let hour = HourTable::of(terms.nodes, terms.constraints, factors, prices);
-    let totals = hour_contracts::settle(hour, terms.period, book, &mut cents, &mut priced);
+    let factors = tested.grid.factors;
+    let hour = HourTable { factors, prices };
+    let totals = hour_contracts::settle(hour, tested.period, tested.book, &mut cents, &mut priced);
     let payment = Exact {
         whole: totals.whole,
         parts: totals.parts,
     };
-    let owed = exposure_figures::rent(terms.constraints, terms.process, limits, prices);
+    let grid = tested.grid;
+    let owed = exposure_figures::rent(factors.constraints, tested.process, grid.limits, prices);
     Shortfall {
         payment,
         rent: owed.exact(),
@@ -56,7 +50,8 @@ pub fn shortfall_at(
     }
 }
 
-// 9 for each table and for the prices, 6, 7, 15.
+// 9 for each table and for the prices, 6, 7, 15. Counts and tables stand apart, as C lends them: they become a `Tested` and an `HourTable` once nothing here
+// refuses them. That the counts are few was checked before, or their product might not fit.
 fn check_cells(
     nodes: usize,
     constraints: usize,
@@ -89,7 +84,8 @@ fn check_cells(
     Ok(())
 }
 
-// The checks of the tables: 2, 3, 16, 17, those of the cells.
+// The checks of the tables, as C lends them: 2, 3, 16, 17, those of the cells.
+// As `grid_tables::check_grid_tables` but for the cells' checks, among which the prices' stand.
 fn check_tables(
     asked: Asked,
     limits: &[u64],
@@ -114,7 +110,7 @@ fn check_tables(
     check_cells(asked.nodes, asked.constraints, limits, factors, prices)
 }
 
-// Finds what a book costs at a price list: net payment, rent and shortfall.
+// Finds what a book costs at a price list: net payment, rent and shortfall. The tables are as C lends them.
 pub fn find_shortfall(
     asked: Asked,
     limits: &[u64],
@@ -126,5 +122,5 @@ pub fn find_shortfall(
 {
     check_tables(asked, limits, factors, prices)?;
     book_checks::check_book(asked.nodes, book)?;
-    Ok(shortfall_at(Terms::from_asked(asked), limits, factors, prices, book))
+    Ok(shortfall_at(Tested::of(asked, limits, factors, book), prices))
 }

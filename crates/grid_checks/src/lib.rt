@@ -8,10 +8,12 @@ ghost use Rattle.layouts.specs.Forms.{grid_header_bytes_of};
 ghost use Rattle.layouts.specs.GridFile.{grid_form_in, nodes_of, constraints_in_of};
 ghost use Rattle.grid_rules.specs.ReadGrid.{grid_size_checks};
 
+mod counted;
 mod sizes;
 
+pub use counted::CountedFile;
 use layouts::Form;
-pub use sizes::{factor_count, file_bytes, used_bits};
+pub use sizes::GridSize;
 use tariff::{MAX_CONSTRAINTS, Refusal};
 
 // The bytes that tell the form, and hold the narrow header.
@@ -28,6 +30,7 @@ pub fn form_in(file: &[u8]) -> Form
     }
 }
 
+// By the form that the caller has found: `CountedFile` holds both once the length is checked.
 pub fn nodes_in(file: &[u8], form: Form) -> usize
     requires { grid_header_bytes_of form ≤ length file.now }
     ensures { result ≡ nodes_of form file.now }
@@ -67,7 +70,12 @@ pub fn check_size(file: &[u8]) -> Result<(), Refusal>
     if bits::field(file, 15, 1) != form.grid_spare() {
         return Err(Refusal::SpareBits);
     }
-    if file.len() != file_bytes(form.grid_header_bits(), nodes, constraints) {
+    let size = GridSize {
+        header: form.grid_header_bits(),
+        nodes,
+        constraints,
+    };
+    if file.len() != size.file_bytes() {
         return Err(Refusal::FileLength);
     }
     Ok(())

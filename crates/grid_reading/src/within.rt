@@ -6,7 +6,7 @@ use crate::reading;
 use grid_rules::GridRead;
 use tariff::Refusal;
 
-// Reads a grid's file as `read_grid` does; one of more than `most` bytes is refused by its length, where no earlier check refuses it.
+// Reads a grid's file as `read_grid` does, into the same two tables; one of more than `most` bytes is refused by its length, where no earlier check refuses it.
 pub fn read_within(
     most: usize,
     file: &[u8],

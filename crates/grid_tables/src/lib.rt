@@ -1,7 +1,7 @@
 // Lent tables: the search for a figure out of range, and the checks that operations on a grid's tables and an hour's tables share.
 #![tactic(auto)]
 
-ghost use Rattle.std.specs.Prelude.{◌≡◌, false, [], ◌∷◌, ◌+◌, ◌*◌, ◌≤◌, ◌<◌, leb, length, take};
+ghost use Rattle.std.specs.Prelude.{◌≡◌, [], ◌∷◌, ◌*◌, ◌≤◌, ◌<◌, leb, length, take};
 ghost use Rattle.lists.specs.Lists.{any_of, above};
 ghost use Rattle.lists.specs.Lent.{before};
 ghost use Rattle.tariff.specs.Units.{max_nodes, max_constraints};
@@ -12,7 +12,7 @@ ghost use Rattle.grid_tables.specs.Inner.{hour_table_checks};
 
 mod table;
 
-pub use table::{FactorTable, HourTable};
+pub use table::{FactorTable, GridTable, HourTable};
 use tariff::{MAX_CONSTRAINTS, MAX_FACTOR, MAX_LIMIT, MAX_PRICE, Refusal};
 
 // Whether a cell is above `most`.
@@ -33,7 +33,7 @@ pub fn listed_outside(bound: usize, list: &[u64]) -> bool
 // The least factor.
 const MIN_FACTOR: i64 = -MAX_FACTOR;
 
-// Whether a factor is out of range.
+// Whether a factor is out of range. As short as a call of one function with `share_checks::balance_bad` would be: other bounds, and no crate of both.
 fn factor_bad(factor: i64) -> bool
     ensures { result ≡ factor_bad_of factor }
 {
@@ -55,7 +55,8 @@ pub fn factor_out_of_range(factors: &[i64]) -> bool
     fours.iter().any(|four| four_bad(four)) || rest.iter().any(|factor| factor_bad(*factor))
 }
 
-// 9 for each table, 6, 7.
+// 9 for each table, 6, 7. Counts and tables by themselves, here and below: they are no `GridTable` before these checks, and entries have them so from C; the
+// counts' bounds come from the tests before the call, so that `nodes * constraints` fits.
 fn check_grid_cells(
     nodes: usize,
     constraints: usize,
@@ -109,7 +110,7 @@ pub fn check_grid_tables(
     check_grid_cells(nodes, constraints, limits, factors)
 }
 
-// 9 for each table and for the place, 7, 15.
+// 9 for each table and for the place, 7, 15. As above: they are no `HourTable` yet.
 fn check_hour_cells(
     nodes: usize,
     constraints: usize,

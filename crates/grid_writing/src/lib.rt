@@ -14,10 +14,12 @@ ghost use Rattle.grid_rules.specs.WriteGrid.{write_grid_call, write_grid_checked
 ghost use Rattle.grid_rules.specs.Inner.{Writable};
 
 use bits::BitWriter;
+use grid_checks::GridSize;
+use grid_tables::FactorTable;
 use layouts::{FACTOR_WIDTH, Form, LIMIT_WIDTH};
 use tariff::Refusal;
 
-// The tables are checked as for a test, of a process and a period that pass.
+// The tables are checked as for a test, of a process and a period that pass. Counts, tables and form as C hands them in: `FactorTable` holds what this has checked.
 fn check_write(
     form: Form,
     nodes: usize,
@@ -32,7 +34,12 @@ fn check_write(
         return Err(Refusal::NodeCount);
     }
     grid_tables::check_grid_tables(nodes, constraints, 0, 0, limits, factors)?;
-    if file.len() < grid_checks::file_bytes(form.grid_header_bits(), nodes, constraints) {
+    let size = GridSize {
+        header: form.grid_header_bits(),
+        nodes,
+        constraints,
+    };
+    if file.len() < size.file_bytes() {
         return Err(Refusal::ShortTable);
     }
     Ok(())
@@ -59,7 +66,7 @@ fn write_factors(buf: &mut [u8], from: BitWriter, factors: &[i64]) -> BitWriter
     writer
 }
 
-// Writes the header in its form.
+// Writes the header in its form. What it asks of the counts stands in the contract of this function alone.
 fn put_header(file: &mut [u8], form: Form, nodes: usize, constraints: usize) -> BitWriter
     requires { (nodes ≤ most_nodes_of form) × (constraints ≤ max_constraints) × (grid_header_bytes_of form ≤ length file.old) }
     ensures { WrittenFields (grid_header form nodes constraints) (before file) (after file) result }
@@ -81,30 +88,26 @@ fn put_header(file: &mut [u8], form: Form, nodes: usize, constraints: usize) -> 
 }
 
 // Writes the file into the first bytes of `file`, and gives its length.
-fn fill(
-    form: Form,
-    nodes: usize,
-    constraints: usize,
-    limits: &[u64],
-    factors: &[i64],
-    file: &mut [u8],
-) -> usize
-    requires { Writable form nodes constraints limits.now factors.now file.old }
-    ensures value { result ≡ length (grid_file form (grid_of nodes constraints limits.now factors.now)) }
-    ensures file_value { after file ≡ overwrite (grid_file form (grid_of nodes constraints limits.now factors.now)) (before file) }
+fn fill(form: Form, limits: &[u64], table: FactorTable, file: &mut [u8]) -> usize
+    requires { Writable form table.nodes table.constraints limits.now table.cells.now file.old }
+    ensures value { result ≡ length (grid_file form (grid_of table.entry.nodes table.entry.constraints limits.now table.entry.cells.now)) }
+    ensures file_value { after file ≡ overwrite
+        (grid_file form (grid_of table.entry.nodes table.entry.constraints limits.now table.entry.cells.now)) (before file) }
 {
-    let header = form.grid_header_bits();
-    let used = grid_checks::used_bits(header, nodes, constraints);
-    let size = grid_checks::file_bytes(header, nodes, constraints);
-    let count = grid_checks::factor_count(nodes, constraints);
-    let past_header = put_header(file, form, nodes, constraints);
-    let past_limits = runs::write_run(file, past_header, &limits[..constraints], LIMIT_WIDTH);
-    let past_factors = write_factors(file, past_limits, &factors[..count]);
-    bits::put_last(file, past_factors, 0, 8 * size - used);
-    size
+    let size = GridSize {
+        header: form.grid_header_bits(),
+        nodes: table.nodes,
+        constraints: table.constraints,
+    };
+    let bytes = size.file_bytes();
+    let past_header = put_header(file, form, size.nodes, size.constraints);
+    let past_limits = runs::write_run(file, past_header, &limits[..size.constraints], LIMIT_WIDTH);
+    let past_factors = write_factors(file, past_limits, &table.cells[..size.factors()]);
+    bits::put_last(file, past_factors, 0, 8 * bytes - size.used_bits());
+    bytes
 }
 
-// Writes a grid's file, in the form asked for, from the first cells of its tables.
+// Writes a grid's file, in the form asked for, from the first cells of its tables, all as C hands them in.
 pub fn write_grid(
     form: Form,
     nodes: usize,
@@ -116,5 +119,6 @@ pub fn write_grid(
     ensures { WritesGrid (write_grid_call form nodes constraints limits.now factors.now (before file)) result (after file) }
 {
     check_write(form, nodes, constraints, limits, factors, file)?;
-    Ok(fill(form, nodes, constraints, limits, factors, file))
+    let table = FactorTable::of(nodes, constraints, factors);
+    Ok(fill(form, limits, table, file))
 }

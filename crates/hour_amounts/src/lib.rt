@@ -1,7 +1,7 @@
 // What a contract adds to an hour: its amount in cents and exactly, with the set of constraints that priced it, and the totals with one amount more.
 #![tactic(auto)]
 
-ghost use Rattle.std.specs.Prelude.{◌≡◌, ◌≤◌, ℤ, pos, nat_abs, ◌+ℤ◌};
+ghost use Rattle.std.specs.Prelude.{◌≡◌, ℤ, pos, ◌+ℤ◌};
 ghost use Rattle.tariff.specs.Units.{max_contracts};
 ghost use Rattle.tariff.specs.Inner.{max_amount};
 ghost use Rattle.tariff.specs.ContractRules.{InRange};
@@ -11,9 +11,7 @@ ghost use Rattle.hour_amounts.specs.Inner.{UpFrom, SizedAmount, SettledAs, HourS
 
 use hour_priced::priced_set;
 use hour_rules::{PricedAmount, PricedHour, Totals};
-use tariff::{
-    Amount, Contract, MAX_CONSTRAINTS, MAX_FACTOR, MAX_PRICE, MAX_QUANTITY, Mcc, PER_CENT,
-};
+use tariff::{Contract, MAX_CONSTRAINTS, MAX_FACTOR, MAX_PRICE, MAX_QUANTITY, Mcc, PER_CENT};
 
 // The largest amount, in 10^-8 cents and in cents: the difference of two MCCs × quantity.
 const MAX_AMOUNT: u64 = 2
@@ -44,23 +42,22 @@ fn amount_of(hour: PricedHour, c: Contract, sink: Mcc, source: Mcc) -> PricedAmo
 }
 
 // An amount with the largest one added, so that it is not below 0 and one division serves either sign.
-fn raised(amount: Amount) -> u64
-    requires { nat_abs amount.0 ≤ max_amount }
-    ensures { pos result ≡ amount.0 +ℤ pos max_amount }
+fn raised(exact: PricedAmount) -> u64
+    ensures { pos result ≡ exact.amount.0 +ℤ pos max_amount }
 {
-    if amount.0 < 0 {
-        MAX_AMOUNT - ((-amount.0) as u64)
+    let amount = exact.amount.0;
+    if amount < 0 {
+        MAX_AMOUNT - ((-amount) as u64)
     } else {
-        MAX_AMOUNT + (amount.0 as u64)
+        MAX_AMOUNT + (amount as u64)
     }
 }
 
 // From how many parts on the cents are one above the whole cents: from half a cent on, and below 0 from more than that.
-fn up_from(amount: Amount) -> u64
-    requires { nat_abs amount.0 ≤ max_amount }
-    ensures { UpFrom amount.0 result }
+fn up_from(exact: PricedAmount) -> u64
+    ensures { UpFrom exact.amount.0 result }
 {
-    if amount.0 < 0 {
+    if exact.amount.0 < 0 {
         PER_CENT / 2 + 1
     } else {
         PER_CENT / 2
@@ -68,12 +65,11 @@ fn up_from(amount: Amount) -> u64
 }
 
 // An amount in cents and exactly, by one division.
-fn settled(amount: Amount, priced: u64) -> SettledAmount
-    requires { nat_abs amount.0 ≤ max_amount }
-    ensures { SettledAs amount.0 result × (result.priced ≡ priced) }
+fn settled(exact: PricedAmount) -> SettledAmount
+    ensures { SettledAs exact.amount.0 result × (result.priced ≡ exact.priced) }
 {
-    let raised = raised(amount);
-    let up = up_from(amount);
+    let raised = raised(exact);
+    let up = up_from(exact);
     let whole = ((raised / PER_CENT) as i64) - MAX_CENTS;
     let parts = raised % PER_CENT;
     let cents = if parts < up { whole } else { whole + 1 };
@@ -81,7 +77,7 @@ fn settled(amount: Amount, priced: u64) -> SettledAmount
         cents,
         whole,
         parts,
-        priced,
+        priced: exact.priced,
     }
 }
 
@@ -91,8 +87,7 @@ pub fn hour_amount(hour: PricedHour, c: Contract, sink: Mcc, source: Mcc) -> Set
     ensures { HourSettled (factors_by hour.entry.tables) (prices_by hour.entry.tables) hour.entry.period c result }
 {
     if c.period == hour.period {
-        let exact = amount_of(hour, c, sink, source);
-        settled(exact.amount, exact.priced)
+        settled(amount_of(hour, c, sink, source))
     } else {
         SettledAmount {
             cents: 0,

@@ -48,7 +48,8 @@ fn settle_contracts(
     totals
 }
 
-// Settles an hour whose tables and book no check refuses. The MCC of all nodes is worked out afresh.
+// Settles an hour whose tables and book no check refuses. The MCC of all nodes is worked out afresh. That no check refuses the book is asked as a fact: a
+// `Tested` has it, but with limits and a process, which settling has not. Cents and sets are two tables, as C lends them.
 pub fn settle(
     tables: HourTable,
     period: Period,

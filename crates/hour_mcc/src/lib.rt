@@ -28,6 +28,7 @@ fn add_product(hour: HourTable, row: &[i64], node: usize, k: usize, sum: Mcc) ->
 }
 
 // The MCC of a node (002 part C, MCCi = -(Σ PTDFik * FSPk)): the products summed from the first constraint to the last, then one negation.
+// By k: `add_product` (document 01's form) and `congestion` count the products.
 pub fn node_mcc(hour: HourTable, node: usize) -> Mcc
     requires node_lt_nodes { node < hour.factors.nodes }
     ensures { (result.0 ≡ mcc_in hour.entry node) × (nat_abs result.0 ≤ max_mcc) }
@@ -62,7 +63,7 @@ pub fn all_mccs(hour: HourTable) -> [Mcc; MAX_NODES]
     mccs
 }
 
-// Finds the MCC of all nodes, one cell each.
+// Finds the MCC of all nodes, one cell each. C lends the tables one by one, and nothing of them is checked yet: `HourTable` is for what is.
 pub fn find_mcc(
     nodes: usize,
     constraints: usize,

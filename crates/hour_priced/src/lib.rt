@@ -2,19 +2,19 @@
 // A set is made from its highest bit down, eight bits at once.
 #![tactic(auto)]
 
-ghost use Rattle.std.specs.Prelude.{◌≡◌, ℕ, ◌+◌, ◌-◌, ◌*◌, ◌/◌, ◌^◌, ◌≤◌, ◌<◌};
+ghost use Rattle.std.specs.Prelude.{◌≡◌, ℕ, ◌+◌, ◌-◌, ◌*◌, ◌/◌, ◌^◌, ◌≤◌, ◌<◌, length};
 ghost use Rattle.lists.specs.Sets.{set_of};
-ghost use Rattle.lists.specs.Lent.{before};
 ghost use Rattle.tariff.specs.Units.{max_constraints};
 ghost use Rattle.tariff.specs.ContractRules.{InRange};
 ghost use Rattle.tariff.specs.Settlement.{priced_set_of};
 ghost use Rattle.grid_tables.specs.Hours.{factors_by, prices_by};
 ghost use Rattle.hour_priced.specs.Inner.{FactorRow, differ_at, posted_in};
 
-use grid_tables::HourTable;
+use grid_tables::{FactorTable, HourTable};
 use tariff::{Contract, Price};
 
 // Whether the factors in two cells differ, as a bit.
+// Here and below `FactorRow` is asked of another count and another cell at each step, so that no type holds it.
 fn differ(factors: &[i64], a: usize, b: usize) -> u64
     requires { FactorRow factors.now a 1 × FactorRow factors.now b 1 }
     ensures { (result ≡ set_of 1 (differ_at factors.now a b)) × (result < 2) }
@@ -50,38 +50,42 @@ fn eight_more(factors: &[i64], a: usize, b: usize, set: u64) -> u64
 }
 
 // The constraints behind the last whole eight.
-fn rest_differ(constraints: usize, factors: &[i64], source: usize, sink: usize) -> u64
-    requires { (constraints ≤ max_constraints) × FactorRow factors.now source constraints × FactorRow factors.now sink constraints }
-    ensures { result ≡ set_of (constraints - constraints / 8 * 8) (λ (j : ℕ). differ_at factors.now source sink (constraints / 8 * 8 + j)) }
+fn rest_differ(table: FactorTable, source: usize, sink: usize) -> u64
+    requires { FactorRow table.cells.now source table.constraints × FactorRow table.cells.now sink table.constraints }
+    ensures { result ≡ set_of (table.entry.constraints - table.entry.constraints / 8 * 8)
+        (λ (j : ℕ). differ_at table.entry.cells.now source sink (table.entry.constraints / 8 * 8 + j)) }
 {
     let mut set = 0u64;
-    for k in (constraints / 8 * 8..constraints).rev() {
-        let bit = differ(factors, source + k, sink + k);
+    for k in (table.constraints / 8 * 8..table.constraints).rev() {
+        let bit = differ(table.cells, source + k, sink + k);
         set = set * 2 + bit;
     }
     set
 }
 
 // The constraints on which the factors from `source` on differ from those from `sink` on.
-fn differ_set(constraints: usize, factors: &[i64], source: usize, sink: usize) -> u64
-    requires { (constraints ≤ max_constraints) × FactorRow factors.now source constraints × FactorRow factors.now sink constraints }
-    ensures { result ≡ set_of constraints (differ_at factors.now source sink) }
+fn differ_set(table: FactorTable, source: usize, sink: usize) -> u64
+    requires { FactorRow table.cells.now source table.constraints × FactorRow table.cells.now sink table.constraints }
+    ensures { result ≡ set_of table.entry.constraints (differ_at table.entry.cells.now source sink) }
 {
-    let mut set = rest_differ(constraints, factors, source, sink);
-    for eight in (0..constraints / 8).rev() {
+    let mut set = rest_differ(table, source, sink);
+    for eight in (0..table.constraints / 8).rev() {
         let k = eight * 8;
-        set = eight_more(factors, source + k, sink + k, set);
+        set = eight_more(table.cells, source + k, sink + k, set);
     }
     set
 }
 
 // The constraints whose price isn't 0.
-pub fn posted_set(hour: HourTable) -> u64
-    ensures { result ≡ posted_in hour.entry.factors.constraints hour.entry.prices.now }
+// Its own prices and no `HourTable`: they need not be in range.
+pub fn posted_set(constraints: usize, prices: &[u64]) -> u64
+    requires { (constraints ≤ max_constraints) × (constraints ≤ length prices.now) }
+    ensures { result ≡ posted_in constraints prices.now }
 {
     let mut set = 0u64;
-    for k in (0..hour.factors.constraints).rev() {
-        let bit = (Price(0) < Price(hour.prices[k])) as u64;
+    // By number from the last, as the invariant counts the bits that are made.
+    for k in (0..constraints).rev() {
+        let bit = (Price(0) < Price(prices[k])) as u64;
         set = set * 2 + bit;
     }
     set
@@ -92,8 +96,7 @@ pub fn priced_set(hour: HourTable, posted: u64, c: Contract) -> u64
     requires { InRange hour.factors.nodes c × (posted ≡ posted_in hour.factors.constraints hour.prices.now) }
     ensures { result ≡ priced_set_of (factors_by hour.entry) (prices_by hour.entry) c }
 {
-    let constraints = hour.factors.constraints;
-    let source = c.source * constraints;
-    let sink = c.sink * constraints;
-    differ_set(constraints, hour.factors.cells, source, sink) & posted
+    let source = c.source * hour.factors.constraints;
+    let sink = c.sink * hour.factors.constraints;
+    differ_set(hour.factors, source, sink) & posted
 }

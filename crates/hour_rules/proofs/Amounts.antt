@@ -8,13 +8,12 @@ use mathlib.Core.List.{List}
 use Prim.Native.Nat.{ℕ, ◌≤◌}
 use native.Mathlib.Nat.{le_trans}
 use native.Mathlib.Omega.{arith}
-use lib.ListN.{take}
 use lib.IntN.{ℤ, pos, nat_abs, ◌-ℤ◌, ◌*ℤ◌}
 use Rattle.integers.proofs.Sizes.{nat_abs_times}
 use Rattle.tariff.specs.declared.contracts.Contract.{Contract}
 use Rattle.tariff.specs.declared.contracts.Period.{Period}
 use Rattle.tariff.specs.declared.units.Mcc.{Mcc}
-use Rattle.tariff.specs.Units.{Factors, factors_of, max_quantity}
+use Rattle.tariff.specs.Units.{Factors, max_quantity}
 use Rattle.tariff.specs.ContractRules.{counted, same_period}
 use Rattle.tariff.specs.Inner.{max_spread, max_amount}
 use Rattle.tariff.specs.Settlement.{amount}

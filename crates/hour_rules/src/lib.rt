@@ -1,7 +1,8 @@
 // What settling an hour promises, what it gives, and the laws of it.
 #![tactic(auto)]
 
-ghost use Rattle.std.specs.Prelude.{◌≡◌};
+ghost use Rattle.std.specs.Prelude.{◌≡◌, ◌≤◌, nat_abs};
+ghost use Rattle.tariff.specs.Inner.{max_amount};
 ghost use Rattle.hour_priced.specs.Inner.{posted_in};
 
 use grid_tables::HourTable;
@@ -24,19 +25,21 @@ impl<'a> PricedHour<'a> {
         PricedHour {
             tables,
             period,
-            posted: hour_priced::posted_set(tables),
+            posted: hour_priced::posted_set(tables.factors.constraints, tables.prices),
         }
     }
 }
 
-// A contract's amount, with the set of constraints that priced it: bit k for constraint k.
+// A contract's amount, no larger than one can be, with the set of constraints that priced it: bit k for constraint k.
 #[derive(Clone, Copy)]
 pub struct PricedAmount {
     pub amount: Amount,
     pub priced: u64,
+    pub ghost sized: { nat_abs amount.0 ≤ max_amount },
 }
 
 // The totals of contracts settled: the sum of the rounded cents, and the exact total as whole cents rounded down and parts.
+// Whole cents and parts stand here by themselves: `Exact` is of exposure_figures, on which settling doesn't stand, and a sum goes with both.
 #[derive(Clone, Copy)]
 pub struct Totals {
     pub sum: i64,

@@ -2,7 +2,6 @@
 #![tactic(auto)]
 
 ghost use Rattle.std.specs.Prelude.{◌≡◌};
-ghost use Rattle.lists.specs.Lent.{before};
 ghost use Rattle.tariff.specs.Refusals.{first};
 ghost use Rattle.hour_rules.specs.SettleHour.{hour_call, settle_checks, SettlesHour};
 
@@ -12,6 +11,7 @@ use hour_rules::Totals;
 use tariff::{Period, Refusal};
 
 // The checks of settling an hour, with `cells` cells for the cents and `sets` for the sets: the tables', the book's own, 9.
+// Here and in the entry the tables stand apart as C lends them: nothing of them is checked yet, and `HourTable` is for what is.
 fn check_settle(
     nodes: usize,
     constraints: usize,

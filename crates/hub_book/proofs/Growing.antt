@@ -12,7 +12,7 @@ use Rattle.lists.proofs.Lists.{length-list_to, get_d_list_to, each_append, each-
 use Rattle.lists.proofs.Search.{neither}
 use Rattle.tariff.specs.declared.contracts.Contract.{Contract}
 use Rattle.tariff.specs.declared.refusals.Refusal.{Refusal}
-use Rattle.std.specs.Prelude.{Ok, Err}
+use Rattle.std.specs.Prelude.{Err}
 use Rattle.tariff.specs.Refusals.{passed}
 use Rattle.tariff.specs.Refusals.{Check, first}
 use Rattle.tariff.specs.Checks.{node_number, quantity_range}

@@ -1,6 +1,5 @@
 -- THE THEOREMS of adding a hub contract (document 02, paper 7), each for every call that the checks accept. What they stand on is in Growing.antt and Sums.antt.
 use mathlib.Core.Path.{◌≡◌}
-use Rattle.std.specs.Prelude.{Ok}
 use Rattle.tariff.specs.Refusals.{passed}
 use Rattle.layouts.specs.BookFile.{book_in}
 use Rattle.hub_rules.proofs.Contracts.{add_up, rows_of}

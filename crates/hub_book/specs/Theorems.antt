@@ -1,5 +1,5 @@
 -- What paper 7 says of a book that a hub contract was added to: proved of the file written, for every call that the checks accept.
-use Rattle.std.specs.Prelude.{◌≡◌, List, ◌++◌, ℕ, ◌+ℤ◌, Ok}
+use Rattle.std.specs.Prelude.{◌≡◌, List, ◌++◌, ℕ, ◌+ℤ◌}
 use Rattle.lists.specs.Lists.{Each}
 use Rattle.tariff.specs.declared.contracts.Period.{Period}
 use Rattle.tariff.specs.Refusals.{passed}

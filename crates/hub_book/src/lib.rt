@@ -9,10 +9,10 @@ ghost use Rattle.hub_book.specs.AddHubContract.{hub_call, AddsHub};
 ghost use Rattle.book_growth.specs.Inner.{Whole};
 ghost use Rattle.hub_book.specs.Inner.{term_checks, given_checks, terms_call, row_contract, HubRoom, grown_front};
 
-use layouts::Form;
+use book_bits::Contracts;
 use tariff::{Contract, Kind, MAX_HOLDER, MAX_HUB_NODES, Period, Quantity, Refusal};
 
-// What a hub contract says beside its hub and its quantity.
+// What a hub contract says beside its hub and its quantity. Kind and period are numbers as C gives them: `check_terms` refuses those that are none (17, 18).
 #[derive(Clone, Copy)]
 struct Terms {
     kind: u64,
@@ -47,7 +47,7 @@ fn check_terms(below: usize, terms: Terms, hub: &[u64], quantity: u64) -> Result
     Ok(())
 }
 
-// The book's own checks, those of the terms, 24, 25.
+// The book's own checks, those of the terms, 24, 25. `hub` and `weights` stand apart here and below as C lends them: the entry takes two lists.
 fn check_given(
     nodes: usize,
     book: &[u8],
@@ -65,7 +65,7 @@ fn check_given(
     hub_checks::check_shape(hub, weights)
 }
 
-// The contract of row i.
+// The contract of row i. Sources and quantities are two lists, of which the first `made` count, here and below: `HubRoom` and `grown_front` say the rows so.
 fn row_at(terms: Terms, sources: &[u64], quantities: &[u64], i: usize) -> Contract
     requires { (i < length sources.now) × (i < length quantities.now) }
     ensures { result ≡ row_contract terms sources.now quantities.now i }
@@ -80,21 +80,23 @@ fn row_at(terms: Terms, sources: &[u64], quantities: &[u64], i: usize) -> Contra
     }
 }
 
-// Writes a book of `count` contracts with `made` rows behind them: its bytes under a new header, then row by row.
+// Writes a book with `made` rows behind its contracts: its bytes under a new header, then row by row. What stands at `book_writing::write_contracts` holds here.
 fn write_grown(
-    book: &[u8],
-    form: Form,
-    count: usize,
+    contracts: Contracts,
     terms: Terms,
     made: usize,
     sources: &[u64],
     quantities: &[u64],
     file: &mut [u8],
 )
-    requires { Whole form book.now × (contract_count_in book.now ≡ count) × HubRoom form count terms made sources.now quantities.now file.old }
-    ensures { after file ≡ overwrite (grown_front form count terms made sources.now quantities.now book.now) (before file) }
+    requires whole { Whole contracts.form contracts.file.now × (contract_count_in contracts.file.now ≡ contracts.count) }
+    requires room { HubRoom contracts.form contracts.count terms made sources.now quantities.now file.old }
+    ensures { after file ≡ overwrite (grown_front contracts.entry.form contracts.entry.count terms made sources.now quantities.now contracts.entry.file.now)
+        (before file) }
 {
-    book_growth::keep_contracts(book, form, count + made, file);
+    let count = contracts.count;
+    let form = contracts.form;
+    book_growth::keep_contracts(contracts.file, form, count + made, file);
     for i in 0..made {
         let c = row_at(terms, sources, quantities, i);
         book_bits::store_contract(file, form, count + i, c);
@@ -124,12 +126,12 @@ fn add_made(
         &mut sources,
         &mut quantities,
     );
-    let count = book_bits::contract_count(book);
-    let form = book_bits::book_form(book);
-    let grown = count + made;
+    let contracts = Contracts::of(book);
+    let form = contracts.form;
+    let grown = contracts.count + made;
     book_growth::check_room(form, grown, file.len())?;
     let bytes = form.book_bytes(grown);
-    write_grown(book, form, count, terms, made, &sources, &quantities, file);
+    write_grown(contracts, terms, made, &sources, &quantities, file);
     Ok(bytes)
 }
 

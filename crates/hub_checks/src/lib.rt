@@ -1,9 +1,8 @@
 // What a hub is turned down for (document 02, paper 7): 11, 24 and 25.
 #![tactic(auto)]
 
-ghost use Rattle.std.specs.Prelude.{◌≡◌, false, [], ◌∷◌, ◌≤◌, ◌<◌, length, drop};
+ghost use Rattle.std.specs.Prelude.{◌≡◌, false, [], ◌∷◌, ◌≤◌, ◌<◌, length};
 ghost use Rattle.lists.specs.Lists.{any_of};
-ghost use Rattle.lists.specs.Lent.{before};
 ghost use Rattle.tariff.specs.Units.{max_hub_nodes};
 ghost use Rattle.tariff.specs.Refusals.{first};
 ghost use Rattle.tariff.specs.Checks.{listed_nodes};
@@ -25,7 +24,8 @@ fn weights_bad(weights: &[u64]) -> bool
     weights.iter().any(|weight| weight_bad(*weight))
 }
 
-// The weights together. Any 64-bit numbers may be listed: they are added once each is known to be in range.
+// The weights together. Any 64-bit numbers may be listed: they are added once each is known to be in range. `total_of` (share_checks) is the same call of the
+// library: what keeps each sum small, and what each promises of it, differs.
 fn total_weight(weights: &[u64]) -> u64
     requires { (length weights.now ≤ max_hub_nodes) × (any_of weight_bad_of weights.now ≡ false) }
     ensures { result ≡ sum_by_of (λ w. w) weights.now }
@@ -34,6 +34,7 @@ fn total_weight(weights: &[u64]) -> u64
 }
 
 // 24: not 1 to 32 nodes, unequal lists, or weights that leave their range or do not total 100,000.
+// Nodes and weights are two lists, here and below: that they are as long is what 24 checks.
 fn shape_bad(nodes: &[u64], weights: &[u64]) -> bool
     ensures { result ≡ shape_bad_of nodes.now weights.now }
 {

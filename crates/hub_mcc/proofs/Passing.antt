@@ -6,7 +6,6 @@ use native.Mathlib.Omega.{arith}
 use borrow.Author.Tests.{le-ltb}
 use lib.ListN.{get_or}
 use lib.IntN.{ℤ, pos, nat_abs}
-use Rattle.std.specs.Prelude.{Ok}
 use Rattle.tariff.specs.Refusals.{passed}
 use Rattle.tariff.specs.declared.units.Mcc.{Mcc}
 use Rattle.tariff.specs.Units.{hub_weight}

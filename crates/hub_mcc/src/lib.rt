@@ -2,7 +2,6 @@
 #![tactic(auto)]
 
 ghost use Rattle.std.specs.Prelude.{◌≡◌, ◌≤◌, nat_abs};
-ghost use Rattle.lists.specs.Lent.{before};
 ghost use Rattle.tariff.specs.Inner.{max_weighted};
 ghost use Rattle.grid_tables.specs.Hours.{factors_by, prices_by};
 ghost use Rattle.hub_rules.specs.Hubs.{hub_sum};
@@ -19,7 +18,7 @@ pub struct HubMcc {
     pub remainder: u64,
 }
 
-// The checks as for all nodes, then 11, 24, 25.
+// The checks as for all nodes, then 11, 24, 25. Here and in the entry each table and list stands apart as C lends it: an `HourTable` is made of what is checked.
 fn check_hub_mcc(
     nodes: usize,
     constraints: usize,
@@ -35,16 +34,17 @@ fn check_hub_mcc(
     hub_checks::check_hub(nodes, hub, weights)
 }
 
-// The sum of weight × MCC over the hub's nodes: no other node's MCC is worked out.
+// The sum of weight × MCC over the hub's nodes: no other node's MCC is worked out. Of a checked hub this loop alone reads the two lists: a type for them
+// would be made by the entry to be taken apart at once.
 fn weighted_sum(hour: HourTable, hub: &[u64], weights: &[u64]) -> WeightedMcc
     requires { IsHub hour.factors.nodes hub.now weights.now }
     ensures result_value { result.0 ≡ hub_sum (factors_by hour.entry) (prices_by hour.entry) hub.now weights.now }
     ensures result_bound { nat_abs result.0 ≤ max_weighted }
 {
     let mut sum = WeightedMcc(0);
-    for (i, node) in hub.iter().enumerate() {
+    for (node, weight) in hub.iter().zip(weights) {
         let mcc = hour_mcc::node_mcc(hour, *node as usize);
-        sum = sum + mcc.weighted(weights[i]);
+        sum = sum + mcc.weighted(*weight);
     }
     sum
 }

@@ -16,7 +16,7 @@ pub enum Form {
     Wide = 1,
 }
 
-// By the number that a caller gives: any number but 0 is the wide form's.
+// By the number that a caller gives: any number but 0 is the wide form's. Written out: tariff/src/contracts.rt says why.
 impl From<u64> for Form {
     ghost from_gives = { λ number form. form ≡ form_of number };
 
@@ -36,6 +36,7 @@ impl From<Form> for u64 {
     }
 }
 
+// What a form fixes: each function is a match whose arms are constants of its own, and a function that took them in would be no plainer.
 impl Form {
     // The most nodes of a grid's file.
     pub fn most_nodes(self) -> usize
@@ -86,7 +87,7 @@ impl Form {
         }
     }
 
-    // The bytes of a book of so many contracts.
+    // The bytes of a book of so many contracts. Their bound is a clause: counts are plain numbers, which are compared and added to before there is a book.
     pub fn book_bytes(self, contracts: usize) -> usize
         requires { contracts ≤ max_contracts }
         ensures { result ≡ book_bytes_of self contracts }

@@ -12,7 +12,6 @@ use Rattle.lists.proofs.Lists.{each_append, each-list_to, length-list_to}
 use Rattle.tariff.specs.declared.contracts.Contract.{Contract}
 use Rattle.tariff.specs.declared.contracts.Period.{Period}
 use Rattle.tariff.specs.declared.units.Transfer.{Transfer}
-use Rattle.std.specs.Prelude.{Ok}
 use Rattle.tariff.specs.Refusals.{passed}
 use Rattle.tariff.specs.Refusals.{first}
 use Rattle.tariff.specs.Units.{max_entities, max_contracts, max_quantity}

@@ -7,7 +7,6 @@ use Rattle.lists.proofs.Lists.{each-list_to}
 use Rattle.bits.proofs.Bytes.{bytes_below}
 use Rattle.bits.specs.Bits.{Bytes}
 use Rattle.tariff.specs.declared.contracts.Contract.{Contract}
-use Rattle.std.specs.Prelude.{Ok}
 use Rattle.tariff.specs.Refusals.{passed}
 use Rattle.tariff.specs.Refusals.{first}
 use Rattle.tariff.specs.Units.{max_contracts}

@@ -12,7 +12,7 @@ use Rattle.lists.proofs.Search.{none-bad, any_of_append}
 use Rattle.integers.specs.Sums.{max0}
 use Rattle.tariff.specs.declared.refusals.Refusal.{Refusal}
 use Rattle.tariff.specs.declared.refusals.Refusal.TheVariants.{LoadExceeded}
-use Rattle.std.specs.Prelude.{Ok, Err}
+use Rattle.std.specs.Prelude.{Err}
 use Rattle.tariff.specs.Refusals.{passed}
 use Rattle.tariff.specs.Refusals.{Check, first}
 use Rattle.tariff.specs.Units.{max_entities, max_load}

@@ -2,7 +2,6 @@
 #![tactic(auto)]
 
 ghost use Rattle.std.specs.Prelude.{◌≡◌, cond, ◌≤◌, eqb};
-ghost use Rattle.lists.specs.Lent.{before};
 ghost use Rattle.migration_rules.specs.ContractRules.{obliges, migrates as migratesBy, gainer_share};
 ghost use Rattle.migration_transfers.specs.Squares.{of_net};
 ghost use Rattle.migration_shares.specs.Inner.{NetReady, Held, entity_number};

@@ -3,7 +3,6 @@ use mathlib.Core.Path.{◌≡◌}
 use Prim.Native.Nat.{◌*◌, ◌≤◌}
 use borrow.Author.Tests.{ltb-false}
 use lib.ListN.{length}
-use Rattle.std.specs.Prelude.{Ok}
 use Rattle.tariff.specs.Refusals.{passed}
 use Rattle.tariff.specs.Units.{max_entities}
 use Rattle.tariff.proofs.Checks.{passed_cons, passed_append}

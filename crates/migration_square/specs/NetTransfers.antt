@@ -4,7 +4,7 @@ use Rattle.std.specs.Prelude.{◌≡◌, ℕ, suc, ◌*◌, length, ℤ, Ok, Err
 use mathlib.Core.List.{List, [], ◌∷◌, ◌++◌, map, flat_map}
 use Rattle.lists.specs.Lists.{list_to}
 use Rattle.tariff.specs.Refusals.{Checked}
-use Rattle.tariff.specs.Refusals.{Check, first, Outcome, given, refused_by, answered, cells_after, ForC, passed}
+use Rattle.tariff.specs.Refusals.{Check, first, Outcome, given, refused_by, answered, cells_after, ForC}
 use Rattle.tariff.specs.Checks.{short_table}
 use Rattle.migration_rules.specs.Transfers.{MigrationRow, RowLists, migration_rows_in, net, migration_row_checks}
 use Rattle.tariff.specs.declared.refusals.Refusal.{Refusal}

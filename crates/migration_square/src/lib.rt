@@ -1,7 +1,7 @@
 // The square of net transfers given cell by cell (beyond the papers: document 02, paper 5, asks for the square and for no entry that gives it).
 #![tactic(auto)]
 
-ghost use Rattle.std.specs.Prelude.{◌≡◌, ◌+◌, ◌*◌, ◌^◌, ◌≤◌, ◌<◌, length, nat_abs};
+ghost use Rattle.std.specs.Prelude.{◌≡◌, ◌+◌, ◌*◌, ◌≤◌, length};
 ghost use Rattle.lists.specs.Lent.{before, after, overwrite};
 ghost use Rattle.tariff.specs.Units.{max_entities};
 ghost use Rattle.migration_rules.specs.Transfers.{row_lists};
@@ -10,7 +10,7 @@ ghost use Rattle.migration_square.specs.NetTransfers.{net_transfers_call, net_tr
 ghost use Rattle.migration_square.specs.Inner.{row_cells, rows_cells, overwrite_at};
 
 use migration_transfers::{Row, RowLists, Square};
-use tariff::{Refusal, Transfer};
+use tariff::Refusal;
 
 // The checks: 22, then 9 for fewer cells than the square has.
 fn check_nets(entities: usize, lists: RowLists, place: &[i64]) -> Result<(), Refusal>
@@ -23,21 +23,14 @@ fn check_nets(entities: usize, lists: RowLists, place: &[i64]) -> Result<(), Ref
     Ok(())
 }
 
-// A net as a cell of a table.
-fn cell_of(net: Transfer) -> i64
-    requires { nat_abs net.0 < 2 ^ 63 }
-    ensures { result ≡ net.0 }
-{
-    net.0
-}
-
-// One loser's row, a cell for each gainer, from cell `at` on.
+// One loser's row, a cell for each gainer, from cell `at` on. `entities ≤ max_entities` and `SizedSquare` stay clauses, as said in migration_transfers.
+// By index: cell and net are at one number, and the invariant is of the cells from `at` on. Cells and place, since the promise is of all cells.
 fn fill_row(entities: usize, row: Row, nets: &mut [i64], at: usize)
     requires { (entities ≤ max_entities) × (at + entities ≤ length nets.old) × SizedRow row × (at ≤ max_entities * max_entities) }
     ensures { after nets ≡ overwrite_at at (row_cells entities row) (before nets) }
 {
     for j in 0..entities {
-        nets[at + j] = cell_of(row[j]);
+        nets[at + j] = row[j].0;
     }
 }
 

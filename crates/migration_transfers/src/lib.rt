@@ -3,7 +3,6 @@
 
 ghost use Rattle.std.specs.Prelude.{◌≡◌, [], ℕ, ◌-◌, ◌≤◌, ◌<◌, length};
 ghost use Rattle.lists.specs.Lists.{any_of};
-ghost use Rattle.lists.specs.Lent.{before};
 ghost use Rattle.tariff.specs.Refusals.{first};
 ghost use Rattle.tariff.specs.Units.{max_entities};
 ghost use Rattle.migration_rules.specs.Transfers.{entity_count, entity_bad_of, row_bad_of, migration_rows_in};
@@ -15,7 +14,8 @@ use tariff::{
     MAX_CUSTOMERS, MAX_ENTITIES, MAX_LOAD, MAX_RATE, MAX_ROWS, Quantity, Refusal, Transfer,
 };
 
-// Net transfers: a row for each loser, a cell in it for each gainer.
+// Net transfers: a row for each loser, a cell in it for each gainer. It stays an array of arrays passed by value (document 01), which has no ghost field: so
+// `SizedSquare` and `SizedRow` are asked for by those that read it.
 pub type Square = [[Transfer; MAX_ENTITIES]; MAX_ENTITIES];
 
 // One loser's row of them.
@@ -28,7 +28,7 @@ fn entity_bad(entities: usize, number: u64) -> bool
     tariff::zero_or_above(number, entities as u64)
 }
 
-// How many LSEs there are: none, or too many.
+// How many LSEs there are: none, or too many. `share_checks::count_bad` is the same of coordinators: what the two share is `zero_or_above`.
 fn entity_count_bad(entities: usize) -> bool
     ensures { result ≡ (entity_count entities).fails }
 {
@@ -44,7 +44,7 @@ pub struct MovedRow {
     pub new: u64,
 }
 
-// Rows as five lists, each with a cell for a row. Classes have no effect.
+// Rows as five lists, as C lends them, each with a cell for a row. Classes have no effect.
 #[derive(Clone, Copy)]
 pub struct RowLists<'a> {
     pub classes: &'a [u8],
@@ -97,12 +97,7 @@ fn rows_bad(entities: usize, lists: RowLists) -> bool
     requires { EqualLists lists.customers.now lists.rates.now lists.olds.now lists.news.now }
     ensures { result ≡ any_of (row_bad_of entities) (migration_rows_in (lists_of lists.entry)) }
 {
-    for i in 0..lists.customers.len() {
-        if row_bad(entities, lists.row(i)) {
-            return true;
-        }
-    }
-    false
+    (0..lists.customers.len()).any(|i| row_bad(entities, lists.row(i)))
 }
 
 // 22: a count, a figure or an LSE number outside its range, unequal lists, or a row whose old and new LSE are one.
@@ -162,6 +157,7 @@ pub fn net_square(lists: RowLists) -> Square
 }
 
 // The row of the LSE of this number in a square, and the first one where it is no LSE's.
+// Not an `Option`: a holder that is no LSE's has no new contracts by any row, and callers index with what comes.
 pub fn row_of(number: u64) -> usize
     ensures { (result < max_entities) × (0 < number → number ≤ max_entities → result ≡ number - 1) }
 {
@@ -171,7 +167,8 @@ pub fn row_of(number: u64) -> usize
     (number - 1) as usize
 }
 
-// What a loser's row says is lost to all of so many LSEs.
+// What a loser's row says is lost to all of so many LSEs. `entities ≤ max_entities` is asked for here and wherever a row or a square is gone through: a type for
+// the count would be made of `loads.len()` or of C's number at each call and taken apart again for a range.
 fn lost_by(row: Row, entities: usize) -> Quantity
     requires { (entities ≤ max_entities) × SizedRow row }
     ensures { (i : ℕ) → result.0 ≡ losses_to (row_losses row) i entities }

@@ -11,9 +11,9 @@ ghost use Rattle.layouts.specs.PriceFile.{price_bytes, prices_in, price_pad_in};
 ghost use Rattle.price_rules.specs.ReadPrices.{read_prices_call, read_prices_checked, ReadsPrices};
 
 use layouts::{PRICE_HEADER_BITS, PRICE_WIDTH};
-use tariff::{MAX_CONSTRAINTS, MAX_PRICE, Refusal};
+use tariff::{MAX_CONSTRAINTS, MAX_PRICE, Period, Refusal};
 
-// The reader's checks on a file of the right length.
+// The reader's checks on a file of the right length. Asked in a clause, of the one caller that has just checked it: a type would be no plainer.
 fn check_figures(constraints: usize, file: &[u8], prices: &[u64]) -> Result<(), Refusal>
     requires { (constraints ≤ max_constraints) × (length file.now ≡ price_bytes constraints) }
     ensures { result ≡ first (
@@ -50,8 +50,8 @@ fn check_read(constraints: usize, file: &[u8], prices: &[u64]) -> Result<(), Ref
     check_figures(constraints, file, prices)
 }
 
-// Reads the prices of `constraints` constraints into the first cells of `prices`.
-pub fn read_prices(constraints: usize, file: &[u8], prices: &mut [u64]) -> Result<u64, Refusal>
+// Reads the prices of `constraints` constraints into the first cells of `prices`, and gives their period.
+pub fn read_prices(constraints: usize, file: &[u8], prices: &mut [u64]) -> Result<Period, Refusal>
     ensures { ReadsPrices (read_prices_call constraints file.now (before prices)) result (after prices) }
 {
     check_read(constraints, file, prices)?;
@@ -61,5 +61,5 @@ pub fn read_prices(constraints: usize, file: &[u8], prices: &mut [u64]) -> Resul
         PRICE_WIDTH,
         &mut prices[..constraints],
     );
-    Ok(bits::field(file, 0, 1))
+    Ok(Period::from(bits::field(file, 0, 1)))
 }

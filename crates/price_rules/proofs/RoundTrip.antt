@@ -10,7 +10,6 @@ use lib.ListN.{length, take}
 use lib.Seq.{length-take-le}
 use Rattle.lists.proofs.Lists.{every_cell}
 use Rattle.bits.proofs.Numbers.{Below}
-use Rattle.std.specs.Prelude.{Ok}
 use Rattle.tariff.specs.Refusals.{passed}
 use Rattle.tariff.proofs.Checks.{first_passes, passed_cons, same, last-passes}
 use Rattle.tariff.specs.Units.{max_price}

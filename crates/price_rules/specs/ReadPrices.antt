@@ -1,6 +1,8 @@
 -- Reading prices for a stated constraint count (document 01, "When input is turned down" and "The three files").
 use Rattle.std.specs.Prelude.{◌≡◌, List, [], ◌∷◌, ◌++◌, ℕ, length, pos, Ok, Err, Result}
 use Rattle.lists.specs.Lent.{Lent, before, after}
+use Rattle.tariff.specs.declared.contracts.Period.{Period}
+use Rattle.tariff.specs.declared.contracts.Period.TheVariants.{OffPeak, OnPeak}
 use Rattle.tariff.specs.Refusals.{Checked}
 use Rattle.tariff.specs.Refusals.{Check, first, Outcome, given, refused_by, answered, cells_after, cell_after, number_after}
 use Rattle.tariff.specs.Checks.{constraint_count, price_range, short_table}
@@ -19,11 +21,16 @@ read_prices_call k file table = record { constraints = k; file = file; table = t
 
 -- what reading a price file answers: the period, or the refusal
 abbrev pub PriceAnswer : Type 0
-PriceAnswer = Result ℕ Refusal
+PriceAnswer = Result Period Refusal
 
--- the period, or the refusal's number
+-- "period 1 bit" (document 01)
+abbrev pub period_number : Period → ℕ
+period_number OffPeak = 0
+period_number OnPeak = 1
+
+-- the period's number, or the refusal's number
 abbrev pub price_outcome : PriceAnswer → Outcome
-price_outcome (Ok period) = given (pos period ∷ [])
+price_outcome (Ok period) = given (pos (period_number period) ∷ [])
 price_outcome (Err r) = refused_by r
 
 -- the file's own: "3 for that count. 1: no byte. 14: the file's count differs. 5. 15: a price too large. 8"

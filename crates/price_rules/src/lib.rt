@@ -7,7 +7,7 @@ ghost use Rattle.layouts.specs.PriceFile.{price_bytes};
 
 use layouts::{PRICE_HEADER_BITS, PRICE_WIDTH};
 
-// The bytes of a file.
+// The bytes of a file. Of a bare count, as C hands it in: its one check stands in each caller, and a type for it would be made there for this call alone.
 pub fn file_bytes(constraints: usize) -> usize
     requires { constraints ≤ max_constraints }
     ensures { result ≡ price_bytes constraints }

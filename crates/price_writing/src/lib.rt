@@ -33,7 +33,8 @@ fn check_write(period: u64, constraints: usize, prices: &[u64], file: &[u8]) -> 
     Ok(())
 }
 
-// Writes the file into the first bytes of `file`, and gives its length.
+// Writes the file into the first bytes of `file`, and gives its length. Asked in a clause, of the one caller, whose checks say it: a type would be no plainer.
+// The period is its number here, which is the field that is written, and the count stands beside the prices, as C gives both.
 fn fill(period: u64, constraints: usize, prices: &[u64], file: &mut [u8]) -> usize
     requires { (period ≤ 1) × (constraints ≤ max_constraints) × GoodCells max_price constraints prices.now × (price_bytes constraints ≤ length file.old) }
     ensures value { result ≡ length (price_file period constraints (take constraints prices.now)) }
@@ -49,7 +50,8 @@ fn fill(period: u64, constraints: usize, prices: &[u64], file: &mut [u8]) -> usi
     size
 }
 
-// Writes the first `constraints` prices as a file.
+// Writes the first `constraints` prices as a file. Checks and then the file, as the grid's and the book's writers, each with its own: one for the three would take
+// both as closures, and promise less plainly.
 pub fn write_prices(
     period: u64,
     constraints: usize,

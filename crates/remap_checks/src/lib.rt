@@ -2,7 +2,6 @@
 #![tactic(auto)]
 
 ghost use Rattle.std.specs.Prelude.{◌≡◌, List, ℕ, ◌<◌, length};
-ghost use Rattle.lists.specs.Lent.{before};
 ghost use Rattle.tariff.specs.Refusals.{first};
 ghost use Rattle.remap_rules.specs.RemapBook.{remap_book_call, remap_book_checked};
 ghost use Rattle.remap_rules.specs.Inner.{list_checks};

@@ -1,5 +1,5 @@
 -- The round trips for C, from the entries': what a C function leaves is what its entry leaves with some answer.
-use mathlib.Core.Path.{◌≡◌, refl, sym, ap, ◌∙◌}
+use mathlib.Core.Path.{◌≡◌, refl, sym, ap, subst, ◌∙◌}
 use mathlib.Core.List.{List, [], ◌∷◌}
 use Prim.Native.Nat.{ℕ}
 use native.Mathlib.Omega.{arith}
@@ -10,7 +10,8 @@ use Rattle.tariff.specs.declared.refusals.Refusal.{Refusal}
 use Rattle.tariff.specs.Refusals.{Checked}
 use Rattle.std.specs.Prelude.{Ok, Err}
 use Rattle.tariff.specs.Refusals.{given, answered, number_after}
-use Rattle.tariff.proofs.Answers.{none-refused, figure-is}
+use Rattle.tariff.specs.ContractRules.{period_of}
+use Rattle.tariff.proofs.Answers.{never_given, none-refused, figure-is}
 use Rattle.layouts.specs.Writing.{WriteAnswer}
 use Rattle.layouts.specs.Forms.{form_number, form_of}
 use Rattle.layouts.specs.BookFile.{contract_count_in, book_form_in}
@@ -18,7 +19,7 @@ use Rattle.layouts.specs.GridFile.{grid_form_in, nodes_in, constraints_in_of}
 use Rattle.layouts.specs.PriceFile.{period_in}
 use Rattle.layouts.specs.Writing.{Writes, WritesForC, IsWritten}
 use Rattle.layouts.proofs.FormLaws.{form-of_number}
-use Rattle.layouts.proofs.Writing.{written-by}
+use Rattle.layouts.proofs.Writing.{one_given, written-by}
 use Rattle.grid_rules.specs.declared.GridRead.{GridRead}
 use Rattle.book_rules.specs.declared.BookRead.{BookRead}
 use Rattle.grid_rules.specs.ReadGrid.{GridAnswer, grid_read}
@@ -26,7 +27,10 @@ use Rattle.grid_rules.specs.ReadGrid.{ReadGridCall, read_grid_checked, grid_valu
 use Rattle.book_rules.specs.ReadBook.{BookAnswer, book_read}
 use Rattle.book_rules.specs.ReadBook.{ReadBookCall, read_book_checked, book_values, ReadsBook, ReadsBookForC}
 use Rattle.price_rules.specs.ReadPrices.{PriceAnswer}
-use Rattle.price_rules.specs.ReadPrices.{ReadPricesCall, read_prices_checked, ReadsPrices, ReadsPricesForC}
+use Rattle.price_rules.specs.ReadPrices.{ReadPricesCall, read_prices_checked, period_number, ReadsPrices, ReadsPricesForC}
+use Rattle.price_rules.specs.WritePrices.{write_prices_call, WritesPrices}
+use Rattle.price_rules.proofs.PriceLaws.{number-of_period}
+use Rattle.bits.proofs.Fields.{field_lt}
 use Rattle.round_trips.specs.Trips.{GridIs, BookIs, PricesAre}
 use Rattle.round_trips.specs.ForC.{WrittenForC, GridForC, BookForC, PricesForC, RoundTripsForC}
 use Rattle.round_trips.proofs.Grids.{grid-rewritten, grid-reread}
@@ -75,10 +79,19 @@ book-by q table contracts form h =
       contracts-read = h.contracts-read;
     }
 
-prices-by : (q : ReadPricesCall) (table : List ℕ) (period : Lent ℕ) → ReadsPricesForC q 0 table period → ReadsPrices q (Ok (after period)) table
+-- a file's period is the number of one
+period_is : (q : ReadPricesCall) → period_number (period_of (period_in q.file)) ≡ period_in q.file
+period_is q = number-of_period (period_in q.file) (field_lt q.file 0 1)
+
+told-period : (q : ReadPricesCall) (table : List ℕ) (period : Lent ℕ) → ReadsPricesForC q 0 table period → period_number (period_of (after period)) ≡ after period
+told-period q table period h =
+    let t = figure-is (read_prices_checked q) (none-refused (read_prices_checked q) h.refusal-number) _ _ _ h.period-given in
+    rw t (period_is q)
+
+prices-by : (q : ReadPricesCall) (table : List ℕ) (period : Lent ℕ) → ReadsPricesForC q 0 table period → ReadsPrices q (Ok (period_of (after period))) table
 prices-by q table period h =
     let ok = none-refused (read_prices_checked q) h.refusal-number in
-    let t = figure-is (read_prices_checked q) ok _ _ _ h.period-given in
+    let t = told-period q table period h ∙ figure-is (read_prices_checked q) ok _ _ _ h.period-given in
     record {
       period-given = (λ i. given (pos (t i) ∷ [])) ∙ sym (ap (λ (c : Checked). answered c (pos (period_in q.file) ∷ [])) ok);
       prices-read = h.prices-read;
@@ -143,24 +156,23 @@ module _ (q : ReadPricesCall) (number : ℕ) (table : List ℕ) (period : Lent �
     (h : (a : PriceAnswer) → ReadsPrices q a table → PricesAre t k list entry a table) where
   prices-for_c : (c : Checked) → read_prices_checked q ≡ c → PricesForC t k list entry number table period
   prices-for_c (Ok _) e =
-      let p = h (Ok (period_in q.file))
-      (record { period-given = sym (ap (λ (c : Checked). answered c (pos (period_in q.file) ∷ [])) e); prices-read = r.prices-read }) in
-      let are : Ok (period_in q.file) ≡ Ok t = p.period-is in
+      let is = period_is q in
+      let p = h (Ok (period_of (period_in q.file)))
+      (record {
+        period-given = (λ i. given (pos (is i) ∷ [])) ∙ sym (ap (λ (c : Checked). answered c (pos (period_in q.file) ∷ [])) e);
+        prices-read = r.prices-read;
+      }) in
       record {
         number-0 = r.refusal-number ∙ ap number_after e;
-        period-is = figure-is (read_prices_checked q) e _ _ _ r.period-given
-            ∙ cc;
+        period-is = figure-is (read_prices_checked q) e _ _ _ r.period-given ∙ sym is ∙ one_given _ t p.period-is;
         prices-are = p.prices-are;
       }
   prices-for_c (Err x) e =
-      let are : Err x ≡ Ok t
-      = (h (Err x) (record {
+      absurd (never_given x (pos t ∷ []) (h (Err x) (record {
         period-given = sym
             (ap (λ (c : Checked). answered c (pos (period_in q.file) ∷ [])) e);
         prices-read = r.prices-read;
-      })).period-is in
-      let z : ◌≡◌ {A = ℕ} 0 1 = cc in
-      absurd (omega arith)
+      })).period-is)
 
 pub round_trips_for_c : RoundTripsForC
 round_trips_for_c =
@@ -171,7 +183,9 @@ round_trips_for_c =
       crr_book_read_then_written = λ n s entry bytes table contracts form h place room number exit length-cell w.
           written-for_c _ _ place s number exit length-cell w (λ a. book-rewritten n s entry bytes _ _ table (book-by _ table contracts form h) place room a exit);
       crr_prices_read_then_written = λ k s entry bytes table period h place room number exit length-cell w.
-          written-for_c _ _ place s number exit length-cell w (λ a. prices-rewritten k s entry bytes _ table (prices-by _ table period h) place room a exit);
+          written-for_c _ _ place s number exit length-cell w
+          (λ a v. prices-rewritten k s entry bytes _ table (prices-by _ table period h) place room a exit
+          (subst (λ t. WritesPrices (write_prices_call t k table place) a exit) (sym (told-period _ table period h)) v));
       crr_grid_written_then_read = λ form n k limits factors place exit bytes w ls₀ fs₀ cells places number ls fs nodes constraints told r.
           grid-for_c _ number ls fs nodes constraints told r form n k limits factors ls₀ fs₀
           (λ a. grid-reread (form_of form) n k limits factors place (after bytes) exit

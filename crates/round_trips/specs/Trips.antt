@@ -1,6 +1,6 @@
 -- Demand 2's round trips over what the readers and writers of the three files promise: the answers, and the lent cells at exit. Statements only. `entry` cells are
 -- those lent to the reader, `place` those lent to the writer.
-use Rattle.std.specs.Prelude.{◌≡◌, List, ℕ, ◌*◌, ◌≤◌, length, take, ℤ, Ok}
+use Rattle.std.specs.Prelude.{◌≡◌, List, [], ◌∷◌, ℕ, ◌*◌, ◌≤◌, length, take, ℤ, pos, Ok}
 use Rattle.bits.specs.Bits.{Bytes}
 use Rattle.lists.specs.Lent.{overwrite}
 use Rattle.layouts.specs.Writing.{WriteAnswer}
@@ -13,7 +13,9 @@ use Rattle.grid_rules.specs.WriteGrid.{write_grid_call, WritesGrid}
 use Rattle.book_rules.specs.ReadBook.{BookAnswer, book_read}
 use Rattle.book_rules.specs.ReadBook.{read_book_call, ReadsBook}
 use Rattle.book_rules.specs.WriteBook.{write_book_call, WritesBook}
-use Rattle.price_rules.specs.ReadPrices.{PriceAnswer}
+use Rattle.tariff.specs.declared.contracts.Period.{Period}
+use Rattle.tariff.specs.Refusals.{given}
+use Rattle.price_rules.specs.ReadPrices.{PriceAnswer, period_number, price_outcome}
 use Rattle.price_rules.specs.ReadPrices.{read_prices_call, ReadsPrices}
 use Rattle.price_rules.specs.WritePrices.{write_prices_call, WritesPrices}
 
@@ -29,7 +31,7 @@ pub record BookIs (f : Form) (m : ℕ) (rows entry : List ℕ) (answer : BookAns
   pub rows_are : table ≡ overwrite (take (contract_cells * m) rows) entry
 
 pub record PricesAre (t k : ℕ) (list entry : List ℕ) (answer : PriceAnswer) (table : List ℕ) : Type 0 where
-  pub period-is : answer ≡ Ok t
+  pub period-is : price_outcome answer ≡ given (pos t ∷ [])
   pub prices-are : table ≡ overwrite (take k list) entry
 
 -- THE STATEMENTS
@@ -42,8 +44,8 @@ pub record RoundTrips : Type 0 where
       → (m : ℕ) (f : Form) (table : List ℕ) → ReadsBook (read_book_call n s entry) (book_read m f) table → (place : List ℕ) → length s ≤ length place
       → (answer : WriteAnswer) (exit : List ℕ) → WritesBook (write_book_call f n m table place) answer exit → IsWritten s place answer exit
   pub prices-read_then_written : (k : ℕ) (s entry : List ℕ) → Bytes s
-      → (t : ℕ) (table : List ℕ) → ReadsPrices (read_prices_call k s entry) (Ok t) table → (place : List ℕ) → length s ≤ length place
-      → (answer : WriteAnswer) (exit : List ℕ) → WritesPrices (write_prices_call t k table place) answer exit → IsWritten s place answer exit
+      → (t : Period) (table : List ℕ) → ReadsPrices (read_prices_call k s entry) (Ok t) table → (place : List ℕ) → length s ≤ length place
+      → (answer : WriteAnswer) (exit : List ℕ) → WritesPrices (write_prices_call (period_number t) k table place) answer exit → IsWritten s place answer exit
   -- "a grid, book or price list written and then read is the same": the first bytes of the writer's place, as many as it gives, read into any tables that are
   -- long enough
   pub grid-written_then_read : (f : Form) (n k : ℕ) (limits : List ℕ) (factors : List ℤ) (place : List ℕ) (size : ℕ) (exit : List ℕ)

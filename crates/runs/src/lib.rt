@@ -10,7 +10,8 @@ ghost use Rattle.runs.specs.Inner.{max_file_bytes};
 
 use bits::BitWriter;
 
-// Whether one of `count` fields of `width` bits, from bit `offset` on, is above `most`.
+// Whether one of `count` fields of `width` bits, from bit `offset` on, is above `most`. A field can begin and end within a byte, so no slice is the run.
+// The width's bound is a clause, here and below: callers give constants of the layouts.
 pub fn field_above(s: &[u8], offset: usize, width: usize, count: usize, most: u64) -> bool
     requires count_bound { offset + width * count ≤ 8 * length s.now }
     requires width_bound { (width ≤ 32) × (length s.now ≤ max_file_bytes) }

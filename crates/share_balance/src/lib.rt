@@ -3,7 +3,6 @@
 
 ghost use Rattle.std.specs.Prelude.{◌≡◌, ◌≤◌, ◌<◌, length, nat_abs};
 ghost use Rattle.lists.specs.Lent.{before, after, overwrite};
-ghost use Rattle.tariff.specs.Units.{max_balance};
 ghost use Rattle.largest_remainders.specs.Ranks.{add_to};
 ghost use Rattle.largest_remainders.specs.Shares.{whole};
 ghost use Rattle.share_rules.specs.ShareBalance.{share_call, demand_of, signed_like_of, balance_share, shares_of, SharesBalance};
@@ -24,6 +23,7 @@ fn signed_like(balance: i64, cents: u64) -> i64
 }
 
 // Notes each coordinator's whole cents, and its remainder and number as one, and gives the sum of the whole cents.
+// Wholes and keys are two arrays, not one of pairs: `threshold` takes the keys as a slice.
 fn fill_wholes(size: u64, sum: u64, demands: &[u64], wholes: &mut [u64], keys: &mut [u64]) -> u64
     requires weighed { Weighed size sum demands.now }
     requires demands_in_bounds { (length demands.now ≤ length wholes.old) × (length demands.now ≤ length keys.old) }
@@ -60,7 +60,7 @@ fn share_at(
     }
 }
 
-// Each share, into the first cells of `shares`.
+// Each share, into the first cells of `shares`. By index: four slices are read at it.
 fn fill_shares(
     balance: i64,
     least: u64,

@@ -2,7 +2,6 @@
 #![tactic(auto)]
 
 ghost use Rattle.std.specs.Prelude.{◌≡◌, ◌≤◌, ◌<◌};
-ghost use Rattle.lists.specs.Lent.{before};
 ghost use Rattle.tariff.specs.Checks.{coordinator_count, balance_range};
 ghost use Rattle.share_rules.specs.ShareBalance.{share_call, share_checked, total_demand};
 ghost use Rattle.share_rules.specs.Inner.{max_demand_total, DemandsIn};
@@ -12,21 +11,22 @@ use tariff::{MAX_BALANCE, MAX_COORDINATORS, MAX_DEMAND, Refusal};
 // The least balance.
 const MIN_BALANCE: i64 = -MAX_BALANCE;
 
-// 26, of the count: none, or too many.
+// 26, of the count: none, or too many. `migration_transfers::entity_count_bad` is the same of LSEs: what the two share is `zero_or_above`.
 fn count_bad(count: usize) -> bool
     ensures { result ≡ (coordinator_count count).fails }
 {
     tariff::zero_or_above(count as u64, MAX_COORDINATORS as u64)
 }
 
-// 26, of the balance: the least i64 has no size in an i64, so it is compared first.
+// 26, of the balance: the least i64 has no size in an i64, so it is compared first. As short as `grid_tables::factor_bad`, of other bounds: one function of both
+// would take the bounds, and ask that the one is the other's opposite.
 fn balance_bad(balance: i64) -> bool
     ensures { result ≡ (balance_range balance).fails }
 {
     balance < MIN_BALANCE || MAX_BALANCE < balance
 }
 
-// The total of the demands.
+// The total of the demands. `total_weight` (hub_checks) is the same call of the library: what keeps each sum small, and what each promises of it, differs.
 pub fn total_of(demands: &[u64]) -> u64
     requires { DemandsIn demands.now }
     ensures { (result ≡ total_demand demands.now) × (result ≤ max_demand_total) }

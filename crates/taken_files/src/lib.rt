@@ -2,13 +2,13 @@
 #![tactic(auto)]
 
 ghost use Rattle.std.specs.Prelude.{◌≡◌};
-ghost use Rattle.lists.specs.Lent.{before};
 ghost use Rattle.taken_files.specs.Taken.{nodes_taken_of, book_taken_of};
 
 use layouts::{PROGRAM_FACTORS, PROGRAM_GRID_BYTES};
 use tariff::MAX_CONSTRAINTS;
 
 // The node count of a grid's file, and 0, which is no grid's, where the file is refused.
+// Not an `Option`: `nodes_taken_of` says 0, and no book is taken for 0 nodes.
 pub fn nodes_taken(file: &[u8]) -> usize
     ensures { result ≡ nodes_taken_of file.now }
 {

@@ -11,7 +11,8 @@ pub enum Kind {
     Option = 1,
 }
 
-// By the number that a table or a book has for it.
+// By the number that a table or a book has for it. This, `Period`'s below and `Form`'s (layouts) are written out: `rt ci` refuses an impl that a macro
+// of the repository's own writes.
 impl From<u64> for Kind {
     ghost from_gives = { λ number kind. kind ≡ kind_of number };
 

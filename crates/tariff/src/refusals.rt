@@ -37,6 +37,7 @@ pub enum Refusal {
 }
 
 impl Refusal {
+    // C takes a refusal by its number, and programs and other languages do through C.
     pub fn number(self) -> u64
         ensures { result ≡ number_of self }
     {

@@ -1,7 +1,9 @@
 // Units as tuple structs. Sums and comparisons keep their unit. A quantity, a price or an MCC is opened only here: in the product rules, in the sums and
 // comparisons of its own unit, and to go into a cell.
-ghost use Rattle.std.specs.Prelude.{◌≡◌, ◌+◌, ◌-◌, ◌*◌, ◌/◌, ◌%◌, ◌^◌, ◌≤◌, ◌<◌, eqb, ltb, pos, nat_abs, neg_ℤ, ◌+ℤ◌, ◌-ℤ◌, ◌*ℤ◌};
-ghost use Rattle.std.specs.Int.Signed.{lt_z};
+// `Add`, `Sub`, `Neg` and `From` are written out for each unit: `rt ci` refuses an impl that a macro of the repository's own writes.
+// A figure's range stands in the clauses of the rules that need it, and not in its type: a unit has also what no range bounds, a sum, or a field of a file
+// before its check. Factors and weights are cells that C lends, plain numbers, and one is bounded where a rule takes it.
+ghost use Rattle.std.specs.Prelude.{◌≡◌, ◌+◌, ◌-◌, ◌*◌, ◌/◌, ◌%◌, ◌^◌, ◌≤◌, ◌<◌, pos, nat_abs, neg_ℤ, ◌+ℤ◌, ◌-ℤ◌, ◌*ℤ◌};
 ghost use Rattle.integers.specs.Sums.{max0};
 ghost use Rattle.integers.specs.Division.{floor_div, floor_mod};
 ghost use Rattle.tariff.specs.Units.{max_factor, max_quantity, max_price, max_customers, max_rate, max_load, hub_weight};
@@ -12,7 +14,7 @@ use crate::contracts::Kind;
 use crate::{HUB_WEIGHT, floors};
 use std::ops::{Add, Neg, Sub};
 
-// Thousandths of a MW.
+// Thousandths of a MW. Any number: loads are quantities too, and so is what a row or a record has before check 13 looks at it.
 #[derive(Clone, Copy, Debug, PartialEq, Eq, PartialOrd, Ord)]
 pub struct Quantity(pub u64);
 
@@ -274,7 +276,6 @@ impl Transfer {
 
     // What is lost: nothing where the transfer is not above 0.
     pub fn lost(self) -> Quantity
-        requires { nat_abs self.0 < 2 ^ 63 }
         ensures { result.0 ≡ nat_abs (max0 self.0) }
     {
         if self.0 < 0 {
@@ -284,7 +285,7 @@ impl Transfer {
     }
 }
 
-// 10^-8 MW.
+// 10^-8 MW. Its cells are written by `.0`, in three places: a `From` would be no plainer.
 #[derive(Clone, Copy, Debug, PartialEq, Eq, PartialOrd, Ord)]
 pub struct Flow(pub i64);
 
@@ -319,7 +320,6 @@ pub struct Amount(pub i64);
 impl Amount {
     // This amount as it counts: an option is never charged.
     pub fn counted(self, kind: Kind) -> Amount
-        requires { nat_abs self.0 < 2 ^ 63 }
         ensures { result.0 ≡ countedAs kind self.0 }
     {
         match kind {

@@ -11,25 +11,46 @@ use Rattle.tariff.specs.Feasibility.{flow}
 use Rattle.grid_tables.specs.Inner.{RowOf}
 use Rattle.test_rules.specs.declared.Flows.{Flows}
 use Rattle.test_rules.specs.Carried.{Carries}
-use Rattle.test_rules.specs.Inner.{FlowRoom}
+use Rattle.test_rules.specs.Inner.{Adds, FlowRoom}
 use Rattle.test_rules.proofs.Flowing.{kept-sized, part_small, own_flow}
+use Rattle.test_flows.specs.Inner.{Ends, flow_by, AddsRows}
 
 -- y is what the machine gives of the two rows
-module _ (n k : ℕ) (fs : List ℤ) (c : Contract) (own : InRange n c) (source sink : List ℤ) (from : RowOf n k fs c.source source) (to : RowOf n k fs c.sink sink) (j : ℕ) (b : j < k)
+module _ (source sink : List ℤ) (c : Contract) (own : Ends source sink c) (j : ℕ) (b : j < length source)
     (y : ℤ) (is : y ≡ counted c.kind ((to_z w64 (of_z w64 (get_or source j (pos 0))) -ℤ to_z w64 (of_z w64 (get_or sink j (pos 0)))) *ℤ pos c.quantity.0)) where
-  pub row-flow : y ≡ flow (factors_of n k fs) c j
-  unfolding flow
+  pub row-flow : y ≡ flow_by source sink c j
   row-flow =
-      is ∙ rw (back (get_or source j (pos 0)) (omega (arith, from.sized j b)), back (get_or sink j (pos 0)) (omega (arith, to.sized j b)), from.cell j b, to.cell j b)
+      is ∙ rw (back (get_or source j (pos 0)) (omega (arith, own.source-sized j b)), back (get_or sink j (pos 0)) (omega (arith, own.sink-sized j b))) refl
 
   pub row-small : nat_abs y ≤ max_flow
   row-small =
-      part_small y (to_z w64 (of_z w64 (get_or source j (pos 0)))) (to_z w64 (of_z w64 (get_or sink j (pos 0)))) c.kind c.quantity.0 is (kept-sized (get_or source j (pos 0)) max_factor (lit< tt) (from.sized j b)) (kept-sized (get_or sink j (pos 0)) max_factor (lit< tt) (to.sized j b))
+      part_small y (to_z w64 (of_z w64 (get_or source j (pos 0)))) (to_z w64 (of_z w64 (get_or sink j (pos 0)))) c.kind c.quantity.0 is (kept-sized (get_or source j (pos 0)) max_factor (lit< tt) (own.source-sized j b)) (kept-sized (get_or sink j (pos 0)) max_factor (lit< tt) (own.sink-sized j b))
       own.quantity-sized
 
--- the flow is the same however many nodes the table has beside the contract's ends
-pub flow-same : (n m k : ℕ) (fs : List ℤ) (c : Contract) → InRange n c → InRange m c → (j : ℕ) → j < k → flow (factors_of n k fs) c j ≡ flow (factors_of m k fs) c j
-flow-same n m k fs c h g j b = sym (own_flow n k fs c h j b) ∙ own_flow m k fs c g j b
+-- the rows of a contract's ends in a table
+module _ (n k : ℕ) (fs : List ℤ) (c : Contract) (own : InRange n c) (source sink : List ℤ) (from : RowOf n k fs c.source source) (to : RowOf n k fs c.sink sink) where
+  pub rows_in : Ends source sink c
+  rows_in =
+      record {
+        long = to.long ∙ sym from.long;
+        source-sized = λ j b. from.sized j (omega (arith, from.long));
+        sink-sized = λ j b. to.sized j (omega (arith, from.long));
+        quantity-sized = own.quantity-sized;
+      }
+
+  -- the flow is the same however many nodes the table has beside the contract's ends
+  flow-same : (m : ℕ) → InRange m c → (j : ℕ) → j < k → flow_by source sink c j ≡ flow (factors_of m k fs) c j
+  unfolding flow
+  flow-same m h j b =
+      rw (from.cell j b, to.cell j b) (sym (own_flow n k fs c own j b) ∙ own_flow m k fs c h j b)
+
+  -- what was added by the rows was added by the table
+  pub rows_added : (old new : List ℤ) → AddsRows source sink c old new → Adds k fs c old new
+  rows_added old new adds =
+      record {
+        length-kept = adds.length-kept;
+        flows-added = λ m h j b. adds.flows-added j (omega (arith, from.long)) ∙ ap (λ (z : ℤ). get_or old j (pos 0) +ℤ z) (flow-same m h j b);
+      }
 
 -- of n flows, those on the first k
 module _ (k : ℕ) (flows : List ℤ) (room : FlowRoom k flows) where

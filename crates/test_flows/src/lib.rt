@@ -1,18 +1,19 @@
 // The flows of a book's contracts of one period, carried together with the number of contracts counted.
 #![tactic(auto)]
 
-ghost use Rattle.std.specs.Prelude.{◌≡◌, [], ◌≤◌, ◌<◌};
+ghost use Rattle.std.specs.Prelude.{◌≡◌, [], ◌≤◌, length};
 ghost use Rattle.lists.specs.Lent.{before, after};
 ghost use Rattle.lists.specs.Lists.{list_to};
 ghost use Rattle.tariff.specs.Refusals.{passed, first};
 ghost use Rattle.tariff.specs.declared.contracts.Contract.{Contract};
 ghost use Rattle.tariff.specs.declared.contracts.Period.{Period};
 ghost use Rattle.tariff.specs.Units.{Factors, factors_of, max_constraints};
-ghost use Rattle.tariff.specs.ContractRules.{of_period, InRange};
+ghost use Rattle.tariff.specs.ContractRules.{of_period};
 ghost use Rattle.layouts.specs.BookFile.{book_in, contract_count_in, book_form_in, contract_at};
 ghost use Rattle.book_rules.specs.BookChecks.{book_checks};
-ghost use Rattle.test_rules.specs.Inner.{Adds, FlowRoom};
+ghost use Rattle.test_rules.specs.Inner.{FlowRoom};
 ghost use Rattle.test_rules.specs.Carried.{Carries};
+ghost use Rattle.test_flows.specs.Inner.{Ends, AddsRows};
 
 use book_bits::Contracts;
 use grid_tables::FactorTable;
@@ -33,7 +34,8 @@ fn no_flows() -> Flows
     }
 }
 
-// One step: the contracts from number `from` up to `upto`, those of the other period left out.
+// One step: the contracts from number `from` up to `upto`, those of the other period left out. A step by two numbers is document 01's form: `Flows` go by
+// value from step to step.
 fn step(
     flows: Flows,
     table: FactorTable,
@@ -54,27 +56,28 @@ fn step(
     for i in from..upto {
         let c = contracts.at(i);
         if c.period == period {
-            add_flow(&mut carried.flows, c, table);
+            let source = table.row(c.source);
+            let sink = table.row(c.sink);
+            add_flow(&mut carried.flows, c, source, sink);
             carried.count += 1;
         }
     }
     carried
 }
 
-// Adds a contract's flow, as it counts, on every constraint.
-pub fn add_flow(flows: &mut [i64; MAX_CONSTRAINTS], c: Contract, table: FactorTable)
-    requires { InRange table.nodes c × FlowRoom table.constraints flows.old }
-    ensures { Adds table.entry.constraints table.entry.cells.now c (before flows) (after flows) }
+// Adds a contract's flow, as it counts, on every constraint, by the rows of factors of its ends: whatever table they are of (`Adds`, by `rows_added`).
+pub fn add_flow(flows: &mut [i64; MAX_CONSTRAINTS], c: Contract, source: &[i64], sink: &[i64])
+    requires { Ends source.now sink.now c × FlowRoom (length source.now) flows.old }
+    ensures { AddsRows source.now sink.now c (before flows) (after flows) }
 {
-    let source = table.row(c.source);
-    let sink = table.row(c.sink);
-    for (k, flow) in flows[..table.constraints].iter_mut().enumerate() {
+    for (k, flow) in flows[..source.len()].iter_mut().enumerate() {
         let more = c.quantity.counted_flow(c.kind, source[k], sink[k]);
         *flow = (Flow(*flow) + more).0;
     }
 }
 
-// The flows of a book's contracts of one period, those of the other period left out.
+// The flows of a book's contracts of one period, those of the other period left out. It takes no `Tested`: finding flows has no process, and the report judges
+// the same flows in three.
 pub fn carry(table: FactorTable, period: Period, book: &[u8]) -> Flows
     requires { first (book_checks table.nodes book.now) ≡ passed }
     ensures { Carries (factors_of table.entry.nodes table.entry.constraints table.entry.cells.now)

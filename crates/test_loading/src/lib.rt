@@ -13,7 +13,8 @@ use tariff::{Period, Process, Refusal};
 use test_rules::Flows;
 use test_terms::{Asked, AskedFlows};
 
-// The flows carried, into the first cells of `out`.
+// The flows carried, into the first cells of `out`. `constraints ≤ max_constraints` is the array's length; no `Loading`, since no limit is read here.
+// The count stands beside the cells, as C gives it.
 pub fn fill_flows(constraints: usize, carried: Flows, out: &mut [i64])
     requires constraints_le_max_constraints { (constraints ≤ max_constraints) × (constraints ≤ length out.old) }
     requires by_index { (k : ℕ) → k < constraints → nat_abs (get_or carried.flows k (pos 0)) < 2 ^ 62 }
@@ -22,7 +23,7 @@ pub fn fill_flows(constraints: usize, carried: Flows, out: &mut [i64])
     out[..constraints].copy_from_slice(&carried.flows[..constraints]);
 }
 
-// The checks of finding the flows, with `cells` cells for them: the test's, then 9.
+// The checks of finding the flows, with `place` for them: the test's, then 9. Limits and factors as C lends them: they are no `GridTable` yet.
 pub fn check_flows(
     asked: AskedFlows,
     limits: &[u64],

@@ -3,24 +3,19 @@ use mathlib.Core.Path.{◌≡◌, sym, ◌∙◌, subst}
 use mathlib.Core.List.{List}
 use Prim.Native.Nat.{ℕ}
 use native.Mathlib.Omega.{arith}
-use lib.IntN.{ℤ}
 use Rattle.tariff.specs.declared.refusals.Refusal.{Refusal}
 use Rattle.tariff.specs.Refusals.{Checked, passed}
 use Rattle.std.specs.Prelude.{Err}
-use Rattle.tariff.specs.declared.contracts.Contract.{Contract}
 use Rattle.tariff.specs.declared.processes.Process.{Process}
 use Rattle.tariff.specs.Refusals.{Check, first}
-use Rattle.tariff.specs.ContractRules.{InRange}
 use Rattle.tariff.proofs.Checks.{first-append, passed_append}
 use Rattle.tariff.proofs.Answers.{answer-refused, answer-passed}
 use Rattle.grid_tables.specs.TableChecks.{grid_table_checks}
-use Rattle.grid_tables.specs.Inner.{GoodFactors}
 use Rattle.grid_tables.proofs.Passing.{GridTables, grid-tables}
-use Rattle.grid_tables.proofs.Factors.{row_in, factor-cell_sized}
 use Rattle.book_rules.specs.BookChecks.{book_checks}
 use Rattle.test_rules.specs.TestBook.{TestAnswer}
 use Rattle.test_rules.specs.TestBook.{TestCall, test_checks, test_checked, tested_grid, tested_process, tested_contracts, TestsBook}
-use Rattle.test_rules.specs.Inner.{Ends, Judges}
+use Rattle.test_rules.specs.Inner.{Judges}
 
 abbrev table_checks : TestCall → List Check
 table_checks q = grid_table_checks q.nodes q.constraints q.process q.period q.limits q.factors
@@ -60,15 +55,3 @@ module _ (q : TestCall) (x : Checked) (found : x ≡ test_checked q) where
   verdict_answers told process is a judged =
       let by = subst (λ (p : Process). Judges (tested_grid q) p (tested_contracts q) a) is judged in
       record { figures = by.figures ∙ answer-passed x _ found told _; demand3 = λ p. by.demand3 }
-
--- a contract in range has its rows in a table that no check refuses
-pub ends_of : (n k : ℕ) (fs : List ℤ) (c : Contract) → GoodFactors n k fs → InRange n c → Ends k fs c
-ends_of n k fs c g h =
-    record {
-      few = g.few;
-      source_row = omega (arith, row_in n k c.source h.source-below, g.long);
-      sink-row = omega (arith, row_in n k c.sink h.sink-below, g.long);
-      source-sized = λ j b. factor-cell_sized n k fs g c.source j h.source-below b;
-      sink-sized = λ j b. factor-cell_sized n k fs g c.sink j h.sink-below b;
-      quantity-sized = h.quantity-sized;
-    }

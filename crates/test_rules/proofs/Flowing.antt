@@ -6,7 +6,6 @@ use mathlib.Core.List.{List, [], ◌∷◌, ◌++◌}
 use Prim.Native.Nat.{ℕ, suc, ◌+◌, ◌*◌, ◌^◌, ◌≤◌, ◌<◌}
 use native.Mathlib.Nat.{eq-or-lt_of_le}
 use native.Mathlib.Omega.{arith}
-use lib.Dec.{lit<}
 use lib.ListN.{length, get_or, set, replicate, length-append, get_or-replicate}
 use lib.Seq.{get_or-set_same, get_or-set_other, get_or-take}
 use lib.IntN.{ℤ, pos, nat_abs, ◌+ℤ◌, ◌-ℤ◌, ◌*ℤ◌}
@@ -39,7 +38,7 @@ use Rattle.grid_tables.proofs.Factors.{place-in}
 use Rattle.book_rules.specs.BookChecks.{book_checks}
 use Rattle.book_rules.proofs.Accepted.{book-accepted}
 use Rattle.test_rules.specs.declared.Flows.{Flows}
-use Rattle.test_rules.specs.Inner.{Adds, Ends, Judgeable}
+use Rattle.test_rules.specs.Inner.{Adds, Judgeable}
 use Rattle.test_rules.specs.Carried.{Carries}
 
 -- the comparison that the code makes
@@ -75,24 +74,9 @@ module _ (before cells : List ℤ) (f : ℕ → ℤ) (k : ℕ) (done : (j : ℕ)
 pub kept-sized : (x : ℤ) (B : ℕ) → B < 2 ^ 63 → nat_abs x ≤ B → nat_abs (to_z w64 (of_z w64 x)) ≤ B
 kept-sized x B b h = rw (back x (omega arith)) h
 
--- the cells of a contract's two rows, each within its range
-pub rows-kept : (k : ℕ) (fs : List ℤ) (c : Contract) → Ends k fs c → (j : ℕ) → j < k
-    → (nat_abs (to_z w64 (of_z w64 (get_or fs (c.source * k + j) (pos 0)))) ≤ max_factor) × (nat_abs (to_z w64 (of_z w64 (get_or fs (c.sink * k + j) (pos 0)))) ≤ max_factor)
-rows-kept k fs c h j b = (
-  kept-sized (get_or fs (c.source * k + j) (pos 0)) max_factor (lit< tt) (h.source-sized j b),
-  kept-sized (get_or fs (c.sink * k + j) (pos 0)) max_factor (lit< tt) (h.sink-sized j b),
-)
-
 -- y is what the machine gives
 pub part_small : (y a b : ℤ) (d : Kind) (q : ℕ) → y ≡ counted d ((a -ℤ b) *ℤ pos q) → nat_abs a ≤ max_factor → nat_abs b ≤ max_factor → q ≤ max_quantity → nat_abs y ≤ max_flow
 part_small y a b d q e ha hb hq = rw e (counted-times d (a -ℤ b) q (spread-small a b ha hb) hq)
-
-pub part-is : (k : ℕ) (fs : List ℤ) (c : Contract) → Ends k fs c → (j : ℕ) → j < k → (y : ℤ)
-    → y ≡ counted c.kind ((to_z w64 (of_z w64 (get_or fs (c.source * k + j) (pos 0))) -ℤ to_z w64 (of_z w64 (get_or fs (c.sink * k + j) (pos 0)))) *ℤ pos c.quantity.0)
-    → y ≡ part fs (c.source * k) (c.sink * k) c.quantity c.kind j
-unfolding part
-part-is k fs c h j b y e =
-    e ∙ rw (back (get_or fs (c.source * k + j) (pos 0)) (omega (arith, h.source-sized j b)), back (get_or fs (c.sink * k + j) (pos 0)) (omega (arith, h.sink-sized j b)))
 
 -- v is the sum that the machine gives
 pub sum_is : (x y v p : ℤ) → nat_abs x ≤ max_flow * max_contracts → nat_abs y ≤ max_flow → v ≡ to_z w64 (of_z w64 x) +ℤ y → y ≡ p → to_z w64 (of_z w64 v) ≡ x +ℤ p

@@ -1,7 +1,7 @@
 // A feasibility test of any size, step by step: a book's flows added to running totals, and totals judged.
 #![tactic(auto)]
 
-ghost use Rattle.std.specs.Prelude.{◌≡◌, ◌≤◌, length};
+ghost use Rattle.std.specs.Prelude.{◌≡◌, length};
 ghost use Rattle.lists.specs.Lent.{before, after, overwrite};
 ghost use Rattle.test_totals.specs.Totals.{no_totals_of};
 ghost use Rattle.test_totals.specs.AddFlows.{add_flows_call, AddsFlows};
@@ -12,22 +12,21 @@ use grid_tables::FactorTable;
 use tariff::{Flow, MAX_CONSTRAINTS, MAX_LIMIT, Period, Process, Refusal};
 use test_rules::{Flows, Verdict};
 use test_terms::AskedFlows;
+use test_verdict::Loading;
 
 // Totals are of at most so many contracts, so that no sum leaves 64 bits.
 pub const MAX_SUMMED: usize = 20000000;
 
-// Whether cells are no totals of so many contracts.
-fn no_totals(constraints: usize, count: usize, flows: &[i64]) -> bool
-    requires { constraints ≤ length flows.now }
-    ensures { result ≡ no_totals_of constraints count flows.now }
+// Whether flows are no totals of so many contracts: here and below `count` is of contracts, and not of cells.
+fn no_totals(count: usize, flows: &[i64]) -> bool
+    ensures { result ≡ no_totals_of (length flows.now) count flows.now }
 {
-    MAX_SUMMED < count
-        || flows[..constraints]
-            .iter()
-            .any(|flow| test_held::flow_beyond(*flow, count))
+    MAX_SUMMED < count || test_held::flows_beyond(flows, count)
 }
 
-// Adds the flows carried to the first cells of `out`.
+// Adds the flows carried to the first cells of `out`. Not one function with `test_excesses::fill_excess`: a sum with what stood there and a difference from
+// what is released, under facts of their own; a closure for each would be longer than both.
+// By index: the count stands beside the cells, as C gives it; a zip was tried, and did not prove: the library's laws of zips are of cells that are only read.
 fn add_cells(constraints: usize, carried: Flows, out: &mut [i64])
     requires { Addable constraints carried out.old }
     ensures { after out ≡ overwrite (with_flows constraints carried (before out)) (before out) }
@@ -39,6 +38,7 @@ fn add_cells(constraints: usize, carried: Flows, out: &mut [i64])
 }
 
 // Adds the flow on each constraint of a period's contracts as they count to the totals in `flows`, and how many were counted to `count`.
+// Limits, factors and cells as C lends them.
 pub fn add_flows(
     asked: AskedFlows,
     limits: &[u64],
@@ -51,7 +51,7 @@ pub fn add_flows(
         result (after flows) (after count) }
 {
     test_loading::check_flows(asked, limits, factors, book, flows)?;
-    if no_totals(asked.constraints, *count, flows) {
+    if no_totals(*count, &flows[..asked.constraints]) {
         return Err(Refusal::ContractCount);
     }
     let period = Period::from(asked.period);
@@ -65,7 +65,7 @@ pub fn add_flows(
     Ok(carried.count)
 }
 
-// The checks of judging totals.
+// The checks of judging totals: the cells as C lends them, since whether they hold as many as the constraints is checked here.
 fn check_judged(
     constraints: usize,
     process: u64,
@@ -90,13 +90,14 @@ fn check_judged(
     if grid_tables::cell_above(&limits[..constraints], MAX_LIMIT) {
         return Err(Refusal::LimitRange);
     }
-    if no_totals(constraints, count, flows) {
+    if no_totals(count, &flows[..constraints]) {
         return Err(Refusal::ContractCount);
     }
     Ok(())
 }
 
-// Judges totals of flows by the released limits of their constraints: whether the contracts that they are of are simultaneously feasible on them.
+// Judges totals of flows by the released limits of their constraints: whether the contracts that they are of are simultaneously feasible on them. Limits and
+// cells as C lends them.
 pub fn judge_flows(
     constraints: usize,
     process: u64,
@@ -108,5 +109,6 @@ pub fn judge_flows(
 {
     check_judged(constraints, process, limits, flows, count)?;
     let held = test_held::held_flows(constraints, flows);
-    Ok(test_verdict::verdict(constraints, Process::from(process), limits, held))
+    let loading = Loading::of(constraints, limits, held);
+    Ok(loading.verdict(Process::from(process)))
 }

@@ -7,7 +7,7 @@ use lib.IntN.{ℤ}
 use Rattle.tariff.specs.declared.contracts.Contract.{Contract}
 use Rattle.tariff.specs.declared.contracts.Period.{Period}
 use Rattle.tariff.specs.declared.refusals.Refusal.{Refusal}
-use Rattle.std.specs.Prelude.{Ok, Err}
+use Rattle.std.specs.Prelude.{Err}
 use Rattle.tariff.specs.Refusals.{passed}
 use Rattle.tariff.specs.Units.{Grid, grid_of, max_constraints}
 use Rattle.tariff.specs.ContractRules.{period_of}

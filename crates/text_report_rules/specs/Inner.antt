@@ -1,23 +1,13 @@
--- What inner functions and proofs say of the report: its parts as they are put one behind the other and their longest texts, and what is reported on.
-use Rattle.std.specs.Prelude.{◌≡◌, Bool, cond, List, [], ◌++◌, ℕ, ◌+◌, ◌*◌, ◌/◌, ◌%◌, ◌^◌, eqb, length, ℤ, pos}
+-- What inner functions and proofs say of the report: its parts as they are put one behind the other, and their longest texts.
+use Rattle.std.specs.Prelude.{Bool, cond, List, [], ◌++◌, ℕ, ◌+◌, ◌*◌, ◌/◌, ◌%◌, ◌^◌, eqb, length, ℤ}
 use Rattle.text_format.specs.Ascii.{ascii}
 use Rattle.text_format.specs.Decimal.{decimal, decimal_z}
 use Rattle.tariff.specs.declared.contracts.Period.{Period}
 use Rattle.tariff.specs.declared.processes.Process.{Process}
-use Rattle.tariff.specs.Refusals.{passed}
-use Rattle.tariff.specs.Units.{max_constraints, max_limit}
-use Rattle.tariff.specs.Refusals.{first}
-use Rattle.grid_tables.specs.Inner.{GoodFactors, GoodCells}
-use Rattle.book_rules.specs.BookChecks.{book_checks}
+use Rattle.tariff.specs.Units.{max_constraints}
 use Rattle.test_rules.specs.declared.Verdict.{Verdict}
 use Rattle.test_rules.specs.declared.Verdict.TheVariants.{Pass, Fail}
 use Rattle.text_report_rules.specs.Report.{period_word, process_word, numbers_to}
-
--- tables and a book that the test accepts in every process and period
-pub record Reportable (n k : ℕ) (limits : List ℕ) (factors : List ℤ) (book : List ℕ) : Type 0 where
-  pub good-limits : GoodCells max_limit k limits
-  pub good-factors : GoodFactors n k factors
-  pub good_book : first (book_checks n book) ≡ passed
 
 -- bit k of a set
 abbrev pub in_set : ℕ → ℕ → Bool
@@ -41,10 +31,6 @@ abbrev pub answer_line : ℕ → Period → Process → Verdict → List ℕ
 answer_line constraints period process verdict =
     period_word period ++ ascii "," ++ (process_word process ++ ascii ",") ++ answer_figures constraints verdict ++ ascii "\n"
 
-abbrev pub over_by : Verdict → ℤ
-over_by Pass = pos 0
-over_by (Fail set count lowest over) = over.0
-
 -- ---- the most characters of each part, where a figure is any of 64 bits
 
 abbrev pub period_room : ℕ
@@ -60,11 +46,8 @@ member_room = length (ascii " 63")
 abbrev pub numbers_room : ℕ
 numbers_room = max_constraints * member_room
 
-abbrev pub counts_room : ℕ
-counts_room = length (ascii "fail,18446744073709551615,18446744073709551615,")
-
 abbrev pub figures_room : ℕ
-figures_room = counts_room + length (ascii "-18446744073709551615,") + numbers_room
+figures_room = length (ascii "fail,18446744073709551615,18446744073709551615,-18446744073709551615,") + numbers_room
 
 abbrev pub line_room : ℕ
 line_room = period_room + process_room + figures_room + length (ascii "\n")

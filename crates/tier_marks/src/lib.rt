@@ -1,4 +1,5 @@
-// Marks of a running test: a tier is marked, and returned to. Cells are copied and compared, and nothing is worked out.
+// Marks of a running test: a tier is marked, and returned to. Cells are copied and compared, and nothing is worked out. A state is two buffers of their own
+// types, `numbers` and `flows`, since C lends it so.
 #![tactic(auto)]
 
 ghost use Rattle.std.specs.Prelude.{◌≡◌};
@@ -51,7 +52,8 @@ fn check_return(tier: u64, numbers: &[u64], flows: &[i64]) -> Result<(), Refusal
     Ok(())
 }
 
-// Returns to a tier's mark: later awards are dropped, and marks made when more were held.
+// Returns to a tier's mark: later awards are dropped, and marks made when more were held. The steps are those of `mark_tier`, but the check, the numbers and
+// the way that flows go are others: one function would take all three.
 pub fn return_to_tier(tier: u64, numbers: &mut [u64], flows: &mut [i64]) -> Result<(), Refusal>
     ensures { ReturnsToTier (return_to_tier_call tier (before numbers) (before flows)) result (after numbers) (after flows) }
 {

@@ -1,8 +1,7 @@
 // The checks of opening and adding: as the test does up to 7, with the lent buffers under the 9.
 #![tactic(auto)]
 
-ghost use Rattle.std.specs.Prelude.{◌≡◌, [], ◌∷◌, length};
-ghost use Rattle.lists.specs.Lent.{before};
+ghost use Rattle.std.specs.Prelude.{◌≡◌, [], ◌∷◌};
 ghost use Rattle.tariff.specs.Refusals.{first};
 ghost use Rattle.tier_rules.specs.Checks.{running_checks};
 ghost use Rattle.tier_rules.specs.Cells.{held_in};
@@ -28,7 +27,7 @@ fn counts_bad(asked: Asked) -> bool
     nodes_bad | (constraints_bad | (process_bad | period_bad))
 }
 
-// 9 for the three buffers, by their lengths.
+// 9 for the three buffers, by their lengths. They stay apart, as C lends them to opening and adding.
 pub fn state_short(awards: usize, numbers: usize, flows: usize) -> bool
     ensures { result ≡ state_short_of awards numbers flows }
 {
@@ -38,7 +37,7 @@ pub fn state_short(awards: usize, numbers: usize, flows: usize) -> bool
     awards_short | (numbers_short | flows_short)
 }
 
-// 2, 3, 16, 17, 9, 6, 7, where `short` says whether some buffer is too short.
+// 2, 3, 16, 17, 9, 6, 7, where `short` says whether some buffer is too short. Limits and factors are no `GridTable` yet.
 pub fn check_tables(
     asked: Asked,
     limits: &[u64],

@@ -9,62 +9,59 @@ ghost use Rattle.tier_rules.specs.Cells.{state_numbers, held_in};
 ghost use Rattle.tier_running_rules.specs.AddAward.{no_state_of};
 ghost use Rattle.tier_running_rules.specs.Inner.{Addable, StateLike, FlowsWith, AddsFlows};
 
-use grid_tables::FactorTable;
+use grid_tables::{FactorTable, GridTable};
 use tariff::{Contract, Process};
 use test_rules::Flows;
+use test_verdict::Loading;
 
-// Whether the cells are no state's: more counted than held, or a flow beyond what they can make.
+// Whether the cells are no state's: more counted than held, or a flow beyond what they can make. Numbers and flows stay two slices, here and below: C lends
+// them so, with more cells behind them.
 fn no_state(constraints: usize, numbers: &[u64], flows: &[i64]) -> bool
     requires { (state_numbers ≤ length numbers.now) × (constraints ≤ length flows.now) × (held_in numbers.now < max_contracts) }
     ensures { result ≡ no_state_of constraints numbers.now flows.now }
 {
     let counted = numbers[1];
-    if numbers[0] < counted {
-        return true;
-    }
-    for k in 0..constraints {
-        if test_held::flow_beyond(flows[k], counted as usize) {
-            return true;
-        }
-    }
-    false
+    numbers[0] < counted || test_held::flows_beyond(&flows[..constraints], counted as usize)
 }
 
-// The flows with an award's.
+// The flows with an award's. `InRange` is a clause: a type for a contract in range would be made for each contract of a book.
 fn flows_with(table: FactorTable, c: Contract, numbers: &[u64], flows: &[i64]) -> Flows
     requires { InRange table.nodes c × StateLike table.constraints numbers.now flows.now }
     ensures { FlowsWith (factors_of table.entry.nodes table.entry.constraints table.entry.cells.now) c flows.now result }
 {
     let mut tried = test_held::held_flows(table.constraints, flows);
-    test_flows::add_flow(&mut tried.flows, c, table);
+    let source = table.row(c.source);
+    let sink = table.row(c.sink);
+    test_flows::add_flow(&mut tried.flows, c, source, sink);
     tried
 }
 
 // Adds the flows and the count of an award that is of the period (`own`), and says whether 21 comes instead.
+// A `bool`, as each check's: 21 is the one refusal, and `AddsFlows` speaks of the buffers by it.
 pub fn add_flows(
     own: bool,
-    table: FactorTable,
+    grid: GridTable,
     process: Process,
-    limits: &[u64],
     c: Contract,
     numbers: &mut [u64],
     flows: &mut [i64],
 ) -> bool
-    requires { Addable table.nodes table.constraints limits.now table.cells.now c numbers.old flows.old }
-    ensures { AddsFlows own limits.now process (factors_of table.entry.nodes table.entry.constraints table.entry.cells.now) c
+    requires { Addable grid.factors.nodes grid.factors.constraints grid.limits.now grid.factors.cells.now c numbers.old flows.old }
+    ensures { AddsFlows own grid.entry.limits.now process (factors_of grid.entry.factors.nodes grid.entry.factors.constraints grid.entry.factors.cells.now) c
         (before numbers) (before flows) result (after numbers) (after flows) }
 {
     if !own {
         return false;
     }
-    if no_state(table.constraints, numbers, flows) {
+    let constraints = grid.factors.constraints;
+    if no_state(constraints, numbers, flows) {
         return true;
     }
-    let tried = flows_with(table, c, numbers, flows);
-    if test_verdict::overload_set(table.constraints, process, limits, tried) != 0 {
+    let tried = flows_with(grid.factors, c, numbers, flows);
+    if Loading::of(constraints, grid.limits, tried).overload_set(process) != 0 {
         return true;
     }
-    test_loading::fill_flows(table.constraints, tried, flows);
+    test_loading::fill_flows(constraints, tried, flows);
     numbers[1] += 1;
     false
 }

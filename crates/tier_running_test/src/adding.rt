@@ -8,12 +8,12 @@ ghost use Rattle.tier_rules.specs.Cells.{awards_cells, state_numbers, held_in, l
 ghost use Rattle.tier_running_rules.specs.AddAward.{add_award_on, AddsAward};
 ghost use Rattle.tier_running_rules.specs.Inner.{Addable, AddsFlows};
 
-use grid_tables::FactorTable;
+use grid_tables::GridTable;
 use layouts::CONTRACT_CELLS;
 use tariff::{Contract, Period, Process, Refusal};
 use test_terms::Asked;
 
-// Stores an award behind those held.
+// Stores an award behind those held. Awards, numbers and flows stay three buffers, here and below: C lends them so, with more cells behind them.
 fn store_award(c: Contract, awards: &mut [u64], numbers: &mut [u64])
     requires { (awards_cells ≤ length awards.old) × (state_numbers ≤ length numbers.old) × (held_in numbers.old < max_contracts) }
     ensures { (after awards ≡ with_award_row (held_in (before numbers)) c (before awards))
@@ -24,29 +24,22 @@ fn store_award(c: Contract, awards: &mut [u64], numbers: &mut [u64])
 }
 
 // Tries the flows of an award: those of one of the period are added, unless 21 comes instead, which it says.
+// A `bool`, as each check's: 21 is the one refusal, and `AddsFlows` speaks of the buffers by it.
 fn try_flows(
     asked: Asked,
-    limits: &[u64],
-    factors: &[i64],
+    grid: GridTable,
     c: Contract,
     numbers: &mut [u64],
     flows: &mut [i64],
 ) -> bool
-    requires { (asked.process ≤ 2) × Addable asked.nodes asked.constraints limits.now factors.now c numbers.old flows.old }
-    ensures { AddsFlows (same_period c.period (period_of asked.period)) limits.now (process_of asked.process)
-        (factors_of asked.nodes asked.constraints (factors.now)) c (before numbers) (before flows) result (after numbers) (after flows) }
+    requires { Addable grid.factors.nodes grid.factors.constraints grid.limits.now grid.factors.cells.now c numbers.old flows.old }
+    ensures { AddsFlows (same_period c.period (period_of asked.period)) grid.entry.limits.now (process_of asked.process)
+        (factors_of grid.entry.factors.nodes grid.entry.factors.constraints grid.entry.factors.cells.now) c
+        (before numbers) (before flows) result (after numbers) (after flows) }
 {
     let is_own = c.period == Period::from(asked.period);
-    let table = FactorTable::of(asked.nodes, asked.constraints, factors);
-    tier_running_flows::add_flows(
-        is_own,
-        table,
-        Process::from(asked.process),
-        limits,
-        c,
-        numbers,
-        flows,
-    )
+    let process = Process::from(asked.process);
+    tier_running_flows::add_flows(is_own, grid, process, c, numbers, flows)
 }
 
 // Adds an award to a running test, unless some flow would exceed its released limit: its checks before 21, its flows, then its row.
@@ -64,7 +57,8 @@ pub fn add_award(
 {
     tier_running_checks::check_award(asked, limits, factors, award, awards, numbers, flows)?;
     let c = book_rows::contract_from(award, 0);
-    let over = try_flows(asked, limits, factors, c, numbers, flows);
+    let grid = GridTable::of(asked.nodes, asked.constraints, limits, factors);
+    let over = try_flows(asked, grid, c, numbers, flows);
     if over {
         return Err(Refusal::AwardOverload);
     }

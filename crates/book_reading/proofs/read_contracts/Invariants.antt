@@ -9,4 +9,4 @@ use Rattle.layouts.specs.BookTable.{cells_of}
 use Rattle.book_reading.proofs.read_contracts.Given as goal
 
 abbrev pub invariant-loop-i : goal.invariant-loop-i
-invariant-loop-i l = (length l.book ≡ length l.initial.book) × (l.book ≡ overwrite (flat_map cells_of (list_to l.i (contract_in l.form l.file))) l.initial.book)
+invariant-loop-i l = (length l.book ≡ length l.initial.book) × (l.book ≡ overwrite (flat_map cells_of (list_to l.i (contract_in l.contracts.form l.contracts.file.now))) l.initial.book)

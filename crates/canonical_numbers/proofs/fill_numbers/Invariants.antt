@@ -6,4 +6,4 @@ use Rattle.canonical_rules.specs.Inner.{row_number}
 use Rattle.canonical_numbers.proofs.fill_numbers.Given as goal
 
 abbrev pub invariant-loop-i : goal.invariant-loop-i
-invariant-loop-i l = take l.i l.cells ≡ list_to l.i (λ j. row_number (contract_in l.form l.book j))
+invariant-loop-i l = take l.i l.cells ≡ list_to l.i (λ j. row_number (contract_in l.contracts.form l.contracts.file.now j))

@@ -9,7 +9,7 @@ pub returns-then-row-next : goal.returns-then-row-next
 returns-then-row-next c =
     let a = c.args in
     let other = ne_eqb (a.row / 1048576) (a.next / 1048576) c.if-row-next.true in
-    record { out-is = rw other; goes-is = rw other; pending-is = rw other; few = omega arith; sized = c.requires.1 }
+    record { out-is = rw other; pending-is = rw other; sized = c.requires.1 }
 
 pub returns-then-lt : goal.returns-then-lt
 returns-then-lt c =
@@ -21,12 +21,10 @@ returns-then-lt c =
     let both = both_is in
     let many = lt-leb (x + y) 1000000 (omega (arith, both, too_many)) in
     let rest : c.sub.result.0 ≡ x + y - 1000000 = omega (arith, both, c.sub.ensures) in
-    let is = rw rest at c.row_with.ensures in
+    let is = rw rest at c.row_with-then-lt.ensures in
     record {
-      out-is = rw one c.row_with-full.ensures;
-      goes-is = rw (one, many);
+      out-is = rw (one, many, c.row_with.ensures);
       pending-is = rw (one, many) is;
-      few = omega arith;
       sized = rw is (omega (arith, c.requires.0, c.requires.1));
     }
 
@@ -41,4 +39,4 @@ returns c =
     let low : x + y ≤ 1000000 = omega (arith, both, few-enough) in
     let few = le-leb (x + y) 1000000 low in
     let is = rw both at c.row_with-2.ensures in
-    record { out-is = rw one c.row_with-full.ensures; goes-is = rw (one, few); pending-is = rw (one, few) is; few = omega arith; sized = rw is (omega arith) }
+    record { out-is = rw (one, few); pending-is = rw (one, few) is; sized = rw is (omega arith) }

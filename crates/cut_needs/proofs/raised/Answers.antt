@@ -28,4 +28,4 @@ returns c =
     let s = x in
     let a = s.args in
     let within = within-so a.over.0 a.over.0 _ _ refl (relief_of a.kind a.source a.sink _ a.need.0 s.requires.source_bound.0 s.requires.source_bound.1 c.counted_flow-relief.ensures) x.lt.result x.lt.ensures c.if-lt.false in
-    raise_enough a.over.0 (counted a.kind (a.source -ℤ a.sink)) a.need.0 a.most.0 s.requires.pos_bound.0 s.requires.source_bound.2 within
+    raise_enough a.over.0 (counted a.kind (a.source -ℤ a.sink)) a.need.0 a.most.0 s.requires.pos_bound s.requires.source_bound.2 within

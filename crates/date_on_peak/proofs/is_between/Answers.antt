@@ -13,7 +13,7 @@ returns-then-contains c =
     let s = c.new.ensures in
     let days : (leb a.from a.day && leb a.day a.to) ≡ true =
     sym ((rw (s.start, s.end, s.exhausted) at c.contains.ensures.value) ∙ range-test a.from a.to a.day) ∙ c.if-contains.true in
-    rw (days, c.weekday_number.ensures)
+    rw (days, c.weekday.ensures)
 
 pub returns-else-contains : goal.returns-else-contains
 unfolding between

@@ -8,11 +8,17 @@ use Rattle.date_period.specs.HourPeriod.{peak_hour, period_is}
 use Rattle.date_period.proofs.period_at.Goals as goal
 use Rattle.date_period.proofs.period_at.Goals.{else-is_within-via-then-is_within+else-on_peak_day, else-is_within-via-else-is_within}
 
+pub invariant_of-month : goal.invariant_of-month
+invariant_of-month c =
+    let d = c.args.date in
+    let i = date_in d.year d.month d.day c.requires in
+    record { reached = (omega (arith, i.month_there), i.month_there.year_high, i.month_there.month_high) }
+
 pub on_peak_day-requires : goal.on_peak_day-requires
 on_peak_day-requires c =
     let d = c.args.date in
     let i = date_in d.year d.month d.day c.requires in
-    (omega (arith, i.month_there), i.month_there.year_high, i.month_there.month_high, i.day_low, i.day_high)
+    (i.day_low, i.day_high)
 
 -- the hour is a peak hour, and the day is on-peak
 pub returns-then-on_peak_day : goal.returns-then-on_peak_day

@@ -1,10 +1,13 @@
 -- `add_contract`: where it is of the period, an obligation's figures or an option's sums.
-use mathlib.Core.Path.{sym, ◌∙◌}
+use mathlib.Core.Path.{◌≡◌, sym, ◌∙◌}
 use native.Mathlib.Omega.{arith}
+use lib.ListN.{length}
+use lib.Seq.{length-take-le}
+use Rattle.tariff.specs.declared.contracts.Kind.TheVariants.{Option}
 use Rattle.tariff.specs.Inner.{max_released}
 use Rattle.hour_rules.proofs.Amounts.{period_told}
-use Rattle.exposure_sets.specs.Inner.{cell_in_of}
-use Rattle.exposure_sets.proofs.Laws.{pow_most, sums_small, no_obligation, option_added}
+use Rattle.exposure_sets.specs.Inner.{cell_in_of, Sums}
+use Rattle.exposure_sets.proofs.Laws.{sums_small, no_obligation, option_added, front-ready, front-added}
 use Rattle.exposure_sets.proofs.add_contract.Goals as goal
 
 pub add_counted-requires-in-Option : goal.add_counted-requires-in-Option
@@ -12,23 +15,31 @@ add_counted-requires-in-Option c =
     let a = c.args in
     let f = c.fill_spreads.ensures in
     let x = c.set_sums.ensures in
-    let few = c.requires.ends.1.few in
-    let most = pow_most a.count a.n c.requires.ends.2 few in
-    let small = sums_small max_released a.count a.n
-    (cell_in_of c.fill_spreads.new.figures)
-    c.set_sums.new.sums c.requires.ends.2 few f.sized x.0 in
-    (most, omega (arith, most, x.1), omega (arith, most, c.requires.sums_len.1), λ m h. omega (arith, small m h), c.requires.sums_len.3)
+    let n = c.set_count in
+    let few = c.args.listing.chosen.few in
+    let count = length a.listing.over.now in
+    let figures = c.fill_spreads.new.figures in
+    let long : length figures ≡ count = f.length-kept ∙ length-take-le count _ few in
+    let sums : Sums count (cell_in_of figures) c.set_sums.new.sums = rw long at x in
+    let small = sums_small max_released count n.result (cell_in_of figures) c.set_sums.new.sums n.ensures.0 few f.sized sums in
+    front-ready n.result c.set_sums.new.sums a.costs.now n.ensures.2 (omega arith) (omega arith) (λ m h. omega (arith, small m h))
+    (λ m h. c.requires.small.1 m (rw n.ensures.0 at h))
 
 pub returns-in-Option : goal.returns-in-Option
 returns-in-Option c =
     let a = c.args in
-    let own = sym (c.eq.ensures ∙ period_told a.c.period a.period) ∙ c.if-eq.true in
-    let filled = c.fill_spreads.ensures in
+    let own = sym (c.eq.ensures ∙ period_told a.c.period a.listing.tested.period) ∙ c.if-eq.true in
+    let f = c.fill_spreads.ensures in
     let kind = c.in-Option.is in
-    let x = c.set_sums.ensures in (
-      no_obligation a.constraints a.factors.now a.over.now a.count a.period a.c own _ _ filled kind max_released a.row.now,
-      option_added a.constraints a.factors.now a.over.now a.count a.period a.c own _ _ filled kind a.n
-          c.set_sums.new.sums a.costs.now _ c.requires.ends.2 c.requires.ends.1.few x.0
-          c.add_counted-in-Option.ensures,
-      x.1,
+    let x = c.set_sums.ensures in
+    let n = c.set_count in
+    let few = c.args.listing.chosen.few in
+    let count = length a.listing.over.now in
+    let figures = c.fill_spreads.new.figures in
+    let long : length figures ≡ count = f.length-kept ∙ length-take-le count _ few in
+    let sums : Sums count (cell_in_of figures) c.set_sums.new.sums = rw long at x in
+    let added = front-added Option n.result c.set_sums.new.sums a.costs.now _ (omega (arith, n.ensures.2)) c.add_counted-in-Option.ensures in (
+      no_obligation a.listing.tested.grid.factors.constraints a.listing.tested.grid.factors.cells.now a.listing.over.now count a.listing.tested.period a.c own _ _ f kind max_released a.row.now,
+      rw n.ensures.0 at (option_added a.listing.tested.grid.factors.constraints a.listing.tested.grid.factors.cells.now a.listing.over.now count a.listing.tested.period a.c own _ _ f kind n.result
+          c.set_sums.new.sums a.costs.now _ n.ensures.0 few sums added),
     )

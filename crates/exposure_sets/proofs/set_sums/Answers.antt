@@ -1,5 +1,5 @@
 -- `set_sums`: the sums of the places passed.
-use Rattle.std.proofs.Common.{◌∙◌, arith, pos}
+use Rattle.std.proofs.Common.{◌≡◌, ◌∙◌, arith, length, pos}
 use Rattle.std.proofs.Math.ListN.{length-set}
 use Rattle.std.proofs.Math.Seq.{get_or-set_same}
 use Rattle.integers.proofs.Machine.{back}
@@ -10,16 +10,17 @@ use Rattle.exposure_sets.proofs.set_sums.Goals as goal
 pub loop-t-init : goal.loop-t-init
 loop-t-init c =
     let cells = c.args.sums.now in
-    summed-start _ _ (length-set cells 0 (pos 0) ∙ c.requires.3) (get_or-set_same cells 0 (pos 0) (pos 0) (omega (arith, c.requires.3)))
+    let long : length cells ≡ 1024 = omega arith in
+    summed-start _ _ (length-set cells 0 (pos 0) ∙ long) (get_or-set_same cells 0 (pos 0) (pos 0) (omega (arith, long)))
 
 pub grow-requires : goal.grow-requires
 grow-requires c =
     let l = c.loop-t in
-    room-to_grow c.args.count (cell_in_of c.args.figures.now) l.sums _ l.t c.set_count.ensures.0 l.invariant (omega arith) c.requires.0 c.requires.2 _
-    (back (cell_in_of c.args.figures.now l.t) (omega (arith, c.requires.2 l.t (omega arith))))
+    room-to_grow (length c.args.figures.now) (cell_in_of c.args.figures.now) l.sums _ l.t c.set_count.ensures.0 l.invariant (omega arith) c.requires.0 c.requires.1 _
+    (back (cell_in_of c.args.figures.now l.t) (omega (arith, c.requires.1 l.t (omega arith))))
 
 pub loop-t-preserved : goal.loop-t-preserved
 loop-t-preserved c =
     let l = c.loop-t in
-    summed-next c.args.count (cell_in_of c.args.figures.now) l.sums _ l.t c.set_count.ensures.0 l.invariant (omega arith) c.requires.0 _ _
-    (back (cell_in_of c.args.figures.now l.t) (omega (arith, c.requires.2 l.t (omega arith)))) c.grow.ensures
+    summed-next (length c.args.figures.now) (cell_in_of c.args.figures.now) l.sums _ l.t c.set_count.ensures.0 l.invariant (omega arith) c.requires.0 _ _
+    (back (cell_in_of c.args.figures.now l.t) (omega (arith, c.requires.1 l.t (omega arith)))) c.grow.ensures

@@ -74,12 +74,15 @@ returns-then-field-grid_spare c = sym (past-3 c.args.file.now c.form_in-form.res
     c.if-constraints-gt-MAX_CONSTRAINTS.false
     ∙ first-refuses _ _ (differs _ _ (rw (c.field.ensures.0, c.grid_spare.ensures) at c.if-field-grid_spare.true)))
 
-pub file_bytes-requires : goal.file_bytes-requires
-file_bytes-requires c = (
-  rw c.grid_header_bits.ensures (short-header c.form_in-form.result),
-  good c.form_in-form.result _ _ (sym (bad c.form_in-form.result c.nodes_in-nodes.result _ _
-      c.most_nodes.ensures c.nodes_outside.ensures) ∙ c.if-nodes_outside.false) c.if-constraints-gt-MAX_CONSTRAINTS.false,
-)
+pub invariant_of-size : goal.invariant_of-size
+invariant_of-size c =
+    let within = sym (bad c.form_in-form.result c.nodes_in-nodes.result _ _ c.most_nodes.ensures c.nodes_outside.ensures) ∙ c.if-nodes_outside.false in
+    record {
+      good = (
+        rw c.grid_header_bits.ensures (short-header c.form_in-form.result),
+        good c.form_in-form.result _ _ within c.if-constraints-gt-MAX_CONSTRAINTS.false,
+      );
+    }
 
 pub returns-then-file-file_bytes : goal.returns-then-file-file_bytes
 returns-then-file-file_bytes c = sym (past-4 c.args.file.now c.form_in-form.result c.nodes_in-nodes.result c.constraints_in-constraints.result c.form_in-form.ensures

@@ -24,10 +24,10 @@ unfolding write_grid_checks
 returns-then-nodes_outside c = sym (first-refuses _ _ (sym (bad (write_grid_call c.args.form c.args.nodes c.args.constraints c.args.limits.now c.args.factors.now
     c.args.file.now) c.most_nodes.ensures c.nodes_outside.ensures) ∙ c.if-nodes_outside.true))
 
-pub file_bytes-requires : goal.file_bytes-requires
-file_bytes-requires c =
+pub invariant_of-size : goal.invariant_of-size
+invariant_of-size c =
     let t = grid-tables _ _ _ _ _ _ (sym c.check_grid_tables.ensures ∙ c.in_ok-check_grid_tables.was) in
-    (rw c.grid_header_bits.ensures (short-header c.args.form), record { nodes-few = t.good-factors.nodes-few; few = t.good-factors.few })
+    record { good = (rw c.grid_header_bits.ensures (short-header c.args.form), record { nodes-few = t.good-factors.nodes-few; few = t.good-factors.few }) }
 
 pub returns-then-file-file_bytes : goal.returns-then-file-file_bytes
 returns-then-file-file_bytes c =

@@ -30,12 +30,12 @@ pub write_run-past_limits-requires-clause-run_bound : goal.write_run-past_limits
 write_run-past_limits-requires-clause-run_bound c =
     let ok = c.requires in
     let here : bits_written c.put_header-past_header.result ≡ grid_header_bits_of c.args.form = c.put_header-past_header.ensures.end ∙ header-total _ _ _ in
-    omega (arith, ok.room, here, length-take-le c.args.constraints c.args.limits.now ok.good-limits.long, c.put_header-past_header.auto.file)
+    omega (arith, ok.room, here, length-take-le c.args.table.constraints c.args.limits.now ok.good-limits.long, c.put_header-past_header.auto.file)
 
 pub write_factors-past_factors-requires-clause-sized : goal.write_factors-past_factors-requires-clause-sized
 write_factors-past_factors-requires-clause-sized c k l =
-    let m = c.factor_count-count in
-    let fs = c.args.factors.now in
+    let m = c.factors in
+    let fs = c.args.table.cells.now in
     let ok = c.requires.good-factors in
     let cut = length-take-le m.result fs (omega (arith, m.ensures.0, ok.long)) in
     rw (get_or-take m.result fs k _ (rw cut at l)) (cell_small _ _ fs ok k (rw (cut, m.ensures.0) at l))
@@ -43,10 +43,10 @@ write_factors-past_factors-requires-clause-sized c k l =
 pub write_factors-past_factors-requires-clause-run_bound : goal.write_factors-past_factors-requires-clause-run_bound
 write_factors-past_factors-requires-clause-run_bound c =
     let ok = c.requires in
-    let m = c.factor_count-count in
+    let m = c.factors in
     let here : bits_written c.put_header-past_header.result ≡ grid_header_bits_of c.args.form = c.put_header-past_header.ensures.end ∙ header-total _ _ _ in
-    let limit_cut = length-take-le c.args.constraints c.args.limits.now ok.good-limits.long in
-    let factor_cut = length-take-le m.result c.args.factors.now (omega (arith, m.ensures.0, ok.good-factors.long)) in
+    let limit_cut = length-take-le c.args.table.constraints c.args.limits.now ok.good-limits.long in
+    let factor_cut = length-take-le m.result c.args.table.cells.now (omega (arith, m.ensures.0, ok.good-factors.long)) in
     omega (
       arith,
       ok.room,
@@ -63,39 +63,39 @@ pub put_last-requires-clause-width_bound : goal.put_last-requires-clause-width_b
 put_last-requires-clause-width_bound c =
     let a = c.args in
     let ok = c.requires in
-    let m = c.factor_count-count in
+    let m = c.factors in
     let here : bits_written c.put_header-past_header.result ≡ grid_header_bits_of a.form = c.put_header-past_header.ensures.end ∙ header-total _ _ _ in
-    let limit_cut = length-take-le a.constraints a.limits.now ok.good-limits.long in
-    let factor_cut = length-take-le m.result a.factors.now (omega (arith, m.ensures.0, ok.good-factors.long)) in
-    let end : bits_written c.write_factors-past_factors.result ≡ grid_bits a.form a.nodes a.constraints =
+    let limit_cut = length-take-le a.table.constraints a.limits.now ok.good-limits.long in
+    let factor_cut = length-take-le m.result a.table.cells.now (omega (arith, m.ensures.0, ok.good-factors.long)) in
+    let end : bits_written c.write_factors-past_factors.result ≡ grid_bits a.form a.table.nodes a.table.constraints =
     omega (arith, c.write_factors-past_factors.ensures.result_value_2, factor_cut, c.write_run-past_limits.ensures.result_value_2, limit_cut, here, m.ensures.0) in
     let long : length c.write_factors-past_factors.new.buf ≡ length a.file.now = c.write_factors-past_factors.auto.buf ∙ c.write_run-past_limits.auto.buf
     ∙ c.put_header-past_header.auto.file in
-    let bytes = size a.form a.nodes a.constraints _ c.grid_header_bits-header.ensures c.file_bytes-size.ensures.0 in
-    let bits = used a.form a.nodes a.constraints _ c.grid_header_bits-header.ensures c.used_bits-used.ensures.0 in
+    let bytes = size a.form a.table.nodes a.table.constraints _ c.grid_header_bits.ensures c.file_bytes-bytes.ensures.0 in
+    let bits = used a.form a.table.nodes a.table.constraints _ c.grid_header_bits.ensures c.used_bits.ensures.0 in
     omega (arith, bytes, bits, ok.room, end, long)
 
 pub returns-clause-value : goal.returns-clause-value
 returns-clause-value c =
     let a = c.args in
-    size a.form a.nodes a.constraints _ c.grid_header_bits-header.ensures c.file_bytes-size.ensures.0
-    ∙ sym (length-written a.form a.nodes a.constraints a.limits.now a.factors.now a.file.now c.requires)
+    size a.form a.table.nodes a.table.constraints _ c.grid_header_bits.ensures c.file_bytes-bytes.ensures.0
+    ∙ sym (length-written a.form a.table.nodes a.table.constraints a.limits.now a.table.cells.now a.file.now c.requires)
 
 pub returns-clause-file_value : goal.returns-clause-file_value
 returns-clause-file_value c =
     let a = c.args in
-    let m = c.factor_count-count in
+    let m = c.factors in
     let e = c.write_run-past_limits.ensures in
     let f = c.write_factors-past_factors.ensures in
     let g = c.put_last.ensures in
-    let limits = written-run c.put_header-past_header.ensures limit_width _ _ (take a.constraints a.limits.now) _ refl
+    let limits = written-run c.put_header-past_header.ensures limit_width _ _ (take a.table.constraints a.limits.now) _ refl
     (e.result_value, (e.result_value_2, e.writes_on)) in
-    let factors = written-run limits factor_width _ _ (coded m.result a.factors.now) _ (length-map (take m.result a.factors.now) (of_int factor_width))
+    let factors = written-run limits factor_width _ _ (coded m.result a.table.cells.now) _ (length-map (take m.result a.table.cells.now) (of_int factor_width))
     (f.result_value, (f.result_value_2, f.writes_on)) in
     let all = written_last factors _ _ _ 0 (g.result_value, (g.result_value_2, g.writes_on)) in
-    let bytes = size a.form a.nodes a.constraints _ c.grid_header_bits-header.ensures c.file_bytes-size.ensures.0 in
-    let bits = used a.form a.nodes a.constraints _ c.grid_header_bits-header.ensures c.used_bits-used.ensures.0 in
-    grid-filled a.form a.nodes a.constraints a.limits.now a.factors.now a.file.now c.requires _ _ _ _ m.ensures.0
+    let bytes = size a.form a.table.nodes a.table.constraints _ c.grid_header_bits.ensures c.file_bytes-bytes.ensures.0 in
+    let bits = used a.form a.table.nodes a.table.constraints _ c.grid_header_bits.ensures c.used_bits.ensures.0 in
+    grid-filled a.form a.table.nodes a.table.constraints a.limits.now a.table.cells.now a.file.now c.requires _ _ _ _ m.ensures.0
     (ap₂ (λ (x y : ℕ). 8 * x - y) bytes bits) all g.result_value_2.1
     (λ i. (c.type_inv.file i).fits) (c.put_last.auto.buf ∙ c.write_factors-past_factors.auto.buf ∙ c.write_run-past_limits.auto.buf
     ∙ c.put_header-past_header.auto.file)

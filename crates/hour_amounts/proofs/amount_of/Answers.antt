@@ -1,7 +1,6 @@
 -- `amount_of`: sink minus source, times quantity, as it counts; and what priced it.
 use mathlib.Core.Path.{◌≡◌}
-use mathlib.Core.List.{List}
-use Prim.Native.Nat.{ℕ, ◌≤◌}
+use Prim.Native.Nat.{◌≤◌}
 use native.Mathlib.Omega.{arith}
 use lib.IntN.{ℤ, nat_abs, ◌-ℤ◌}
 use Rattle.integers.proofs.Sizes.{nat_abs_sub}
@@ -49,6 +48,13 @@ counted-amount-requires c =
     let r = c.requires in
     let s = small a.hour.tables a.c a.sink a.source r.0 r.1 c.sub.result.0 c.sub.ensures in
     omega (arith, product_fits a.c r.0.quantity-sized c.sub.result.0 s c.times.result.0 c.times.ensures)
+
+pub invariant_of-result : goal.invariant_of-result
+invariant_of-result c =
+    let a = c.args in
+    let r = c.requires in
+    let s = small a.hour.tables a.c a.sink a.source r.0 r.1 c.sub.result.0 c.sub.ensures in
+    record { sized = counted-fits a.c r.0.quantity-sized c.sub.result.0 s c.times.result.0 c.counted-amount.result.0 c.times.ensures c.counted-amount.ensures }
 
 pub returns : goal.returns
 returns c =

@@ -10,11 +10,11 @@ eight_more-set-requires c =
     let a = c.args in
     let l = c.loop-eight in
     let i = (l.eight - 1) * 8 in
-    let f = differ_at a.factors.now a.source a.sink in
-    let inside : i + 8 ≤ a.constraints = omega (arith, l.auto.eight) in
-    let fits = set-fits 8 a.constraints (l.eight * 8) i f l.set _ (omega arith) (omega (arith, l.auto.eight)) l.invariant refl c.requires.0 in (
-      row-part a.factors.now a.source a.constraints c.requires.1 i 8 inside,
-      row-part a.factors.now a.sink a.constraints c.requires.2 i 8 inside,
+    let f = differ_at a.table.cells.now a.source a.sink in
+    let inside : i + 8 ≤ a.table.constraints = omega (arith, l.auto.eight) in
+    let fits = set-fits 8 a.table.constraints (l.eight * 8) i f l.set _ (omega arith) (omega (arith, l.auto.eight)) l.invariant refl a.table.good.few in (
+      row-part a.table.cells.now a.source a.table.constraints c.requires.0 i 8 inside,
+      row-part a.table.cells.now a.sink a.table.constraints c.requires.1 i 8 inside,
       omega (arith, fits),
     )
 
@@ -23,12 +23,12 @@ loop-eight-preserved c =
     let a = c.args in
     let l = c.loop-eight in
     let i = (l.eight - 1) * 8 in
-    let f = differ_at a.factors.now a.source a.sink in
-    c.eight_more-set.ensures ∙ ap (λ (x : ℕ). l.set * 256 + x) (differ_from a.factors.now a.source a.sink i 8)
-    ∙ set-turn 8 a.constraints (l.eight * 8) i f l.set _ (omega arith) (omega (arith, l.auto.eight)) l.invariant refl
+    let f = differ_at a.table.cells.now a.source a.sink in
+    c.eight_more-set.ensures ∙ ap (λ (x : ℕ). l.set * 256 + x) (differ_from a.table.cells.now a.source a.sink i 8)
+    ∙ set-turn 8 a.table.constraints (l.eight * 8) i f l.set _ (omega arith) (omega (arith, l.auto.eight)) l.invariant refl
 
 pub returns : goal.returns
 returns c =
     let a = c.args in
     let l = c.loop-eight in
-    set-end a.constraints (l.eight * 8) l.set (differ_at a.factors.now a.source a.sink) (omega arith) l.invariant
+    set-end a.table.constraints (l.eight * 8) l.set (differ_at a.table.cells.now a.source a.sink) (omega arith) l.invariant

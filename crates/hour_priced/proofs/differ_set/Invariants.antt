@@ -5,4 +5,4 @@ use Rattle.hour_priced.specs.Inner.{differ_at}
 use Rattle.hour_priced.proofs.differ_set.Given as goal
 
 abbrev pub invariant-loop-eight : goal.invariant-loop-eight
-invariant-loop-eight l = l.set ≡ set_of (l.constraints - l.eight * 8) (λ (j : ℕ). differ_at l.factors l.source l.sink (l.eight * 8 + j))
+invariant-loop-eight l = l.set ≡ set_of (l.table.constraints - l.eight * 8) (λ (j : ℕ). differ_at l.table.cells.now l.source l.sink (l.eight * 8 + j))

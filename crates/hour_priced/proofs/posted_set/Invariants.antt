@@ -7,4 +7,4 @@ abbrev pub posted : List ℕ → ℕ → Bool
 posted prices k = ltb 0 (get_or prices k 0)
 
 abbrev pub invariant-loop-k : goal.invariant-loop-k
-invariant-loop-k l = l.set ≡ set_of (l.hour.factors.constraints - l.k) (λ (j : ℕ). posted l.hour.prices.now (l.k + j))
+invariant-loop-k l = l.set ≡ set_of (l.constraints - l.k) (λ (j : ℕ). posted l.prices (l.k + j))

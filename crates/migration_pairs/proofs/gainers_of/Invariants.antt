@@ -1,7 +1,6 @@
 -- The invariant of `migration_pairs::gainers_of`.
-use Prim.Native.Nat.{◌-◌, ◌≤◌}
 use Rattle.migration_pairs.specs.Inner.{GainersOf}
 use Rattle.migration_pairs.proofs.gainers_of.Given as goal
 
-abbrev pub invariant-loop-j : goal.invariant-loop-j
-invariant-loop-j l = GainersOf l.row l.j l.gainers
+abbrev pub invariant-loop-net : goal.invariant-loop-net
+invariant-loop-net l = GainersOf l.fn.row l.net-index l.gainers

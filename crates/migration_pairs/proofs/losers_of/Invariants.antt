@@ -1,7 +1,7 @@
 -- The invariant of `migration_pairs::losers_of`.
 use mathlib.Core.Path.{◌≡◌}
 use mathlib.Core.List.{[]}
-use Prim.Native.Nat.{ℕ, ◌-◌, ◌≤◌, ◌<◌}
+use Prim.Native.Nat.{ℕ, ◌<◌}
 use lib.ListN.{length, get_or}
 use Rattle.tariff.specs.Units.{max_entities}
 use Rattle.migration_pairs.specs.Inner.{GainersOf, no_gainers_of}

@@ -1,6 +1,6 @@
 -- The invariant of `migration_square::fill_row`.
 use mathlib.Core.Path.{◌≡◌}
-use Prim.Native.Nat.{◌+◌, ◌-◌, ◌≤◌}
+use Prim.Native.Nat.{◌+◌}
 use lib.ListN.{length, take, drop}
 use mathlib.Core.List.{◌++◌}
 use Rattle.migration_square.specs.Inner.{row_cells}

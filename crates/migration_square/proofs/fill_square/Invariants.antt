@@ -1,6 +1,5 @@
 -- The invariant of `migration_square::fill_square`.
 use mathlib.Core.Path.{◌≡◌}
-use Prim.Native.Nat.{◌-◌, ◌≤◌}
 use lib.ListN.{length}
 use Rattle.lists.specs.Lent.{overwrite}
 use Rattle.migration_square.specs.Inner.{rows_cells}

@@ -1,9 +1,5 @@
 -- `check_figures`: the rows' checks, then the loads.
-use mathlib.Core.Path.{◌≡◌, sym, ap, ◌∙◌}
-use Rattle.std.proofs.Common.{Bool, List, ℕ, length, take}
-use lib.Seq.{take-length}
-use Rattle.lists.specs.Lists.{any_of, above}
-use Rattle.tariff.specs.Units.{max_load}
+use mathlib.Core.Path.{sym, ◌∙◌}
 use Rattle.std.proofs.lemmas.Result.{err_from_is_err_and}
 use Rattle.tariff.proofs.Checks.{first-refuses, last-passes, append_refuses, append_passes}
 use Rattle.migration_rules.specs.Transfers.{migration_row_checks, range_checks}

@@ -30,9 +30,6 @@ cell_is row n j h = ap (λ (t : Transfer). t.0) (get_or-take n row j no_transfer
 small : (row : List Transfer) (n j : ℕ) → n ≤ max_entities → SizedRow row → j < length (take n row) → nat_abs (cell row n j) ≤ max_net
 small row n j few fine h = rw (cell_is row n j h) (fine.sized j (omega (arith, length-take n row)))
 
-pub lost-requires : goal.lost-requires
-lost-requires c = omega (arith, small c.args.row c.args.entities c.loop-net.net-index c.requires.0 c.requires.1 c.loop-net-test.true)
-
 pub add-lost-requires : goal.add-lost-requires
 add-lost-requires c =
     let a = c.args in

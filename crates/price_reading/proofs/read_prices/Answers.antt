@@ -9,7 +9,7 @@ use Rattle.bits.proofs.Fields.{length_fields}
 use Rattle.tariff.proofs.Answers.{answer-passed, cells-passed}
 use Rattle.lists.specs.Lent.{overwrite}
 use Rattle.layouts.specs.PriceFile.{prices_in, price_width}
-use Rattle.price_rules.proofs.PriceLaws.{readable}
+use Rattle.price_rules.proofs.PriceLaws.{readable, number-of_period}
 use Rattle.price_reading.proofs.read_prices.Goals as goal
 
 pub slice_bounds-read_run-end : goal.slice_bounds-read_run-end
@@ -40,6 +40,6 @@ returns c =
     let read : c.read_run.new.out ++ drop a.constraints a.prices.now ≡ overwrite prices a.prices.now =
     rw (is, length_fields) refl in
     record {
-      period-given = rw c.field.ensures.0 (answer-passed _ _ c.check_read.ensures told _);
+      period-given = rw (c.from.ensures, number-of_period c.field.result c.field.ensures.1, c.field.ensures.0) (answer-passed _ _ c.check_read.ensures told _);
       prices-read = cells-passed _ _ c.check_read.ensures told (prices_in a.constraints a.file.now) a.prices.now _ read;
     }

@@ -14,13 +14,13 @@ pub loop-k-preserved : goal.loop-k-preserved
 loop-k-preserved c =
     let s = c in
     let l = c.loop-k in
-    let f = excess_in s.args.limits.now s.args.process s.args.carried.flows in
+    let f = excess_in s.args.loading.limits.now s.args.process s.args.loading.flows.flows in
     let h = c.loop-k-test.true in
-    let is = excess-kept s.args.limits.now s.args.process s.args.carried.flows l.k c.released.result.0 c.sub-excess.result.0
-    (s.requires.0.flows-sized l.k h) (s.requires.0.good-limits.sized l.k h) c.released.ensures c.sub-excess.ensures in
-    let v = is ∙ sym (get_d_list_to s.args.constraints f l.k (pos 0) h) in (
+    let is = excess-kept s.args.loading.limits.now s.args.process s.args.loading.flows.flows l.k c.released.result.0 c.sub-excess.result.0
+    (s.args.loading.judgeable.flows-sized l.k h) (s.args.loading.judgeable.good-limits.sized l.k h) c.released.ensures c.sub-excess.ensures in
+    let v = is ∙ sym (get_d_list_to s.args.loading.constraints f l.k (pos 0) h) in (
       simp length-set l.invariant.0,
-      fill_turn (list_to s.args.constraints f) l.out l.k l.invariant.1 _ (pos 0) (omega (arith, s.requires.1, l.invariant.0)) (rw (length-list_to s.args.constraints f) h) v,
+      fill_turn (list_to s.args.loading.constraints f) l.out l.k l.invariant.1 _ (pos 0) (omega (arith, s.requires, l.invariant.0)) (rw (length-list_to s.args.loading.constraints f) h) v,
       rest-turn l.out s.args.out.now l.k _ l.invariant.2,
     )
 
@@ -28,6 +28,6 @@ pub returns : goal.returns
 returns c =
     let s = c in
     let l = c.loop-k in
-    let f = excess_in s.args.limits.now s.args.process s.args.carried.flows in
-    fill_front (list_to s.args.constraints f) l.out s.args.out.now l.k l.invariant.1 l.invariant.2
-    (rw (length-list_to s.args.constraints f) (omega arith))
+    let f = excess_in s.args.loading.limits.now s.args.process s.args.loading.flows.flows in
+    fill_front (list_to s.args.loading.constraints f) l.out s.args.out.now l.k l.invariant.1 l.invariant.2
+    (rw (length-list_to s.args.loading.constraints f) (omega arith))

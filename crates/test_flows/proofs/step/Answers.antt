@@ -20,6 +20,7 @@ use Rattle.book_rules.proofs.Accepted.{book-accepted}
 use Rattle.test_rules.specs.declared.Flows.{Flows}
 use Rattle.test_rules.specs.Carried.{Carries}
 use Rattle.test_rules.proofs.Flowing.{same_period-is, count_most, flow-most, carry_same, carry_other}
+use Rattle.test_flows.proofs.Rows.{rows_in, rows_added}
 use Rattle.test_flows.proofs.step.Goals.{then-eq, else-eq}
 use Rattle.test_flows.proofs.step.Goals as goal
 
@@ -40,15 +41,33 @@ room n k fs t book good own i b carried h =
 own : (n : ℕ) (book : List ℕ) → first (book_checks n book) ≡ passed → (i : ℕ) → i < contract_count_in book → (c : Contract) → c ≡ contract_at book i → InRange n c
 own n book accepted i b c e = rw e ((book-accepted n book accepted).each i b)
 
+pub row-source-requires : goal.row-source-requires
+row-source-requires c =
+    let s = c in
+    let l = c.loop-i in
+    let b : l.i < contract_count_in s.args.contracts.file.now = omega (arith, s.requires.some.1, s.requires.of_book.1) in
+    let is = c.at-c.ensures ∙ ap (λ (f : Form). contract_in f s.args.contracts.file.now l.i) s.requires.of_book.0 in
+    (own s.args.table.nodes s.args.contracts.file.now s.requires.accepted l.i b _ is).source-below
+
+pub row-sink-requires : goal.row-sink-requires
+row-sink-requires c =
+    let s = c in
+    let l = c.loop-i in
+    let b : l.i < contract_count_in s.args.contracts.file.now = omega (arith, s.requires.some.1, s.requires.of_book.1) in
+    let is = c.at-c.ensures ∙ ap (λ (f : Form). contract_in f s.args.contracts.file.now l.i) s.requires.of_book.0 in
+    (own s.args.table.nodes s.args.contracts.file.now s.requires.accepted l.i b _ is).sink-below
+
 pub add_flow-requires : goal.add_flow-requires
 add_flow-requires c =
     let s = c in
     let l = c.loop-i in
     let b : l.i < contract_count_in s.args.contracts.file.now = omega (arith, s.requires.some.1, s.requires.of_book.1) in
     let is = c.at-c.ensures ∙ ap (λ (f : Form). contract_in f s.args.contracts.file.now l.i) s.requires.of_book.0 in
-    let r = room s.args.table.nodes s.args.table.constraints s.args.table.cells.now s.args.period s.args.contracts.file.now s.args.table.good s.requires.accepted l.i b l.carried l.invariant.1 in (
-      own s.args.table.nodes s.args.contracts.file.now s.requires.accepted l.i b _ is,
-      record { few = s.args.table.good.few; all = l.invariant.0; flows-sized = r.1 },
+    let t = s.args.table in
+    let r = room t.nodes t.constraints t.cells.now s.args.period s.args.contracts.file.now t.good s.requires.accepted l.i b l.carried l.invariant.1 in
+    let ranged = own t.nodes s.args.contracts.file.now s.requires.accepted l.i b _ is in (
+      rows_in t.nodes t.constraints t.cells.now c.at-c.result ranged _ _ c.row-source.ensures c.row-sink.ensures,
+      rw c.row-source.ensures.long (record { few = t.good.few; all = l.invariant.0; flows-sized = r.1 }),
     )
 
 pub overflow_add-carried : goal.overflow_add-carried
@@ -82,7 +101,7 @@ loop-i-preserved c =
     elim c.if-eq.branch [
       | then-eq w ↦ (
         ap length (flows-of w.carried-is) ∙ w.add_flow.ensures.length-kept ∙ l.invariant.0,
-        more (is_same ∙ w.if-eq.true) ranged _ w.add_flow.ensures (flows-of w.carried-is) (count_of w.carried-is),
+        more (is_same ∙ w.if-eq.true) ranged _ (rows_added n k fs r.result ranged _ _ w.row-source.ensures w.row-sink.ensures _ _ w.add_flow.ensures) (flows-of w.carried-is) (count_of w.carried-is),
       )
       | else-eq w ↦ (
         ap length (flows-of w.carried-is) ∙ l.invariant.0,

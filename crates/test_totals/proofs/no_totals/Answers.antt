@@ -1,12 +1,10 @@
--- `no_totals`: the library's search of the flows.
-use mathlib.Core.Path.{◌≡◌, ◌∙◌}
-use borrow.Author.Rules.{rules}
-use borrow.Author.Tests.{tests, lt-ltb, le-ltb}
-use lib.ListN.{take}
-use Rattle.std.specs.List.{list_any}
-use Rattle.std.proofs.lemmas.Iterator.{YieldsList-from_slice}
-use Rattle.std.proofs.lemmas.Iterator.Search.{any_from_yields_List}
-use Rattle.grid_tables.proofs.Cells.{searched}
+-- `no_totals`: the whole slice is searched.
+use mathlib.Core.Path.{sym, ap, ◌∙◌}
+use native.Mathlib.Omega.{arith}
+use borrow.Author.Tests.{lt-ltb, le-ltb}
+use lib.ListN.{length}
+use lib.Seq.{take_all}
+use Rattle.lists.specs.Lists.{any_of}
 use Rattle.test_totals.specs.Totals.{max_summed, beyond, no_totals_of}
 use Rattle.test_totals.proofs.no_totals.Goals as goal
 
@@ -17,7 +15,6 @@ returns-then-count-gt-MAX_SUMMED c = rw (lt-ltb max_summed c.args.count c.if-cou
 pub returns-else-count-gt-MAX_SUMMED : goal.returns-else-count-gt-MAX_SUMMED
 unfolding no_totals_of
 returns-else-count-gt-MAX_SUMMED c =
-    let flows = take c.args.constraints c.args.flows.now in
-    let e : c.any.result ≡ list_any (beyond c.args.count) flows =
-    any_from_yields_List (beyond c.args.count) _ _ _ c.any.ensures.ran (YieldsList-from_slice flows cc) (λ x b q k. search (rules, tests)) in
-    rw (le-ltb max_summed c.args.count c.if-count-gt-MAX_SUMMED.false) (e ∙ searched _ _)
+    let flows = c.args.flows.now in
+    rw (le-ltb max_summed c.args.count c.if-count-gt-MAX_SUMMED.false)
+    (c.flows_beyond.ensures ∙ ap (any_of (beyond c.args.count)) (sym (take_all (length flows) flows (omega arith))))

@@ -6,4 +6,4 @@ use Rattle.view_holder.specs.Inner.{rows_to}
 use Rattle.view_holder.proofs.write_held.Given as goal
 
 abbrev pub invariant-loop-i : goal.invariant-loop-i
-invariant-loop-i l = (length l.view ≡ length l.initial.view) × (l.at ≡ length (rows_to l.form l.holder l.book l.i)) × (l.view ≡ overwrite (rows_to l.form l.holder l.book l.i) l.initial.view)
+invariant-loop-i l = (length l.view ≡ length l.initial.view) × (l.at ≡ length (rows_to l.contracts.form l.holder l.contracts.file.now l.i)) × (l.view ≡ overwrite (rows_to l.contracts.form l.holder l.contracts.file.now l.i) l.initial.view)

@@ -20,17 +20,17 @@ read_anew new read all old n is same long = ap₂ (λ xs (m : ℕ). xs ++ drop m
 pub returns-clause-limits_value : goal.returns-clause-limits_value
 returns-clause-limits_value c =
     let a = c.args in
-    let s = a.file.now in
-    let cut = length-take-le a.constraints a.limits.now c.requires.constraints_in_bounds.0 in
-    read_anew _ (fields s a.header limit_width a.constraints) _ a.limits.now a.constraints (rw cut at c.read_run.ensures)
-    (limits-are s a.header a.nodes a.constraints c.requires.counted) (length_fields s a.header limit_width a.constraints)
+    let s = a.grid.bytes.now in
+    let cut = length-take-le a.grid.size.constraints a.limits.now c.requires.0 in
+    read_anew _ (fields s a.grid.size.header limit_width a.grid.size.constraints) _ a.limits.now a.grid.size.constraints (rw cut at c.read_run.ensures)
+    (limits-are s a.grid.size.header a.grid.size.nodes a.grid.size.constraints a.grid.counted) (length_fields s a.grid.size.header limit_width a.grid.size.constraints)
 
 pub returns-clause-factors_value : goal.returns-clause-factors_value
 returns-clause-factors_value c =
     let a = c.args in
-    let s = a.file.now in
-    let n = c.factor_count-count.result in
-    let is = c.factor_count-count.ensures.0 in
-    let cut = length-take-le n a.factors.now (rw is c.requires.constraints_in_bounds.1) in
-    read_anew _ (factors_at s (a.header + limit_width * a.constraints) n) _ a.factors.now n (rw cut at c.read_factors.ensures)
-    (run_is s a.header a.nodes a.constraints c.requires.counted n is) (length_run s (a.header + limit_width * a.constraints) n)
+    let s = a.grid.bytes.now in
+    let n = c.factors-count.result in
+    let is = c.factors-count.ensures.0 in
+    let cut = length-take-le n a.factors.now (rw is c.requires.1) in
+    read_anew _ (factors_at s (a.grid.size.header + limit_width * a.grid.size.constraints) n) _ a.factors.now n (rw cut at c.read_factors.ensures)
+    (run_is s a.grid.size.header a.grid.size.nodes a.grid.size.constraints a.grid.counted n is) (length_run s (a.grid.size.header + limit_width * a.grid.size.constraints) n)

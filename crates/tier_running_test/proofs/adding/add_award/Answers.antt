@@ -66,29 +66,36 @@ contract_from-c-requires c =
     let ok : Fields q (held_in q.numbers) = fields q (held_in q.numbers) (sym c.check_award.ensures ∙ c.in_ok-check_award.was) in
     ok.before.award-long
 
+pub of-grid-requires : goal.of-grid-requires
+of-grid-requires c =
+    let a = c.args in
+    let q = call a.asked a.limits.now a.factors.now a.award.now a.awards.now a.numbers.now a.flows.now in
+    let ok : Fields q (held_in q.numbers) = fields q (held_in q.numbers) (sym c.check_award.ensures ∙ c.in_ok-check_award.was) in
+    (ok.before.tables.good-limits, ok.before.tables.good-factors)
+
 pub try_flows-over-requires : goal.try_flows-over-requires
 try_flows-over-requires c =
     let a = c.args in
     let q = call a.asked a.limits.now a.factors.now a.award.now a.awards.now a.numbers.now a.flows.now in
     let ok : Fields q (held_in q.numbers) = fields q (held_in q.numbers) (sym c.check_award.ensures ∙ c.in_ok-check_award.was) in
-    let in_range = contract-in_range q.nodes (row_at q.award 0) (row-award q.nodes q.award ok.row).checks_pass in (
-      ok.before.tables.process-number,
-      record {
-        good-limits = ok.before.tables.good-limits;
-        good-factors = ok.before.tables.good-factors;
-        in_range = rw c.contract_from-c.ensures in_range;
-        numbers-long = ok.before.numbers-long;
-        flows_long = ok.before.flows_long;
-        room = ok.room;
-      },
-    )
+    let in_range = contract-in_range q.nodes (row_at q.award 0) (row-award q.nodes q.award ok.row).checks_pass in
+    record {
+      good-limits = c.of-grid.result.good;
+      good-factors = c.of-grid.result.factors.good;
+      in_range = rw (c.contract_from-c.ensures, c.of-grid.ensures.nodes_kept) in_range;
+      numbers-long = ok.before.numbers-long;
+      flows_long = ok.before.flows_long;
+      room = ok.room;
+    }
 
 pub returns-then-over : goal.returns-then-over
 returns-then-over c =
     let a = c.args in
     let q = call a.asked a.limits.now a.factors.now a.award.now a.awards.now a.numbers.now a.flows.now in
     let w = c.try_flows-over in
-    let t = tried q c.contract_from-c.result w.result w.new.numbers w.new.flows c.contract_from-c.ensures w.ensures in
+    let kept = c.of-grid.ensures in
+    let told = rw (kept.limits_kept, kept.nodes_kept, kept.constraints_kept, kept.factors_kept) at w.ensures in
+    let t = tried q c.contract_from-c.result w.result w.new.numbers w.new.flows c.contract_from-c.ensures told in
     let over = c.if-over.true in
     let refused = over-refuses q c.check_award.result c.check_award.ensures c.in_ok-check_award.was (sym t.over-is ∙ over) in
     adds-21 q refused _ _ (numbers-by q w.result w.new.numbers w.new.flows t _ over) (flows-by q w.result w.new.numbers w.new.flows t _ over)
@@ -99,7 +106,9 @@ store_award-requires c =
     let q = call a.asked a.limits.now a.factors.now a.award.now a.awards.now a.numbers.now a.flows.now in
     let ok : Fields q (held_in q.numbers) = fields q (held_in q.numbers) (sym c.check_award.ensures ∙ c.in_ok-check_award.was) in
     let w = c.try_flows-over in
-    let t = tried q c.contract_from-c.result w.result w.new.numbers w.new.flows c.contract_from-c.ensures w.ensures in
+    let kept = c.of-grid.ensures in
+    let told = rw (kept.limits_kept, kept.nodes_kept, kept.constraints_kept, kept.factors_kept) at w.ensures in
+    let t = tried q c.contract_from-c.result w.result w.new.numbers w.new.flows c.contract_from-c.ensures told in
     -- the numbers before the award is stored
     let counts = numbers-by q w.result w.new.numbers w.new.flows t _ c.if-over.false in
     let k = counts-kept (own_period q) q.numbers (counted_in q.numbers + 1) in
@@ -110,7 +119,9 @@ returns c =
     let a = c.args in
     let q = call a.asked a.limits.now a.factors.now a.award.now a.awards.now a.numbers.now a.flows.now in
     let w = c.try_flows-over in
-    let t = tried q c.contract_from-c.result w.result w.new.numbers w.new.flows c.contract_from-c.ensures w.ensures in
+    let kept = c.of-grid.ensures in
+    let told = rw (kept.limits_kept, kept.nodes_kept, kept.constraints_kept, kept.factors_kept) at w.ensures in
+    let t = tried q c.contract_from-c.result w.result w.new.numbers w.new.flows c.contract_from-c.ensures told in
     let counts = numbers-by q w.result w.new.numbers w.new.flows t _ c.if-over.false in
     let held = ap held_in counts ∙ (counts-kept (own_period q) q.numbers (counted_in q.numbers + 1)).1 in
     let passes = held_passes q c.check_award.result c.check_award.ensures c.in_ok-check_award.was (sym t.over-is ∙ c.if-over.false) in

@@ -18,5 +18,4 @@ same_is OnPeak OnPeak = refl
 pub returns : goal.returns
 returns c =
     let a = c.args in
-    adds-as _ _ _ _ _ _ _ _ _ _ _ _ _ (c.eq-is_own.ensures ∙ same_is a.c.period _ ∙ ap (same_period a.c.period) c.from.ensures) c.from-2.ensures refl
-    (let kept = c.of-table.ensures in rw (kept.nodes_kept, kept.constraints_kept, kept.cells_kept) at c.add_flows.ensures)
+    adds-as _ _ _ _ _ _ _ _ _ _ _ _ _ (c.eq-is_own.ensures ∙ same_is a.c.period _ ∙ ap (same_period a.c.period) c.from.ensures) c.from-process.ensures refl c.add_flows.ensures
