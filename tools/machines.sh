@@ -62,13 +62,21 @@ words_for() { # MODULE.bc
     done < "$1.words"
 }
 
+# The text of a module as a machine's pointers want it.
+pointers_for() { # MACHINE TEXT.ll
+    case $1 in
+    wasm32) tools/pointers < "$2" ;;
+    *) cat "$2" ;;
+    esac
+}
+
 # An object for a machine from the text of a module; but for the target, clang is told what rattle told it.
 object_for() { # MACHINE TEXT.ll OBJECT
     local flags lines words
     read -ra flags <<< "$(flags_for "$1")"
     lines=$(target_lines "${flags[@]}")
     mapfile -t words < <(words_for "${2%.ll}.bc")
-    { echo "$lines" && sed "/^target /d; $(attributes_for "$1")" "$2"; } > "$3.ll"
+    { echo "$lines" && pointers_for "$1" "$2" | sed "/^target /d; $(attributes_for "$1")"; } > "$3.ll"
     "$(kit_tools)/clang" "${flags[@]}" "${words[@]}" -c -x ir "$3.ll" -o "$3"
     rm "$3.ll"
 }
@@ -90,14 +98,14 @@ shared_library() { # FILE ARCHIVE
     rm "$1.exports"
 }
 
-# crr.dll and its import library. What the library asks of the system, memcpy, memset and the probes of
-# the stack, is in ntdll.dll, which every process has.
+# crr.dll and its import library. What the library asks of the system, memcpy, memmove, memset and the
+# probes of the stack, is in ntdll.dll, which every process has.
 windows_library() { # FOLDER OBJECT..
     local out=$1 functions
     shift
     mapfile -t functions < <(header_functions)
     ln -sf "$(kit_tools)/clang" "$out/llvm-dlltool"
-    printf '%s\n' 'LIBRARY ntdll.dll' EXPORTS memcpy memset __chkstk > "$out/ntdll.def"
+    printf '%s\n' 'LIBRARY ntdll.dll' EXPORTS memcpy memmove memset __chkstk > "$out/ntdll.def"
     "$out/llvm-dlltool" -m i386:x86-64 -d "$out/ntdll.def" -l "$out/ntdll.lib"
     "$(kit_tools)/ld.lld" -flavor link /dll /noentry /nodefaultlib /machine:x64 /timestamp:0 /opt:ref,noicf \
         "${functions[@]/#//export:}" "/out:$out/crr.dll" "/implib:$out/crr.lib" "$out/ntdll.lib" "$@"
@@ -117,7 +125,7 @@ wasm_library() { # FILE OBJECT..
 modules_stamp() { # CRATE..
     local modules=("${@/#/target/modules/}")
     # The folder of the kit's toolchain is told to clang, and no code comes of it.
-    { rt version && cat tools/machines.sh include/crr.h "${modules[@]/%/.bc}" && grep -v ^--sysroot= "${modules[@]/%/.bc.words}"; } | sha256sum
+    { rt version && cat tools/machines.sh tools/pointers include/crr.h "${modules[@]/%/.bc}" && grep -v ^--sysroot= "${modules[@]/%/.bc.words}"; } | sha256sum
 }
 
 # The library for a machine, into its folder, unless that was made from the same modules in the same way.

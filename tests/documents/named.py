@@ -115,7 +115,7 @@ def main():
             problems.append(f"docs/MAP.md: the crate {crate} is not on the map")
     for name in pages(names):
         page = ROOT / name
-        told = name.startswith("docs/landings/") or name in ("CHANGELOG.md", "docs/PORT.md")
+        told = name.startswith("docs/landings/") or name in ("CHANGELOG.md", "docs/PORT.md", "docs/DESIGN-PASS.md")
         found = [*links(page), *wide(page), *([] if told else [*named(page, names, known, listed), *bare(page, names)])]
         problems += [f"{name}: {problem}" for problem in found]
     for problem in problems:

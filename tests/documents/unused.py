@@ -101,11 +101,22 @@ def declare(lines: Lines, file: str, around: Set[str], table: Table) -> None:
 
 
 def functions(lines: Lines, file: str, table: Table) -> None:
-    """The items of a file of code; an impl's are named as they are called."""
+    """The items of a file of code; an impl's are named as they are called.
+
+    A trait's impl is part of its type, since an operator is called by no name.
+    """
     last = None
+    in_trait = False
     for number, line in lines:
         found = CODE.match(line.strip())
-        if found and found[1] != "impl" and indent(line) <= 4:
+        of_trait = re.match(r"impl(?:<[^>]*>)? .+ for (\w+)", line)
+        if of_trait or in_trait and not line.startswith("}"):
+            last = Named(file, of_trait[1]) if of_trait else last
+            last = last if last in table else None
+            in_trait = True
+        elif line.startswith("}") and in_trait:
+            in_trait = False
+        elif found and found[1] != "impl" and indent(line) <= 4:
             last = Named(file, found[2])
             table.setdefault(last, Declared(number, set()))
         elif found and found[1] == "impl" or re.match(r"(?:pub |ghost )*(?:use|mod) ", line):

@@ -1,14 +1,14 @@
 -- Laws of `field` and `fields`: where a field lies, a run of fields, and a field gathered from bytes.
-use mathlib.Core.Path.{◌≡◌, refl, sym, ap, ◌∙◌}
+use mathlib.Core.Path.{◌≡◌, sym, ap, ◌∙◌}
 use Prim.Native.Nat.{ℕ, suc, ◌+◌, ◌-◌, ◌*◌, ◌/◌, ◌%◌, ◌^◌, ◌≤◌, ◌<◌}
 use native.Mathlib.Nat.{mul-le-mul_left, mul-suc, mod-lt}
 use native.Mathlib.Omega.{arith}
 use mathlib.Core.List.{List, ◌∷◌}
 use lib.ListN.{length, get_or, take, drop, length-drop, take-append-drop}
-use lib.Seq.{take-add, get_or-drop, length-take-le}
+use lib.Seq.{take-add, length-take-le}
 use lib.Pow.{pow_pos, shr-shr}
 use Rattle.bits.specs.Bits.{number, digits, field, fields}
-use Rattle.bits.proofs.Numbers.{Below, part-high, part_low, number_append, number_lt, number_more, number_fits, length_digits, get_d_digits, below-digits, below-drop}
+use Rattle.bits.proofs.Numbers.{Below, part-high, part_low, number_append, number_lt, length_digits, get_d_digits, below-digits, below-drop}
 
 pub field_lt : (s : List ℕ) (o w : ℕ) → field s o w < 2 ^ w
 unfolding field
@@ -49,25 +49,6 @@ field-window s o w f k b lo hi le =
     cut =
         ap (number 8) (sym (take-append-drop (f + k) s)) ∙ number_append 8 (take (f + k) s) rest
         ∙ rw (long, take-add, number_append, mid)
-
--- bytes gathered one by one
-pub window_more : (s : List ℕ) (f i acc : ℕ) → f + i < length s → acc ≡ number 8 (take i (drop f s))
-    → acc * 256 + get_or s (f + i) 0 ≡ number 8 (take (i + 1) (drop f s))
-window_more s f i acc h e = rw (number_more 8 (drop f s) i (rw length-drop (omega arith)), ← e, get_or-drop)
-
-pub window_fits : (s : List ℕ) (f i k acc : ℕ) → Below 8 s → i ≤ k → acc ≡ number 8 (take i (drop f s)) → acc < 2 ^ (8 * k)
-window_fits s f i k acc b h e = rw e (number_fits 8 (drop f s) i k (below-drop 8 f s b) h)
-
--- four bytes, summed flat
-pub window_four : (s : List ℕ) (f : ℕ) → f + 4 ≤ length s
-    → get_or s f 0 * 16777216 + get_or s (f + 1) 0 * 65536 + get_or s (f + 2) 0 * 256 + get_or s (f + 3) 0 ≡ number 8 (take 4 (drop f s))
-window_four s f h =
-    let one = window_more s f 0 0 (omega arith) refl in
-    let two = window_more s f 1 _ (omega arith) one in
-    let three = window_more s f 2 _ (omega arith) two in
-    let four = window_more s f 3 _ (omega arith) three in
-    let same : f + 0 ≡ f = omega arith in
-    omega (arith, rw same at four)
 
 -- k gathered bytes, shifted and masked
 pub field-code : (s : List ℕ) (o w k acc : ℕ) → Below 8 s → o % 8 + w ≤ 8 * k → o / 8 + k ≤ length s → acc ≡ number 8 (take k (drop (o / 8) s))

@@ -10,7 +10,7 @@ use lib.Pow.{shl-shr, high, low, mod-pow-add, mod-mod-pow, pow-add, pow_pos}
 use lib.Arith.{digits_lt}
 use Rattle.bits.specs.Bits.{number, digits}
 use Rattle.bits.specs.Fields.{Field, bits, total_width, packed, file_of}
-use Rattle.bits.specs.Inner.{written, bits_written, WriterReady, WritesOn}
+use Rattle.bits.specs.Inner.{written, bits_written, WritesOn}
 use Rattle.bits.specs.declared.BitWriter.{BitWriter}
 use Rattle.bits.proofs.Numbers.{Below, number_append, number_more, length_digits, digits_number, number_digits, below-take}
 use Rattle.lists.proofs.Fill.{drop-later}
@@ -59,7 +59,8 @@ module _ (n : ℕ) (s t : List ℕ) (at w : ℕ) (room : at + n ≤ length s) (i
   bytes-turn held bits big e =
       let all : held ≡ 8 * n + (held - 8 * n) = omega arith in
       let pows : 2 ^ held ≡ 2 ^ (8 * n) * 2 ^ (held - 8 * n) = ap (λ (x : ℕ). 2 ^ x) all ∙ pow-add 2 (8 * n) (held - 8 * n) in
-      let split : bits % 2 ^ held ≡ w * 2 ^ (held - 8 * n) + bits % 2 ^ (held - 8 * n) = ap (λ (x : ℕ). bits % 2 ^ x) all ∙ mod-pow-add bits (8 * n) (held - 8 * n) ∙ rw e in
+      let split : bits % 2 ^ held ≡ w * 2 ^ (held - 8 * n) + bits % 2 ^ (held - 8 * n) =
+      ap (λ (x : ℕ). bits % 2 ^ x) all ∙ mod-pow-add bits (8 * n) (held - 8 * n) ∙ rw e in
       let small : w % 2 ^ (8 * n) ≡ w = rw e (mod-mod _ _) in
       rw (front, small) (omega (arith, ap (λ (x : ℕ). number 8 (take at s) * x) pows, split))
 
@@ -78,9 +79,9 @@ goes_on {a} {b} {c} {p} {q} {r} x y = record { onward = omega (arith, x.onward, 
 -- ---- a writer that started at the beginning and put the fields one by one
 
 -- at the beginning nothing is written
-pub writer_start : (buf : List ℕ) (p : BitWriter) → WriterReady p → bits_written p ≡ 0 → written buf p ≡ packed []
+pub writer_start : (buf : List ℕ) (p : BitWriter) → bits_written p ≡ 0 → written buf p ≡ packed []
 unfolding written
-writer_start buf p ok at =
+writer_start buf p at =
     let h : p.held ≡ 0 = omega arith in
     let a : p.at ≡ 0 = omega arith in
     rw (h, a, mod-one p.bits) (omega arith)
@@ -90,20 +91,21 @@ pub writer_step : (fs : List Field) (w v Y Z : ℕ) → Y ≡ packed fs → Z �
 writer_step fs w v Y Z y z = z ∙ rw (y, packed-append, add-zero w) (omega arith)
 
 -- what stands before a writer between two bytes
-pub writer_bytes : (buf : List ℕ) (r : BitWriter) (m : ℕ) → WriterReady r → r.held ≤ 7 → bits_written r ≡ 8 * m → written buf r ≡ number 8 (take m buf)
+pub writer_bytes : (buf : List ℕ) (r : BitWriter) (m : ℕ) → r.held ≤ 7 → bits_written r ≡ 8 * m → written buf r ≡ number 8 (take m buf)
 unfolding written
-writer_bytes buf r m ok few end =
+writer_bytes buf r m few end =
     let h : r.held ≡ 0 = omega arith in
     let a : r.at ≡ m = omega arith in
     rw (h, a, mod-one r.bits) (omega arith)
 
 -- at the end the bytes are the file of the fields
-pub writer_end : (fs : List Field) (m : ℕ) (buf : List ℕ) (r : BitWriter) → Below 8 buf → m ≤ length buf → WriterReady r → r.held ≤ 7 → bits_written r ≡ total_width fs → total_width fs ≡ 8 * m
+pub writer_end : (fs : List Field) (m : ℕ) (buf : List ℕ) (r : BitWriter) → Below 8 buf → m ≤ length buf → r.held ≤ 7
+    → bits_written r ≡ total_width fs → total_width fs ≡ 8 * m
     → written buf r ≡ packed fs → take m buf ≡ file_of fs
 unfolding file_of
-writer_end fs m buf r b le ok few at end is =
+writer_end fs m buf r b le few at end is =
     let n : length (take m buf) ≡ total_width fs / 8 = omega (arith, length-take-le m buf le) in
-    sym (digits_number 8 (take m buf) (below-take 8 m buf b)) ∙ ap₂ (digits 8) n (sym (writer_bytes buf r m ok few (at ∙ end)) ∙ is)
+    sym (digits_number 8 (take m buf) (below-take 8 m buf b)) ∙ ap₂ (digits 8) n (sym (writer_bytes buf r m few (at ∙ end)) ∙ is)
 
 -- ---- a run t of fields of w bits, behind what was written before, X
 

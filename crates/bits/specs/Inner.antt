@@ -1,5 +1,5 @@
--- What inner functions and proofs say: fields that fit and fields that bytes hold; a writer that writes fields one after the other; digits the other way round.
-use Rattle.std.specs.Prelude.{◌≡◌, ℕ, zero, suc, ◌+◌, ◌*◌, ◌/◌, ◌%◌, ◌^◌, ◌≤◌, ◌<◌, List, [], ◌∷◌, take, drop}
+-- What inner functions and proofs say: fields that fit and fields that bytes hold; a writer that writes fields one after the other.
+use Rattle.std.specs.Prelude.{◌≡◌, ℕ, ◌+◌, ◌*◌, ◌%◌, ◌^◌, ◌≤◌, ◌<◌, List, [], ◌∷◌, take, drop}
 use Rattle.bits.specs.Bits.{number, field}
 use Rattle.bits.specs.Fields.{Field}
 use Rattle.bits.specs.declared.BitWriter.{BitWriter}
@@ -26,23 +26,7 @@ written s p = number 8 (take p.at s) * 2 ^ p.held + p.bits % 2 ^ p.held
 abbrev pub bits_written : BitWriter → ℕ
 bits_written p = 8 * p.at + p.held
 
--- a writer between two fields holds less than four bytes
-abbrev pub WriterReady : BitWriter → Type 0
-WriterReady p = p.held ≤ 31
-
 -- a writer that goes on: it never goes back, and the bytes from its new place on stay as they are
 pub record WritesOn (entry : List ℕ) (p : BitWriter) (exit : List ℕ) (r : BitWriter) : Type 0 where
   pub onward : p.at ≤ r.at
   pub rest : drop r.at exit ≡ drop r.at entry
-
--- ---- digits the other way round, the lowest first
-
--- the number whose digits of w bits are ds, the first the least significant
-abbrev pub number_up : ℕ → List ℕ → ℕ
-number_up w [] = 0
-number_up w (d ∷ ds) = number_up w ds * 2 ^ w + d
-
--- the n lowest digits of w bits of a number
-abbrev pub digits_up : ℕ → ℕ → ℕ → List ℕ
-digits_up w zero v = []
-digits_up w (suc n) v = v % 2 ^ w ∷ digits_up w n (v / 2 ^ w)

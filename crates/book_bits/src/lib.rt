@@ -3,13 +3,15 @@
 
 ghost use Rattle.std.specs.Prelude.{◌≡◌, ◌++◌, ◌+◌, ◌/◌, ◌%◌, ◌^◌, ◌≤◌, ◌<◌, length, take, drop};
 ghost use Rattle.lists.specs.Lent.{before, after, overwrite};
-ghost use Rattle.layouts.specs.declared.forms.Form.TheVariants.{Narrow, Wide};
 ghost use Rattle.layouts.specs.Forms.{end_width, record_bytes};
-ghost use Rattle.layouts.specs.BookFile.{kind_bit_of, period_bit_of, book_bytes_of, contract_count_in, book_spare_in, book_form_in, contract_in};
+ghost use Rattle.layouts.specs.BookFile.{book_bytes_of, contract_count_in, book_spare_in, book_form_in, contract_in};
 ghost use Rattle.layouts.specs.Inner.{contract_for};
 ghost use Rattle.layouts.specs.BookTable.{ContractFits};
 ghost use Rattle.book_rules.specs.Inner.{header_bytes, contract_bytes, terms_number_of, contract_number_of, bits_bytes};
 
+mod contracts;
+
+pub use contracts::Contracts;
 use layouts::{BOOK_HEADER_BYTES, CONTRACT_BYTES, Form, WIDE_CONTRACT_BYTES};
 use tariff::{Contract, Kind, Period, Quantity};
 
@@ -83,19 +85,20 @@ pub fn book_form(file: &[u8]) -> Form
     }
 }
 
-// The parts of the contract whose bits are the lowest of `v`, its ends of `width` bits.
+// The parts of the contract whose bits are the lowest of `v`, its ends of `width` bits. Each has its own place and width, as `spare_bits` has: one function for
+// two of them would take these as arguments, which `bits::part` does.
 pub fn kind_in(v: u64, width: usize) -> Kind
     requires { width ≤ 12 }
     ensures { result ≡ (contract_for width v).kind }
 {
-    Kind::from_number(bits::part(v, KIND_AT + (width + width), 1))
+    Kind::from(bits::part(v, KIND_AT + (width + width), 1))
 }
 
 pub fn period_in(v: u64, width: usize) -> Period
     requires { width ≤ 12 }
     ensures { result ≡ (contract_for width v).period }
 {
-    Period::from_number(bits::part(v, PERIOD_AT + (width + width), 1))
+    Period::from(bits::part(v, PERIOD_AT + (width + width), 1))
 }
 
 pub fn holder_in(v: u64, width: usize) -> u64
@@ -138,23 +141,18 @@ fn contract_of(v: u64, width: usize) -> Contract
     requires { width ≤ 12 }
     ensures { result ≡ contract_for width v }
 {
-    let kind = kind_in(v, width);
-    let period = period_in(v, width);
-    let holder = holder_in(v, width);
-    let source = source_in(v, width) as usize;
-    let sink = sink_in(v, width) as usize;
-    let quantity = Quantity(quantity_in(v));
     Contract {
-        kind,
-        period,
-        holder,
-        source,
-        sink,
-        quantity,
+        kind: kind_in(v, width),
+        period: period_in(v, width),
+        holder: holder_in(v, width),
+        source: source_in(v, width) as usize,
+        sink: sink_in(v, width) as usize,
+        quantity: Quantity(quantity_in(v)),
     }
 }
 
 // The eight bytes that end with contract i of a book's bytes, as one number: the header's two bytes stand before the first contract, so they are there.
+// It, `store_bits` and view_holder's `holder_of` match the form alike, but each arm calls its own function with its own numbers.
 pub fn bits_at(file: &[u8], form: Form, i: usize) -> u64
     requires { (i < 1024) × (book_bytes_of form i + record_bytes form ≤ length file.now) }
     ensures { contract_in form file.now i ≡ contract_for (end_width form) result }
@@ -165,7 +163,7 @@ pub fn bits_at(file: &[u8], form: Form, i: usize) -> u64
     }
 }
 
-// Contract i of a book's bytes in a form.
+// Contract i of a book's bytes in a form. Canonical books' `number_at` has the same two arms, with other functions in them.
 pub fn contract_at(file: &[u8], form: Form, i: usize) -> Contract
     requires { (i < 1024) × (book_bytes_of form i + record_bytes form ≤ length file.now) }
     ensures { result ≡ contract_in form file.now i }
@@ -186,60 +184,24 @@ pub fn store_header(file: &mut [u8], form: Form, contracts: usize)
     file[1] = ((contracts % 4 * 64) as u64 + spare) as u8;
 }
 
-// A kind and a period by the numbers that a book has for them.
-pub fn kind_bit(kind: Kind) -> u64
-    ensures { (result ≡ kind_bit_of kind) × (result < 2) }
-{
-    match kind {
-        Kind::Obligation => 0,
-        Kind::Option => 1,
-    }
-}
-
-pub fn period_bit(period: Period) -> u64
-    ensures { (result ≡ period_bit_of period) × (result < 2) }
-{
-    match period {
-        Period::OffPeak => 0,
-        Period::OnPeak => 1,
-    }
-}
-
 // A contract's kind, period and holder as one number.
 fn terms_number(c: Contract) -> u64
     requires { c.holder < 1024 }
     ensures { (result ≡ terms_number_of c) × (result < 4096) }
 {
-    let kind = c.kind;
-    let period = c.period;
-    (kind_bit(kind) * 2 + period_bit(period)) * HOLDERS + c.holder
+    (c.kind as u64 * 2 + c.period as u64) * HOLDERS + c.holder
 }
 
-// A contract's 48 bits as one number, its ends of 8 bits, from its kind, period and holder as one, its ends and its quantity.
-fn narrow_number(terms: u64, source: u64, sink: u64, quantity: u64) -> u64
-    requires { (terms < 4096) × (source < 256) × (sink < 256) × (quantity < 2 ^ 20) }
-    ensures { result ≡ contract_number_of Narrow terms source sink quantity }
-{
-    ((terms * NARROW_ENDS + source) * NARROW_ENDS + sink) * QUANTITIES + quantity
-}
-
-// A contract's 56 bits as one number, its ends of 12 bits.
-fn wide_number(terms: u64, source: u64, sink: u64, quantity: u64) -> u64
-    requires { (terms < 4096) × (source < 4096) × (sink < 4096) × (quantity < 2 ^ 20) }
-    ensures { result ≡ contract_number_of Wide terms source sink quantity }
-{
-    ((terms * WIDE_ENDS + source) * WIDE_ENDS + sink) * QUANTITIES + quantity
-}
-
-// A contract's bits as one number in a form.
+// A contract's bits as one number in a form, from its kind, period and holder as one, its ends and its quantity.
 pub fn contract_number(form: Form, terms: u64, source: u64, sink: u64, quantity: u64) -> u64
     requires { (terms < 4096) × (source < 2 ^ end_width form) × (sink < 2 ^ end_width form) × (quantity < 2 ^ 20) }
     ensures { result ≡ contract_number_of form terms source sink quantity }
 {
-    match form {
-        Form::Narrow => narrow_number(terms, source, sink, quantity),
-        Form::Wide => wide_number(terms, source, sink, quantity),
-    }
+    let ends = match form {
+        Form::Narrow => (terms * NARROW_ENDS + source) * NARROW_ENDS + sink,
+        Form::Wide => (terms * WIDE_ENDS + source) * WIDE_ENDS + sink,
+    };
+    ends * QUANTITIES + quantity
 }
 
 // Stores the bits of contract i of a book in a form: six or seven bytes at once.
@@ -259,8 +221,13 @@ pub fn store_contract(file: &mut [u8], form: Form, i: usize, c: Contract)
     requires contract_fits { ContractFits (end_width form) c }
     ensures { after file ≡ take (book_bytes_of form i) (before file) ++ contract_bytes form c ++ drop (book_bytes_of form i + record_bytes form) (before file) }
 {
-    let quantity = c.quantity;
     let terms = terms_number(c);
-    let v = contract_number(form, terms, c.source as u64, c.sink as u64, quantity.cell());
+    let v = contract_number(
+        form,
+        terms,
+        c.source as u64,
+        c.sink as u64,
+        u64::from(c.quantity),
+    );
     store_bits(file, form, i, v);
 }

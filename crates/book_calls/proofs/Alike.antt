@@ -9,8 +9,8 @@ use Rattle.lists.specs.Lists.{list_to}
 use Rattle.lists.specs.Lent.{Lent, before, after}
 use Rattle.lists.proofs.Lists.{length-list_to}
 use Rattle.lists.proofs.Fronts.{front-is}
-use Rattle.tariff.specs.declared.refusals.Checked.{Checked}
-use Rattle.tariff.specs.declared.refusals.Checked.TheVariants.{Passed, Refused}
+use Rattle.tariff.specs.Refusals.{Checked, passed}
+use Rattle.std.specs.Prelude.{Ok, Err}
 use Rattle.tariff.specs.Units.{factors_of}
 use Rattle.tariff.specs.ContractRules.{period_of}
 use Rattle.tariff.specs.Refusals.{Check, Outcome, first, decided, answered, cells_after, number_after}
@@ -22,16 +22,14 @@ use Rattle.layouts.specs.BookFile.{contract_count_in}
 use Rattle.grid_tables.specs.TableChecks.{grid_table_checks}
 use Rattle.book_rules.specs.BookChecks.{book_checks}
 use Rattle.book_rules.proofs.Accepted.{own_parts}
-use Rattle.test_rules.specs.declared.TestAnswer.{TestAnswer}
-use Rattle.test_rules.specs.declared.TestAnswer.TheVariants.{Pass}
+use Rattle.test_rules.specs.TestBook.{TestAnswer, pass}
 use Rattle.test_rules.specs.TestBook.{TestCall, test_call, test_outcome, TestsBook, test_checks, test_checked}
 use Rattle.test_rules.specs.TestBook.{tested_grid, tested_process, tested_contracts, test_values, TestCells, tested_cells}
 use Rattle.test_rules.proofs.Figures.{same_test, same_cells}
 use Rattle.test_rules.proofs.Judging.{passed_told}
-use Rattle.test_loading.specs.declared.FlowsAnswer.{FlowsAnswer}
+use Rattle.test_loading.specs.FindFlows.{FlowsAnswer}
 use Rattle.test_loading.specs.FindFlows.{FlowsCall, flows_call, find_flows_checks, find_flows_checked, counted_contracts, flow_cells, flows_outcome, FindsFlows}
-use Rattle.hour_rules.specs.declared.SettleAnswer.{SettleAnswer}
-use Rattle.hour_rules.specs.declared.SettleAnswer.TheVariants.{Settled}
+use Rattle.hour_rules.specs.SettleHour.{SettleAnswer, settled}
 use Rattle.hour_rules.specs.SettleHour.{HourCall, hour_call, settle_outcome, SettlesHour, SettlesForC, settle_checks}
 use Rattle.hour_rules.specs.SettleHour.{settle_checked, hour_total, hour_factors, hour_prices, hour_period, sum_given, exact_given}
 use Rattle.order_calls.specs.ForC.{HourFigures}
@@ -47,11 +45,11 @@ hour_number q a cents sets h =
     ap (λ (o : Outcome). o.number) h.totals ∙ number-of (settle_checked q cents sets) (sum_given q ∷ whole_cents (exact_given q) ∷ pos (parts (exact_given q)) ∷ [])
 
 -- answers with the same figures: a pass has none
-pass_by : (a b : TestAnswer) → test_outcome a ≡ test_outcome b → a ≡ Pass → b ≡ Pass
+pass_by : (a b : TestAnswer) → test_outcome a ≡ test_outcome b → a ≡ pass → b ≡ pass
 pass_by a b e p = passed_told b (sym e ∙ ap test_outcome p)
 
 -- the exact total given, of an answer and of figures
-hour_told : (q : HourCall) (sum whole : ℤ) (part : ℕ) (cents : Lent (List ℤ)) (sets : Lent (List ℕ)) → SettlesHour q (Settled sum whole part) cents sets
+hour_told : (q : HourCall) (sum whole : ℤ) (part : ℕ) (cents : Lent (List ℤ)) (sets : Lent (List ℕ)) → SettlesHour q (settled sum whole part) cents sets
     → (whole ≡ whole_cents (exact_given q)) × (part ≡ parts (exact_given q))
 hour_told q sum whole part cents sets h =
     let both : sum ∷ whole ∷ pos part ∷ [] ≡ sum_given q ∷ whole_cents (exact_given q) ∷ pos (parts (exact_given q)) ∷ []
@@ -66,14 +64,14 @@ figures-told q c h =
     (figure-is checked ok _ _ _ h.whole-given, figure-is checked ok _ _ _ h.parts-given)
 
 -- checks around a book's own that find nothing
-pub around : (xs : List Check) (bs cs ys zs : List Check) → first bs ≡ Passed → first cs ≡ Passed → first ys ≡ first zs
+pub around : (xs : List Check) (bs cs ys zs : List Check) → first bs ≡ passed → first cs ≡ passed → first ys ≡ first zs
     → first (xs ++ (bs ++ ys)) ≡ first (xs ++ (cs ++ zs))
 around xs bs cs ys zs b c e =
-    first-append xs (bs ++ ys) ∙ ap (decided (first xs) Refused) (append_passes bs ys b ∙ e ∙ sym (append_passes cs zs c)) ∙ sym (first-append xs (cs ++ zs))
+    first-append xs (bs ++ ys) ∙ ap (decided (first xs) Err) (append_passes bs ys b ∙ e ∙ sym (append_passes cs zs c)) ∙ sym (first-append xs (cs ++ zs))
 
 -- the checks of an hour, of two books that are accepted and have room alike
 pub settle_around : (n k period : ℕ) (factors : List ℤ) (prices s t : List ℕ) (cents cents₂ : Lent (List ℤ)) (sets sets₂ : Lent (List ℕ))
-    → first (book_checks n s) ≡ Passed → first (book_checks n t) ≡ Passed
+    → first (book_checks n s) ≡ passed → first (book_checks n t) ≡ passed
     → first (short_table (length (before cents)) (contract_count_in s) ∷ short_table (length (before sets)) (contract_count_in s) ∷ [])
     ≡ first (short_table (length (before cents₂)) (contract_count_in t) ∷ short_table (length (before sets₂)) (contract_count_in t) ∷ [])
     → settle_checked (hour_call n k period factors prices s) cents sets ≡ settle_checked (hour_call n k period factors prices t) cents₂ sets₂
@@ -86,10 +84,10 @@ settle_around n k period factors prices s t cents cents₂ sets sets₂ =
     (short_table (length (before cents₂)) (contract_count_in t) ∷ short_table (length (before sets₂)) (contract_count_in t) ∷ [])
 
 module _ (n : ℕ) (s t : List ℕ) (h : AlikeBooks n s t) where
-  own_s : first (book_checks n s) ≡ Passed
+  own_s : first (book_checks n s) ≡ passed
   own_s = (own_parts n s h.accepted).1
 
-  own_t : first (book_checks n t) ≡ Passed
+  own_t : first (book_checks n t) ≡ passed
   own_t = (own_parts n t h.accepted-too).1
 
   -- ---- the test
@@ -102,7 +100,7 @@ module _ (n : ℕ) (s t : List ℕ) (h : AlikeBooks n s t) where
     unfolding test_checks
     test-checks =
         let tables = grid_table_checks n k process period limits factors in
-        first-append tables (book_checks n s) ∙ ap (decided (first tables) Refused) (own_s ∙ sym own_t) ∙ sym (first-append tables (book_checks n t))
+        first-append tables (book_checks n s) ∙ ap (decided (first tables) Err) (own_s ∙ sym own_t) ∙ sym (first-append tables (book_checks n t))
 
     test-values : test_values (tested_grid (on s)) (tested_process (on s)) (tested_contracts (on s)) ≡ test_values (tested_grid (on t)) (tested_process (on t))
         (tested_contracts (on t))
@@ -139,7 +137,7 @@ module _ (n : ℕ) (s t : List ℕ) (h : AlikeBooks n s t) where
     flow-cells : flow_cells flows_s ≡ flow_cells flows_t
     flow-cells = λ i. list_to k (λ j. h.flows-same (factors_of n k factors) (period_of period) j i)
 
-    taken : (q : FlowsCall) (x : List ℤ) → find_flows_checked q ≡ Passed → x ≡ cells_after (find_flows_checked q) (flow_cells q) q.place
+    taken : (q : FlowsCall) (x : List ℤ) → find_flows_checked q ≡ passed → x ≡ cells_after (find_flows_checked q) (flow_cells q) q.place
         → take q.constraints x ≡ flow_cells q
     taken q x ok is =
         ap (take q.constraints) (is ∙ ap (λ (c : Checked). cells_after c (flow_cells q) q.place) ok)
@@ -163,7 +161,7 @@ module _ (n : ℕ) (s t : List ℕ) (h : AlikeBooks n s t) where
     hour = hour_call n k period factors prices
 
     roomy : (u : List ℕ) (cents : Lent (List ℤ)) (sets : Lent (List ℕ)) → RoomFor u cents sets
-        → first (short_table (length (before cents)) (contract_count_in u) ∷ short_table (length (before sets)) (contract_count_in u) ∷ []) ≡ Passed
+        → first (short_table (length (before cents)) (contract_count_in u) ∷ short_table (length (before sets)) (contract_count_in u) ∷ []) ≡ passed
     roomy u cents sets r =
         first_passes (short_table (length (before cents)) (contract_count_in u)) (short_table (length (before sets)) (contract_count_in u) ∷ [])
         (le-ltb (length (before cents)) (contract_count_in u) r.0)

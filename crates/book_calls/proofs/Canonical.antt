@@ -8,13 +8,13 @@ use lib.ListN.{length, take}
 use Rattle.lists.specs.Lent.{Lent, before, after}
 use Rattle.lists.proofs.Fronts.{front-is}
 use Rattle.tariff.specs.declared.processes.Process.TheVariants.{Monthly}
-use Rattle.tariff.specs.declared.refusals.Checked.TheVariants.{Passed}
+use Rattle.std.specs.Prelude.{Ok}
+use Rattle.tariff.specs.Refusals.{passed}
 use Rattle.tariff.specs.Refusals.{number_after}
 use Rattle.tariff.specs.Checks.{short_table}
 use Rattle.tariff.proofs.Answers.{figure-is}
 use Rattle.tariff.proofs.Checks.{passed_append, append_passes, last-passes}
-use Rattle.layouts.specs.declared.WriteAnswer.{WriteAnswer}
-use Rattle.layouts.specs.declared.WriteAnswer.TheVariants.{Written}
+use Rattle.layouts.specs.Writing.{WriteAnswer}
 use Rattle.layouts.specs.BookFile.{book_form_in, book_in}
 use Rattle.layouts.proofs.Writing.{writes_passed, writes_told, size-told, writes_by, written-by}
 use Rattle.book_rules.specs.BookChecks.{own_checks}
@@ -28,8 +28,8 @@ use Rattle.book_calls.specs.Canonical.{TotalsAgree, CanonicalCalls}
 use Rattle.book_calls.proofs.Alike.{answered-alike}
 
 -- what a length given says: the book is accepted, and the first bytes are its canonical file
-module _ (n : ℕ) (s e : List ℕ) (m : ℕ) (x : List ℕ) (w : WritesCanonicalBook (canonical_book_call n s e) (Written m) x) where
-  told : (canonical_book_checked (canonical_book_call n s e) ≡ Passed) × (take m x ≡ canonical_file s)
+module _ (n : ℕ) (s e : List ℕ) (m : ℕ) (x : List ℕ) (w : WritesCanonicalBook (canonical_book_call n s e) (Ok m) x) where
+  told : (canonical_book_checked (canonical_book_call n s e) ≡ passed) × (take m x ≡ canonical_file s)
   told = writes_told _ (canonical_file s) e m x w
 
   ok : AcceptedFor n s
@@ -60,16 +60,16 @@ module _ (n : ℕ) (s e : List ℕ) (m : ℕ) (x : List ℕ) (w : WritesCanonica
     size : length (canonical_file (take m x)) ≡ m
     size = ap length (itself ∙ told.1) ∙ sym (size-told _ (canonical_file s) e m x w)
 
-    passes : canonical_book_checked (canonical_book_call n (take m x) f) ≡ Passed
+    passes : canonical_book_checked (canonical_book_call n (take m x) f) ≡ passed
     unfolding canonical_book_checks
     passes =
         append_passes (own_checks n (take m x)) (short_table (length f) (length (canonical_file (take m x))) ∷ []) made
         ∙ last-passes (short_table (length f) (length (canonical_file (take m x)))) (le-ltb (length f) (length (canonical_file (take m x))) (rw size room))
 
-    again : (b : WriteAnswer) (y : List ℕ) → WritesCanonicalBook (canonical_book_call n (take m x) f) b y → (b ≡ Written m) × (take m y ≡ take m x)
+    again : (b : WriteAnswer) (y : List ℕ) → WritesCanonicalBook (canonical_book_call n (take m x) f) b y → (b ≡ Ok m) × (take m y ≡ take m x)
     again b y v =
         let r = writes_passed (canonical_book_checked (canonical_book_call n (take m x) f)) (canonical_file (take m x)) f b y passes v in
-        (r.length-is ∙ ap Written size, ap (take m) r.bytes-are ∙ front-is (canonical_file (take m x)) f m size ∙ itself)
+        (r.length-is ∙ ap Ok size, ap (take m) r.bytes-are ∙ front-is (canonical_file (take m x)) f m size ∙ itself)
 
     again-for_c : (number : ℕ) (y : List ℕ) (v : Lent ℕ) → WritesCanonicalBookForC (canonical_book_call n (take m x) f) number y v
         → (number ≡ 0) × (after v ≡ m) × (take m y ≡ take m x)
@@ -81,15 +81,15 @@ module _ (n : ℕ) (s e : List ℕ) (m : ℕ) (x : List ℕ) (w : WritesCanonica
         )
 
 -- of the bytes written
-same_bytes : (n : ℕ) (s e : List ℕ) (m : ℕ) (x : List ℕ) → WritesCanonicalBook (canonical_book_call n s e) (Written m) x
-    → (n₂ : ℕ) (t f : List ℕ) (k : ℕ) (y : List ℕ) → WritesCanonicalBook (canonical_book_call n₂ t f) (Written k) y → book_form_in s ≡ book_form_in t
+same_bytes : (n : ℕ) (s e : List ℕ) (m : ℕ) (x : List ℕ) → WritesCanonicalBook (canonical_book_call n s e) (Ok m) x
+    → (n₂ : ℕ) (t f : List ℕ) (k : ℕ) (y : List ℕ) → WritesCanonicalBook (canonical_book_call n₂ t f) (Ok k) y → book_form_in s ≡ book_form_in t
     → (take m x ≡ take k y) ↔ TotalsAgree s t
 same_bytes n s e m x w n₂ t f k y v form =
     let i = T.same_canonical n n₂ s t (ok n s e m x w) (ok n₂ t f k y v) form in
     (λ q. i.0 (sym (told n s e m x w).1 ∙ q ∙ (told n₂ t f k y v).1), λ q. (told n s e m x w).1 ∙ i.1 q ∙ sym (told n₂ t f k y v).1)
 
 -- 0 answered: a length was given
-given-c : (n : ℕ) (s e x : List ℕ) (u : Lent ℕ) → WritesCanonicalBookForC (canonical_book_call n s e) 0 x u → WritesCanonicalBook (canonical_book_call n s e) (Written (after u)) x
+given-c : (n : ℕ) (s e x : List ℕ) (u : Lent ℕ) → WritesCanonicalBookForC (canonical_book_call n s e) 0 x u → WritesCanonicalBook (canonical_book_call n s e) (Ok (after u)) x
 given-c n s e x u w = written-by (canonical_book_checked (canonical_book_call n s e)) (canonical_file s) e (before u) x (after u) w
 
 pub canonical-calls : CanonicalCalls

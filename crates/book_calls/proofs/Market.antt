@@ -5,13 +5,13 @@ use Prim.Native.Nat.{ℕ}
 use lib.ListN.{length, take}
 use lib.IntN.{ℤ, pos}
 use Rattle.lists.specs.Lent.{Lent, before, after}
-use Rattle.tariff.specs.declared.refusals.Checked.TheVariants.{Passed}
+use Rattle.std.specs.Prelude.{Ok}
+use Rattle.tariff.specs.Refusals.{passed}
 use Rattle.tariff.specs.Refusals.{first, answered, cells_after, number_after}
 use Rattle.tariff.specs.Checks.{short_table}
 use Rattle.tariff.specs.Settlement.{whole_cents, parts}
 use Rattle.tariff.proofs.Answers.{none-refused, figure-is}
 use Rattle.tariff.proofs.Checks.{passed_append}
-use Rattle.layouts.specs.declared.WriteAnswer.TheVariants.{Written}
 use Rattle.layouts.specs.BookFile.{book_bytes_of, contract_count_in, book_form_in}
 use Rattle.layouts.proofs.Writing.{writes_told, size-told, written-by}
 use Rattle.book_rules.specs.BookChecks.{own_checks}
@@ -26,7 +26,7 @@ use Rattle.book_calls.specs.Alike.{AnsweredAlike}
 use Rattle.book_calls.specs.Market.{EqualRoom, SamePlaces, HourAlike, MarketCalls}
 use Rattle.book_calls.proofs.Alike.{settle_around, answered-alike}
 
-module _ (n : ℕ) (s : List ℕ) (ok : first (own_checks n s) ≡ Passed) where
+module _ (n : ℕ) (s : List ℕ) (ok : first (own_checks n s) ≡ passed) where
   abbrev t : List ℕ
   t = market_file s
 
@@ -98,7 +98,7 @@ module _ (n : ℕ) (s : List ℕ) (ok : first (own_checks n s) ≡ Passed) where
             );
       }
 
-written : (n : ℕ) (s e : List ℕ) (m : ℕ) (x : List ℕ) → WritesMarketView (market_view_call n s e) (Written m) x
+written : (n : ℕ) (s e : List ℕ) (m : ℕ) (x : List ℕ) → WritesMarketView (market_view_call n s e) (Ok m) x
     → AnsweredAlike n (take m x) s × HourAlike n (take m x) s × (m ≡ length s)
 unfolding market_view_checks
 written n s e m x w =

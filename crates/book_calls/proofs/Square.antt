@@ -8,18 +8,17 @@ use lib.ListN.{length, take}
 use lib.IntN.{ℤ, nat_abs}
 use Rattle.lists.specs.Lent.{Lent, before, after, overwrite}
 use Rattle.integers.specs.Sums.{max0}
-use Rattle.tariff.specs.declared.refusals.Checked.TheVariants.{Passed}
+use Rattle.std.specs.Prelude.{Ok, Err}
+use Rattle.tariff.specs.Refusals.{passed}
 use Rattle.tariff.specs.ContractRules.{period_of}
-use Rattle.tariff.specs.Refusals.{first}
+use Rattle.tariff.specs.Refusals.{first, passed}
 use Rattle.tariff.proofs.Answers.{given-told, some_refuses, none-refused, number-told}
 use Rattle.tariff.proofs.Checks.{append_passes, last-passes, passed_append, passed_cons}
-use Rattle.layouts.specs.declared.WriteAnswer.TheVariants.{Written}
 use Rattle.layouts.specs.BookFile.{book_file, book_form_in, book_in}
 use Rattle.book_rules.specs.BookChecks.{own_checks}
 use Rattle.migration_rules.specs.Transfers.{MigrationRow, RowLists, migration_rows_in, loss, migration_row_checks, range_checks}
 use Rattle.migration_rules.proofs.Alike.{book-alike}
-use Rattle.migration_square.specs.declared.NetsAnswer.{NetsAnswer}
-use Rattle.migration_square.specs.declared.NetsAnswer.TheVariants.{Netted, Refused}
+use Rattle.migration_square.specs.NetTransfers.{NetsAnswer}
 use Rattle.migration_square.specs.NetTransfers.{NetTransfersCall, net_transfers_checks, net_transfers_checked, nets_given, square_cells, NetsTransfers, NetsTransfersForC}
 use Rattle.migration_book.specs.MigrateLoad.{MigrateLoadCall, rows_given, migrate_load_checked, book_migrated, MigratesLoad, MigratesLoadForC}
 use Rattle.migration_book.specs.Inner.{input_checks}
@@ -30,23 +29,23 @@ use Rattle.book_calls.proofs.SquareCells.{square_at}
 
 -- ---- what migrating takes is netted
 
-rows_pass : (q : MigrateLoadCall) → migrate_load_checked q ≡ Passed → first (migration_row_checks (length q.loads) q.lists) ≡ Passed
+rows_pass : (q : MigrateLoadCall) → migrate_load_checked q ≡ passed → first (migration_row_checks (length q.loads) q.lists) ≡ passed
 unfolding input_checks range_checks
 rows_pass q pass =
     let input = (passed_append (input_of q) _ (sym (ap first (split q)) ∙ pass)).0 in
     let range = (passed_append (own_checks q.nodes q.book) _ (passed_cons _ _ input).1).1 in
     (passed_append (migration_row_checks (length q.loads) q.lists) _ range).0
 
-nets-pass : (s : NetTransfersCall) → first (migration_row_checks s.entities s.lists) ≡ Passed → s.entities * s.entities ≤ length s.place → net_transfers_checked s ≡ Passed
+nets-pass : (s : NetTransfersCall) → first (migration_row_checks s.entities s.lists) ≡ passed → s.entities * s.entities ≤ length s.place → net_transfers_checked s ≡ passed
 unfolding net_transfers_checks
 nets-pass s rows room = append_passes (migration_row_checks s.entities s.lists) _ rows ∙ last-passes _ (le-ltb (length s.place) (s.entities * s.entities) room)
 
-netted : (s : NetTransfersCall) (a : NetsAnswer) (y : List ℤ) → net_transfers_checked s ≡ Passed → NetsTransfers s a y → a ≡ Netted
-netted s Netted y pass w = refl
-netted s (Refused r) y pass w = absurd (some_refuses (net_transfers_checked s) [] r w.nothing_else pass)
+netted : (s : NetTransfersCall) (a : NetsAnswer) (y : List ℤ) → net_transfers_checked s ≡ passed → NetsTransfers s a y → a ≡ passed
+netted s (Ok _) y pass w = refl
+netted s (Err r) y pass w = absurd (some_refuses (net_transfers_checked s) [] r w.nothing_else pass)
 
 taken : (q : MigrateLoadCall) (s : NetTransfersCall) (m : ℕ) (x : List ℕ) (a : NetsAnswer) (y : List ℤ) → SameRows q s
-    → s.entities * s.entities ≤ length s.place → MigratesLoad q (Written m) x → NetsTransfers s a y → a ≡ Netted
+    → s.entities * s.entities ≤ length s.place → MigratesLoad q (Ok m) x → NetsTransfers s a y → a ≡ passed
 taken q s m x a y same room w t =
     let pass = (writes_told (migrate_load_checked q) (book_migrated q) q.place m x w).0 in
     netted s a y (nets-pass s (rw (same.entities-same, same.lists-same) (rows_pass q pass)) room) t
@@ -73,12 +72,12 @@ by_cells q place =
 left : (q : MigrateLoadCall) (s : NetTransfersCall) → SameRows q s → overwrite (nets_given s) s.place ≡ overwrite (square_cells (length q.loads) (rows_given q)) s.place
 left q s same = ap₂ (λ (n : ℕ) (lists : RowLists). overwrite (square_cells n (migration_rows_in lists)) s.place) same.entities-same same.lists-same
 
-followed : (q : MigrateLoadCall) (s : NetTransfersCall) (m : ℕ) (x : List ℕ) (y : List ℤ) → SameRows q s → MigratesLoad q (Written m) x → y ≡ overwrite (nets_given s) s.place
+followed : (q : MigrateLoadCall) (s : NetTransfersCall) (m : ℕ) (x : List ℕ) (y : List ℤ) → SameRows q s → MigratesLoad q (Ok m) x → y ≡ overwrite (nets_given s) s.place
     → take m x ≡ book_by q y
 followed q s m x y same w e =
     (writes_told (migrate_load_checked q) (book_migrated q) q.place m x w).1 ∙ by_cells q s.place ∙ ap (book_by q) (sym (e ∙ left q s same))
 
-by_square : (q : MigrateLoadCall) (s : NetTransfersCall) (m : ℕ) (x : List ℕ) (y : List ℤ) → SameRows q s → MigratesLoad q (Written m) x → NetsTransfers s Netted y → take m x ≡ book_by q y
+by_square : (q : MigrateLoadCall) (s : NetTransfersCall) (m : ℕ) (x : List ℕ) (y : List ℤ) → SameRows q s → MigratesLoad q (Ok m) x → NetsTransfers s passed y → take m x ≡ book_by q y
 by_square q s m x y same w t =
     let pass = (given-told (net_transfers_checked s) [] [] t.nothing_else).0 in
     followed q s m x y same w (rw pass at t.nets-given)

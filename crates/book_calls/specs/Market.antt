@@ -1,10 +1,9 @@
 -- Document 02, paper 10, and include/crr.h, "its flows, verdicts and amounts are the book's": over what `write_market_view`, the entries that take a book, and
 -- their C functions promise. Statements only.
-use Rattle.std.specs.Prelude.{◌≡◌, List, ℕ, length, take, ℤ}
+use Rattle.std.specs.Prelude.{◌≡◌, List, ℕ, length, take, ℤ, Ok}
 use Rattle.lists.specs.Lent.{Lent, before, after}
-use Rattle.layouts.specs.declared.WriteAnswer.TheVariants.{Written}
 use Rattle.view_rules.specs.MarketView.{market_view_call, WritesMarketView, WritesMarketViewForC}
-use Rattle.hour_rules.specs.declared.SettleAnswer.{SettleAnswer}
+use Rattle.hour_rules.specs.SettleHour.{SettleAnswer}
 use Rattle.hour_rules.specs.SettleHour.{hour_call, settle_outcome, SettlesHour, SettlesForC}
 use Rattle.order_calls.specs.ForC.{HourFigures, SameTotalsGiven}
 use Rattle.book_calls.specs.Alike.{AnsweredAlike}
@@ -30,7 +29,7 @@ pub record HourAlike (n : ℕ) (s t : List ℕ) : Type 0 where
 
 -- THE STATEMENTS
 pub record MarketCalls : Type 0 where
-  pub market_answered_alike : (n : ℕ) (s e : List ℕ) (m : ℕ) (x : List ℕ) → WritesMarketView (market_view_call n s e) (Written m) x
+  pub market_answered_alike : (n : ℕ) (s e : List ℕ) (m : ℕ) (x : List ℕ) → WritesMarketView (market_view_call n s e) (Ok m) x
       → AnsweredAlike n (take m x) s × HourAlike n (take m x) s × (m ≡ length s)
   pub crr_market_answered_alike : (n : ℕ) (s e x : List ℕ) (u : Lent ℕ) → WritesMarketViewForC (market_view_call n s e) 0 x u
       → AnsweredAlike n (take (after u) x) s × HourAlike n (take (after u) x) s × (after u ≡ length s)

@@ -1,14 +1,13 @@
 -- Document 02, paper 5, over what `net_transfers`, `migrate_load` and their C functions promise of the same rows. Statements only.
-use Rattle.std.specs.Prelude.{◌≡◌, List, ℕ, ◌+◌, ◌-◌, ◌*◌, ◌≤◌, length, get_or, take, ℤ, pos, nat_abs}
+use Rattle.std.specs.Prelude.{◌≡◌, List, ℕ, ◌+◌, ◌-◌, ◌*◌, ◌≤◌, length, get_or, take, ℤ, pos, nat_abs, Ok}
 use Rattle.lists.specs.Lent.{Lent, after}
 use Rattle.integers.specs.Sums.{max0}
 use Rattle.tariff.specs.ContractRules.{period_of}
-use Rattle.layouts.specs.declared.WriteAnswer.TheVariants.{Written}
 use Rattle.layouts.specs.BookFile.{book_file, book_form_in, book_in}
 use Rattle.migration_rules.specs.ContractRules.{new_book}
-use Rattle.migration_square.specs.declared.NetsAnswer.{NetsAnswer}
-use Rattle.migration_square.specs.declared.NetsAnswer.TheVariants.{Netted}
+use Rattle.migration_square.specs.NetTransfers.{NetsAnswer}
 use Rattle.migration_square.specs.NetTransfers.{NetTransfersCall, NetsTransfers, NetsTransfersForC}
+use Rattle.tariff.specs.Refusals.{passed}
 use Rattle.migration_book.specs.MigrateLoad.{MigrateLoadCall, MigratesLoad, MigratesLoadForC}
 
 -- calls for the same rows and as many LSEs
@@ -28,10 +27,10 @@ book_by q nets = book_file (book_form_in q.book) (new_book (lost_by (length q.lo
 pub record SquareCalls : Type 0 where
   -- what migrating takes is netted, where the place suffices
   pub migrated_netted : (q : MigrateLoadCall) (s : NetTransfersCall) (m : ℕ) (x : List ℕ) (a : NetsAnswer) (y : List ℤ) → SameRows q s
-      → s.entities * s.entities ≤ length s.place → MigratesLoad q (Written m) x → NetsTransfers s a y → a ≡ Netted
+      → s.entities * s.entities ≤ length s.place → MigratesLoad q (Ok m) x → NetsTransfers s a y → a ≡ passed
   -- "A gainer receives base quantity × net transfer over the loser's current load": the net transfers are the cells that `net_transfers` gives
-  pub migrated_by_square : (q : MigrateLoadCall) (s : NetTransfersCall) (m : ℕ) (x : List ℕ) (y : List ℤ) → SameRows q s → MigratesLoad q (Written m) x
-      → NetsTransfers s Netted y → take m x ≡ book_by q y
+  pub migrated_by_square : (q : MigrateLoadCall) (s : NetTransfersCall) (m : ℕ) (x : List ℕ) (y : List ℤ) → SameRows q s → MigratesLoad q (Ok m) x
+      → NetsTransfers s passed y → take m x ≡ book_by q y
   -- the same of the C functions, where both answer 0
   pub crr_migrated_by_square : (q : MigrateLoadCall) (s : NetTransfersCall) (x : List ℕ) (u : Lent ℕ) (y : List ℤ) → SameRows q s → MigratesLoadForC q 0 x u
       → NetsTransfersForC s 0 y → take (after u) x ≡ book_by q y

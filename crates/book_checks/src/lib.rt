@@ -1,42 +1,33 @@
 // The checks that every operation on a book has: a contract's own, the book's, and those of a book that is handed in with a node count.
 #![tactic(auto)]
 
-ghost use Rattle.std.specs.Prelude.{◌≡◌, ◌+◌, ◌≤◌, ◌<◌, max, length};
-ghost use Rattle.lists.specs.Lent.{before};
+ghost use Rattle.std.specs.Prelude.{◌≡◌, ◌≤◌, ◌<◌};
 ghost use Rattle.tariff.specs.Refusals.{first};
-ghost use Rattle.tariff.specs.Units.{max_contracts};
-ghost use Rattle.layouts.specs.Forms.{record_bytes};
-ghost use Rattle.layouts.specs.BookFile.{book_bytes_of, contract_in};
+ghost use Rattle.layouts.specs.BookFile.{contract_in};
 ghost use Rattle.layouts.specs.Inner.{contract_for};
 ghost use Rattle.book_rules.specs.BookChecks.{checks_to, contract_checks, book_checks, own_checks};
 ghost use Rattle.book_rules.specs.Inner.{number_checks};
 
-use book_bits::{NARROW_END_WIDTH, WIDE_END_WIDTH};
+use book_bits::{Contracts, NARROW_END_WIDTH, WIDE_END_WIDTH};
 use layouts::{BOOK_HEADER_BYTES, Form};
-use tariff::{Checked, MAX_CONTRACTS, Refusal};
-
-// The larger of two node numbers: one comparison with the node count holds both ends.
-fn larger(a: usize, b: usize) -> usize
-    ensures { result ≡ max a b }
-{
-    if a < b { b } else { a }
-}
+use tariff::{MAX_CONTRACTS, Refusal};
 
 // A contract's own checks, on its numbers: 11, 13. None has its unit before it has passed.
-pub fn check_numbers(nodes: usize, source: usize, sink: usize, quantity: u64) -> Checked
+pub fn check_numbers(nodes: usize, source: usize, sink: usize, quantity: u64) -> Result<(), Refusal>
     ensures { result ≡ first (number_checks nodes source sink quantity) }
 {
-    if nodes <= larger(source, sink) {
-        return Checked::Refused(Refusal::NodeNumber);
+    // One comparison holds both ends.
+    if nodes <= source.max(sink) {
+        return Err(Refusal::NodeNumber);
     }
     if tariff::quantity_bad(quantity) {
-        return Checked::Refused(Refusal::QuantityRange);
+        return Err(Refusal::QuantityRange);
     }
-    Checked::Passed
+    Ok(())
 }
 
 // The checks of the contract whose bits are the lowest of `v`, its ends of `width` bits.
-fn check_bits(nodes: usize, v: u64, width: usize) -> Checked
+fn check_bits(nodes: usize, v: u64, width: usize) -> Result<(), Refusal>
     requires { width ≤ 12 }
     ensures { result ≡ first (contract_checks nodes (contract_for width v)) }
 {
@@ -48,68 +39,54 @@ fn check_bits(nodes: usize, v: u64, width: usize) -> Checked
     )
 }
 
-// The checks of contract i of a book's bytes.
-fn check_at(nodes: usize, file: &[u8], form: Form, i: usize) -> Checked
-    requires { (i < 1024) × (book_bytes_of form i + record_bytes form ≤ length file.now) }
-    ensures { result ≡ first (contract_checks nodes (contract_in form file.now i)) }
+// The checks of contract i of a book. Its two arms are as `book_bits::contract_at`'s, each with its width as a constant.
+fn check_at(nodes: usize, contracts: Contracts, i: usize) -> Result<(), Refusal>
+    requires { i < contracts.count }
+    ensures { result ≡ first (contract_checks nodes (contract_in contracts.entry.form contracts.entry.file.now i)) }
 {
-    match form {
-        Form::Narrow => check_bits(
-            nodes,
-            book_bits::bits_at(file, Form::Narrow, i),
-            NARROW_END_WIDTH,
-        ),
-        Form::Wide => check_bits(
-            nodes,
-            book_bits::bits_at(file, Form::Wide, i),
-            WIDE_END_WIDTH,
-        ),
+    match contracts.form {
+        Form::Narrow => check_bits(nodes, contracts.bits_at(i), NARROW_END_WIDTH),
+        Form::Wide => check_bits(nodes, contracts.bits_at(i), WIDE_END_WIDTH),
     }
 }
 
 // The checks of a book's contracts, one after the other.
-fn check_contracts(nodes: usize, file: &[u8], form: Form, count: usize) -> Checked
-    requires { (count ≤ max_contracts) × (book_bytes_of form count ≤ length file.now) }
-    ensures { result ≡ first (checks_to count (λ i. contract_checks nodes (contract_in form file.now i))) }
+fn check_contracts(nodes: usize, contracts: Contracts) -> Result<(), Refusal>
+    ensures { result ≡ first (checks_to contracts.entry.count (λ i. contract_checks nodes (contract_in contracts.entry.form contracts.entry.file.now i))) }
 {
-    let mut i = 0;
-    while i < count {
-        let checked = check_at(nodes, file, form, i);
-        if let Checked::Refused(refusal) = checked {
-            return Checked::Refused(refusal);
-        }
-        i += 1;
+    for i in 0..contracts.len() {
+        check_at(nodes, contracts, i)?;
     }
-    Checked::Passed
+    Ok(())
 }
 
 // The book's own checks: 1, 10, 4, 5, then contract by contract 11, 13.
-pub fn check_book(nodes: usize, file: &[u8]) -> Checked
+pub fn check_book(nodes: usize, file: &[u8]) -> Result<(), Refusal>
     ensures { result ≡ first (book_checks nodes file.now) }
 {
     if file.len() < BOOK_HEADER_BYTES {
-        return Checked::Refused(Refusal::ShortFile);
+        return Err(Refusal::ShortFile);
     }
     let count = book_bits::contract_count(file);
     if MAX_CONTRACTS < count {
-        return Checked::Refused(Refusal::ContractCount);
+        return Err(Refusal::ContractCount);
     }
     let form = book_bits::book_form(file);
     if book_bits::spare_bits(file) != form.spare_pattern() {
-        return Checked::Refused(Refusal::SpareBits);
+        return Err(Refusal::SpareBits);
     }
     if file.len() != form.book_bytes(count) {
-        return Checked::Refused(Refusal::FileLength);
+        return Err(Refusal::FileLength);
     }
-    check_contracts(nodes, file, form, count)
+    check_contracts(nodes, Contracts { file, form, count })
 }
 
 // The own checks of a book that is handed in for a grid of `nodes` nodes: 2, then the book's.
-pub fn check_own(nodes: usize, file: &[u8]) -> Checked
+pub fn check_own(nodes: usize, file: &[u8]) -> Result<(), Refusal>
     ensures { result ≡ first (own_checks nodes file.now) }
 {
     if tariff::nodes_bad(nodes) {
-        return Checked::Refused(Refusal::NodeCount);
+        return Err(Refusal::NodeCount);
     }
     check_book(nodes, file)
 }

@@ -7,7 +7,7 @@ use lib.ListN.{length, drop}
 use lib.Seq.{drop_at}
 use Rattle.lists.specs.Lent.{overwrite}
 use Rattle.bits.proofs.Numbers.{Below}
-use Rattle.tariff.specs.declared.refusals.Checked.TheVariants.{Passed}
+use Rattle.tariff.specs.Refusals.{passed}
 use Rattle.tariff.specs.Refusals.{first}
 use Rattle.tariff.specs.Units.{max_contracts}
 use Rattle.tariff.proofs.Checks.{passed_cons}
@@ -57,7 +57,7 @@ pub accepted-whole : (n : ℕ) (s : List ℕ) → Accepted n s → Whole (book_f
 accepted-whole n s a = record { form-is = refl; spare = a.spare; size = a.size }
 
 -- what 10 and 9 leave
-pub room-parts : (f : Form) (grown bytes : ℕ) → first (growth_checks f grown bytes) ≡ Passed → (grown ≤ max_contracts) × (book_bytes_of f grown ≤ bytes)
+pub room-parts : (f : Form) (grown bytes : ℕ) → first (growth_checks f grown bytes) ≡ passed → (grown ≤ max_contracts) × (book_bytes_of f grown ≤ bytes)
 room-parts f grown bytes e =
     let a = passed_cons _ _ e in
     let b = passed_cons _ _ a.1 in

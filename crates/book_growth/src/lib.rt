@@ -10,38 +10,27 @@ ghost use Rattle.book_rules.specs.Inner.{book_front};
 ghost use Rattle.book_growth.specs.Inner.{growth_checks, Whole};
 
 use layouts::Form;
-use tariff::{Checked, MAX_CONTRACTS, Refusal};
+use tariff::{MAX_CONTRACTS, Refusal};
 
-// Copies a book's bytes.
-fn copy_book(book: &[u8], file: &mut [u8])
-    requires { length book.now ≤ length file.old }
-    ensures { after file ≡ overwrite book.now (before file) }
-{
-    let mut i = 0;
-    while i < book.len() {
-        file[i] = book[i];
-        i += 1;
-    }
-}
-
-// Begins a book of `grown` contracts with those of a book: its bytes under a new header.
+// Begins a book of `grown` contracts with those of a book: its bytes under a new header. Its bytes are copied and no contract is read, so no `Contracts` is asked
+// for, and `grown` is of the file that is written.
 pub fn keep_contracts(book: &[u8], form: Form, grown: usize, file: &mut [u8])
     requires { Whole form book.now × (grown ≤ max_contracts) × (length book.now ≤ length file.old) }
     ensures { after file ≡ overwrite (book_front form grown (book_in book.now)) (before file) }
 {
-    copy_book(book, file);
+    file[..book.len()].copy_from_slice(book);
     book_bits::store_header(file, form, grown);
 }
 
 // 10 for a book that grows too long, then 9, with so many bytes of room.
-pub fn check_room(form: Form, grown: usize, bytes: usize) -> Checked
+pub fn check_room(form: Form, grown: usize, bytes: usize) -> Result<(), Refusal>
     ensures { result ≡ first (growth_checks form grown bytes) }
 {
     if MAX_CONTRACTS < grown {
-        return Checked::Refused(Refusal::ContractCount);
+        return Err(Refusal::ContractCount);
     }
     if bytes < form.book_bytes(grown) {
-        return Checked::Refused(Refusal::ShortTable);
+        return Err(Refusal::ShortTable);
     }
-    Checked::Passed
+    Ok(())
 }

@@ -5,55 +5,46 @@ ghost use Rattle.std.specs.Prelude.{◌≡◌, ℕ, ◌*◌, ◌≤◌, length};
 ghost use mathlib.Core.List.{List, flat_map};
 ghost use Rattle.lists.specs.Lent.{before, after, overwrite};
 ghost use Rattle.lists.specs.Lists.{list_to};
-ghost use Rattle.tariff.specs.Units.{max_contracts};
-ghost use Rattle.layouts.specs.BookFile.{book_bytes_of, contract_in};
+ghost use Rattle.layouts.specs.BookFile.{contract_in};
 ghost use Rattle.layouts.specs.BookTable.{contract_cells, cells_of};
 ghost use Rattle.book_rules.specs.ReadBook.{read_book_call, read_book_checked, ReadsBook};
 
-use book_rules::BookAnswer;
-use layouts::{CONTRACT_CELLS, Form};
-use tariff::{Checked, Refusal};
+use book_bits::Contracts;
+use book_rules::BookRead;
+use layouts::CONTRACT_CELLS;
+use tariff::Refusal;
 
-// The reader's checks, for a table of so many cells: 2, the book's own, 9.
-fn check_read(nodes: usize, file: &[u8], cells: usize) -> Checked
+// The reader's checks, for a table of so many cells: 2, the book's own, 9. A list of checks, as the market view's is: the last has its own table and length.
+fn check_read(nodes: usize, file: &[u8], cells: usize) -> Result<(), Refusal>
     ensures { (table : List ℕ) → length table ≡ cells → result ≡ read_book_checked (read_book_call nodes file.now table) }
 {
-    if let Checked::Refused(refusal) = book_checks::check_own(nodes, file) {
-        return Checked::Refused(refusal);
-    }
+    book_checks::check_own(nodes, file)?;
     if cells < CONTRACT_CELLS * book_bits::contract_count(file) {
-        return Checked::Refused(Refusal::ShortTable);
+        return Err(Refusal::ShortTable);
     }
-    Checked::Passed
+    Ok(())
 }
 
-// Stores the contracts of a file in a form into the first cells.
-fn read_contracts(file: &[u8], form: Form, contracts: usize, book: &mut [u64])
-    requires { (contracts ≤ max_contracts) × (book_bytes_of form contracts ≤ length file.now) × (contract_cells * contracts ≤ length book.old) }
-    ensures { after book ≡ overwrite (flat_map cells_of (list_to contracts (contract_in form file.now))) (before book) }
+// Stores a book's contracts into the first cells.
+fn read_contracts(contracts: Contracts, book: &mut [u64])
+    requires { contract_cells * contracts.count ≤ length book.old }
+    ensures { after book ≡ overwrite (flat_map cells_of (list_to contracts.entry.count (contract_in contracts.entry.form contracts.entry.file.now))) (before book) }
 {
-    let mut i = 0;
-    while i < contracts {
-        book_rows::store_row(
-            book,
-            CONTRACT_CELLS * i,
-            book_bits::contract_at(file, form, i),
-        );
-        i += 1;
+    for i in 0..contracts.len() {
+        let c = contracts.at(i);
+        book_rows::store_row(book, CONTRACT_CELLS * i, c);
     }
 }
 
 // Reads a book, in whichever form it is, for a grid of `nodes` nodes into a table of six cells a contract.
-pub fn read_book(nodes: usize, file: &[u8], book: &mut [u64]) -> BookAnswer
+pub fn read_book(nodes: usize, file: &[u8], book: &mut [u64]) -> Result<BookRead, Refusal>
     ensures { ReadsBook (read_book_call nodes file.now (before book)) result (after book) }
 {
-    match check_read(nodes, file, book.len()) {
-        Checked::Refused(refusal) => BookAnswer::Refused(refusal),
-        Checked::Passed => {
-            let contracts = book_bits::contract_count(file);
-            let form = book_bits::book_form(file);
-            read_contracts(file, form, contracts, book);
-            BookAnswer::Read { contracts, form }
-        }
-    }
+    check_read(nodes, file, book.len())?;
+    let contracts = Contracts::of(file);
+    read_contracts(contracts, book);
+    Ok(BookRead {
+        contracts: contracts.count,
+        form: contracts.form,
+    })
 }

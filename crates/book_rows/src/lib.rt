@@ -11,22 +11,20 @@ ghost use Rattle.book_rules.specs.Inner.{contract_bytes, bits_bytes, RowFits};
 
 use book_bits::HOLDERS;
 use layouts::{CONTRACT_CELLS, Form};
-use tariff::{Checked, Contract, Kind, MAX_HOLDER, Period, Quantity, Refusal};
+use tariff::{Contract, Kind, MAX_HOLDER, Period, Quantity, Refusal};
 
-// Stores a contract into the six cells from `at` on.
+// Stores a contract into the six cells from `at` on. This and the next ones take the table and a row's first cell, as `row_from` and `row_checks` say a row:
+// six cells as an array would have to be made of a table's slice by each caller, and said to be that table's row.
 pub fn store_row(book: &mut [u64], at: usize, c: Contract)
     requires { at + contract_cells ≤ length book.old }
     ensures { after book ≡ take at (before book) ++ cells_of c ++ drop (at + contract_cells) (before book) }
 {
-    let kind = c.kind;
-    let period = c.period;
-    let quantity = c.quantity;
-    book[at] = book_bits::kind_bit(kind);
-    book[at + 1] = book_bits::period_bit(period);
+    book[at] = c.kind as u64;
+    book[at + 1] = c.period as u64;
     book[at + 2] = c.holder;
     book[at + 3] = c.source as u64;
     book[at + 4] = c.sink as u64;
-    book[at + 5] = quantity.cell();
+    book[at + 5] = u64::from(c.quantity);
 }
 
 // The contract of the six cells from `at` on.
@@ -35,8 +33,8 @@ pub fn contract_from(cells: &[u64], at: usize) -> Contract
     ensures { result ≡ row_from cells.now at }
 {
     Contract {
-        kind: Kind::from_number(cells[at]),
-        period: Period::from_number(cells[at + 1]),
+        kind: Kind::from(cells[at]),
+        period: Period::from(cells[at + 1]),
         holder: cells[at + 2],
         source: cells[at + 3] as usize,
         sink: cells[at + 4] as usize,
@@ -44,20 +42,17 @@ pub fn contract_from(cells: &[u64], at: usize) -> Contract
     }
 }
 
-// A row's checks, its ends held to be below a number: 17, 18, 11, 13.
-pub fn check_row(below: usize, cells: &[u64], i: usize) -> Checked
+// A row's checks, its ends held to be below a number: 17, 18, 11, 13. The bound of `i` is what keeps its first cell's number from overflow.
+pub fn check_row(below: usize, cells: &[u64], i: usize) -> Result<(), Refusal>
     requires { (i < max_contracts) × (contract_cells * i + contract_cells ≤ length cells.now) }
     ensures { result ≡ first (row_checks below cells.now i) }
 {
     let at = CONTRACT_CELLS * i;
-    if 1 < cells[at] {
-        return Checked::Refused(Refusal::PeriodOrKind);
-    }
-    if 1 < cells[at + 1] {
-        return Checked::Refused(Refusal::PeriodOrKind);
+    if 1 < cells[at] || 1 < cells[at + 1] {
+        return Err(Refusal::PeriodOrKind);
     }
     if MAX_HOLDER < cells[at + 2] {
-        return Checked::Refused(Refusal::HolderRange);
+        return Err(Refusal::HolderRange);
     }
     book_checks::check_numbers(
         below,

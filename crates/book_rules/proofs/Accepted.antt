@@ -9,7 +9,8 @@ use lib.Dec.{leb, ltb, eqb}
 use lib.ListN.{length}
 use Rattle.lists.specs.Lists.{Each}
 use Rattle.tariff.specs.declared.contracts.Contract.{Contract}
-use Rattle.tariff.specs.declared.refusals.Checked.TheVariants.{Passed}
+use Rattle.std.specs.Prelude.{Ok}
+use Rattle.tariff.specs.Refusals.{passed}
 use Rattle.tariff.specs.ContractRules.{InRange}
 use Rattle.tariff.specs.Refusals.{first}
 use Rattle.tariff.specs.Checks.{node_count}
@@ -25,7 +26,7 @@ use Rattle.book_rules.specs.BookChecks.{contract_checks, book_checks, own_checks
 use Rattle.book_rules.proofs.Checking.{checks_each}
 
 -- a contract that no check of its own refuses
-pub contract-in_range : (n : ℕ) (c : Contract) → first (contract_checks n c) ≡ Passed → InRange n c
+pub contract-in_range : (n : ℕ) (c : Contract) → first (contract_checks n c) ≡ passed → InRange n c
 unfolding contract_checks
 contract-in_range n c e =
     let p = passed_cons _ _ e in
@@ -38,7 +39,7 @@ contract-in_range n c e =
     }
 
 -- of the node count a contract's checks ask no more than that its ends are below it
-pub checks_below : (m n : ℕ) (c : Contract) → c.source < n → c.sink < n → first (contract_checks m c) ≡ Passed → first (contract_checks n c) ≡ Passed
+pub checks_below : (m n : ℕ) (c : Contract) → c.source < n → c.sink < n → first (contract_checks m c) ≡ passed → first (contract_checks n c) ≡ passed
 unfolding contract_checks
 checks_below m n c hs ht e = first_passes _ _ (rw (lt-leb n c.source hs) (lt-leb n c.sink ht)) ∙ (passed_cons _ _ e).1
 
@@ -49,13 +50,13 @@ pub record Accepted (n : ℕ) (s : List ℕ) : Type 0 where
   pub each : (i : ℕ) → i < contract_count_in s → InRange n (contract_at s i)
 
 -- each contract of it passes its own
-pub contracts-pass : (n : ℕ) (s : List ℕ) → first (book_checks n s) ≡ Passed → (i : ℕ) → i < contract_count_in s → first (contract_checks n (contract_at s i)) ≡ Passed
+pub contracts-pass : (n : ℕ) (s : List ℕ) → first (book_checks n s) ≡ passed → (i : ℕ) → i < contract_count_in s → first (contract_checks n (contract_at s i)) ≡ passed
 unfolding book_checks
 contracts-pass n s e =
     let own = (passed_cons _ _ (passed_cons _ _ (passed_cons _ _ (passed_cons _ _ e).1).1).1).1 in
     checks_each (λ j. contract_checks n (contract_at s j)) (contract_count_in s) own
 
-pub book-accepted : (n : ℕ) (s : List ℕ) → first (book_checks n s) ≡ Passed → Accepted n s
+pub book-accepted : (n : ℕ) (s : List ℕ) → first (book_checks n s) ≡ passed → Accepted n s
 unfolding book_checks
 book-accepted n s e =
     let a = passed_cons _ _ e in
@@ -80,16 +81,16 @@ pub all-in_range : (n : ℕ) (s : List ℕ) → Accepted n s → Each (InRange n
 all-in_range n s a = each-list_to (InRange n) (contract_count_in s) (contract_at s) a.each
 
 -- of a book that is handed in with a node count: the count is one that a grid has, and the book's checks pass
-pub own_parts : (n : ℕ) (s : List ℕ) → first (own_checks n s) ≡ Passed → ((node_count n).fails ≡ false) × (first (book_checks n s) ≡ Passed)
+pub own_parts : (n : ℕ) (s : List ℕ) → first (own_checks n s) ≡ passed → ((node_count n).fails ≡ false) × (first (book_checks n s) ≡ passed)
 unfolding own_checks
 own_parts n s e = passed_cons _ _ e
 
-pub own_accepted : (n : ℕ) (s : List ℕ) → first (own_checks n s) ≡ Passed → Accepted n s
+pub own_accepted : (n : ℕ) (s : List ℕ) → first (own_checks n s) ≡ passed → Accepted n s
 own_accepted n s e = book-accepted n s (own_parts n s e).1
 
-pub own_header : (n : ℕ) (s : List ℕ) → first (own_checks n s) ≡ Passed → 2 ≤ length s
+pub own_header : (n : ℕ) (s : List ℕ) → first (own_checks n s) ≡ passed → 2 ≤ length s
 own_header n s e = accepted-header n s (own_accepted n s e)
 
-pub own_passes : (n : ℕ) (s : List ℕ) → (node_count n).fails ≡ false → first (book_checks n s) ≡ Passed → first (own_checks n s) ≡ Passed
+pub own_passes : (n : ℕ) (s : List ℕ) → (node_count n).fails ≡ false → first (book_checks n s) ≡ passed → first (own_checks n s) ≡ passed
 unfolding own_checks
 own_passes n s few e = first_passes _ _ few ∙ e

@@ -11,7 +11,8 @@ use native.Mathlib.Nat.{eq-or-lt_of_le}
 use native.Mathlib.Numerals.{add-one}
 use native.Mathlib.Omega.{arith}
 use Rattle.tariff.specs.declared.refusals.Refusal.{Refusal}
-use Rattle.tariff.specs.declared.refusals.Checked.TheVariants.{Passed, Refused}
+use Rattle.std.specs.Prelude.{Ok, Err}
+use Rattle.tariff.specs.Refusals.{passed}
 use Rattle.tariff.specs.Refusals.{Check, first}
 use Rattle.tariff.specs.Units.{max_contracts}
 use Rattle.tariff.proofs.Checks.{first-append, passed_append}
@@ -22,17 +23,17 @@ use Rattle.layouts.specs.BookFile.{book_bytes_of, contract_count_in, book_spare_
 use Rattle.book_rules.specs.BookChecks.{checks_to, contract_checks, book_checks}
 
 module _ (f : ℕ → List Check) where
-  pub checks_start : first (checks_to 0 f) ≡ Passed
+  pub checks_start : first (checks_to 0 f) ≡ passed
   unfolding first checks_to
   checks_start = refl
 
   -- none so far, and none at i
-  pub checks_more : (i : ℕ) → first (checks_to i f) ≡ Passed → first (f i) ≡ Passed → first (checks_to (i + 1) f) ≡ Passed
+  pub checks_more : (i : ℕ) → first (checks_to i f) ≡ passed → first (f i) ≡ passed → first (checks_to (i + 1) f) ≡ passed
   unfolding checks_to
   checks_more i e g = rw (add-one, first-append (checks_to i f) (f i), e, g)
 
   -- none before i, and one at i: that is the first of all
-  pub checks_stop : (m i : ℕ) (r : Refusal) → i < m → first (checks_to i f) ≡ Passed → first (f i) ≡ Refused r → first (checks_to m f) ≡ Refused r
+  pub checks_stop : (m i : ℕ) (r : Refusal) → i < m → first (checks_to i f) ≡ passed → first (f i) ≡ Err r → first (checks_to m f) ≡ Err r
   unfolding checks_to
   checks_stop zero i r h e g = absurd (omega arith)
   checks_stop (suc m) i r h e g =
@@ -43,17 +44,17 @@ module _ (f : ℕ → List Check) where
       (eq-or-lt_of_le h)
 
   -- none before the last
-  pub checks_end : (m i : ℕ) → i ≡ m → first (checks_to i f) ≡ Passed → Passed ≡ first (checks_to m f)
+  pub checks_end : (m i : ℕ) → i ≡ m → first (checks_to i f) ≡ passed → passed ≡ first (checks_to m f)
   checks_end m i h e = sym (rw h at e)
 
   -- where each passes, all do
-  pub checks_all : (m : ℕ) → ((i : ℕ) → i < m → first (f i) ≡ Passed) → first (checks_to m f) ≡ Passed
+  pub checks_all : (m : ℕ) → ((i : ℕ) → i < m → first (f i) ≡ passed) → first (checks_to m f) ≡ passed
   unfolding first checks_to
   checks_all zero h = refl
   checks_all (suc m) h = first-append (checks_to m f) (f m) ∙ rw (checks_all m (λ i b. h i (omega arith)), h m (omega arith))
 
   -- where all pass, each does
-  pub checks_each : (m : ℕ) → first (checks_to m f) ≡ Passed → (i : ℕ) → i < m → first (f i) ≡ Passed
+  pub checks_each : (m : ℕ) → first (checks_to m f) ≡ passed → (i : ℕ) → i < m → first (f i) ≡ passed
   unfolding checks_to
   checks_each zero e i h = absurd (omega arith)
   checks_each (suc m) e i h =
@@ -79,22 +80,22 @@ ends-passed n a b h = rw (lt-leb n a (omega arith)) (lt-leb n b (omega arith))
 
 -- ---- the book's own checks, one after the other; m is the count read, f the form, x the spare bits and p the form's
 module _ (n : ℕ) (s : List ℕ) where
-  pub short-book : length s < 2 → Refused ShortFile ≡ first (book_checks n s)
+  pub short-book : length s < 2 → Err ShortFile ≡ first (book_checks n s)
   unfolding first book_checks
   short-book h = rw (lt-ltb (length s) 2 h)
 
   module _ (long : 2 ≤ length s) (m : ℕ) (count : m ≡ contract_count_in s) where
-    pub many_contracts : max_contracts < m → Refused ContractCount ≡ first (book_checks n s)
+    pub many_contracts : max_contracts < m → Err ContractCount ≡ first (book_checks n s)
     unfolding first book_checks
     many_contracts h = rw (le-ltb (length s) 2 long, ← count, lt-ltb max_contracts m h)
 
     module _ (few : m ≤ max_contracts) (f : Form) (form : f ≡ book_form_in s) (x : ℕ) (spare : x ≡ book_spare_in s) (p : ℕ) (pattern : p ≡ spare_pattern_of f) where
-      pub spare-other : (x ≡ p → ⊥) → Refused SpareBits ≡ first (book_checks n s)
+      pub spare-other : (x ≡ p → ⊥) → Err SpareBits ≡ first (book_checks n s)
       unfolding first book_checks
       spare-other h = rw (le-ltb (length s) 2 long, ← count, le-ltb max_contracts m few, ← form, ← pattern, ← spare, ne_eqb x p h)
 
       module _ (same : x ≡ p) (size : ℕ) (right : size ≡ book_bytes_of f m) where
-        pub wrong_length : (length s ≡ size → ⊥) → Refused FileLength ≡ first (book_checks n s)
+        pub wrong_length : (length s ≡ size → ⊥) → Err FileLength ≡ first (book_checks n s)
         unfolding first book_checks
         wrong_length h =
             rw (le-ltb (length s) 2 long, ← count, le-ltb max_contracts m few, ← form, ← pattern, ← spare, eq-eqb x p same, ← right, ne_eqb (length s) size h)

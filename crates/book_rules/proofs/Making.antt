@@ -10,7 +10,8 @@ use Rattle.lists.specs.Lists.{Each}
 use Rattle.lists.specs.Lent.{overwrite}
 use Rattle.lists.proofs.Lists.{get_d_list_to, each_at, flat_map_last}
 use Rattle.tariff.specs.declared.contracts.Contract.{Contract}
-use Rattle.tariff.specs.declared.refusals.Checked.TheVariants.{Passed}
+use Rattle.std.specs.Prelude.{Ok}
+use Rattle.tariff.specs.Refusals.{passed}
 use Rattle.tariff.specs.ContractRules.{InRange}
 use Rattle.tariff.specs.Refusals.{first}
 use Rattle.tariff.specs.Units.{max_nodes, max_contracts, max_holder}
@@ -61,7 +62,7 @@ in_range_fits f n c few r held =
     }
 
 pub record Made (f : Form) (n : ℕ) (cs : List Contract) : Type 0 where
-  pub accepted : first (book_checks n (book_file f cs)) ≡ Passed
+  pub accepted : first (book_checks n (book_file f cs)) ≡ passed
   pub size : length (book_file f cs) ≡ book_bytes_of f (length cs)
   pub count : contract_count_in (book_file f cs) ≡ length cs
   pub form : book_form_in (book_file f cs) ≡ f
@@ -87,10 +88,10 @@ module _ (f : Form) (n : ℕ) (cs : List Contract) (few : length cs ≤ max_cont
           let s = book_file f cs in
           sym (get_d_list_to (contract_count_in s) (contract_at s) i none (rw found.count h)) ∙ ap (λ (l : List Contract). get_or l i none) found.contracts
 
-  pub book-made : Each (λ c. first (contract_checks n c) ≡ Passed) cs → Made f n cs
+  pub book-made : Each (λ c. first (contract_checks n c) ≡ passed) cs → Made f n cs
   book-made pass =
       record {
-        accepted = checks_of_file ∙ checks_all (λ i. contract_checks n (get_or cs i none)) (length cs) (λ i h. each_at (λ c. first (contract_checks n c) ≡ Passed) cs i none pass h);
+        accepted = checks_of_file ∙ checks_all (λ i. contract_checks n (get_or cs i none)) (length cs) (λ i h. each_at (λ c. first (contract_checks n c) ≡ passed) cs i none pass h);
         size = found.size;
         count = found.count;
         form = found.form;

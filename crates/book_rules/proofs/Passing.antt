@@ -9,7 +9,8 @@ use lib.Dec.{ltb}
 use lib.ListN.{length, get_or}
 use Rattle.lists.proofs.Lists.{length-list_to, each-list_to}
 use Rattle.lists.proofs.Search.{neither}
-use Rattle.tariff.specs.declared.refusals.Checked.TheVariants.{Passed}
+use Rattle.std.specs.Prelude.{Ok}
+use Rattle.tariff.specs.Refusals.{passed}
 use Rattle.tariff.specs.Refusals.{first}
 use Rattle.tariff.specs.Checks.{short_table, node_count}
 use Rattle.tariff.specs.Units.{max_nodes, max_contracts, max_holder}
@@ -39,7 +40,7 @@ pub record Readable (q : ReadBookCall) : Type 0 where
   pub own : Accepted q.nodes q.file
   pub room : contract_cells * contract_count_in q.file ≤ length q.table
 
-pub readable : (q : ReadBookCall) → read_book_checked q ≡ Passed → Readable q
+pub readable : (q : ReadBookCall) → read_book_checked q ≡ passed → Readable q
 unfolding read_book_checks
 readable q e =
     let cells = contract_cells * contract_count_in q.file in
@@ -57,9 +58,9 @@ then_rows q right few long = first_passes _ _ right ∙ first_passes _ _ (le-ltb
 -- a row that its checks accept in the form f
 pub record GoodRow (f : Form) (n : ℕ) (table : List ℕ) (i : ℕ) : Type 0 where
   pub row : RowFits f table (contract_cells * i)
-  pub passes : first (contract_checks n (row_at table i)) ≡ Passed
+  pub passes : first (contract_checks n (row_at table i)) ≡ passed
 
-row-good : (f : Form) (n : ℕ) → n ≤ max_nodes → (table : List ℕ) (i : ℕ) → first (row_checks (ends_below_of f n) table i) ≡ Passed → GoodRow f n table i
+row-good : (f : Form) (n : ℕ) → n ≤ max_nodes → (table : List ℕ) (i : ℕ) → first (row_checks (ends_below_of f n) table i) ≡ passed → GoodRow f n table i
 unfolding row_checks row_from
 row-good f n few table i e =
     let at = contract_cells * i in
@@ -83,7 +84,7 @@ pub record Writable (q : WriteBookCall) : Type 0 where
   pub rows : (i : ℕ) → i < q.contracts → GoodRow q.form q.nodes q.table i
   pub room : book_bytes_of q.form q.contracts ≤ length q.place
 
-pub writable : (q : WriteBookCall) → write_book_checked q ≡ Passed → Writable q
+pub writable : (q : WriteBookCall) → write_book_checked q ≡ passed → Writable q
 unfolding write_book_checks
 writable q e =
     let m = q.contracts in
@@ -109,7 +110,7 @@ module _ (q : WriteBookCall) (ok : Writable q) where
   rows_made =
       book-made q.form q.nodes (rows_in q.contracts q.table) (omega (arith, ok.few, rows-many))
       (each-list_to (ContractFits (end_width q.form)) q.contracts (row_at q.table) (λ i h. (ok.rows i h).row.fits))
-      (each-list_to (λ c. first (contract_checks q.nodes c) ≡ Passed) q.contracts (row_at q.table) (λ i h. (ok.rows i h).passes))
+      (each-list_to (λ c. first (contract_checks q.nodes c) ≡ passed) q.contracts (row_at q.table) (λ i h. (ok.rows i h).passes))
 
   pub count-written : contract_count_in (book_written q) ≡ q.contracts
   count-written = rows_made.count ∙ rows-many

@@ -7,7 +7,8 @@ use native.Mathlib.Omega.{arith}
 use borrow.Author.Tests.{le-ltb}
 use lib.ListN.{length, take}
 use Rattle.bits.proofs.Numbers.{Below}
-use Rattle.tariff.specs.declared.refusals.Checked.TheVariants.{Passed}
+use Rattle.std.specs.Prelude.{Ok}
+use Rattle.tariff.specs.Refusals.{passed}
 use Rattle.tariff.proofs.Checks.{first_passes, last-passes, passed_cons, append_passes}
 use Rattle.layouts.specs.BookFile.{book_file, contract_count_in, book_form_in, book_in}
 use Rattle.layouts.specs.BookTable.{contract_cells, cells_of, rows_in}
@@ -20,24 +21,24 @@ use Rattle.book_rules.proofs.Passing.{Writable, readable, writable, rows_made, c
 
 -- ---- read, then written
 
-pub read_then_written : (q : ReadBookCall) → Below 8 q.file → read_book_checked q ≡ Passed → book_file (book_form_in q.file) (book_in q.file) ≡ q.file
+pub read_then_written : (q : ReadBookCall) → Below 8 q.file → read_book_checked q ≡ passed → book_file (book_form_in q.file) (book_in q.file) ≡ q.file
 read_then_written q b e = let ok = (readable q e).own in book-read q.file b ok.size ok.spare
 
 -- ---- written, then read
 
 -- what the reader finds in the file written: it is not refused where the table is long enough
 pub record ReadBack (q : WriteBookCall) : Type 0 where
-  pub passes : (table : List ℕ) → contract_cells * q.contracts ≤ length table → read_book_checked (read_book_call q.nodes (book_written q) table) ≡ Passed
+  pub passes : (table : List ℕ) → contract_cells * q.contracts ≤ length table → read_book_checked (read_book_call q.nodes (book_written q) table) ≡ passed
   pub count : contract_count_in (book_written q) ≡ q.contracts
   pub form : book_form_in (book_written q) ≡ q.form
   pub rows_are : book_in (book_written q) ≡ rows_in q.contracts q.table
   pub cells_are : flat_map cells_of (book_in (book_written q)) ≡ take (contract_cells * q.contracts) q.table
 
-module _ (q : WriteBookCall) (e : write_book_checked q ≡ Passed) where
+module _ (q : WriteBookCall) (e : write_book_checked q ≡ passed) where
   ok : Writable q
   ok = writable q e
 
-  not_refused : (table : List ℕ) → contract_cells * q.contracts ≤ length table → read_book_checked (read_book_call q.nodes (book_written q) table) ≡ Passed
+  not_refused : (table : List ℕ) → contract_cells * q.contracts ≤ length table → read_book_checked (read_book_call q.nodes (book_written q) table) ≡ passed
   unfolding read_book_checks write_book_checks
   not_refused table h =
       first_passes _ _ (passed_cons _ _ e).0 ∙ append_passes (book_checks q.nodes (book_written q)) _ (rows_made q ok).accepted

@@ -10,7 +10,8 @@ use Rattle.lists.specs.Lent.{overwrite}
 use Rattle.lists.proofs.Lists.{get_d_list_to, list_to-cong}
 use Rattle.lists.proofs.Fronts.{front-room, front_at}
 use Rattle.tariff.specs.declared.contracts.Contract.{Contract}
-use Rattle.tariff.specs.declared.refusals.Checked.TheVariants.{Passed}
+use Rattle.std.specs.Prelude.{Ok}
+use Rattle.tariff.specs.Refusals.{passed}
 use Rattle.tariff.specs.Units.{max_holder, max_contracts}
 use Rattle.tariff.specs.Refusals.{first}
 use Rattle.tariff.specs.Checks.{short_table}
@@ -45,7 +46,7 @@ cell_at (c ∷ cs) (suc i) j d h b = behind c (flat_map cells_of cs) (contract_c
 
 -- ---- the table
 
-module _ (n : ℕ) (s entry : List ℕ) (e : read_book_checked (read_book_call n s entry) ≡ Passed) where
+module _ (n : ℕ) (s entry : List ℕ) (e : read_book_checked (read_book_call n s entry) ≡ passed) where
   abbrev M : ℕ
   M = contract_count_in s
 
@@ -82,7 +83,7 @@ module _ (n : ℕ) (s entry : List ℕ) (e : read_book_checked (read_book_call n
   pub rows_left : rows_in M left ≡ book_in s
   rows_left = list_to-cong M (row_at left) (contract_at s) row-left
 
-  row-passes : (i : ℕ) → i < M → first (row_checks (ends_below_of F n) left i) ≡ Passed
+  row-passes : (i : ℕ) → i < M → first (row_checks (ends_below_of F n) left i) ≡ passed
   unfolding book_checks read_book_checks row_checks cells_of
   row-passes i h =
       let c = contract_at s i in
@@ -99,7 +100,7 @@ module _ (n : ℕ) (s entry : List ℕ) (e : read_book_checked (read_book_call n
       (checks_below n (ends_below_of F n) c (end_below F n c.source in_range.source-below fits.source_fits) (end_below F n c.sink in_range.sink-below fits.sink-fits)
       (checks_each (λ j. contract_checks n (contract_at s j)) M each i h))
 
-  pub rows-accepted : (place : List ℕ) → length s ≤ length place → write_book_checked (write_book_call F n M left place) ≡ Passed
+  pub rows-accepted : (place : List ℕ) → length s ≤ length place → write_book_checked (write_book_call F n M left place) ≡ passed
   unfolding read_book_checks write_book_checks
   rows-accepted place room =
       let rows = row_checks (ends_below_of F n) left in

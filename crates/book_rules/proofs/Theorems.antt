@@ -11,7 +11,8 @@ use lib.Dec.{ltb, eqb}
 use lib.ListN.{length}
 use Rattle.lists.specs.Lists.{Each}
 use Rattle.tariff.specs.declared.contracts.Contract.{Contract}
-use Rattle.tariff.specs.declared.refusals.Checked.TheVariants.{Passed}
+use Rattle.std.specs.Prelude.{Ok}
+use Rattle.tariff.specs.Refusals.{passed}
 use Rattle.tariff.specs.Units.{max_contracts}
 use Rattle.tariff.specs.Refusals.{first, number_after}
 use Rattle.tariff.specs.Checks.{node_count}
@@ -70,7 +71,7 @@ module _ (n : ℕ) (s : List ℕ) (narrow : book_spare_in s ≢ 63) where
   contracts-as_before = values-as_before s (form-narrow s narrow)
 
 -- one that was accepted is accepted
-pub read_before : (n : ℕ) (s : List ℕ) → 1 ≤ n → n ≤ 200 → former_first (former_reading_checks n s) ≡ 0 → first (node_count n ∷ book_checks n s) ≡ Passed
+pub read_before : (n : ℕ) (s : List ℕ) → 1 ≤ n → n ≤ 200 → former_first (former_reading_checks n s) ≡ 0 → first (node_count n ∷ book_checks n s) ≡ passed
 read_before n s some few accepted =
     let narrow : book_spare_in s ≢ 63 = λ wide. old-book_reader_refuses_wide n s wide accepted in
     none-refused (first (node_count n ∷ book_checks n s)) (sym (narrow-books_as_before n s narrow some few (λ e. omega arith) ∙ accepted))

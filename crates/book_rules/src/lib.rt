@@ -2,11 +2,10 @@
 #![tactic(auto)]
 
 use layouts::Form;
-use tariff::Refusal;
 
-// What reading a book gives: how many contracts were read, and in which form, or the refusal.
+// What reading a book gives beside its table: how many contracts were read, and in which form.
 #[derive(Clone, Copy)]
-pub enum BookAnswer {
-    Read { contracts: usize, form: Form },
-    Refused(Refusal),
+pub struct BookRead {
+    pub contracts: usize,
+    pub form: Form,
 }

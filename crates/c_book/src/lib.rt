@@ -1,4 +1,5 @@
 // The book's two operations for C: figures go into lent cells, and the answer is the refusal's number, 0 for none.
+// C calls each operation by a name of its own and with raw parameters, so a body that only passes the answer on is written out for each.
 #![tactic(auto)]
 
 ghost use Rattle.lists.specs.Lent.{before, after};
@@ -6,7 +7,6 @@ ghost use Rattle.layouts.specs.Forms.{form_of};
 ghost use Rattle.book_rules.specs.ReadBook.{read_book_call, ReadsBookForC};
 ghost use Rattle.book_rules.specs.WriteBook.{write_book_call, WritesBookForC};
 
-use book_rules::BookAnswer;
 use layouts::Form;
 
 // Reads a book's file for a grid of `nodes` nodes into a table of six cells a contract, and gives how many contracts it has and the form's number.
@@ -21,13 +21,10 @@ pub extern "C" fn crr_read_book(
     ensures { ReadsBookForC (read_book_call nodes file.now (before book)) result (after book) contracts form }
 {
     match book_reading::read_book(nodes, file, book) {
-        BookAnswer::Refused(refusal) => refusal.number(),
-        BookAnswer::Read {
-            contracts: m,
-            form: f,
-        } => {
-            *contracts = m;
-            *form = f.number();
+        Err(refusal) => refusal.number(),
+        Ok(found) => {
+            *contracts = found.contracts;
+            *form = u64::from(found.form);
             0
         }
     }
@@ -45,7 +42,7 @@ pub extern "C" fn crr_write_book(
 ) -> u64
     ensures { WritesBookForC (write_book_call (form_of form) nodes contracts book.now (before file)) result (after file) bytes }
 {
-    let told = Form::from_number(form);
-    let answer = book_writing::write_book(told, nodes, contracts, book, file);
-    answer.into_cell(bytes)
+    let form = Form::from(form);
+    let answer = book_writing::write_book(form, nodes, contracts, book, file);
+    tariff::answer_cell(answer, bytes)
 }

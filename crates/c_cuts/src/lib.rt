@@ -1,14 +1,14 @@
 // The least cuts that clear a book, for C: the rows go into lent cells, and the answer is the refusal's number, 0 for none.
+// C calls each operation by a name of its own and with raw parameters, so a body that only passes the answer on is written out for each.
 #![tactic(auto)]
 
-ghost use Rattle.lists.specs.Lent.{before};
 ghost use Rattle.test_rules.specs.TestBook.{test_call};
 ghost use Rattle.cut_rules.specs.FindCuts.{FindsCutsForC};
 
-use cut_rules::CutsAnswer;
 use test_terms::Asked;
 
 // Lists each contract of the period whose quantity, lowered alone, makes a failing book pass, with the least such cut, and gives how many there are.
+// Its body is that of `crr_find_flows` and of the running test's entries but for what is called: C calls each by its own name, and all answer by `answer_cell`.
 #[unsafe(no_mangle)]
 pub extern "C" fn crr_find_cuts(
     nodes: usize,
@@ -30,11 +30,6 @@ pub extern "C" fn crr_find_cuts(
         process,
         period,
     };
-    match cut_list::find_cuts(asked, limits, factors, book, numbers, cuts) {
-        CutsAnswer::Refused(refusal) => refusal.number(),
-        CutsAnswer::Found { listed: rows } => {
-            *listed = rows;
-            0
-        }
-    }
+    let found = cut_list::find_cuts(asked, limits, factors, book, numbers, cuts);
+    tariff::answer_cell(found, listed)
 }

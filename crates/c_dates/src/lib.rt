@@ -1,4 +1,5 @@
 // Dates and on-peak hours, for C: figures go into lent cells, and the answer is the refusal's number, 0 for none.
+// C calls each operation by a name of its own and with raw parameters, so a body that only passes the answer on is written out for each.
 #![tactic(auto)]
 
 ghost use Rattle.dates.specs.Date.{date_for};
@@ -6,8 +7,7 @@ ghost use Rattle.dates.specs.Weekday.{TellsWeekdayForC};
 ghost use Rattle.dates.specs.MonthLater.{ReachesMonthLaterForC};
 ghost use Rattle.date_hours.specs.MonthHours.{TellsHoursForC};
 
-use date_hours::HoursAnswer;
-use dates::{Date, DateAnswer, WeekdayAnswer};
+use dates::Date;
 
 // Gives a date's weekday, 1, Monday, to 7.
 #[unsafe(no_mangle)]
@@ -15,13 +15,7 @@ pub extern "C" fn crr_weekday(year: u64, month: u64, day: u64, weekday: &mut u64
     ensures { TellsWeekdayForC (date_for year month day) result weekday }
 {
     let date = Date { year, month, day };
-    match date.weekday() {
-        WeekdayAnswer::Refused(refusal) => refusal.number(),
-        WeekdayAnswer::Found(found) => {
-            *weekday = found;
-            0
-        }
-    }
+    tariff::answer_cell(date.weekday(), weekday)
 }
 
 // Gives the date one month later, the day cut to the month's last.
@@ -38,8 +32,8 @@ pub extern "C" fn crr_month_later(
 {
     let given = Date { year, month, day };
     match given.month_later() {
-        DateAnswer::Refused(refusal) => refusal.number(),
-        DateAnswer::Reached(later) => {
+        Err(refusal) => refusal.number(),
+        Ok(later) => {
             *later_year = later.year;
             *later_month = later.month;
             *later_day = later.day;
@@ -53,11 +47,5 @@ pub extern "C" fn crr_month_later(
 pub extern "C" fn crr_month_hours(year: u64, month: u64, hours: &mut u64) -> u64
     ensures { TellsHoursForC year month result hours }
 {
-    match date_hours::month_hours(year, month) {
-        HoursAnswer::Refused(refusal) => refusal.number(),
-        HoursAnswer::Found(found) => {
-            *hours = found;
-            0
-        }
-    }
+    tariff::answer_cell(date_hours::month_hours(year, month), hours)
 }

@@ -1,14 +1,14 @@
 // What a book can cost, for C: prices and figures go into lent cells, and the answer is the refusal's number, 0 for none.
+// C calls each operation by a name of its own and with raw parameters, so a body that only passes the answer on is written out for each.
 #![tactic(auto)]
 
-ghost use Rattle.lists.specs.Lent.{before};
 ghost use Rattle.test_rules.specs.TestBook.{test_call};
 ghost use Rattle.exposure_bounds.specs.FindExposure.{FindsExposureForC};
 
-use exposure_bounds::ExposureAnswer;
 use test_terms::Asked;
 
 // Finds the least and the most that a book can cost, each as whole cents and parts, and prices that cost the least, one cell for each constraint.
+// C calls it by this name and lends a cell for each figure, as with `crr_find_shortfall`, so each is written out.
 #[unsafe(no_mangle)]
 pub extern "C" fn crr_find_exposure(
     nodes: usize,
@@ -34,17 +34,12 @@ pub extern "C" fn crr_find_exposure(
         period,
     };
     match exposure_bounds::find_exposure(asked, limits, factors, book, prices) {
-        ExposureAnswer::Refused(refusal) => refusal.number(),
-        ExposureAnswer::Found {
-            least_whole: low,
-            least_parts: low_rest,
-            most_whole: high,
-            most_parts: high_rest,
-        } => {
-            *least_whole = low;
-            *least_parts = low_rest;
-            *most_whole = high;
-            *most_parts = high_rest;
+        Err(refusal) => refusal.number(),
+        Ok(found) => {
+            *least_whole = found.least.whole;
+            *least_parts = found.least.parts;
+            *most_whole = found.most.whole;
+            *most_parts = found.most.parts;
             0
         }
     }

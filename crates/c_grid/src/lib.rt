@@ -1,4 +1,5 @@
 // The grid's two operations for C: figures go into lent cells, and the answer is the refusal's number, 0 for none.
+// C calls each operation by a name of its own and with raw parameters, so a body that only passes the answer on is written out for each.
 #![tactic(auto)]
 
 ghost use Rattle.lists.specs.Lent.{before, after};
@@ -6,7 +7,6 @@ ghost use Rattle.layouts.specs.Forms.{form_of};
 ghost use Rattle.grid_rules.specs.ReadGrid.{read_grid_call, ReadsGridForC};
 ghost use Rattle.grid_rules.specs.WriteGrid.{write_grid_call, WritesGridForC};
 
-use grid_rules::GridAnswer;
 use layouts::Form;
 
 // Reads a grid's file into the first cells of its tables, and gives its counts and its form's number.
@@ -22,15 +22,11 @@ pub extern "C" fn crr_read_grid(
     ensures { ReadsGridForC (read_grid_call file.now (before limits) (before factors)) result (after limits) (after factors) nodes constraints form }
 {
     match grid_reading::read_grid(file, limits, factors) {
-        GridAnswer::Refused(refusal) => refusal.number(),
-        GridAnswer::Read {
-            nodes: n,
-            constraints: k,
-            form: f,
-        } => {
-            *nodes = n;
-            *constraints = k;
-            *form = f.number();
+        Err(refusal) => refusal.number(),
+        Ok(found) => {
+            *nodes = found.nodes;
+            *constraints = found.constraints;
+            *form = u64::from(found.form);
             0
         }
     }
@@ -49,7 +45,7 @@ pub extern "C" fn crr_write_grid(
 ) -> u64
     ensures { WritesGridForC (write_grid_call (form_of form) nodes constraints limits.now factors.now (before file)) result (after file) bytes }
 {
-    let told = Form::from_number(form);
-    let answer = grid_writing::write_grid(told, nodes, constraints, limits, factors, file);
-    answer.into_cell(bytes)
+    let form = Form::from(form);
+    let answer = grid_writing::write_grid(form, nodes, constraints, limits, factors, file);
+    tariff::answer_cell(answer, bytes)
 }

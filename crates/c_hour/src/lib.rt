@@ -1,12 +1,10 @@
 // Finding the MCC and settling an hour for C: figures go into lent cells, and the answer is the refusal's number, 0 for none.
+// C calls each operation by a name of its own and with raw parameters, so a body that only passes the answer on is written out for each.
 #![tactic(auto)]
 
 ghost use Rattle.lists.specs.Lent.{before, after};
 ghost use Rattle.hour_mcc.specs.FindMcc.{find_mcc_call, FindsMccForC};
 ghost use Rattle.hour_rules.specs.SettleHour.{hour_call, SettlesForC};
-
-use hour_mcc::MccAnswer;
-use hour_rules::SettleAnswer;
 
 // Finds the MCC of all nodes, one cell each.
 #[unsafe(no_mangle)]
@@ -19,10 +17,7 @@ pub extern "C" fn crr_find_mcc(
 ) -> u64
     ensures { FindsMccForC (find_mcc_call nodes constraints factors.now prices.now (before mcc)) result (after mcc) }
 {
-    match hour_mcc::find_mcc(nodes, constraints, factors, prices, mcc) {
-        MccAnswer::Refused(refusal) => refusal.number(),
-        MccAnswer::Found => 0,
-    }
+    tariff::answer_number(hour_mcc::find_mcc(nodes, constraints, factors, prices, mcc))
 }
 
 // Settles an hour of a period: a cell of cents and a cell of the constraints that priced it for each contract, and gives the sum of the
@@ -53,15 +48,11 @@ pub extern "C" fn crr_settle_hour(
         cents,
         priced,
     ) {
-        SettleAnswer::Refused(refusal) => refusal.number(),
-        SettleAnswer::Settled {
-            sum: added,
-            whole: down,
-            parts: rest,
-        } => {
-            *sum = added;
-            *whole = down;
-            *part = rest;
+        Err(refusal) => refusal.number(),
+        Ok(totals) => {
+            *sum = totals.sum;
+            *whole = totals.whole;
+            *part = totals.parts;
             0
         }
     }

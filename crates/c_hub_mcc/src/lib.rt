@@ -1,10 +1,8 @@
 // Finding a hub's MCC for C: the two figures go into lent cells, and the answer is the refusal's number, 0 for none.
+// C calls each operation by a name of its own and with raw parameters, so a body that only passes the answer on is written out for each.
 #![tactic(auto)]
 
-ghost use Rattle.lists.specs.Lent.{before};
 ghost use Rattle.hub_mcc.specs.FindHubMcc.{find_hub_mcc_call, FindsHubMccForC};
-
-use hub_mcc::HubMccAnswer;
 
 // Finds the MCC of a hub of nodes and weights, as quotient rounded down and remainder.
 #[unsafe(no_mangle)]
@@ -21,13 +19,10 @@ pub extern "C" fn crr_find_hub_mcc(
     ensures { FindsHubMccForC (find_hub_mcc_call nodes constraints factors.now prices.now hub.now weights.now) result quotient remainder }
 {
     match hub_mcc::find_hub_mcc(nodes, constraints, factors, prices, hub, weights) {
-        HubMccAnswer::Refused(refusal) => refusal.number(),
-        HubMccAnswer::Found {
-            quotient: down,
-            remainder: rest,
-        } => {
-            *quotient = down.cell();
-            *remainder = rest;
+        Err(refusal) => refusal.number(),
+        Ok(found) => {
+            *quotient = i64::from(found.quotient);
+            *remainder = found.remainder;
             0
         }
     }

@@ -1,4 +1,5 @@
 // The interface for C by its number, and a refusal by its sentence: the length goes into a lent cell, and the answer is the refusal's number, 0 for none.
+// C calls each operation by a name of its own and with raw parameters, so a body that only passes the answer on is written out for each.
 #![tactic(auto)]
 
 ghost use Rattle.lists.specs.Lent.{before, after};
@@ -22,5 +23,5 @@ pub extern "C" fn crr_refusal_text(number: u64, text: &mut [u8], bytes: &mut usi
     ensures { WritesTextForC (text_call number (before text)) result (after text) bytes }
 {
     let answer = text_refusals::refusal_text(number, text);
-    answer.into_cell(bytes)
+    tariff::answer_cell(answer, bytes)
 }

@@ -1,11 +1,11 @@
 // How full the constraints are, for C: figures go into lent cells, and the answer is the refusal's number, 0 for none.
+// C calls each operation by a name of its own and with raw parameters, so a body that only passes the answer on is written out for each.
 #![tactic(auto)]
 
 ghost use Rattle.lists.specs.Lent.{before, after};
 ghost use Rattle.test_loading.specs.FindFlows.{flows_call, FindsFlowsForC};
 ghost use Rattle.test_loading.specs.ReleasedPercent.{ReleasesPercentForC};
 
-use test_loading::{FlowsAnswer, PercentAnswer};
 use test_terms::AskedFlows;
 
 // Finds the flow on each constraint of a period's contracts as they count, one cell each, and gives how many were counted.
@@ -27,13 +27,8 @@ pub extern "C" fn crr_find_flows(
         constraints,
         period,
     };
-    match test_loading::find_flows(asked, limits, factors, book, flows) {
-        FlowsAnswer::Refused(refusal) => refusal.number(),
-        FlowsAnswer::Found { counted: many } => {
-            *counted = many;
-            0
-        }
-    }
+    let found = test_loading::find_flows(asked, limits, factors, book, flows);
+    tariff::answer_cell(found, counted)
 }
 
 // Gives the share of each limit that a process releases, in percent.
@@ -41,11 +36,5 @@ pub extern "C" fn crr_find_flows(
 pub extern "C" fn crr_released_percent(process: u64, percent: &mut u64) -> u64
     ensures { ReleasesPercentForC process result percent }
 {
-    match test_loading::released_percent(process) {
-        PercentAnswer::Refused(refusal) => refusal.number(),
-        PercentAnswer::Released { percent: share } => {
-            *percent = share;
-            0
-        }
-    }
+    tariff::answer_cell(test_loading::released_percent(process), percent)
 }

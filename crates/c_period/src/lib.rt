@@ -1,10 +1,10 @@
 // An hour's period, for C: the figure goes into a lent cell, and the answer is the refusal's number, 0 for none.
+// C calls each operation by a name of its own and with raw parameters, so a body that only passes the answer on is written out for each.
 #![tactic(auto)]
 
 ghost use Rattle.dates.specs.Date.{date_for};
 ghost use Rattle.date_period.specs.HourPeriod.{TellsPeriodForC};
 
-use date_period::PeriodAnswer;
 use dates::Date;
 
 // Gives the period of a date's hour, 0 off-peak or 1 on-peak.
@@ -20,9 +20,9 @@ pub extern "C" fn crr_hour_period(
 {
     let date = Date { year, month, day };
     match date_period::hour_period(date, hour_ending) {
-        PeriodAnswer::Refused(refusal) => refusal.number(),
-        PeriodAnswer::Found(found) => {
-            *period = found;
+        Err(refusal) => refusal.number(),
+        Ok(found) => {
+            *period = found as u64;
             0
         }
     }

@@ -1,4 +1,5 @@
 // Remapping a book for C: the length goes into a lent cell, and the answer is the refusal's number, 0 for none.
+// C calls each operation by a name of its own and with raw parameters, so a body that only passes the answer on is written out for each.
 #![tactic(auto)]
 
 ghost use Rattle.lists.specs.Lent.{before, after};
@@ -17,5 +18,5 @@ pub extern "C" fn crr_remap_book(
     ensures { RemapsBookForC (remap_book_call nodes book.now old.now new.now (before file)) result (after file) bytes }
 {
     let answer = remap_book::remap_book(nodes, book, old, new, file);
-    answer.into_cell(bytes)
+    tariff::answer_cell(answer, bytes)
 }

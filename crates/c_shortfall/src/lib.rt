@@ -1,14 +1,14 @@
 // What a book costs at a price list, for C: the figures go into lent cells, and the answer is the refusal's number, 0 for none.
+// C calls each operation by a name of its own and with raw parameters, so a body that only passes the answer on is written out for each.
 #![tactic(auto)]
 
-ghost use Rattle.lists.specs.Lent.{before};
 ghost use Rattle.test_rules.specs.TestBook.{test_call};
 ghost use Rattle.exposure_shortfall.specs.FindShortfall.{FindsShortfallForC};
 
-use exposure_shortfall::ShortfallAnswer;
 use test_terms::Asked;
 
 // Finds net payment, rent and shortfall of a book at a price list, each as whole cents and parts.
+// C calls it by this name and lends a cell for each figure, as with `crr_find_exposure`, so each is written out.
 #[unsafe(no_mangle)]
 pub extern "C" fn crr_find_shortfall(
     nodes: usize,
@@ -36,21 +36,14 @@ pub extern "C" fn crr_find_shortfall(
         period,
     };
     match exposure_shortfall::find_shortfall(asked, limits, factors, prices, book) {
-        ShortfallAnswer::Refused(refusal) => refusal.number(),
-        ShortfallAnswer::Found {
-            payment_whole: paid,
-            payment_parts: paid_rest,
-            rent_whole: owed,
-            rent_parts: owed_rest,
-            shortfall_whole: short,
-            shortfall_parts: short_rest,
-        } => {
-            *payment_whole = paid;
-            *payment_parts = paid_rest;
-            *rent_whole = owed;
-            *rent_parts = owed_rest;
-            *shortfall_whole = short;
-            *shortfall_parts = short_rest;
+        Err(refusal) => refusal.number(),
+        Ok(found) => {
+            *payment_whole = found.payment.whole;
+            *payment_parts = found.payment.parts;
+            *rent_whole = found.rent.whole;
+            *rent_parts = found.rent.parts;
+            *shortfall_whole = found.shortfall.whole;
+            *shortfall_parts = found.shortfall.parts;
             0
         }
     }

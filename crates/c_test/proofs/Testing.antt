@@ -11,8 +11,7 @@ use Rattle.tariff.specs.declared.processes.Process.{Process}
 use Rattle.tariff.specs.Units.{Grid}
 use Rattle.tariff.specs.Refusals.{Outcome}
 use Rattle.tariff.specs.Feasibility.{excess, overload_set, overload_count, lowest_overload}
-use Rattle.test_rules.specs.declared.TestAnswer.{TestAnswer}
-use Rattle.test_rules.specs.declared.TestAnswer.TheVariants.{Pass, Fail}
+use Rattle.test_rules.specs.TestBook.{TestAnswer, pass, fail}
 use Rattle.test_rules.specs.TestBook.{test_outcome, test_values, Demand3, pass_cells_of, test_cells, Demand3OfCells}
 use Rattle.test_verdict.proofs.Cells.{cells_by, values_by, pass_by, fail_by, some_by}
 
@@ -44,7 +43,7 @@ module _ (g : Grid) (process : Process) (cs : List Contract) where
     fail_set = some_by S C L E set count lowest over (eqb S 0) refl e
 
   -- demand 3, carried from the answer to its cells
-  pub pass_demand3 : (r : TestAnswer) → r ≡ Pass → Demand3 g process cs r → Demand3OfCells g process cs 0 0 (pos 0)
+  pub pass_demand3 : (r : TestAnswer) → r ≡ pass → Demand3 g process cs r → Demand3OfCells g process cs 0 0 (pos 0)
   pass_demand3 r told d = record {
     empty_is_worst_zero = (λ z. d.pass_is_worst_zero.0 told, λ w. refl);
     named_is_of_the_grid = λ n. absurd (n refl);
@@ -53,10 +52,10 @@ module _ (g : Grid) (process : Process) (cs : List Contract) where
     named_is_above_zero = λ n. absurd (n refl);
   }
 
-  not_pass : (set count lowest : ℕ) (over : Flow) → Fail set count lowest over ≡ Pass → ⊥
+  not_pass : (set count lowest : ℕ) (over : Flow) → fail set count lowest over ≡ pass → ⊥
   not_pass set count lowest over e = let q : pos set ∷ pos count ∷ pos lowest ∷ over.0 ∷ [] ≡ [] = ap (λ (o : Outcome). o.values) (ap test_outcome e) in let z : ◌≡◌ {A = ℕ} 0 1 = cc in omega arith
 
-  pub fail_demand3 : (r : TestAnswer) (set count lowest : ℕ) (over : Flow) → r ≡ Fail set count lowest over → (set ≡ 0 → ⊥) → Demand3 g process cs r → Demand3OfCells g process cs set lowest over.0
+  pub fail_demand3 : (r : TestAnswer) (set count lowest : ℕ) (over : Flow) → r ≡ fail set count lowest over → (set ≡ 0 → ⊥) → Demand3 g process cs r → Demand3OfCells g process cs set lowest over.0
   fail_demand3 r set count lowest over told some d = record {
     empty_is_worst_zero = (λ z. absurd (some z), λ w. absurd (not_pass set count lowest over (sym told ∙ d.pass_is_worst_zero.1 w)));
     named_is_of_the_grid = λ n. d.fail_is_of_the_grid set count lowest over told;

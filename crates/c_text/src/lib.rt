@@ -1,4 +1,5 @@
 // The two texts for C: the length goes into a lent cell, and the answer is the refusal's number, 0 for none.
+// C calls each operation by a name of its own and with raw parameters, so a body that only passes the answer on is written out for each.
 #![tactic(auto)]
 
 ghost use Rattle.lists.specs.Lent.{before, after};
@@ -6,6 +7,7 @@ ghost use Rattle.text_report_rules.specs.WriteReport.{report_call, WritesReportF
 ghost use Rattle.text_statement.specs.WriteStatement.{statement_call, WritesStatementForC};
 
 // Writes the feasibility report of a grid's file and a book's file into the first bytes of `text`, and gives its length.
+// One answer passed on as other entries do: C calls each by its own name.
 #[unsafe(no_mangle)]
 pub extern "C" fn crr_write_report(
     grid_file: &[u8],
@@ -16,10 +18,11 @@ pub extern "C" fn crr_write_report(
     ensures { WritesReportForC (report_call grid_file.now book_file.now (before text)) result (after text) bytes }
 {
     let answer = text_report::write_report(grid_file, book_file, text);
-    answer.into_cell(bytes)
+    tariff::answer_cell(answer, bytes)
 }
 
 // Writes the hour statement of a grid's, a book's and a price file into the first bytes of `text`, and gives its length.
+// One answer passed on as other entries do: C calls each by its own name.
 #[unsafe(no_mangle)]
 pub extern "C" fn crr_write_statement(
     grid_file: &[u8],
@@ -31,5 +34,5 @@ pub extern "C" fn crr_write_statement(
     ensures { WritesStatementForC (statement_call grid_file.now book_file.now price_file.now (before text)) result (after text) bytes }
 {
     let answer = text_statement::write_statement(grid_file, book_file, price_file, text);
-    answer.into_cell(bytes)
+    tariff::answer_cell(answer, bytes)
 }

@@ -1,12 +1,12 @@
 // A test of any size, for C: figures go into lent cells, and the answer is the refusal's number, 0 for none.
+// C calls each operation by a name of its own and with raw parameters, so a body that only passes the answer on is written out for each.
 #![tactic(auto)]
 
-ghost use Rattle.lists.specs.Lent.{before, after};
+ghost use Rattle.lists.specs.Lent.{after};
 ghost use Rattle.test_totals.specs.AddFlows.{add_flows_call, AddsFlowsForC};
 ghost use Rattle.test_totals.specs.JudgeFlows.{judge_call, JudgesFlowsForC};
 
-use test_loading::FlowsAnswer;
-use test_rules::TestAnswer;
+use test_rules::Verdict;
 use test_terms::AskedFlows;
 
 // Adds the flow on each constraint of a period's contracts as they count to the totals in `flows`, and how many to `count`; `counted` is given how many.
@@ -30,16 +30,12 @@ pub extern "C" fn crr_add_flows(
         constraints,
         period,
     };
-    match test_totals::add_flows(asked, limits, factors, book, flows, count) {
-        FlowsAnswer::Refused(refusal) => refusal.number(),
-        FlowsAnswer::Found { counted: many } => {
-            *counted = many;
-            0
-        }
-    }
+    let found = test_totals::add_flows(asked, limits, factors, book, flows, count);
+    tariff::answer_cell(found, counted)
 }
 
 // Judges totals of flows by the released limits of their constraints, and gives the test's figures: on a pass all are 0, and only then is the set.
+// Four cells are lent one by one: a function of both entries would take the answer and each of them.
 #[unsafe(no_mangle)]
 pub extern "C" fn crr_judge_flows(
     constraints: usize,
@@ -55,25 +51,26 @@ pub extern "C" fn crr_judge_flows(
     ensures { JudgesFlowsForC (judge_call constraints process limits.now flows.now summed) result set count lowest excess }
 {
     match test_totals::judge_flows(constraints, process, limits, flows, summed) {
-        TestAnswer::Refused(refusal) => refusal.number(),
-        TestAnswer::Pass => {
+        Err(refusal) => refusal.number(),
+        Ok(Verdict::Pass) => {
             *set = 0;
             *count = 0;
             *lowest = 0;
             *excess = 0;
             0
         }
-        TestAnswer::Fail {
-            set: overloads,
-            count: many,
-            lowest: named,
-            excess: over,
-        } => {
-            let flow = over.0;
+        Ok(
+            Verdict::Fail {
+                set: overloads,
+                count: many,
+                lowest: named,
+                excess: over,
+            },
+        ) => {
             *set = overloads;
             *count = many;
             *lowest = named;
-            *excess = flow;
+            *excess = over.0;
             0
         }
     }

@@ -4,14 +4,15 @@ use mathlib.Core.List.{List, [], ◌∷◌, map}
 use Prim.Native.Nat.{ℕ, zero, suc, ◌≤◌, ◌<◌}
 use native.Mathlib.Omega.{arith}
 use borrow.Author.Tests.{lt-ltb, le-ltb}
-use lib.ListN.{length, get_or, take, length-map}
-use lib.Seq.{length-take-le, get_or-take}
+use lib.ListN.{length, get_or, length-map}
+use Rattle.std.proofs.lemmas.List.{take_all}
 use Rattle.lists.specs.Lists.{Each, list_to}
 use Rattle.lists.proofs.Lists.{map-list_to, take-is_list_to}
 use Rattle.tariff.specs.declared.contracts.Contract.{Contract}
 use Rattle.tariff.specs.declared.refusals.Refusal.{Refusal}
 use Rattle.tariff.specs.declared.refusals.Refusal.TheVariants.{ShortTable}
-use Rattle.tariff.specs.declared.refusals.Checked.TheVariants.{Passed, Refused}
+use Rattle.std.specs.Prelude.{Err}
+use Rattle.tariff.specs.Refusals.{passed}
 use Rattle.tariff.specs.Refusals.{first}
 use Rattle.tariff.proofs.Checks.{first-refuses, last-passes, append_refuses, append_passes}
 use Rattle.layouts.specs.declared.forms.Form.{Form}
@@ -40,17 +41,18 @@ rows_back : (form : Form) (rows : List Contract) → Each (ContractFits (end_wid
 rows_back form [] f = refl
 rows_back form (r ∷ rows) f = ap₂ ◌∷◌ (contract-back form r f.0 (row_number r) refl) (rows_back form rows f.1)
 
-module _ (form : Form) (rows : List Contract) (fits : Each (ContractFits (end_width form)) rows) (cells : List ℕ) (r : ℕ) (le : r ≤ length cells)
-    (e : take r cells ≡ map row_number rows) where
-  pub rows-count : r ≡ length rows
-  rows-count = sym (length-take-le r cells le) ∙ ap length e ∙ length-map rows row_number
+module _ (form : Form) (rows : List Contract) (fits : Each (ContractFits (end_width form)) rows) (cells : List ℕ) (e : cells ≡ map row_number rows) where
+  pub rows-count : length cells ≡ length rows
+  rows-count = ap length e ∙ length-map rows row_number
 
-  pub row_at : (i : ℕ) → i < r → RowOf form (get_or cells i 0)
-  row_at i h = rw (get_or-take r cells i 0 h) at (rw (← e) at (rows_at form rows fits i (omega (arith, rows-count))))
+  pub row_at : (i : ℕ) → i < length cells → RowOf form (get_or cells i 0)
+  row_at i h = rw e (rows_at form rows fits i (omega (arith, rows-count)))
 
-  pub rows_are : list_to r (λ i. contract_for 12 (get_or cells i 0)) ≡ rows
+  pub rows_are : list_to (length cells) (λ i. contract_for 12 (get_or cells i 0)) ≡ rows
   rows_are =
-      sym (map-list_to r (λ i. get_or cells i 0) (contract_for 12)) ∙ ap (map (contract_for 12)) (sym (take-is_list_to r cells 0 le) ∙ e) ∙ rows_back form rows fits
+      sym (map-list_to (length cells) (λ i. get_or cells i 0) (contract_for 12))
+      ∙ ap (map (contract_for 12)) (sym (take-is_list_to (length cells) cells 0 (omega arith)) ∙ take_all (length cells) cells (omega arith) ∙ e)
+      ∙ rows_back form rows fits
 
 -- ---- an accepted book
 
@@ -61,11 +63,11 @@ module _ (q : CanonicalBookCall) where
   abbrev canonical_rows : List Contract
   canonical_rows = canonical (book_in q.book)
 
-  pub own_refuses : (r : Refusal) → first (own_checks q.nodes q.book) ≡ Refused r → canonical_book_checked q ≡ Refused r
+  pub own_refuses : (r : Refusal) → first (own_checks q.nodes q.book) ≡ Err r → canonical_book_checked q ≡ Err r
   unfolding canonical_book_checks
   own_refuses r e = append_refuses (own_checks q.nodes q.book) _ r e
 
-  module _ (ok : first (own_checks q.nodes q.book) ≡ Passed) where
+  module _ (ok : first (own_checks q.nodes q.book) ≡ passed) where
     pub header-there : 2 ≤ length q.book
     header-there = own_header q.nodes q.book ok
 
@@ -89,10 +91,10 @@ module _ (q : CanonicalBookCall) where
 
     -- with so many bytes needed
     module _ (bytes : ℕ) (e : bytes ≡ length (canonical_file q.book)) where
-      pub no_room : length q.place < bytes → canonical_book_checked q ≡ Refused ShortTable
+      pub no_room : length q.place < bytes → canonical_book_checked q ≡ Err ShortTable
       unfolding canonical_book_checks
       no_room h = append_passes (own_checks q.nodes q.book) _ ok ∙ first-refuses _ _ (lt-ltb (length q.place) (length (canonical_file q.book)) (omega arith))
 
-      pub room : bytes ≤ length q.place → canonical_book_checked q ≡ Passed
+      pub room : bytes ≤ length q.place → canonical_book_checked q ≡ passed
       unfolding canonical_book_checks
       room h = append_passes (own_checks q.nodes q.book) _ ok ∙ last-passes _ (le-ltb (length q.place) (length (canonical_file q.book)) (omega arith))

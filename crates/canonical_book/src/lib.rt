@@ -12,9 +12,9 @@ ghost use Rattle.book_rules.specs.Inner.{bits_bytes};
 ghost use Rattle.canonical_rules.specs.CanonicalBook.{canonical_book_call, WritesCanonicalBook};
 ghost use Rattle.canonical_book.specs.Inner.{row_bytes, RowOf};
 
-use book_bits::{NARROW_END_WIDTH, QUANTITIES, QUANTITY_WIDTH, WIDE_END_WIDTH};
-use layouts::{Form, WriteAnswer};
-use tariff::{Checked, MAX_CONTRACTS, Refusal};
+use book_bits::{Contracts, NARROW_END_WIDTH, QUANTITIES, QUANTITY_WIDTH, WIDE_END_WIDTH};
+use layouts::Form;
+use tariff::{MAX_CONTRACTS, Refusal};
 
 // One past the largest figure of an end's bits in a narrow book.
 const NARROW_ENDS: u64 = 1u64 << NARROW_END_WIDTH;
@@ -35,7 +35,8 @@ fn bits_of(form: Form, v: u64) -> u64
     }
 }
 
-// Stores the row whose number is `v` as contract i of a book in a form.
+// Stores the row whose number is `v` as contract i of a book in a form. Here and below the file is lent and written, so that it and its form are no `Contracts`,
+// which are shared bytes to be read.
 fn store_row(file: &mut [u8], form: Form, i: usize, v: u64)
     requires { (i < 1024) × (book_bytes_of form i + record_bytes form ≤ length file.old) × RowOf form v }
     ensures { after file ≡ take (book_bytes_of form i) (before file) ++ row_bytes form v ++ drop (book_bytes_of form i + record_bytes form) (before file) }
@@ -43,39 +44,30 @@ fn store_row(file: &mut [u8], form: Form, i: usize, v: u64)
     book_bits::store_bits(file, form, i, bits_of(form, v));
 }
 
-// Writes the book of the rows whose numbers are in the first cells.
-fn write_rows(form: Form, cells: &[u64], rows: usize, file: &mut [u8])
-    requires rows_le_max_contracts { (rows ≤ max_contracts) × (rows ≤ length cells.now) × (book_bytes_of form rows ≤ length file.old) }
-    requires by_index { (i : ℕ) → i < rows → RowOf form (get_or cells.now i 0) }
-    ensures { after file ≡ overwrite (book_file form (list_to rows (λ i. contract_for 12 (get_or cells.now i 0)))) (before file) }
+// Writes the book of the rows that have these numbers. As `book_writing::write_contracts` says of itself and the like.
+fn write_rows(form: Form, rows: &[u64], file: &mut [u8])
+    requires rows_le_max_contracts { (length rows.now ≤ max_contracts) × (book_bytes_of form (length rows.now) ≤ length file.old) }
+    requires by_index { (i : ℕ) → i < length rows.now → RowOf form (get_or rows.now i 0) }
+    ensures { after file ≡ overwrite (book_file form (list_to (length rows.now) (λ i. contract_for 12 (get_or rows.now i 0)))) (before file) }
 {
-    book_bits::store_header(file, form, rows);
-    let mut i = 0;
-    while i < rows {
-        store_row(file, form, i, cells[i]);
-        i += 1;
+    book_bits::store_header(file, form, rows.len());
+    for (i, row) in rows.iter().enumerate() {
+        store_row(file, form, i, *row);
     }
 }
 
 // Writes the canonical form of a book for a grid of `nodes` nodes. Takes 21,000 bytes of stack.
-pub fn write_canonical_book(nodes: usize, book: &[u8], file: &mut [u8]) -> WriteAnswer
+pub fn write_canonical_book(nodes: usize, book: &[u8], file: &mut [u8]) -> Result<usize, Refusal>
     ensures { WritesCanonicalBook (canonical_book_call nodes book.now (before file)) result (after file) }
 {
-    if let Checked::Refused(refusal) = book_checks::check_own(nodes, book) {
-        return WriteAnswer::Refused(refusal);
-    }
-    let form = book_bits::book_form(book);
+    book_checks::check_own(nodes, book)?;
+    let contracts = Contracts::of(book);
     let mut cells = [0u64; MAX_CONTRACTS];
-    let rows = canonical_numbers::canonical_rows(
-        book,
-        form,
-        book_bits::contract_count(book),
-        &mut cells,
-    );
-    let bytes = form.book_bytes(rows);
+    let rows = canonical_numbers::canonical_rows(contracts, &mut cells);
+    let bytes = contracts.form.book_bytes(rows);
     if file.len() < bytes {
-        return WriteAnswer::Refused(Refusal::ShortTable);
+        return Err(Refusal::ShortTable);
     }
-    write_rows(form, &cells, rows, file);
-    WriteAnswer::Written { bytes }
+    write_rows(contracts.form, &cells[..rows], file);
+    Ok(bytes)
 }

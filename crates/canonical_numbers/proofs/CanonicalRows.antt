@@ -1,12 +1,11 @@
 -- The cells filled, sorted and walked hold the canonical rows of the contracts.
 use mathlib.Core.Path.{◌≡◌, sym, ap, ◌∙◌}
 use mathlib.Core.List.{List, [], ◌∷◌, map}
-use Prim.Native.Nat.{ℕ, ◌≤◌}
-use lib.ListN.{length, take}
+use Prim.Native.Nat.{ℕ}
 use Rattle.lists.specs.Lists.{Each, list_to}
 use Rattle.lists.proofs.Lists.{each-list_to, map-list_to}
-use Rattle.sorting.specs.Sorted.{sorted, front_sorted}
-use Rattle.sorting.proofs.Callers.{cells-front, each-sorted}
+use Rattle.sorting.specs.Sorted.{sorted}
+use Rattle.sorting.proofs.Callers.{each-sorted}
 use Rattle.tariff.specs.declared.contracts.Contract.{Contract}
 use Rattle.layouts.specs.declared.forms.Form.{Form}
 use Rattle.layouts.specs.BookFile.{contract_in}
@@ -20,22 +19,22 @@ each-sized : (cs : List Contract) → Each Filled cs → Each SizedQuantity (map
 each-sized [] h = tt
 each-sized (c ∷ cs) h = (rw (quantity-in c h.0) h.0.1, each-sized cs h.1)
 
-module _ (form : Form) (book : List ℕ) (count : ℕ) (ok : Countable form book count) (cells rising : List ℕ) (le : count ≤ length cells)
-    (put : take count cells ≡ list_to count (λ i. row_number (contract_in form book i))) (sort : rising ≡ front_sorted count cells) where
+module _ (form : Form) (book : List ℕ) (count : ℕ) (ok : Countable form book count) (cells rising : List ℕ)
+    (put : cells ≡ list_to count (λ i. row_number (contract_in form book i))) (sort : rising ≡ sorted cells) where
   abbrev contracts : List Contract
   contracts = list_to count (contract_in form book)
 
   filled : Each Filled contracts
   filled = each-list_to Filled count (contract_in form book) ok.filled
 
-  numbers : take count cells ≡ map row_number contracts
+  numbers : cells ≡ map row_number contracts
   numbers = put ∙ sym (map-list_to count (contract_in form book) row_number)
 
-  front : take count rising ≡ sorted (map row_number contracts)
-  front = cells-front count cells rising le sort ∙ ap sorted numbers
+  rises : rising ≡ sorted (map row_number contracts)
+  rises = sort ∙ ap sorted numbers
 
-  pub rising_sized : Each SizedQuantity (take count rising)
-  rising_sized = rw front (each-sorted SizedQuantity (map row_number contracts) (each-sized contracts filled))
+  pub rising_sized : Each SizedQuantity rising
+  rising_sized = rw rises (each-sorted SizedQuantity (map row_number contracts) (each-sized contracts filled))
 
-  pub walked_canonical : (rows : List ℕ) → rows ≡ walk_numbers (take count rising) → rows ≡ map row_number (canonical contracts)
-  walked_canonical rows e = e ∙ ap walk_numbers front ∙ sym (canonical-numbers contracts filled (each-list_to FiveFits count (contract_in form book) ok.fits))
+  pub walked_canonical : (rows : List ℕ) → rows ≡ walk_numbers rising → rows ≡ map row_number (canonical contracts)
+  walked_canonical rows e = e ∙ ap walk_numbers rises ∙ sym (canonical-numbers contracts filled (each-list_to FiveFits count (contract_in form book) ok.fits))

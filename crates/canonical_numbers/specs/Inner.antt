@@ -1,5 +1,5 @@
 -- What inner functions say: cells that hold rows as numbers, a step of the walk, and contracts that numbers can be made of.
-use Rattle.std.specs.Prelude.{◌≡◌, cond, List, ℕ, ◌≤◌, ◌<◌, length}
+use Rattle.std.specs.Prelude.{◌≡◌, cond, List, ℕ, ◌≤◌, ◌<◌, length, Some, None}
 use Rattle.tariff.specs.Units.{max_quantity, max_contracts}
 use Rattle.layouts.specs.declared.forms.Form.{Form}
 use Rattle.layouts.specs.BookFile.{book_bytes_of, contract_in}
@@ -14,10 +14,8 @@ SizedQuantity v = quantity_in v ≤ max_quantity
 
 -- what a step of the walk gives of the pending row and the next one
 pub record Steps (row next : ℕ) (s : Step) : Type 0 where
-  pub out-is : s.out ≡ out five_in_of quantity_in number_at row next
-  pub goes-is : s.goes ≡ cond (goes five_in_of quantity_in number_at row next) 1 0
+  pub out-is : s.out ≡ cond (goes five_in_of quantity_in number_at row next) (Some (out five_in_of quantity_in number_at row next)) None
   pub pending-is : s.pending ≡ pending five_in_of quantity_in number_at row next
-  pub few : s.goes ≤ 1
   pub sized : SizedQuantity s.pending
 
 -- the first contracts of a book's bytes, which numbers can be made of

@@ -4,15 +4,14 @@
 ghost use Rattle.std.specs.Prelude.{◌≡◌, map, ◌+◌, ◌≤◌, ◌<◌, length, take};
 ghost use Rattle.lists.specs.Lists.{Each, list_to};
 ghost use Rattle.lists.specs.Lent.{before, after};
-ghost use Rattle.tariff.specs.Units.{max_contracts, max_quantity};
-ghost use Rattle.layouts.specs.Forms.{record_bytes};
-ghost use Rattle.layouts.specs.BookFile.{book_bytes_of, contract_in};
+ghost use Rattle.tariff.specs.Units.{max_quantity};
+ghost use Rattle.layouts.specs.BookFile.{contract_in};
 ghost use Rattle.layouts.specs.Inner.{contract_for};
 ghost use Rattle.canonical_rules.specs.Canonical.{canonical};
 ghost use Rattle.canonical_rules.specs.Inner.{row_number, quantity_in, number_at as number_at_of, walk_numbers};
 ghost use Rattle.canonical_numbers.specs.Inner.{SizedQuantity, Steps, Countable};
 
-use book_bits::{NARROW_END_WIDTH, QUANTITIES, QUANTITY_WIDTH, WIDE_END_WIDTH};
+use book_bits::{Contracts, NARROW_END_WIDTH, QUANTITIES, QUANTITY_WIDTH, WIDE_END_WIDTH};
 use layouts::Form;
 use tariff::{MAX_QUANTITY, Quantity};
 
@@ -41,34 +40,32 @@ fn narrow_number_of(v: u64) -> u64
     (terms * ENDS + source) * (ENDS * QUANTITIES) + rest
 }
 
-// The number of contract i of a book's bytes.
-fn number_at(book: &[u8], form: Form, i: usize) -> u64
-    requires { (i < 1024) × (book_bytes_of form i + record_bytes form ≤ length book.now) }
-    ensures { result ≡ row_number (contract_in form book.now i) }
+// The number of contract i.
+fn number_at(contracts: Contracts, i: usize) -> u64
+    requires { i < contracts.count }
+    ensures { result ≡ row_number (contract_in contracts.entry.form contracts.entry.file.now i) }
 {
-    match form {
-        Form::Narrow => narrow_number_of(book_bits::bits_at(book, Form::Narrow, i)),
-        Form::Wide => number_of(book_bits::bits_at(book, Form::Wide, i), WIDE_END_WIDTH),
+    let v = contracts.bits_at(i);
+    match contracts.form {
+        Form::Narrow => narrow_number_of(v),
+        Form::Wide => number_of(v, WIDE_END_WIDTH),
     }
 }
 
-// Puts the numbers of the first `count` contracts into the first cells.
-fn fill_numbers(book: &[u8], form: Form, count: usize, cells: &mut [u64])
-    requires { (count ≤ max_contracts) × (book_bytes_of form count ≤ length book.now) × (count ≤ length cells.old) }
-    ensures { take count (after cells) ≡ list_to count (λ i. row_number (contract_in form book.now i)) }
+// Puts the numbers of the first contracts into the cells, one into each.
+fn fill_numbers(contracts: Contracts, cells: &mut [u64])
+    requires { length cells.old ≤ contracts.count }
+    ensures { after cells ≡ list_to (length (before cells)) (λ i. row_number (contract_in contracts.entry.form contracts.entry.file.now i)) }
 {
-    let mut i = 0;
-    while i < count {
-        cells[i] = number_at(book, form, i);
-        i += 1;
+    for (i, cell) in cells.iter_mut().enumerate() {
+        *cell = number_at(contracts, i);
     }
 }
 
-// A step of the walk: how many rows go out, 0 or 1, which one would, and what is pending then.
+// A step of the walk: the row that goes out, if one does, and what is pending then.
 #[derive(Clone, Copy)]
 struct Step {
-    goes: usize,
-    out: u64,
+    out: Option<u64>,
     pending: u64,
 }
 
@@ -79,12 +76,12 @@ fn row_quantity(row: u64) -> Quantity
     Quantity(row % QUANTITIES)
 }
 
-// The number of the row of the same five with this quantity.
+// The number of the row of the same five with this quantity. A `Quantity` may be a book's 20 bits before any check, so that its bound is asked for here.
 fn row_with(row: u64, quantity: Quantity) -> u64
     requires { quantity.0 ≤ max_quantity }
     ensures { result ≡ number_at_of quantity.0 row }
 {
-    row / QUANTITIES * QUANTITIES + quantity.cell()
+    row / QUANTITIES * QUANTITIES + u64::from(quantity)
 }
 
 // The pending row and the next one: of one five they are added, and a full row goes out where they are more; of two fives the pending row goes out.
@@ -94,56 +91,56 @@ fn next_step(row: u64, next: u64) -> Step
 {
     if row / QUANTITIES != next / QUANTITIES {
         return Step {
-            goes: 1,
-            out: row,
+            out: Some(row),
             pending: next,
         };
     }
     let most = Quantity(MAX_QUANTITY);
-    let full = row_with(row, most);
-    let both = row_quantity(row).plus(row_quantity(next));
-    if both.exceeds(most) {
+    let both = row_quantity(row) + row_quantity(next);
+    if most < both {
         return Step {
-            goes: 1,
-            out: full,
-            pending: row_with(row, both.minus(most)),
+            out: Some(row_with(row, most)),
+            pending: row_with(row, both - most),
         };
     }
     Step {
-        goes: 0,
-        out: full,
+        out: None,
         pending: row_with(row, both),
     }
 }
 
-// Adds together and cuts the first `count` cells, whose fives rise. Gives how many rows there are then: never more than are read, so they go into the same cells.
-fn walk(cells: &mut [u64], count: usize) -> usize
-    requires { (0 < count) × (count ≤ length cells.old) × Each SizedQuantity (take count cells.old) }
-    ensures { (take result (after cells) ≡ walk_numbers (take count (before cells))) × (result ≤ count) }
+// Adds together and cuts the cells, whose fives rise. Gives how many rows there are then: never more than are read, so they go into the same cells.
+fn walk(cells: &mut [u64]) -> usize
+    requires { (0 < length cells.old) × Each SizedQuantity cells.old }
+    ensures { (take result (after cells) ≡ walk_numbers (before cells)) × (result ≤ length (before cells)) }
 {
     let mut row = cells[0];
     let mut rows = 0;
-    let mut i = 1;
-    while i < count {
+    for i in 1..cells.len() {
         let s = next_step(row, cells[i]);
-        cells[rows] = s.out;
-        rows += s.goes;
+        if let Some(out) = s.out {
+            cells[rows] = out;
+            rows += 1;
+        }
         row = s.pending;
-        i += 1;
     }
     cells[rows] = row;
     rows + 1
 }
 
-// The canonical rows of the first `count` contracts of a book's bytes, as numbers in the first cells. Gives how many there are.
-pub fn canonical_rows(book: &[u8], form: Form, count: usize, cells: &mut [u64]) -> usize
-    requires { Countable form book.now count × (count ≤ length cells.old) }
-    ensures { (take result (after cells) ≡ map row_number (canonical (list_to count (contract_in form book.now)))) × (result ≤ count) }
+// The canonical rows of the contracts, as numbers in the first cells. Gives how many there are.
+pub fn canonical_rows(contracts: Contracts, cells: &mut [u64]) -> usize
+    requires { Countable contracts.form contracts.file.now contracts.count × (contracts.count ≤ length cells.old) }
+    ensures { (take result (after cells)
+        ≡ map row_number (canonical (list_to contracts.entry.count (contract_in contracts.entry.form contracts.entry.file.now))))
+        × (result ≤ contracts.entry.count) }
 {
+    let count = contracts.len();
     if count == 0 {
         return 0;
     }
-    fill_numbers(book, form, count, cells);
-    sorting_digits::sort(cells, count);
-    walk(cells, count)
+    let rows = &mut cells[..count];
+    fill_numbers(contracts, rows);
+    sorting_digits::sort(rows);
+    walk(rows)
 }

@@ -15,7 +15,8 @@ use Rattle.lists.proofs.Search.{neither}
 use Rattle.tariff.specs.declared.contracts.Contract.{Contract}
 use Rattle.tariff.specs.declared.contracts.Kind.{Kind}
 use Rattle.tariff.specs.declared.contracts.Period.{Period}
-use Rattle.tariff.specs.declared.refusals.Checked.TheVariants.{Passed}
+use Rattle.std.specs.Prelude.{Ok}
+use Rattle.tariff.specs.Refusals.{passed}
 use Rattle.tariff.specs.Refusals.{first}
 use Rattle.tariff.specs.Checks.{node_number, quantity_range}
 use Rattle.tariff.specs.Units.{max_quantity}
@@ -39,7 +40,7 @@ use Rattle.canonical_rules.proofs.Numbers.{not_longer}
 -- ---- a contract that passes its checks
 
 abbrev Passes : ℕ → Contract → Type 0
-Passes n c = first (contract_checks n c) ≡ Passed
+Passes n c = first (contract_checks n c) ≡ passed
 
 pub passing-filled : (n : ℕ) (c : Contract) → Passes n c → Filled c
 unfolding contract_checks

@@ -1,10 +1,10 @@
 -- Writing the canonical form of a book (document 02, paper 11). What the form is stands in Canonical.antt.
 use Rattle.std.specs.Prelude.{List, [], ◌∷◌, ◌++◌, ℕ, length}
 use Rattle.lists.specs.Lent.{Lent, before, after}
-use Rattle.tariff.specs.declared.refusals.Checked.{Checked}
+use Rattle.tariff.specs.Refusals.{Checked}
 use Rattle.tariff.specs.Refusals.{Check, first}
 use Rattle.tariff.specs.Checks.{short_table}
-use Rattle.layouts.specs.declared.WriteAnswer.{WriteAnswer}
+use Rattle.layouts.specs.Writing.{WriteAnswer}
 use Rattle.layouts.specs.Writing.{Writes, WritesForC}
 use Rattle.book_rules.specs.BookChecks.{own_checks}
 use Rattle.view_rules.specs.MarketView.{MarketViewCall, market_view_call}

@@ -1,8 +1,8 @@
 -- What the theorems speak of beside the definitions: contracts whose five is one number, the order that the paper names, and what a book keeps.
-use Rattle.std.specs.Prelude.{◌≡◌, ◌⊎◌, ◌↔◌, List, ℕ, ◌≤◌, ◌<◌, length, ℤ}
+use Rattle.std.specs.Prelude.{◌≡◌, ◌⊎◌, ◌↔◌, List, ℕ, ◌≤◌, ◌<◌, length, ℤ, Ok}
 use Rattle.tariff.specs.declared.contracts.Contract.{Contract}
 use Rattle.tariff.specs.declared.processes.Process.{Process}
-use Rattle.tariff.specs.declared.refusals.Checked.TheVariants.{Passed}
+use Rattle.tariff.specs.Refusals.{passed}
 use Rattle.tariff.specs.Refusals.{first}
 use Rattle.tariff.specs.Units.{Grid}
 use Rattle.tariff.specs.Settlement.{exact_total}
@@ -37,7 +37,7 @@ Sooner a b =
 
 -- a book that is handed in with a node count and accepted
 abbrev pub AcceptedFor : ℕ → List ℕ → Type 0
-AcceptedFor n s = first (own_checks n s) ≡ Passed
+AcceptedFor n s = first (own_checks n s) ≡ passed
 
 -- the canonical file is such a book, of the same form and no longer, and reads as the canonical rows
 pub record CanonicalBook (n : ℕ) (s : List ℕ) : Type 0 where

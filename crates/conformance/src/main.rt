@@ -2,10 +2,7 @@
 // A line each: what was asked, then 0 or the number of the refusal. All other vectors are lines of tests/vectors.
 #![tactic(auto)]
 
-use book_rules::BookAnswer;
-use grid_rules::GridAnswer;
 use layouts::Form;
-use price_rules::PriceAnswer;
 use std::io;
 
 // A line: what was asked, of which number, and the answer.
@@ -17,14 +14,7 @@ fn line(rt: &impl Print, asked: &str, number: u64, answer: u64) -> io::Result<()
 fn grid_read(file: &[u8]) -> u64 {
     let mut limits = [0u64; 64];
     let mut factors = [0i64; 12800];
-    match grid_reading::read_grid(file, &mut limits, &mut factors) {
-        GridAnswer::Refused(refusal) => refusal.number(),
-        GridAnswer::Read {
-            nodes: _,
-            constraints: _,
-            form: _,
-        } => 0,
-    }
+    tariff::answer_number(grid_reading::read_grid(file, &mut limits, &mut factors))
 }
 
 // A narrow grid with no constraint.
@@ -63,13 +53,12 @@ fn three_bytes(rt: &impl Print) -> io::Result<()> {
 // A narrow grid with no constraint, written.
 fn grid_written(rt: &impl Print, nodes: usize) -> io::Result<()> {
     let mut file = [0u8; 4];
-    let mut bytes = 0;
     let answer = grid_writing::write_grid(Form::Narrow, nodes, 0, &[], &[], &mut file);
     line(
         rt,
         "narrow grid written, nodes ",
         nodes as u64,
-        answer.into_cell(&mut bytes),
+        tariff::answer_number(answer),
     )
 }
 
@@ -80,42 +69,32 @@ fn price(rt: &impl Print, price: u64) -> io::Result<()> {
     let low = (price % 8 * 32) as u8;
     let mut prices = [0u64; 1];
     let answer = price_reading::read_prices(1, &[129, high, middle, low], &mut prices);
-    match answer {
-        PriceAnswer::Refused(refusal) => line(rt, "price ", price, refusal.number()),
-        PriceAnswer::Read { period: _ } => line(rt, "price ", price, 0),
-    }
+    line(rt, "price ", price, tariff::answer_number(answer))
 }
 
 // A wide book of one contract, from node 3,999 to node 256, for a stated node count.
 fn stated_nodes(rt: &impl Print, nodes: usize) -> io::Result<()> {
     let mut book = [0u64; 6];
     let file = b"\x00\x7f\xbf\xff\x9f\x10\x0f\x42\x40";
-    let answer = match book_reading::read_book(nodes, file, &mut book) {
-        BookAnswer::Refused(refusal) => refusal.number(),
-        BookAnswer::Read {
-            contracts: _,
-            form: _,
-        } => 0,
-    };
+    let answer = book_reading::read_book(nodes, file, &mut book);
     line(
         rt,
         "wide book from node 3999, stated nodes ",
         nodes as u64,
-        answer,
+        tariff::answer_number(answer),
     )
 }
 
 // A narrow book of one contract from node `source`, written for 4,000 nodes.
 fn book_written(rt: &impl Print, source: u64) -> io::Result<()> {
     let mut file = [0u8; 8];
-    let mut bytes = 0;
     let row = [0, 1, 7, source, 1, 5];
     let answer = book_writing::write_book(Form::Narrow, 4000, 1, &row, &mut file);
     line(
         rt,
         "narrow book written, source ",
         source,
-        answer.into_cell(&mut bytes),
+        tariff::answer_number(answer),
     )
 }
 

@@ -19,7 +19,7 @@ use Rattle.sorting.proofs.Callers.{cells-front}
 use Rattle.tariff.specs.declared.contracts.Contract.{Contract}
 use Rattle.tariff.specs.declared.contracts.Period.{Period}
 use Rattle.tariff.specs.declared.processes.Process.{Process}
-use Rattle.tariff.specs.declared.refusals.Checked.TheVariants.{Passed}
+use Rattle.tariff.specs.Refusals.{passed}
 use Rattle.tariff.specs.Units.{Grid, factors_of, grid_of, max_limit}
 use Rattle.tariff.specs.ContractRules.{InRange, counted, same_period, of_period}
 use Rattle.tariff.specs.Refusals.{first}
@@ -55,7 +55,7 @@ slope-is n k fs t c h s j b =
     rw s (ap (counted c.kind) (sym (*ℤ-pos1 d)) ∙ own_flow n k fs (with_quantity 1 c) one j b)
 
 module _ (n k : ℕ) (ls : List ℕ) (fs : List ℤ) (process : Process) (t : Period) (book : List ℕ)
-    (gl : GoodCells max_limit k ls) (gf : GoodFactors n k fs) (accepted : first (book_checks n book) ≡ Passed)
+    (gl : GoodCells max_limit k ls) (gf : GoodFactors n k fs) (accepted : first (book_checks n book) ≡ passed)
     (f : Flows) (carried : Carries (factors_of n k fs) (of_period t (book_in book)) f) where
   abbrev g : Grid
   g = grid_of n k ls fs

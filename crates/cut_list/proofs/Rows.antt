@@ -7,14 +7,13 @@ use lib.ListN.{length}
 use lib.IntN.{pos}
 use Rattle.lists.specs.Lent.{Lent, before, after, overwrite}
 use Rattle.tariff.specs.declared.refusals.Refusal.TheVariants.{ShortTable}
-use Rattle.tariff.specs.declared.refusals.Checked.{Checked}
-use Rattle.tariff.specs.declared.refusals.Checked.TheVariants.{Passed, Refused}
+use Rattle.tariff.specs.Refusals.{Checked, passed}
+use Rattle.std.specs.Prelude.{Ok, Err}
 use Rattle.tariff.specs.Refusals.{first, answered, cells_after}
 use Rattle.tariff.proofs.Answers.{answer-refused, cells-refused, answer-passed, cells-passed}
 use Rattle.tariff.proofs.Checks.{first_passes, first-refuses, last-passes}
 use Rattle.test_rules.specs.TestBook.{TestCall}
-use Rattle.cut_rules.specs.declared.CutsAnswer.{CutsAnswer}
-use Rattle.cut_rules.specs.declared.CutsAnswer.TheVariants as is
+use Rattle.cut_rules.specs.FindCuts.{CutsAnswer}
 use Rattle.cut_rules.specs.FindCuts.{cuts_call, listed_rows, cut_room_checks, find_cuts_checked, number_cells, cut_cells_of, FindsCuts}
 use Rattle.cut_rules.proofs.Entry.{promised}
 use Rattle.cut_list.specs.Inner.{room_checked, numbers_of, cuts_of, ListsRows}
@@ -22,31 +21,31 @@ use Rattle.cut_list.specs.Inner.{room_checked, numbers_of, cuts_of, ListsRows}
 module _ (keys : List ℕ) (listed : ℕ) (numbers cuts : List ℕ) where
   -- ---- no room in one of the tables
 
-  refuses : Refused ShortTable ≡ room_checked listed numbers cuts → ListsRows keys listed numbers cuts (is.Refused ShortTable) numbers cuts
+  refuses : Err ShortTable ≡ room_checked listed numbers cuts → ListsRows keys listed numbers cuts (Err ShortTable) numbers cuts
   refuses found = record {
     listed-given = answer-refused _ _ found ShortTable refl _;
     numbers-stored = cells-refused _ _ found ShortTable refl (numbers_of keys listed) numbers;
     cuts-stored = cells-refused _ _ found ShortTable refl (cuts_of keys listed) cuts;
   }
 
-  pub no_room_numbers : length numbers < listed → ListsRows keys listed numbers cuts (is.Refused ShortTable) numbers cuts
+  pub no_room_numbers : length numbers < listed → ListsRows keys listed numbers cuts (Err ShortTable) numbers cuts
   no_room_numbers h = refuses (sym (first-refuses _ _ (lt-ltb (length numbers) listed h)))
 
-  pub no_room_cuts : listed ≤ length numbers → length cuts < listed → ListsRows keys listed numbers cuts (is.Refused ShortTable) numbers cuts
+  pub no_room_cuts : listed ≤ length numbers → length cuts < listed → ListsRows keys listed numbers cuts (Err ShortTable) numbers cuts
   no_room_cuts a h = refuses (sym (first_passes _ _ (le-ltb (length numbers) listed a) ∙ first-refuses _ _ (lt-ltb (length cuts) listed h)))
 
   -- ---- room in both
 
   pub stored : listed ≤ length numbers → listed ≤ length cuts → (numbers_after cuts-after : List ℕ) → numbers_after ≡ overwrite (numbers_of keys listed) numbers
-      → cuts-after ≡ overwrite (cuts_of keys listed) cuts → ListsRows keys listed numbers cuts (is.Found listed) numbers_after cuts-after
+      → cuts-after ≡ overwrite (cuts_of keys listed) cuts → ListsRows keys listed numbers cuts (Ok listed) numbers_after cuts-after
   stored a b numbers_after cuts-after en ec = record {
-    listed-given = answer-passed _ _ passed refl _;
-    numbers-stored = cells-passed _ _ passed refl (numbers_of keys listed) numbers numbers_after en;
-    cuts-stored = cells-passed _ _ passed refl (cuts_of keys listed) cuts cuts-after ec;
+    listed-given = answer-passed _ _ told refl _;
+    numbers-stored = cells-passed _ _ told refl (numbers_of keys listed) numbers numbers_after en;
+    cuts-stored = cells-passed _ _ told refl (cuts_of keys listed) cuts cuts-after ec;
   }
     where
-      passed : Passed ≡ room_checked listed numbers cuts
-      passed = sym (first_passes _ _ (le-ltb (length numbers) listed a) ∙ last-passes _ (le-ltb (length cuts) listed b))
+      told : passed ≡ room_checked listed numbers cuts
+      told = sym (first_passes _ _ (le-ltb (length numbers) listed a) ∙ last-passes _ (le-ltb (length cuts) listed b))
 
 -- ---- the entry: behind the test's checks, where the keys are those of the rows
 

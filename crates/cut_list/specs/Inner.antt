@@ -1,10 +1,10 @@
 -- What storing the rows of keys says: both tables, where either has a cell for each row, and 9 where one has not.
 use Rattle.std.specs.Prelude.{◌≡◌, List, [], ◌∷◌, ℕ, ◌/◌, ◌%◌, length, get_or, pos}
 use Rattle.lists.specs.Lists.{list_to}
-use Rattle.tariff.specs.declared.refusals.Checked.{Checked}
+use Rattle.tariff.specs.Refusals.{Checked}
 use Rattle.tariff.specs.Refusals.{first, answered, cells_after}
 use Rattle.tariff.specs.Checks.{short_table}
-use Rattle.cut_rules.specs.declared.CutsAnswer.{CutsAnswer}
+use Rattle.cut_rules.specs.FindCuts.{CutsAnswer}
 use Rattle.cut_rules.specs.FindCuts.{cuts_outcome}
 
 abbrev pub room_checked : ℕ → List ℕ → List ℕ → Checked

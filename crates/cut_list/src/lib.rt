@@ -7,43 +7,41 @@ ghost use Rattle.test_terms.specs.Calls.{asked_test};
 ghost use Rattle.cut_rules.specs.FindCuts.{FindsCuts};
 ghost use Rattle.cut_list.specs.Inner.{numbers_of, cuts_of, ListsRows};
 
-use cut_rules::{CutsAnswer, KEY_BASE};
-use tariff::{Checked, MAX_CONTRACTS, Refusal};
-use test_excesses::Terms;
-use test_terms::Asked;
+use cut_rules::KEY_BASE;
+use tariff::{MAX_CONTRACTS, Refusal};
+use test_terms::{Asked, Tested};
 use test_verdict::check_test;
 
-// Takes the first `count` keys apart: the contracts' numbers, and their cuts.
-fn store_rows(keys: &[u64], count: usize, numbers: &mut [u64], cuts: &mut [u64])
-    requires { (count ≤ length keys.now) × (count ≤ length numbers.old) × (count ≤ length cuts.old) }
-    ensures numbers_value { after numbers ≡ overwrite (numbers_of keys.now count) (before numbers) }
-    ensures cuts_value { after cuts ≡ overwrite (cuts_of keys.now count) (before cuts) }
+// Takes keys apart: the contracts' numbers, and their cuts.
+fn store_rows(keys: &[u64], numbers: &mut [u64], cuts: &mut [u64])
+    requires { (length keys.now ≤ length numbers.old) × (length keys.now ≤ length cuts.old) }
+    ensures numbers_value { after numbers ≡ overwrite (numbers_of keys.now (length keys.now)) (before numbers) }
+    ensures cuts_value { after cuts ≡ overwrite (cuts_of keys.now (length keys.now)) (before cuts) }
 {
-    let mut i = 0;
-    while i < count {
-        let key = keys[i];
+    // By index: two slices are written at it.
+    for (i, key) in keys.iter().enumerate() {
         numbers[i] = key % KEY_BASE;
         cuts[i] = key / KEY_BASE;
-        i += 1;
     }
 }
 
-// Stores the rows of the first `listed` keys, where either table has room for them.
-fn list_rows(keys: &[u64], listed: usize, numbers: &mut [u64], cuts: &mut [u64]) -> CutsAnswer
-    requires { listed ≤ length keys.now }
-    ensures { ListsRows keys.now listed (before numbers) (before cuts) result (after numbers) (after cuts) }
+// Stores the rows of keys, where either table has room for them.
+fn list_rows(keys: &[u64], numbers: &mut [u64], cuts: &mut [u64]) -> Result<usize, Refusal>
+    ensures { ListsRows keys.now (length keys.now) (before numbers) (before cuts) result (after numbers) (after cuts) }
 {
+    let listed = keys.len();
     if numbers.len() < listed {
-        return CutsAnswer::Refused(Refusal::ShortTable);
+        return Err(Refusal::ShortTable);
     }
     if cuts.len() < listed {
-        return CutsAnswer::Refused(Refusal::ShortTable);
+        return Err(Refusal::ShortTable);
     }
-    store_rows(keys, listed, numbers, cuts);
-    CutsAnswer::Found { listed }
+    store_rows(keys, numbers, cuts);
+    Ok(listed)
 }
 
 // Lists each contract of the period whose quantity, lowered alone, makes a failing book pass, with the least such cut: by cut, then by contract number.
+// The C interface lends the tables, of which nothing is checked yet, one by one.
 pub fn find_cuts(
     asked: Asked,
     limits: &[u64],
@@ -51,15 +49,12 @@ pub fn find_cuts(
     book: &[u8],
     numbers: &mut [u64],
     cuts: &mut [u64],
-) -> CutsAnswer
+) -> Result<usize, Refusal>
     ensures { FindsCuts (asked_test asked limits.now factors.now book.now) numbers cuts result }
 {
-    let checked = check_test(asked, limits, factors, book);
-    if let Checked::Refused(refusal) = checked {
-        return CutsAnswer::Refused(refusal);
-    }
+    check_test(asked, limits, factors, book)?;
     let mut keys = [0u64; MAX_CONTRACTS];
-    let terms = Terms::from_asked(asked);
-    let listed = cut_keys::row_keys(terms, limits, factors, book, &mut keys);
-    list_rows(&keys, listed, numbers, cuts)
+    let test = Tested::of(asked, limits, factors, book);
+    let listed = cut_keys::row_keys(test, &mut keys);
+    list_rows(&keys[..listed], numbers, cuts)
 }

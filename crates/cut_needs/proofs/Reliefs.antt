@@ -3,11 +3,16 @@ use mathlib.Core.Path.{◌≡◌, refl, sym, ap, ◌∙◌, subst}
 use mathlib.Core.Logic.{⊎_elim}
 use mathlib.Core.Bool.{Bool, true, false, cond, true≢false}
 use mathlib.Core.List.{List}
-use Prim.Native.Nat.{ℕ, ◌+◌, ◌-◌, ◌*◌, ◌/◌, ◌^◌, ◌<◌, ◌≤◌}
+use Prim.Native.Nat.{ℕ, ◌+◌, ◌-◌, ◌*◌, ◌/◌, ◌%◌, ◌^◌, ◌<◌, ◌≤◌, min}
 use native.Mathlib.Nat.{eq-or-lt_of_le}
 use native.Mathlib.Omega.{arith}
 use borrow.Author.Tests.{le-leb, lt-leb}
-use lib.Dec.{T, leb}
+use native.Mathlib.Decide.{ℕ_discrete}
+use Rattle.std.specs.Int.{div_ceil}
+use Rattle.std.specs.Ordering.{is_lt, int_cmp}
+use Rattle.std.proofs.Math.Nat.{div-add-mod, mod-lt}
+use Rattle.std.proofs.lemmas.Nat.{div-mul-add}
+use lib.Dec.{T, leb, lit<}
 use lib.ListN.{get_or}
 use lib.IntN.{ℤ, pos, negsuc, nat_abs, ◌-ℤ◌, ◌*ℤ◌}
 use lib.Signed.{◌≤ℤ◌, ◌<ℤ◌, lt_z, le_z, non_neg, lt_z_yes, lt_z_no, le_z_yes}
@@ -18,13 +23,15 @@ use Rattle.integers.proofs.Linear.{⊖s, not_≤ℤ}
 use Rattle.tariff.specs.declared.contracts.Contract.{Contract}
 use Rattle.tariff.specs.declared.contracts.Kind.{Kind}
 use Rattle.tariff.specs.Units.{max_factor, max_quantity, max_flow}
-use Rattle.tariff.specs.ContractRules.{counted}
+use Rattle.tariff.specs.ContractRules.{counted, InRange}
+use Rattle.grid_tables.specs.Inner.{GoodFactors, RowOf}
+use Rattle.grid_tables.proofs.Factors.{factor-cell}
 use Rattle.test_flow_laws.proofs.Additive.{counted-product}
 use Rattle.cut_rules.specs.Inner.{need_at}
 use Rattle.cut_rules.proofs.Needs.{is_true}
 use Rattle.cut_rules.proofs.Turns.{need-sizes}
-use Rattle.test_rules.specs.Inner.{Ends}
-use Rattle.test_rules.proofs.Flowing.{rows-kept, part_small}
+use Rattle.test_rules.proofs.Flowing.{kept-sized, part_small}
+use Rattle.test_rules.proofs.Judging.{less-is}
 use Rattle.cut_needs.specs.Inner.{slope_from, slope_in}
 
 -- what a cell of an i64 gives back
@@ -38,32 +45,36 @@ relief_of d x y z t hx hy e = e ∙ rw (back x (omega arith), back y (omega arit
 pub relief_sized : (d : Kind) (x y z : ℤ) (t : ℕ) → nat_abs x ≤ max_factor → nat_abs y ≤ max_factor → t ≤ max_quantity → z ≡ counted d ((kept x -ℤ kept y) *ℤ pos t) → nat_abs z ≤ max_flow
 relief_sized d x y z t hx hy h e = part_small z x y d t (e ∙ rw (back x (omega arith), back y (omega arith))) hx hy h
 
-module _ (k : ℕ) (fs : List ℤ) (c : Contract) (ends : Ends k fs c) (j : ℕ) (b : j < k) where
+-- on constraint j, by the rows of a contract's ends
+module _ (n k : ℕ) (fs : List ℤ) (good : GoodFactors n k fs) (c : Contract) (own : InRange n c) (source sink : List ℤ) (from : RowOf n k fs c.source source)
+    (to : RowOf n k fs c.sink sink) (j : ℕ) (b : j < k) where
   -- the factors of both ends
   abbrev x : ℤ
-  x = get_or fs (c.source * k + j) (pos 0)
+  x = get_or source j (pos 0)
 
   abbrev y : ℤ
-  y = get_or fs (c.sink * k + j) (pos 0)
+  y = get_or sink j (pos 0)
+
+  spread-is : counted c.kind (x -ℤ y) ≡ slope_in k fs c j
+  unfolding slope_from
+  spread-is = rw (from.cell j b, to.cell j b, factor-cell n k fs good c.source j own.source-below b, factor-cell n k fs good c.sink j own.sink-below b)
 
   pub factors-kept : (nat_abs (kept x) ≤ max_factor) × (nat_abs (kept y) ≤ max_factor)
-  factors-kept = rows-kept k fs c ends j b
+  factors-kept = (kept-sized x max_factor (lit< tt) (from.sized j b), kept-sized y max_factor (lit< tt) (to.sized j b))
 
   pub relief_is : (z : ℤ) (t : ℕ) → z ≡ counted c.kind ((kept x -ℤ kept y) *ℤ pos t) → z ≡ slope_in k fs c j *ℤ pos t
-  unfolding slope_from
-  relief_is z t e = relief_of c.kind x y z t (ends.source-sized j b) (ends.sink-sized j b) e
+  relief_is z t e = relief_of c.kind x y z t (from.sized j b) (to.sized j b) e ∙ ap (λ (s : ℤ). s *ℤ pos t) spread-is
 
   pub slope-is : counted c.kind (kept x -ℤ kept y) ≡ slope_in k fs c j
-  unfolding slope_from
-  slope-is = rw (back x (omega (arith, ends.source-sized j b)), back y (omega (arith, ends.sink-sized j b)))
+  slope-is = rw (back x (omega (arith, from.sized j b)), back y (omega (arith, to.sized j b))) spread-is
 
   pub relief_small : (z : ℤ) (t : ℕ) → t ≤ max_quantity → z ≡ counted c.kind ((kept x -ℤ kept y) *ℤ pos t) → nat_abs z ≤ max_flow
-  relief_small z t h e = relief_sized c.kind x y z t (ends.source-sized j b) (ends.sink-sized j b) h e
+  relief_small z t h e = relief_sized c.kind x y z t (from.sized j b) (to.sized j b) h e
 
 -- the comparison: r is what it says of an excess x, kept as v, and a flow z
-module _ (x v z p : ℤ) (same : v ≡ x) (is : z ≡ p) (r : Bool) (found : r ≡ lt_z z v) where
+module _ (x v z p : ℤ) (same : v ≡ x) (is : z ≡ p) (r : Bool) (found : r ≡ is_lt (int_cmp z v)) where
   compared : r ≡ lt_z p x
-  compared = found ∙ rw (is, same)
+  compared = found ∙ less-is z v ∙ rw (is, same)
 
   pub over-so : r ≡ true → p <ℤ x
   over-so e = lt_z_yes (rw (sym compared ∙ e) tt)
@@ -87,19 +98,39 @@ pub some_size : (z : ℤ) → pos 0 <ℤ z → 1 ≤ nat_abs z
 some_size (pos n) h = let l = simp ⊖s at h in omega arith
 some_size (negsuc n) h = absurd h.lt
 
+-- a quotient rounded up
+module _ (x y : ℕ) (some : 0 < y) where
+  abbrev q : ℕ
+  q = x / y
+
+  abbrev r : ℕ
+  r = x % y
+
+  whole : x ≡ q * y + r
+  whole = omega (arith, div-add-mod x y)
+
+  pub rounded_up : div_ceil x y ≡ (x + (y - 1)) / y
+  rounded_up = elim (ℕ_discrete r 0) [
+    | yes z ↦
+        let e : x + (y - 1) ≡ q * y + (y - 1) = omega (arith, whole) in
+        rw (e, z, div-mul-add q y (y - 1) (omega arith)) (omega arith)
+    | no ne ↦
+        let e : x + (y - 1) ≡ (q + 1) * y + (r - 1) = grind (arith, whole) in
+        let one : min 1 r ≡ 1 = omega arith in
+        rw (e, one, div-mul-add (q + 1) y (r - 1) (omega (arith, mod-lt x some))) refl
+  ]
+
 module _ (e w : ℤ) (over : pos 0 <ℤ e) (steep : pos 0 <ℤ w) (ke : kept e ≡ e) (kw : kept w ≡ w) where
   -- what the machine divides
-  abbrev divided : ℕ
-  divided = (nat_abs (kept e) + (nat_abs (kept w) - 1)) / nat_abs (kept w)
+  module _ (n : ℕ) (divided : n ≡ div_ceil (nat_abs (kept e)) (nat_abs (kept w))) where
+    divided_is : n ≡ need_at e w
+    divided_is = divided ∙ rw (ke, kw) (rounded_up (nat_abs e) (nat_abs w) (some_size w steep) ∙ need-sizes e w over steep)
 
-  divided_is : divided ≡ need_at e w
-  divided_is = rw (ke, kw) (need-sizes e w over steep)
+    pub too_much : (most : ℕ) → most < n → 0 ≡ cond (leb (need_at e w) most) (need_at e w) 0
+    too_much most h = rw (lt-leb (need_at e w) most (rw divided_is at h))
 
-  pub too_much : (most : ℕ) → most < divided → 0 ≡ cond (leb (need_at e w) most) (need_at e w) 0
-  too_much most h = rw (lt-leb (need_at e w) most (rw divided_is at h))
-
-  pub no_more : (most : ℕ) → divided ≤ most → divided ≡ cond (leb (need_at e w) most) (need_at e w) 0
-  no_more most h = rw (le-leb (need_at e w) most (rw divided_is at h)) divided_is
+    pub no_more : (most : ℕ) → n ≤ most → n ≡ cond (leb (need_at e w) most) (need_at e w) 0
+    no_more most h = rw (le-leb (need_at e w) most (rw divided_is at h)) divided_is
 
 pub nothing : (b : Bool) → ◌≡◌ {A = ℕ} 0 (cond b 0 0)
 nothing true = refl

@@ -11,8 +11,8 @@ use Rattle.lists.specs.Lent.{Lent, before, after, overwrite}
 use Rattle.lists.proofs.Lists.{length-list_to, list_to-is, map-list_to, take-is_list_to}
 use Rattle.lists.proofs.Fronts.{front_at}
 use Rattle.tariff.specs.declared.refusals.Refusal.{Refusal}
-use Rattle.tariff.specs.declared.refusals.Checked.{Checked}
-use Rattle.tariff.specs.declared.refusals.Checked.TheVariants.{Passed, Refused}
+use Rattle.tariff.specs.Refusals.{Checked, passed}
+use Rattle.std.specs.Prelude.{Err}
 use Rattle.tariff.specs.Refusals.{first, answered, cells_after}
 use Rattle.tariff.proofs.Answers.{answer-refused, cells-refused}
 use Rattle.tariff.specs.Units.{max_contracts}
@@ -24,18 +24,17 @@ use Rattle.cut_rules.specs.Theorems.{LeastCuts}
 use Rattle.cut_rules.specs.Inner.{row_key}
 use Rattle.cut_rules.proofs.Keys.{Few, few-rows, key_numbers, key_cuts}
 use Rattle.cut_rules.proofs.Theorems.{least-cuts}
-use Rattle.cut_rules.specs.declared.CutsAnswer.{CutsAnswer}
-use Rattle.cut_rules.specs.declared.CutsAnswer.TheVariants as is
+use Rattle.cut_rules.specs.FindCuts.{CutsAnswer}
 use Rattle.cut_rules.specs.FindCuts.{CutsCall, cuts_call, cuts_outcome, cut_rows_in, tested_period, listed_rows, cut_room_checks, find_cuts_checks, find_cuts_checked}
 use Rattle.cut_rules.specs.FindCuts.{number_cells, cut_cells_of, HoldLeastCuts, FindsCuts}
 
 -- ---- the checks: x is what the test's found
 module _ (q : CutsCall) (x : Checked) (found : x ≡ test_checked q.test) where
-  pub test-refuses : (r : Refusal) → x ≡ Refused r → Refused r ≡ find_cuts_checked q
+  pub test-refuses : (r : Refusal) → x ≡ Err r → Err r ≡ find_cuts_checked q
   unfolding find_cuts_checks
   test-refuses r told = sym (append_refuses (test_checks q.test) (cut_room_checks q) r (sym found ∙ told))
 
-  pub then_room : x ≡ Passed → find_cuts_checked q ≡ first (cut_room_checks q)
+  pub then_room : x ≡ passed → find_cuts_checked q ≡ first (cut_room_checks q)
   unfolding find_cuts_checks
   then_room told = append_passes (test_checks q.test) (cut_room_checks q) (sym found ∙ told)
 
@@ -79,7 +78,7 @@ rows-stand rows numbers cuts = list_to-is rows _ (record { number = 0; cut = 0 }
 
 -- the theorem of paper 12, of the rows in the tables where no check refuses
 hold_least_cuts : (q : CutsCall) (numbers cuts : List ℕ) → numbers ≡ cells_after (find_cuts_checked q) (number_cells q) q.numbers → cuts ≡ cells_after (find_cuts_checked q) (cut_cells_of q) q.cuts
-    → find_cuts_checked q ≡ Passed → HoldLeastCuts q (length (listed_rows q)) numbers cuts
+    → find_cuts_checked q ≡ passed → HoldLeastCuts q (length (listed_rows q)) numbers cuts
 hold_least_cuts q numbers cuts en ec passed = subst (LeastCuts _ _ _ _) (sym stand) (least-cuts _ _ _ _)
   where
     stand : cut_rows_in (length (listed_rows q)) numbers cuts ≡ listed_rows q
@@ -98,7 +97,7 @@ module _ (test : TestCall) (numbers cuts : Lent (List ℕ)) where
     pub promised : FindsCuts test numbers cuts answer
     promised = record { listed-given = given_so; numbers-listed = en; cuts-listed = ec; least-cuts = hold_least_cuts q (after numbers) (after cuts) en ec }
 
-  pub refuses : (r : Refusal) → Refused r ≡ find_cuts_checked q → after numbers ≡ before numbers → after cuts ≡ before cuts → FindsCuts test numbers cuts (is.Refused r)
+  pub refuses : (r : Refusal) → Err r ≡ find_cuts_checked q → after numbers ≡ before numbers → after cuts ≡ before cuts → FindsCuts test numbers cuts (Err r)
   refuses r found kn kc =
-      promised (is.Refused r) (answer-refused _ (find_cuts_checked q) found r refl _)
+      promised (Err r) (answer-refused _ (find_cuts_checked q) found r refl _)
       (kn ∙ cells-refused _ (find_cuts_checked q) found r refl (number_cells q) (before numbers)) (kc ∙ cells-refused _ (find_cuts_checked q) found r refl (cut_cells_of q) (before cuts))

@@ -1,10 +1,9 @@
 -- Listing the least cuts that clear a book (document 02, paper 12).
-use Rattle.std.specs.Prelude.{◌≡◌, List, [], ◌∷◌, ◌++◌, map, ℕ, length, get_or, pos}
+use Rattle.std.specs.Prelude.{◌≡◌, List, [], ◌∷◌, ◌++◌, map, ℕ, length, get_or, pos, Ok, Err, Result}
 use Rattle.lists.specs.Lists.{list_to}
 use Rattle.lists.specs.Lent.{Lent, before, after}
 use Rattle.tariff.specs.declared.contracts.Period.{Period}
-use Rattle.tariff.specs.declared.refusals.Checked.{Checked}
-use Rattle.tariff.specs.declared.refusals.Checked.TheVariants.{Passed}
+use Rattle.tariff.specs.Refusals.{Checked, passed}
 use Rattle.tariff.specs.ContractRules.{period_of}
 use Rattle.tariff.specs.Refusals.{Check, first, Outcome, given, refused_by, answered, cells_after, cell_after, number_after}
 use Rattle.tariff.specs.Checks.{short_table}
@@ -12,8 +11,7 @@ use Rattle.layouts.specs.BookFile.{book_in}
 use Rattle.test_rules.specs.TestBook.{TestCall, test_checks, tested_grid, tested_process}
 use Rattle.cut_rules.specs.Cuts.{CutRow, least_cuts}
 use Rattle.cut_rules.specs.Theorems.{LeastCuts}
-use Rattle.cut_rules.specs.declared.CutsAnswer.{CutsAnswer}
-use Rattle.cut_rules.specs.declared.CutsAnswer.TheVariants.{Found, Refused}
+use Rattle.tariff.specs.declared.refusals.Refusal.{Refusal}
 
 -- what the test is handed, and the places for the rows' numbers and cuts as they are at entry
 pub record CutsCall : Type 0 where
@@ -21,10 +19,14 @@ pub record CutsCall : Type 0 where
   pub numbers : List ℕ
   pub cuts : List ℕ
 
+-- what listing cuts answers beside the cells: how many rows there are, or the refusal
+abbrev pub CutsAnswer : Type 0
+CutsAnswer = Result ℕ Refusal
+
 -- beside the cells, how many rows there are
 abbrev pub cuts_outcome : CutsAnswer → Outcome
-cuts_outcome (Found listed) = given (pos listed ∷ [])
-cuts_outcome (Refused r) = refused_by r
+cuts_outcome (Ok listed) = given (pos listed ∷ [])
+cuts_outcome (Err r) = refused_by r
 
 -- rows as they stand in two tables
 abbrev pub cut_rows_in : ℕ → List ℕ → List ℕ → List CutRow
@@ -77,7 +79,7 @@ module _ (test : TestCall) (numbers cuts : Lent (List ℕ)) where
     pub listed-given : cuts_outcome answer ≡ answered (find_cuts_checked cuts_call) (pos (length (listed_rows cuts_call)) ∷ [])
     pub numbers-listed : after numbers ≡ numbers_after
     pub cuts-listed : after cuts ≡ cuts_after
-    pub least-cuts : find_cuts_checked cuts_call ≡ Passed → HoldLeastCuts cuts_call (length (listed_rows cuts_call)) (after numbers) (after cuts)
+    pub least-cuts : find_cuts_checked cuts_call ≡ passed → HoldLeastCuts cuts_call (length (listed_rows cuts_call)) (after numbers) (after cuts)
 
   -- the same for C
   pub record FindsCutsForC (number : ℕ) (listed : Lent ℕ) : Type 0 where
@@ -85,4 +87,4 @@ module _ (test : TestCall) (numbers cuts : Lent (List ℕ)) where
     pub listed-given : after listed ≡ cell_after (find_cuts_checked cuts_call) (length (listed_rows cuts_call)) (before listed)
     pub numbers-listed : after numbers ≡ numbers_after
     pub cuts-listed : after cuts ≡ cuts_after
-    pub least-cuts : find_cuts_checked cuts_call ≡ Passed → HoldLeastCuts cuts_call (after listed) (after numbers) (after cuts)
+    pub least-cuts : find_cuts_checked cuts_call ≡ passed → HoldLeastCuts cuts_call (after listed) (after numbers) (after cuts)

@@ -6,7 +6,8 @@ use Prim.Native.Nat.{ℕ, suc, ◌*◌, ◌<◌}
 use native.Mathlib.Omega.{arith}
 use native.Mathlib.Nat.{mul_comm}
 use borrow.Author.Tests.{le-leb}
-use Rattle.tariff.specs.declared.refusals.Checked.TheVariants.{Passed}
+use Rattle.std.specs.Prelude.{Ok}
+use Rattle.tariff.specs.Refusals.{passed}
 use Rattle.tariff.proofs.Checks.{first_passes, last-passes}
 use Rattle.largest_remainders.specs.Ranks.{add_to}
 use Rattle.largest_remainders.proofs.Counting.{add_to-cong, add_to-times, bit, count-is_sum}
@@ -18,7 +19,7 @@ use Rattle.date_period.specs.HourPeriod.{within, no_such_hour, hour_period_check
 use Rattle.date_calls.specs.MonthByHours.{hours_of_day, sum_of_hours}
 
 -- no check refuses a month that exists, nor an hour of it
-pub month_taken : (y m : ℕ) → month_exists_of y m ≡ true → month_hours_checked y m ≡ Passed
+pub month_taken : (y m : ℕ) → month_exists_of y m ≡ true → month_hours_checked y m ≡ passed
 unfolding month_hours_checks
 month_taken y m e = last-passes (no_such_month y m) (ap not e)
 
@@ -31,7 +32,7 @@ module _ (y m j k : ℕ) (there : month_exists_of y m ≡ true) (a : j < month_d
   unfolding within
   hour_there = rw (le-leb 1 (suc k) (omega arith), le-leb (suc k) 25 (omega arith))
 
-  pub hour_taken : hour_period_checked (date_for y m (suc j)) (suc k) ≡ Passed
+  pub hour_taken : hour_period_checked (date_for y m (suc j)) (suc k) ≡ passed
   unfolding hour_period_checks
   hour_taken = first_passes (no_such_date (date_for y m (suc j))) (no_such_hour (suc k) ∷ []) (ap not date_there) ∙ last-passes (no_such_hour (suc k)) (ap not hour_there)
 

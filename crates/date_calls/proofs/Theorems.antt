@@ -6,33 +6,31 @@ use Prim.Native.Nat.{ℕ, suc}
 use lib.ListN.{get_or}
 use lib.IntN.{ℤ, pos, nat_abs}
 use Rattle.lists.specs.Lent.{Lent, after}
-use Rattle.tariff.specs.declared.refusals.Checked.{Checked}
-use Rattle.tariff.specs.declared.refusals.Checked.TheVariants.{Passed}
+use Rattle.tariff.specs.Refusals.{Checked, passed}
+use Rattle.std.specs.Prelude.{Ok, Err}
 use Rattle.tariff.specs.Refusals.{given, answered, number_after}
 use Rattle.tariff.proofs.Answers.{given-told, some_refuses, figure-is}
 use Rattle.date_rules.specs.Dates.{month_exists_of}
 use Rattle.date_rules.specs.OnPeak.{on_peak_hours}
 use Rattle.dates.specs.Date.{date_for}
-use Rattle.date_hours.specs.declared.HoursAnswer.{HoursAnswer}
-use Rattle.date_hours.specs.declared.HoursAnswer.TheVariants as hours
+use Rattle.date_hours.specs.MonthHours.{HoursAnswer}
 use Rattle.date_hours.specs.MonthHours.{hours_outcome}
-use Rattle.date_period.specs.declared.PeriodAnswer.{PeriodAnswer}
-use Rattle.date_period.specs.declared.PeriodAnswer.TheVariants.{Found, Refused}
+use Rattle.date_period.specs.HourPeriod.{PeriodAnswer, period_number}
 use Rattle.date_period.specs.HourPeriod.{period_outcome, TellsPeriod, TellsPeriodForC}
 use Rattle.date_calls.specs.MonthByHours.{MonthByHours, EachHour, period_in, sum_of_hours}
 use Rattle.date_calls.proofs.Hours.{month_taken, hour_taken, sum_alike}
 
 -- one figure given is the one that the checks let through
-one_figure : (checked : Checked) → checked ≡ Passed → (n v : ℕ) → given (pos n ∷ []) ≡ answered checked (pos v ∷ []) → n ≡ v
+one_figure : (checked : Checked) → checked ≡ passed → (n v : ℕ) → given (pos n ∷ []) ≡ answered checked (pos v ∷ []) → n ≡ v
 one_figure checked ok n v told = ap (λ (xs : List ℤ). nat_abs (get_or xs 0 (pos 0))) (given-told checked (pos v ∷ []) (pos n ∷ []) told).1
 
-period-of : (answer : PeriodAnswer) (checked : Checked) → checked ≡ Passed → (v : ℕ) → period_outcome answer ≡ answered checked (pos v ∷ []) → period_in answer ≡ v
-period-of (Found n) checked ok v told = one_figure checked ok n v told
-period-of (Refused r) checked ok v told = absurd (some_refuses checked (pos v ∷ []) r told ok)
+period-of : (answer : PeriodAnswer) (checked : Checked) → checked ≡ passed → (v : ℕ) → period_outcome answer ≡ answered checked (pos v ∷ []) → period_in answer ≡ v
+period-of (Ok period) checked ok v told = one_figure checked ok (period_number period) v told
+period-of (Err r) checked ok v told = absurd (some_refuses checked (pos v ∷ []) r told ok)
 
-hours_of : (answer : HoursAnswer) (checked : Checked) → checked ≡ Passed → (v : ℕ) → hours_outcome answer ≡ answered checked (pos v ∷ []) → answer ≡ hours.Found v
-hours_of (hours.Found n) checked ok v told = ap hours.Found (one_figure checked ok n v told)
-hours_of (hours.Refused r) checked ok v told = absurd (some_refuses checked (pos v ∷ []) r told ok)
+hours_of : (answer : HoursAnswer) (checked : Checked) → checked ≡ passed → (v : ℕ) → hours_outcome answer ≡ answered checked (pos v ∷ []) → answer ≡ Ok v
+hours_of (Ok n) checked ok v told = ap Ok (one_figure checked ok n v told)
+hours_of (Err r) checked ok v told = absurd (some_refuses checked (pos v ∷ []) r told ok)
 
 module _ (y m : ℕ) (there : month_exists_of y m ≡ true) where
   periods_are : (periods : ℕ → ℕ → PeriodAnswer) → EachHour y m (λ d h. TellsPeriod (date_for y m d) h (periods d h))
@@ -48,7 +46,7 @@ module _ (y m : ℕ) (there : month_exists_of y m ≡ true) where
 pub month_by_hours : MonthByHours
 month_by_hours = record {
   month_by_hours = λ y m there periods each answer told.
-      hours_of answer _ (month_taken y m there) _ told.hours_given ∙ ap hours.Found (periods_are y m there periods each);
+      hours_of answer _ (month_taken y m there) _ told.hours_given ∙ ap Ok (periods_are y m there periods each);
   crr_month_by_hours = λ y m there number period each refusal hours told.
       (told.refusal-number ∙ ap number_after (month_taken y m there), figure-is _ (month_taken y m there) _ _ _ told.hours_given ∙ cells_are y m there number period each);
 }

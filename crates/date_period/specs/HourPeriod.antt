@@ -1,18 +1,28 @@
 -- Beyond the papers: an hour's period by the rule of document 02, paper 1, "On-peak is hours ending 7 to 22, Monday to Saturday, except ..".
-use Rattle.std.specs.Prelude.{◌≡◌, Bool, not, ◌&&◌, cond, List, [], ◌∷◌, ℕ, leb, pos}
+use Rattle.std.specs.Prelude.{◌≡◌, Bool, not, ◌&&◌, cond, List, [], ◌∷◌, ℕ, leb, pos, Ok, Err, Result}
 use Rattle.lists.specs.Lent.{Lent, before, after}
 use Rattle.tariff.specs.declared.refusals.Refusal.TheVariants.{NoSuchDate}
-use Rattle.tariff.specs.declared.refusals.Checked.{Checked}
+use Rattle.tariff.specs.Refusals.{Checked}
 use Rattle.tariff.specs.Refusals.{Check, first, Outcome, given, refused_by, answered, cell_after, number_after}
 use Rattle.date_rules.specs.OnPeak.{first_hour, last_hour, on_peak_day}
 use Rattle.dates.specs.declared.Date.{Date}
 use Rattle.dates.specs.Date.{no_such_date}
-use Rattle.date_period.specs.declared.PeriodAnswer.{PeriodAnswer}
-use Rattle.date_period.specs.declared.PeriodAnswer.TheVariants.{Found, Refused}
+use Rattle.tariff.specs.declared.contracts.Period.{Period}
+use Rattle.tariff.specs.declared.contracts.Period.TheVariants.{OffPeak, OnPeak}
+use Rattle.tariff.specs.declared.refusals.Refusal.{Refusal}
+
+-- "0 off-peak or 1 on-peak" (document 01)
+abbrev pub period_number : Period → ℕ
+period_number OffPeak = 0
+period_number OnPeak = 1
+
+-- a period, or the refusal
+abbrev pub PeriodAnswer : Type 0
+PeriodAnswer = Result Period Refusal
 
 abbrev pub period_outcome : PeriodAnswer → Outcome
-period_outcome (Found period) = given (pos period ∷ [])
-period_outcome (Refused r) = refused_by r
+period_outcome (Ok period) = given (pos (period_number period) ∷ [])
+period_outcome (Err r) = refused_by r
 
 unfoldable pub within : ℕ → ℕ → ℕ → Bool
 within low high hour = leb low hour && leb hour high
@@ -36,7 +46,7 @@ module _ (date : Date) (hour : ℕ) where
   abbrev pub hour_period_checked : Checked
   hour_period_checked = first hour_period_checks
 
-  -- "0 off-peak or 1 on-peak" (document 01)
+  -- the number of its period
   unfoldable pub period_is : ℕ
   period_is = cond (peak_hour hour && on_peak_day date.year date.month date.day) 1 0
 

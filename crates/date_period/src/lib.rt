@@ -3,47 +3,41 @@
 
 ghost use Rattle.std.specs.Prelude.{◌≡◌, true};
 ghost use Rattle.date_rules.specs.Dates.{date_exists};
-ghost use Rattle.date_period.specs.HourPeriod.{within, period_is, TellsPeriod};
+ghost use Rattle.date_period.specs.HourPeriod.{within, period_number, period_is, TellsPeriod};
 
-use dates::Date;
-use tariff::Refusal;
-
-// 0 off-peak, 1 on-peak.
-#[derive(Clone, Copy)]
-pub enum PeriodAnswer {
-    Found(u64),
-    Refused(Refusal),
-}
+use dates::{Date, Month};
+use tariff::{Period, Refusal};
 
 fn is_within(first: u64, last: u64, hour: u64) -> bool
     ensures { result ≡ within first last hour }
 {
-    if hour < first {
-        return false;
-    }
-    hour <= last
+    (first..=last).contains(&hour)
 }
 
-fn period_at(date: Date, hour: u64) -> u64
+fn period_at(date: Date, hour: u64) -> Period
     requires { date_exists date.year date.month date.day ≡ true }
-    ensures { result ≡ period_is date hour }
+    ensures { period_number result ≡ period_is date hour }
 {
-    if !is_within(7, 22, hour) {
-        return 0;
+    let month = Month {
+        year: date.year,
+        month: date.month,
+    };
+    if is_within(7, 22, hour) && date_on_peak::on_peak_day(month, date.day) {
+        Period::OnPeak
+    } else {
+        Period::OffPeak
     }
-    let on_peak = date_on_peak::on_peak_day(date.year, date.month, date.day);
-    if on_peak { 1 } else { 0 }
 }
 
 // The period of a date's hour. Checks: 19 of the date, 19 of the hour.
-pub fn hour_period(date: Date, hour_ending: u64) -> PeriodAnswer
+pub fn hour_period(date: Date, hour_ending: u64) -> Result<Period, Refusal>
     ensures { TellsPeriod date hour_ending result }
 {
     if !date.exists() {
-        return PeriodAnswer::Refused(Refusal::NoSuchDate);
+        return Err(Refusal::NoSuchDate);
     }
     if !is_within(1, 25, hour_ending) {
-        return PeriodAnswer::Refused(Refusal::NoSuchDate);
+        return Err(Refusal::NoSuchDate);
     }
-    PeriodAnswer::Found(period_at(date, hour_ending))
+    Ok(period_at(date, hour_ending))
 }

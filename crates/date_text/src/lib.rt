@@ -3,25 +3,26 @@
 
 ghost use Rattle.std.specs.Prelude.{◌+◌, ◌*◌, ◌≤◌, length};
 ghost use Rattle.lists.specs.Lent.{before, after};
-ghost use Rattle.text_format.specs.Inner.{Put};
+ghost use Rattle.text_format.specs.Inner.{HasRoom, Puts};
 ghost use Rattle.date_rules.specs.OnPeak.{hoursADay};
 ghost use Rattle.date_text.specs.TableText.{count_line, table_bytes, PutsTable};
 
 use dates::FIRST_YEAR;
+use text_format::Text;
 
 // 28 years.
 const ENTRIES: u64 = 336;
 
 pub const TABLE_BYTES: usize = 4 * 336;
 
-// The line of a count, at place `at`; gives the place behind it.
-fn put_count(buf: &mut [u8], at: usize, hours: u64) -> usize
-    requires { (hours ≤ hoursADay * 31) × (at + 4 ≤ length buf.old) }
-    ensures put { Put (before buf) at (count_line hours) (after buf) result }
-    ensures upper_bound { result ≤ at + 4 }
+// The line of a count.
+fn put_count(text: &mut Text, hours: u64)
+    requires { (hours ≤ hoursADay * 31) × HasRoom text.old 4 }
+    ensures put { Puts text.old (count_line hours) text.new }
+    ensures upper_bound { text.new.at ≤ text.old.at + 4 }
 {
-    let end = text_format::put_decimal(buf, at, hours);
-    text_format::put_char(buf, end, b'\n')
+    text.put_decimal(hours);
+    text.put_char(b'\n');
 }
 
 // The table at the buffer's front, a count a line; gives its bytes.
@@ -30,12 +31,10 @@ pub fn put_table(buf: &mut [u8]) -> usize
     ensures puts_table { PutsTable (before buf) result (after buf) }
     ensures upper_bound { result ≤ table_bytes }
 {
-    let mut next = 0;
-    let mut k = 0;
-    while k < ENTRIES {
+    let mut text = Text { buf, at: 0 };
+    for k in 0..ENTRIES {
         let hours = date_on_peak::hours_by_rule(FIRST_YEAR + k / 12, 1 + k % 12);
-        next = put_count(buf, next, hours);
-        k += 1;
+        put_count(&mut text, hours);
     }
-    next
+    text.at
 }

@@ -4,7 +4,8 @@ use mathlib.Core.Bool.{Bool, true, false, not}
 use mathlib.Core.List.{[], ◌∷◌}
 use Prim.Native.Nat.{ℕ}
 use Rattle.tariff.specs.declared.refusals.Refusal.TheVariants.{NoSuchDate}
-use Rattle.tariff.specs.declared.refusals.Checked.TheVariants.{Passed, Refused}
+use Rattle.std.specs.Prelude.{Err}
+use Rattle.tariff.specs.Refusals.{passed}
 use Rattle.tariff.proofs.Checks.{first-refuses, first_passes, last-passes}
 use Rattle.dates.specs.declared.Date.{Date}
 use Rattle.date_rules.specs.Dates.{month_days_of, date_exists}
@@ -17,27 +18,27 @@ there date = date_exists date.year date.month date.day
 
 -- b is what the code found of the date
 module _ (date : Date) (b : Bool) (found : b ≡ there date) where
-  pub weekday_refused : not b ≡ true → Refused NoSuchDate ≡ weekday_checked date
+  pub weekday_refused : not b ≡ true → Err NoSuchDate ≡ weekday_checked date
   unfolding weekday_checks
   weekday_refused h = sym (first-refuses (no_such_date date) [] (sym (ap not found) ∙ h))
 
-  pub weekday_passed : not b ≡ false → Passed ≡ weekday_checked date
+  pub weekday_passed : not b ≡ false → passed ≡ weekday_checked date
   unfolding weekday_checks
   weekday_passed h = sym (last-passes (no_such_date date) (sym (ap not found) ∙ h))
 
-  pub given-refused : not b ≡ true → Refused NoSuchDate ≡ month_later_checked date
+  pub given-refused : not b ≡ true → Err NoSuchDate ≡ month_later_checked date
   unfolding month_later_checks
   given-refused h = sym (first-refuses (no_such_date date) (no_such_date (month_later_of date) ∷ []) (sym (ap not found) ∙ h))
 
   -- and of the date reached
   module _ (h : not b ≡ false) (e : Bool) (reached : e ≡ there (month_later_of date)) where
-    pub reached-refused : not e ≡ true → Refused NoSuchDate ≡ month_later_checked date
+    pub reached-refused : not e ≡ true → Err NoSuchDate ≡ month_later_checked date
     unfolding month_later_checks
     reached-refused k =
         sym (first_passes (no_such_date date) (no_such_date (month_later_of date) ∷ []) (sym (ap not found) ∙ h) ∙ first-refuses (no_such_date (month_later_of date)) []
         (sym (ap not reached) ∙ k))
 
-    pub reached-passed : not e ≡ false → Passed ≡ month_later_checked date
+    pub reached-passed : not e ≡ false → passed ≡ month_later_checked date
     unfolding month_later_checks
     reached-passed k =
         sym (first_passes (no_such_date date) (no_such_date (month_later_of date) ∷ []) (sym (ap not found) ∙ h) ∙ last-passes (no_such_date (month_later_of date))

@@ -1,21 +1,24 @@
 -- Document 02, paper 1: "the date one month later, the day cut to the month's last".
-use Rattle.std.specs.Prelude.{◌≡◌, cond, List, [], ◌∷◌, ℕ, ◌+◌, ◌/◌, ◌%◌, leb, ℤ, pos}
+use Rattle.std.specs.Prelude.{◌≡◌, cond, List, [], ◌∷◌, ℕ, ◌+◌, ◌/◌, ◌%◌, leb, ℤ, pos, Ok, Err, Result}
 use Rattle.lists.specs.Lent.{Lent, before, after}
-use Rattle.tariff.specs.declared.refusals.Checked.{Checked}
+use Rattle.tariff.specs.Refusals.{Checked}
 use Rattle.tariff.specs.Refusals.{Check, first, Outcome, given, refused_by, answered, cell_after, number_after}
 use Rattle.dates.specs.declared.Date.{Date}
-use Rattle.dates.specs.declared.DateAnswer.{DateAnswer}
-use Rattle.dates.specs.declared.DateAnswer.TheVariants.{Reached, Refused}
 use Rattle.date_rules.specs.Dates.{month_days_of}
 use Rattle.dates.specs.Date.{date_for, no_such_date}
+use Rattle.tariff.specs.declared.refusals.Refusal.{Refusal}
 
 -- year, month and day
 abbrev pub date_values : Date → List ℤ
 date_values date = pos date.year ∷ pos date.month ∷ pos date.day ∷ []
 
+-- a date, or the refusal
+abbrev pub DateAnswer : Type 0
+DateAnswer = Result Date Refusal
+
 abbrev pub date_outcome : DateAnswer → Outcome
-date_outcome (Reached date) = given (date_values date)
-date_outcome (Refused r) = refused_by r
+date_outcome (Ok date) = given (date_values date)
+date_outcome (Err r) = refused_by r
 
 -- "the day cut to the month's last"
 abbrev pub cut_to : ℕ → ℕ → ℕ

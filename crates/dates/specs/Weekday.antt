@@ -1,17 +1,20 @@
 -- Document 02, paper 1: "A date tells its weekday".
-use Rattle.std.specs.Prelude.{◌≡◌, List, [], ◌∷◌, ℕ, pos}
+use Rattle.std.specs.Prelude.{◌≡◌, List, [], ◌∷◌, ℕ, pos, Ok, Err, Result}
 use Rattle.lists.specs.Lent.{Lent, before, after}
-use Rattle.tariff.specs.declared.refusals.Checked.{Checked}
+use Rattle.tariff.specs.Refusals.{Checked}
 use Rattle.tariff.specs.Refusals.{Check, first, Outcome, given, refused_by, answered, cell_after, number_after}
 use Rattle.dates.specs.declared.Date.{Date}
-use Rattle.dates.specs.declared.WeekdayAnswer.{WeekdayAnswer}
-use Rattle.dates.specs.declared.WeekdayAnswer.TheVariants.{Found, Refused}
 use Rattle.date_rules.specs.Dates.{weekday_of}
 use Rattle.dates.specs.Date.{no_such_date}
+use Rattle.tariff.specs.declared.refusals.Refusal.{Refusal}
+
+-- a weekday, 1 Monday to 7, or the refusal
+abbrev pub WeekdayAnswer : Type 0
+WeekdayAnswer = Result ℕ Refusal
 
 abbrev pub weekday_outcome : WeekdayAnswer → Outcome
-weekday_outcome (Found weekday) = given (pos weekday ∷ [])
-weekday_outcome (Refused r) = refused_by r
+weekday_outcome (Ok weekday) = given (pos weekday ∷ [])
+weekday_outcome (Err r) = refused_by r
 
 module _ (date : Date) where
   -- "A date .. that doesn't exist, or lies outside those years, given .., draws 19, the only check there"

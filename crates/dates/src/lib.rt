@@ -1,10 +1,10 @@
 // Dates of January 2010 to December 2037 (document 02, paper 1): month lengths, weekdays, the date one month later.
 #![tactic(auto)]
 
-ghost use Rattle.std.specs.Prelude.{◌≡◌, ◌≤◌, ◌<◌};
+ghost use Rattle.std.specs.Prelude.{◌≡◌, ◌≤◌};
 ghost use Rattle.date_rules.specs.Dates.{leap, month_length_of, length_before_of, month_days_of, day_number_of, weekday_of, last_year, month_exists_of, date_exists};
 ghost use Rattle.dates.specs.Weekday.{TellsWeekday};
-ghost use Rattle.dates.specs.MonthLater.{cut_to as cut_to_of, ReachesMonthLater};
+ghost use Rattle.dates.specs.MonthLater.{ReachesMonthLater};
 
 use tariff::Refusal;
 
@@ -20,29 +20,18 @@ pub struct Date {
     pub day: u64,
 }
 
-// 1, Monday, to 7.
+// A month that the calendar reaches, so that a day's number is not too large.
 #[derive(Clone, Copy)]
-pub enum WeekdayAnswer {
-    Found(u64),
-    Refused(Refusal),
-}
-
-#[derive(Clone, Copy)]
-pub enum DateAnswer {
-    Reached(Date),
-    Refused(Refusal),
+pub struct Month {
+    pub year: u64,
+    pub month: u64,
+    pub ghost reached: { (1 ≤ year) × (year ≤ last_year) × (month ≤ 12) },
 }
 
 fn leap_year(year: u64) -> bool
     ensures { result ≡ leap year }
 {
-    if year % 400 == 0 {
-        return true;
-    }
-    if year % 100 == 0 {
-        return false;
-    }
-    year % 4 == 0
+    year % 400 == 0 || year % 100 != 0 && year % 4 == 0
 }
 
 // The days of each month of a common year, from month 1; there is no month 0.
@@ -53,7 +42,7 @@ fn month_length(leap: bool, month: usize) -> u64
     ensures { (result ≡ month_length_of leap month) × (result ≤ 31) }
 {
     if month != 2 {
-        return tariff::wide(DAYS[month]);
+        return u64::from(DAYS[month]);
     }
     if leap { 29 } else { 28 }
 }
@@ -65,13 +54,14 @@ fn length_before(leap: bool, month: usize) -> u64
     requires { month ≤ 12 }
     ensures { (result ≡ length_before_of leap month) × (result ≤ 335) }
 {
-    let before = tariff::wide(DAYS_BEFORE[month]);
+    let before = u64::from(DAYS_BEFORE[month]);
     if month <= 2 {
         return before;
     }
     if leap { before + 1 } else { before }
 }
 
+// Year and month are numbers here and below: `exists` asks before there is a `Month`, and `month_later` asks of January 2038.
 pub fn month_days(year: u64, month: u64) -> u64
     requires { month ≤ 12 }
     ensures { (result ≡ month_days_of year month) × (result ≤ 31) }
@@ -79,81 +69,68 @@ pub fn month_days(year: u64, month: u64) -> u64
     month_length(leap_year(year), month as usize)
 }
 
-fn day_number(year: u64, month: u64, day: u64) -> u64
-    requires { (1 ≤ year) × (year ≤ last_year) × (month ≤ 12) × (day ≤ 31) }
-    ensures { (result ≡ day_number_of year month day) × (day ≤ result) }
-{
-    let p = year - 1;
-    let before = length_before(leap_year(year), month as usize);
-    365 * p + p / 4 - p / 100 + p / 400 + before + day
-}
+impl Month {
+    fn day_number(self, day: u64) -> u64
+        requires { day ≤ 31 }
+        ensures { (result ≡ day_number_of self.year self.month day) × (day ≤ result) }
+    {
+        let p = self.year - 1;
+        let before = length_before(leap_year(self.year), self.month as usize);
+        365 * p + p / 4 - p / 100 + p / 400 + before + day
+    }
 
-// 1, Monday, to 7.
-pub fn weekday_number(year: u64, month: u64, day: u64) -> u64
-    requires { (1 ≤ year) × (year ≤ last_year) × (month ≤ 12) × (1 ≤ day) × (day ≤ 31) }
-    ensures { result ≡ weekday_of year month day }
-{
-    (day_number(year, month, day) - 1) % 7 + 1
+    // 1, Monday, to 7: `weekday_of` has a number, and C is given it.
+    pub fn weekday(self, day: u64) -> u64
+        requires { (1 ≤ day) × (day ≤ 31) }
+        ensures { result ≡ weekday_of self.year self.month day }
+    {
+        (self.day_number(day) - 1) % 7 + 1
+    }
 }
 
 pub fn month_exists(year: u64, month: u64) -> bool
     ensures { result ≡ month_exists_of year month }
 {
-    if year < FIRST_YEAR {
-        return false;
-    }
-    if LAST_YEAR < year {
-        return false;
-    }
-    if month < 1 {
-        return false;
-    }
-    month <= 12
-}
-
-fn cut_to(last: u64, day: u64) -> u64
-    ensures { result ≡ cut_to_of last day }
-{
-    if day <= last { day } else { last }
+    (FIRST_YEAR..=LAST_YEAR).contains(&year) && (1..=12).contains(&month)
 }
 
 impl Date {
     pub fn exists(self) -> bool
         ensures { result ≡ date_exists self.year self.month self.day }
     {
-        if !month_exists(self.year, self.month) {
-            return false;
-        }
-        if self.day < 1 {
-            return false;
-        }
-        self.day <= month_days(self.year, self.month)
+        month_exists(self.year, self.month)
+            && (1..=month_days(self.year, self.month)).contains(&self.day)
     }
 
     // 1, Monday, to 7. Check: 19.
-    pub fn weekday(self) -> WeekdayAnswer
+    pub fn weekday(self) -> Result<u64, Refusal>
         ensures { TellsWeekday self result }
     {
         if !self.exists() {
-            return WeekdayAnswer::Refused(Refusal::NoSuchDate);
+            return Err(Refusal::NoSuchDate);
         }
-        WeekdayAnswer::Found(weekday_number(self.year, self.month, self.day))
+        // Here and in date_period a `Month` is made where the date is known to exist: a method would ask that again.
+        let month = Month {
+            year: self.year,
+            month: self.month,
+        };
+        Ok(month.weekday(self.day))
     }
 
     // The date one month later, the day cut to the month's last. Checks: 19 of the date given, 19 of the date reached.
-    pub fn month_later(self) -> DateAnswer
+    pub fn month_later(self) -> Result<Date, Refusal>
         ensures { ReachesMonthLater self result }
     {
         if !self.exists() {
-            return DateAnswer::Refused(Refusal::NoSuchDate);
+            return Err(Refusal::NoSuchDate);
         }
         let year = self.year + self.month / 12;
         let month = self.month % 12 + 1;
-        let day = cut_to(month_days(year, month), self.day);
+        let day = self.day.min(month_days(year, month));
         let reached = Date { year, month, day };
         if !reached.exists() {
-            return DateAnswer::Refused(Refusal::NoSuchDate);
+            return Err(Refusal::NoSuchDate);
         }
-        DateAnswer::Reached(reached)
+        Ok(reached)
     }
 }

@@ -52,7 +52,7 @@ overwrite-twice {A} values other entry e =
 pub largest_few : (n : ℕ) (f : ℕ → ℤ) (l : ℕ) → l ≡ largest_of n f → l ≤ n
 largest_few n f l e = rw e (largest_upto n f)
 
-largest_cong : (n : ℕ) (f g : ℕ → ℤ) → ((j : ℕ) → j < n → f j ≡ g j) → largest_of n f ≡ largest_of n g
+pub largest_cong : (n : ℕ) (f g : ℕ → ℤ) → ((j : ℕ) → j < n → f j ≡ g j) → largest_of n f ≡ largest_of n g
 unfolding largest_of
 largest_cong zero f g h = refl
 largest_cong (suc n) f g h = step (largest_cong n f g (λ j l. h j (omega arith)))

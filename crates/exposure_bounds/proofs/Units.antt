@@ -7,7 +7,8 @@ use native.Mathlib.Nat.{add-zero}
 use native.Mathlib.Numerals.{add-one}
 use native.Mathlib.Omega.{arith}
 use lib.Dec.{eqb}
-use lib.ListN.{get_or}
+use lib.ListN.{length, get_or, take}
+use lib.Seq.{get_or-take, length-take-le}
 use lib.Pow.{pow_pos}
 use lib.IntN.{ℤ, pos, ◌+ℤ◌, ◌-ℤ◌, ◌*ℤ◌, +ℤ_idr, zero-*ℤ}
 use lib.Signed.{◌≤ℤ◌, lt_z, lt_z_yes, lt_z_no}
@@ -20,7 +21,6 @@ use Rattle.tariff.specs.declared.processes.Process.{Process}
 use Rattle.tariff.specs.Units.{Grid, max_price}
 use Rattle.tariff.specs.ContractRules.{counted}
 use Rattle.tariff.specs.Feasibility.{released, overloaded, overload_count}
-use Rattle.tariff.specs.Shortfall.{shortfall}
 use Rattle.exposure_sets.specs.Inner.{in_bit, bit_sum, raw_of, unit_cost, UnitCosts}
 use Rattle.exposure_rules.specs.Exposure.{largest_of, in_set, set_prices}
 use Rattle.exposure_rules.proofs.Plain.{max0-same, largest_inside, largest_most, largest_upto}
@@ -31,9 +31,9 @@ use Rattle.exposure_figures.specs.Inner.{Exactly}
 use Rattle.exposure_figures.proofs.Figures.{is_true, is_false, exactly_of}
 use Rattle.exposure_prices.specs.declared.Best.{Best}
 use Rattle.test_excesses.specs.Inner.{cell_at}
-use Rattle.exposure_prices.specs.Inner.{above_in, Listed}
+use Rattle.exposure_prices.specs.Inner.{Figures, above_in, Listed}
 use Rattle.exposure_bounds.specs.Inner.{AreExcesses, BestSet}
-use Rattle.exposure_bounds.proofs.Meaning.{cell_over, count-cong, cost_of}
+use Rattle.exposure_bounds.proofs.Meaning.{cell_over, count-cong, largest_cong, cost_of}
 
 -- ---- over the listed constraints, and over all
 
@@ -157,3 +157,32 @@ module _ (g : Grid) (process : Process) (cs : List Contract) (over : List ℕ) (
     where
       not_below : (z : ℤ) (M m : ℕ) → M ≡ suc m → pos 0 ≤ℤ (z *ℤ pos M) → pos 0 ≤ℤ z
       not_below z M m q h = cancel (pos 0) z m (≤ℤ-trans (≤ℤ-of_≡ (zero-*ℤ (pos (suc m)))) (rw q at h))
+
+  -- of the first cells alone
+  module _ (n : ℕ) (e : n ≡ 2 ^ count) (few : n ≤ 1024) where
+    long : length (take n costs) ≡ n
+    long = length-take-le n costs (omega (arith, few, units.length-is))
+
+    front : (j : ℕ) → j < n → cell_at (take n costs) j ≡ cell_at costs j
+    front j h = get_or-take n costs j (pos 0) h
+
+    some : 0 < n
+    some = rw e (pow_pos count)
+
+    pub front_figures : Figures (length (take n costs)) (take n costs) × (0 < length (take n costs))
+    front_figures = (
+      record {
+        few = rw long few;
+        long = omega arith;
+        sized = λ j h. let l : j < n = rw long at h in rw (front j l) (units.sized j (rw e at l));
+      },
+      rw long some,
+    )
+
+    pub front-best : (r : Best) → r.set ≡ largest_of (length (take n costs)) (cell_at (take n costs))
+        → Exactly (max0 (cell_at (take n costs) r.set) *ℤ pos max_price) r.cost → BestSet g process cs (2 ^ count) r
+    front-best r s c =
+        let set : r.set ≡ largest_of n (cell_at costs) =
+        s ∙ ap (λ (x : ℕ). largest_of x (cell_at (take n costs))) long ∙ largest_cong n (cell_at (take n costs)) (cell_at costs) front in
+        let inside : r.set < n = rw set (largest_inside n (cell_at costs) some) in
+        best_made n e r set (exactly_of r.cost (ap (λ (z : ℤ). max0 z *ℤ pos max_price) (front r.set inside)) c)

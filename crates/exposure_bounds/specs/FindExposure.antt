@@ -1,21 +1,28 @@
 -- Finding what a book can cost: the worst shortfall of document 01, "Terms of the third demand", between two figures, with prices that reach the lower one.
-use Rattle.std.specs.Prelude.{◌≡◌, List, [], ◌∷◌, ◌++◌, ℕ, length, take, ℤ, pos}
+use Rattle.std.specs.Prelude.{◌≡◌, List, [], ◌∷◌, ◌++◌, ℕ, length, take, ℤ, pos, Ok, Err, Result}
 use Rattle.lists.specs.Lent.{Lent, before, after}
-use Rattle.tariff.specs.declared.refusals.Checked.{Checked}
-use Rattle.tariff.specs.declared.refusals.Checked.TheVariants.{Passed}
+use Rattle.tariff.specs.Refusals.{Checked, passed}
 use Rattle.tariff.specs.Settlement.{whole_cents, parts}
 use Rattle.tariff.specs.Refusals.{Check, first, Outcome, given, refused_by, answered, cells_after, cell_after, number_after}
 use Rattle.tariff.specs.Checks.{short_table}
 use Rattle.test_rules.specs.TestBook.{TestCall, test_checks, tested_grid, tested_process, tested_contracts}
 use Rattle.exposure_rules.specs.Exposure.{exposure_prices_of, least_exposure, most_exposure}
 use Rattle.exposure_rules.specs.Theorems.{Exposes}
-use Rattle.exposure_bounds.specs.declared.ExposureAnswer.{ExposureAnswer}
-use Rattle.exposure_bounds.specs.declared.ExposureAnswer.TheVariants.{Found, Refused}
+use Rattle.tariff.specs.declared.refusals.Refusal.{Refusal}
+use Rattle.exposure_bounds.specs.declared.Exposure.{Exposure}
+
+-- the least and the most that a book can cost, or the refusal
+abbrev pub ExposureAnswer : Type 0
+ExposureAnswer = Result Exposure Refusal
+
+-- the least and the most found, each as whole cents rounded down and parts
+abbrev pub exposure_found : ℤ → ℕ → ℤ → ℕ → ExposureAnswer
+exposure_found lw lp mw mp = Ok (record { least = record { whole = lw; parts = lp }; most = record { whole = mw; parts = mp } })
 
 -- the least and the most that the book can cost, each as whole cents rounded down and parts
 abbrev pub exposure_outcome : ExposureAnswer → Outcome
-exposure_outcome (Found leastWhole leastParts mostWhole mostParts) = given (leastWhole ∷ pos leastParts ∷ mostWhole ∷ pos mostParts ∷ [])
-exposure_outcome (Refused r) = refused_by r
+exposure_outcome (Ok found) = given (found.least.whole ∷ pos found.least.parts ∷ found.most.whole ∷ pos found.most.parts ∷ [])
+exposure_outcome (Err r) = refused_by r
 
 -- what the test is handed, and the place for the prices as it is at entry
 module _ (q : TestCall) (place : List ℕ) where
@@ -48,7 +55,7 @@ module _ (q : TestCall) where
   pub record FindsExposure (prices : Lent (List ℕ)) (answer : ExposureAnswer) : Type 0 where
     pub figures-given : exposure_outcome answer ≡ answered (exposure_checked q (before prices)) exposure_values
     pub prices-found : after prices ≡ cells_after (exposure_checked q (before prices)) price_cells (before prices)
-    pub exposes : exposure_checked q (before prices) ≡ Passed → ExposedBy (after prices)
+    pub exposes : exposure_checked q (before prices) ≡ passed → ExposedBy (after prices)
 
   -- the same for C
   pub record FindsExposureForC (number : ℕ) (prices : Lent (List ℕ)) (leastWhole : Lent ℤ) (leastParts : Lent ℕ) (mostWhole : Lent ℤ) (mostParts : Lent ℕ)
@@ -59,4 +66,4 @@ module _ (q : TestCall) where
     pub least-parts_given : after leastParts ≡ cell_after (exposure_checked q (before prices)) (parts least) (before leastParts)
     pub most-whole_given : after mostWhole ≡ cell_after (exposure_checked q (before prices)) (whole_cents most) (before mostWhole)
     pub most-parts_given : after mostParts ≡ cell_after (exposure_checked q (before prices)) (parts most) (before mostParts)
-    pub exposes : exposure_checked q (before prices) ≡ Passed → ExposedBy (after prices)
+    pub exposes : exposure_checked q (before prices) ≡ passed → ExposedBy (after prices)

@@ -4,14 +4,21 @@ use Rattle.lists.specs.Lent.{overwrite}
 use Rattle.tariff.specs.declared.contracts.Contract.{Contract}
 use Rattle.tariff.specs.declared.processes.Process.{Process}
 use Rattle.tariff.specs.Units.{Grid}
+use Rattle.tariff.specs.ContractRules.{of_period}
 use Rattle.tariff.specs.Feasibility.{excess}
 use Rattle.tariff.specs.Shortfall.{shortfall}
+use Rattle.layouts.specs.BookFile.{book_in}
+use Rattle.test_terms.specs.declared.tested.Tested.{Tested}
 use Rattle.test_excesses.specs.Inner.{cell_at}
 use Rattle.exposure_rules.specs.Exposure.{largest_of, set_prices, worst_set, either_prices, exposure_prices_of, least_exposure, most_exposure}
 use Rattle.exposure_figures.specs.declared.Exact.{Exact}
 use Rattle.exposure_figures.specs.Inner.{Exactly}
 use Rattle.exposure_prices.specs.declared.Best.{Best}
 use Rattle.exposure_bounds.specs.declared.Exposure.{Exposure}
+
+-- the contracts tested
+abbrev pub contracts_by : Tested → List Contract
+contracts_by t = of_period t.period (book_in t.book.now)
 
 -- cells that are the excesses
 pub record AreExcesses (g : Grid) (process : Process) (cs : List Contract) (cells : List ℤ) : Type 0 where

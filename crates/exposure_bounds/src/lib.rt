@@ -1,45 +1,22 @@
 // What a failing book can cost: the worst shortfall, with prices that reach it; between two figures where more than ten constraints are overloaded.
 #![tactic(auto)]
 
-ghost use Rattle.std.specs.Prelude.{◌≡◌, ◌≤◌, length};
-ghost use Rattle.lists.specs.Sets.{count_of};
+ghost use Rattle.std.specs.Prelude.{◌≡◌, ◌^◌, ◌≤◌, length};
 ghost use Rattle.lists.specs.Lent.{before, after};
-ghost use Rattle.tariff.specs.declared.refusals.Checked.TheVariants.{Passed};
-ghost use Rattle.tariff.specs.Units.{grid_of, max_limit};
-ghost use Rattle.tariff.specs.ContractRules.{of_period};
-ghost use Rattle.tariff.specs.Refusals.{first};
-ghost use Rattle.layouts.specs.BookFile.{book_in};
-ghost use Rattle.grid_tables.specs.Inner.{GoodCells, GoodFactors};
-ghost use Rattle.book_rules.specs.BookChecks.{book_checks};
+ghost use Rattle.tariff.specs.Feasibility.{overloaded, overload_count};
+ghost use Rattle.grid_tables.specs.Grids.{grid_by};
 ghost use Rattle.test_terms.specs.Calls.{asked_test};
 ghost use Rattle.exposure_rules.specs.Exposure.{few_overloads};
-ghost use Rattle.exposure_prices.specs.Inner.{Excesses, above_in, Listed};
+ghost use Rattle.exposure_prices.specs.Inner.{Listed};
 ghost use Rattle.exposure_bounds.specs.FindExposure.{FindsExposure};
-ghost use Rattle.exposure_bounds.specs.Inner.{AreExcesses, WorstPrices, BetterPrices, Exposed};
+ghost use Rattle.exposure_bounds.specs.Inner.{contracts_by, AreExcesses, BestSet, BetterPrices, Exposed};
 
 use exposure_figures::Exact;
-use tariff::{Checked, MAX_CONSTRAINTS, Refusal};
-use test_excesses::Terms;
-use test_terms::Asked;
-use test_verdict::check_test;
-
-// Of how many overloaded constraints every set is tried.
-const FEW_OVERLOADS: usize = 10;
-
-// How many sets they have at most.
-const MOST_SETS: usize = 1024;
-
-// What finding the exposure gives beside the prices: the least and the most that the book can cost, as whole cents rounded down and parts.
-#[derive(Clone, Copy)]
-pub enum ExposureAnswer {
-    Found {
-        least_whole: i64,
-        least_parts: u64,
-        most_whole: i64,
-        most_parts: u64,
-    },
-    Refused(Refusal),
-}
+use exposure_prices::{Best, ExcessTable};
+use exposure_sets::{Listing, MOST_LISTED, MOST_SETS};
+use tariff::{MAX_CONSTRAINTS, Refusal};
+use test_terms::{Asked, Tested};
+use test_verdict::{Loading, check_test};
 
 // The least and the most that a book can cost.
 #[derive(Clone, Copy)]
@@ -48,124 +25,81 @@ pub struct Exposure {
     pub most: Exact,
 }
 
-// The prices of the set that costs the most, of all sets of the few constraints that are overloaded, and what they cost: the empty set costs nothing.
-fn worst_prices(
-    terms: Terms,
-    limits: &[u64],
-    factors: &[i64],
-    book: &[u8],
-    excesses: &[i64],
-    over: &[usize],
-    count: usize,
-    prices: &mut [u64],
-) -> Exact
-    requires excesses { Excesses terms.constraints excesses.now × GoodCells max_limit terms.constraints limits.now
-        × GoodFactors terms.nodes terms.constraints factors.now }
-    requires book_value { (first (book_checks terms.nodes book.now) ≡ Passed) × (terms.constraints ≤ length prices.old) }
-    requires count_le_few_overloads { (count ≤ few_overloads) × (count ≡ count_of terms.constraints (above_in excesses.now)) }
-    requires listed { Listed terms.constraints (above_in excesses.now) over.now × (length over.now ≡ 64) }
-    requires are_excesses { AreExcesses (grid_of terms.nodes terms.constraints limits.now factors.now) terms.process
-        (of_period terms.period (book_in book.now)) excesses.now }
-    ensures { WorstPrices (grid_of terms.nodes terms.constraints limits.now factors.now) terms.process
-        (of_period terms.period (book_in (book.now))) (before prices) (after prices) result }
+// Of all sets of the few constraints that are overloaded the one that costs the most, and what it costs: the empty set costs nothing.
+fn worst_set(tested: Tested, over: &[usize]) -> Best
+    requires few { (length over.now ≤ few_overloads) × (length over.now ≡ overload_count (grid_by tested.grid) tested.process (contracts_by tested)) }
+    requires listed { Listed tested.grid.factors.constraints (overloaded (grid_by tested.grid) tested.process (contracts_by tested)) over.now }
+    ensures { BestSet (grid_by tested.entry.grid) tested.entry.process (contracts_by tested.entry) (2 ^ length over.now) result }
 {
     let mut costs = [0i64; MOST_SETS];
-    exposure_sets::set_costs(terms, limits, factors, book, over, count, &mut costs);
-    let best = exposure_prices::best_of(exposure_sets::set_count(count), &costs);
-    let set = best.set;
-    exposure_prices::fill_set(terms.constraints, excesses, set, prices);
-    best.cost
+    let listing = Listing { tested, over };
+    exposure_sets::set_costs(listing, &mut costs);
+    exposure_prices::best_of(&costs[..exposure_sets::set_count(over.len())])
 }
 
 // The prices that cost more, of the two lists, and what they cost.
-fn better_prices(
-    terms: Terms,
-    limits: &[u64],
-    factors: &[i64],
-    book: &[u8],
-    excesses: &[i64],
-    prices: &mut [u64],
-) -> Exact
-    requires excesses { Excesses terms.constraints excesses.now × GoodCells max_limit terms.constraints limits.now
-        × GoodFactors terms.nodes terms.constraints factors.now }
-    requires book_value { (first (book_checks terms.nodes book.now) ≡ Passed) × (terms.constraints ≤ length prices.old) }
-    requires are_excesses { AreExcesses (grid_of terms.nodes terms.constraints limits.now factors.now) terms.process
-        (of_period terms.period (book_in book.now)) excesses.now }
-    ensures { BetterPrices (grid_of terms.nodes terms.constraints limits.now factors.now) terms.process
-        (of_period terms.period (book_in (book.now))) (before prices) (after prices) result }
+fn better_prices(tested: Tested, excesses: ExcessTable, prices: &mut [u64]) -> Exact
+    requires are_excesses { (length excesses.cells.now ≡ tested.grid.factors.constraints)
+        × AreExcesses (grid_by tested.grid) tested.process (contracts_by tested) excesses.cells.now }
+    requires room { tested.grid.factors.constraints ≤ length prices.old }
+    ensures { BetterPrices (grid_by tested.entry.grid) tested.entry.process (contracts_by tested.entry) (before prices) (after prices) result }
 {
-    let constraints = terms.constraints;
-    let largest = exposure_prices::largest_cell(constraints, excesses);
-    let alone = exposure_prices::alone_shortfall(constraints, excesses, largest);
-    exposure_prices::fill_prices(constraints, excesses, 0, constraints, prices);
-    let found = exposure_shortfall::shortfall_at(terms, limits, factors, prices, book);
-    let all = found.shortfall;
-    if all.below(alone) {
-        exposure_prices::fill_prices(constraints, excesses, largest, largest + 1, prices);
-        return alone;
+    let largest = exposure_prices::largest_cell(excesses.cells);
+    let alone = exposure_prices::alone_shortfall(excesses, largest);
+    exposure_prices::fill_prices(excesses, 0..excesses.cells.len(), prices);
+    let all = exposure_shortfall::shortfall_at(tested, prices).shortfall;
+    if all < alone {
+        exposure_prices::fill_prices(excesses, largest..largest + 1, prices);
+        alone
+    } else {
+        all
     }
-    all
 }
 
 // The least and the most that a book can cost, with the prices of the least, where no check refuses.
-fn expose(
-    terms: Terms,
-    limits: &[u64],
-    factors: &[i64],
-    book: &[u8],
-    prices: &mut [u64],
-) -> Exposure
-    requires good_cells { GoodCells max_limit terms.constraints limits.now × GoodFactors terms.nodes terms.constraints factors.now }
-    requires book_value { (first (book_checks terms.nodes book.now) ≡ Passed) × (terms.constraints ≤ length prices.old) }
-    ensures { Exposed (grid_of terms.nodes terms.constraints limits.now factors.now) terms.process
-        (of_period terms.period (book_in (book.now))) (before prices) (after prices) result }
+fn expose(tested: Tested, prices: &mut [u64]) -> Exposure
+    requires { tested.grid.factors.constraints ≤ length prices.old }
+    ensures { Exposed (grid_by tested.entry.grid) tested.entry.process (contracts_by tested.entry) (before prices) (after prices) result }
 {
-    let nodes = terms.nodes;
-    let constraints = terms.constraints;
-    let process = terms.process;
-    let period = terms.period;
-    let carried = test_flows::carry(nodes, constraints, factors, period, book);
-    let mut excesses = [0i64; MAX_CONSTRAINTS];
-    test_excesses::fill_excess(constraints, process, limits, carried, &mut excesses);
+    let grid = tested.grid;
+    let constraints = grid.factors.constraints;
+    let carried = test_flows::carry(grid.factors, tested.period, tested.book);
+    let loading = Loading::of(constraints, grid.limits, carried);
+    let mut cells = [0i64; MAX_CONSTRAINTS];
+    test_excesses::fill_excess(loading, tested.process, &mut cells);
+    let excesses = ExcessTable {
+        cells: &cells[..constraints],
+    };
     let mut over = [0usize; MAX_CONSTRAINTS];
-    let count = exposure_prices::fill_over(constraints, &excesses, &mut over);
-    if count <= FEW_OVERLOADS {
-        let worst = worst_prices(
-            terms, limits, factors, book, &excesses, &over, count, prices,
-        );
-        return Exposure {
-            least: worst,
-            most: worst,
-        };
+    let count = exposure_prices::fill_over(excesses, &mut over);
+    if count <= MOST_LISTED {
+        let best = worst_set(tested, &over[..count]);
+        exposure_prices::fill_set(excesses, best.set, prices);
+        Exposure {
+            least: best.cost,
+            most: best.cost,
+        }
+    } else {
+        let most = exposure_prices::at_highest(exposure_prices::total_above(excesses));
+        let least = better_prices(tested, excesses, prices);
+        Exposure { least, most }
     }
-    let most = exposure_prices::at_highest(exposure_prices::total_above(constraints, &excesses));
-    let least = better_prices(terms, limits, factors, book, &excesses, prices);
-    Exposure { least, most }
 }
 
 // Finds what a book can cost: the least and the most, between which its worst shortfall is, and prices that cost the least, one for each constraint.
+// The tables are as C lends them, and become a `GridTable` once no check refuses them.
 pub fn find_exposure(
     asked: Asked,
     limits: &[u64],
     factors: &[i64],
     book: &[u8],
     prices: &mut [u64],
-) -> ExposureAnswer
+) -> Result<Exposure, Refusal>
     ensures { FindsExposure (asked_test asked limits.now factors.now book.now) prices result }
 {
-    let checked = check_test(asked, limits, factors, book);
-    if let Checked::Refused(refusal) = checked {
-        return ExposureAnswer::Refused(refusal);
-    }
+    check_test(asked, limits, factors, book)?;
     if prices.len() < asked.constraints {
-        return ExposureAnswer::Refused(Refusal::ShortTable);
+        return Err(Refusal::ShortTable);
     }
-    let terms = Terms::from_asked(asked);
-    let exposure = expose(terms, limits, factors, book, prices);
-    ExposureAnswer::Found {
-        least_whole: exposure.least.whole,
-        least_parts: exposure.least.parts,
-        most_whole: exposure.most.whole,
-        most_parts: exposure.most.parts,
-    }
+    Ok(expose(Tested::of(asked, limits, factors, book), prices))
 }

@@ -8,7 +8,8 @@ use lib.IntN.{ℤ, pos, ◌+ℤ◌, ◌*ℤ◌}
 use Rattle.lists.specs.Lent.{Lent, before, after}
 use Rattle.integers.proofs.Linear.{≤ℤ-trans, ≤ℤ-of_≡}
 use Rattle.integers.proofs.Division.{floor_split}
-use Rattle.tariff.specs.declared.refusals.Checked.TheVariants.{Passed}
+use Rattle.std.specs.Prelude.{Ok, Err}
+use Rattle.tariff.specs.Refusals.{passed}
 use Rattle.tariff.specs.Units.{per_cent}
 use Rattle.tariff.specs.Refusals.{number_after}
 use Rattle.tariff.specs.Settlement.{whole_cents, parts}
@@ -17,20 +18,20 @@ use Rattle.tariff.proofs.Checks.{passed_append}
 use Rattle.tariff.proofs.Worst.{pass→worst, worst→pass}
 use Rattle.test_rules.specs.TestBook.{TestCall, test_checks, test_checked, tested_grid, tested_process, tested_contracts}
 use Rattle.exposure_shortfall.specs.FindShortfall.{shortfall_checked, asked_prices}
-use Rattle.exposure_bounds.specs.declared.ExposureAnswer.TheVariants as is
 use Rattle.exposure_bounds.specs.FindExposure.{exposure_checks, exposure_checked, least, most, exposure_values, ExposedBy, FindsExposure, FindsExposureForC}
 use Rattle.exposure_calls.specs.Shortfall.{figure}
 use Rattle.exposure_calls.specs.Exposure.{WorstOf, overloads_of, ExposureSaid, ExposureCalls}
 use Rattle.exposure_calls.proofs.Shortfall.{found_makes, gives_of, list_accepted, list_gives, asked-list, cells-make}
+use Rattle.exposure_bounds.specs.FindExposure.{exposure_found}
 
 -- x is the least and y the most
-module _ (q : TestCall) (prices : Lent (List ℕ)) (passed : exposure_checked q (before prices) ≡ Passed) (e : ExposedBy q (after prices)) (x y : ℤ) (low : x ≡ least q)
+module _ (q : TestCall) (prices : Lent (List ℕ)) (accepts : exposure_checked q (before prices) ≡ passed) (e : ExposedBy q (after prices)) (x y : ℤ) (low : x ≡ least q)
     (high : y ≡ most q) where
-  tests : test_checked q ≡ Passed
+  tests : test_checked q ≡ passed
   unfolding exposure_checks
-  tests = (passed_append (test_checks q) _ passed).0
+  tests = (passed_append (test_checks q) _ accepts).0
 
-  accepted : shortfall_checked q (after prices) ≡ Passed
+  accepted : shortfall_checked q (after prices) ≡ passed
   accepted = list_accepted q tests (after prices) e.is-list
 
   said : ExposureSaid q prices x y
@@ -69,7 +70,7 @@ module _ (q : TestCall) (prices : Lent (List ℕ)) (passed : exposure_checked q 
 given-figure : (vs ws : List ℤ) → ws ≡ vs → (i j : ℕ) → get_or ws i (pos 0) *ℤ pos per_cent +ℤ get_or ws j (pos 0) ≡ get_or vs i (pos 0) *ℤ pos per_cent +ℤ get_or vs j (pos 0)
 given-figure vs ws e i j = ap (λ (xs : List ℤ). get_or xs i (pos 0) *ℤ pos per_cent +ℤ get_or xs j (pos 0)) e
 
-exposure_said : (q : TestCall) (prices : Lent (List ℕ)) (lw mw : ℤ) (lp mp : ℕ) → FindsExposure q prices (is.Found lw lp mw mp)
+exposure_said : (q : TestCall) (prices : Lent (List ℕ)) (lw mw : ℤ) (lp mp : ℕ) → FindsExposure q prices (exposure_found lw lp mw mp)
     → ExposureSaid q prices (figure lw lp) (figure mw mp)
 exposure_said q prices lw mw lp mp h =
     let told = given-told (exposure_checked q (before prices)) (exposure_values q) _ h.figures-given in

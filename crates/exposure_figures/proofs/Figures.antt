@@ -1,12 +1,20 @@
 -- Figures as whole cents and parts: one less another, a sum of rents, and that a figure has one such pair.
 use mathlib.Core.Path.{◌≡◌, refl, sym, ap, ap₂, ◌∙◌}
-use mathlib.Core.Bool.{Bool, true, false}
+use mathlib.Core.Bool.{Bool, true, false, cond}
+use mathlib.Core.List.{List}
+use lib.ListN.{length, take, get_or}
+use lib.Seq.{get_or-take}
+use Rattle.std.proofs.lemmas.List.{length-take}
+use Rattle.std.specs.Prelude.{Some}
+use Rattle.std.proofs.Common.{Less, Equal, Greater}
+use Rattle.std.specs.Ordering.{is_some_and, is_lt, partial_ordering_then, int_cmp, nat_cmp}
+use Rattle.grid_tables.specs.Inner.{GoodCells}
 use Prim.Native.Nat.{ℕ, ◌+◌, ◌*◌, ◌-◌, ◌≤◌, ◌<◌}
 use native.Mathlib.Nat.{mul-le-mul}
 use native.Mathlib.Numerals.{add-one}
 use native.Mathlib.Omega.{arith}
 use borrow.Author.Tests.{ltb-true, ltb-false}
-use lib.Dec.{T, ltb}
+use lib.Dec.{T, ltb, eqb}
 use lib.IntN.{ℤ, pos, ◌+ℤ◌, ◌-ℤ◌, ◌*ℤ◌}
 use lib.Signed.{lt_z, ◌<ℤ◌, ◌≤ℤ◌, lt_z_yes, lt_z_no, clash_ℤ}
 use Rattle.integers.specs.Sums.{sum_to}
@@ -16,7 +24,7 @@ use Rattle.tariff.specs.Units.{max_limit, max_price, per_cent}
 use Rattle.tariff.specs.Inner.{max_released}
 use Rattle.tariff.specs.Settlement.{whole_cents, parts}
 use Rattle.exposure_figures.specs.declared.Exact.{Exact}
-use Rattle.exposure_figures.specs.Inner.{Exactly}
+use Rattle.exposure_figures.specs.Inner.{Exactly, exact_of}
 
 abbrev pub cents : ℤ → ℕ → ℤ
 cents a p = a *ℤ pos per_cent +ℤ pos p
@@ -39,6 +47,21 @@ released-most limit share l s = omega (arith, mul-le-mul l s)
 
 pub rent-most : (limit share price : ℕ) → limit ≤ max_limit → share ≤ 100 → price ≤ max_price → limit * share * 1000 * price ≤ max_released * max_price
 rent-most limit share price l s p = mul-le-mul (released-most limit share l s) p
+
+-- limit x and price y, of constraint i by the first k of the tables
+module _ (k : ℕ) (limits prices : List ℕ) (good-limits : GoodCells max_limit k limits) (good-prices : GoodCells max_price k prices) (i x y : ℕ)
+    (turn : (i < length (take k limits)) × (i < length (take k prices)) × ((d : ℕ) → x ≡ get_or (take k limits) i d) × ((d : ℕ) → y ≡ get_or (take k prices) i d)) where
+  inside : i < k
+  inside = omega (arith, turn.0, length-take {A = ℕ})
+
+  pub limit_is : x ≡ get_or limits i 0
+  limit_is = turn.2 0 ∙ get_or-take k limits i 0 inside
+
+  pub price_is : y ≡ get_or prices i 0
+  price_is = turn.3 0 ∙ get_or-take k prices i 0 inside
+
+  pub pair-small : (x ≤ max_limit) × (y ≤ max_price)
+  pair-small = (rw limit_is (good-limits.sized i inside), rw price_is (good-prices.sized i inside))
 
 -- ---- a sum of rents, one more
 
@@ -102,6 +125,22 @@ module _ (a b : ℤ) (p q : ℕ) (hp : p < per_cent) (hq : q < per_cent) where
       by : (x : Bool) → ltb p q ≡ x → x ≡ lt_z (cents a p) (cents b q)
       by true e = is_true (cents a p) (cents b q) (parts-less a b p q same (ltb-true p q e))
       by false e = is_false (cents a p) (cents b q) (parts-not a b p q same (ltb-false p q e))
+
+-- the derived order of figures is that of what they stand for
+module _ (a b : Exact) (ha : a.parts < per_cent) (hb : b.parts < per_cent) where
+  pub order-is : (r : Bool) → r ≡ is_some_and is_lt (partial_ordering_then (Some (int_cmp a.whole b.whole)) (Some (nat_cmp a.parts b.parts))) → r ≡ lt_z (exact_of a) (exact_of b)
+  order-is r e = e ∙ by (lt_z a.whole b.whole) (lt_z b.whole a.whole) refl refl
+    where
+      fewer : (x y : Bool) → is_lt (cond x Less (cond y Equal Greater)) ≡ x
+      fewer true y = refl
+      fewer false true = refl
+      fewer false false = refl
+
+      by : (x y : Bool) → lt_z a.whole b.whole ≡ x → lt_z b.whole a.whole ≡ y
+          → is_some_and is_lt (partial_ordering_then (Some (cond x Less (cond y Greater Equal))) (Some (nat_cmp a.parts b.parts))) ≡ lt_z (exact_of a) (exact_of b)
+      by true y d u = whole_below a.whole b.whole a.parts b.parts ha hb d
+      by false true d u = whole_above a.whole b.whole a.parts b.parts ha hb u
+      by false false d u = fewer (ltb a.parts b.parts) (eqb a.parts b.parts) ∙ parts-decide a.whole b.whole a.parts b.parts ha hb d u
 
 -- ---- a figure's whole cents and parts are one pair
 

@@ -1,7 +1,7 @@
 -- Counts of overloaded constraints, what is left of a set's number, and the constraints listed: one constraint more.
 use mathlib.Core.Path.{◌≡◌, refl, sym, ap, ◌∙◌}
 use mathlib.Core.Logic.{⊎_elim}
-use mathlib.Core.Bool.{Bool, true, false, cond}
+use mathlib.Core.Bool.{Bool, true, false, cond, true≢false}
 use mathlib.Core.List.{List}
 use Prim.Native.Nat.{ℕ, zero, suc, ◌+◌, ◌/◌, ◌^◌, ◌≤◌, ◌<◌}
 use native.Mathlib.Nat.{div-one, add-zero, le_of_eq, le_trans, le-add_right, eq-or-lt_of_le}
@@ -9,7 +9,8 @@ use native.Mathlib.Numerals.{add-one}
 use native.Mathlib.Omega.{arith}
 use borrow.Author.Tests.{ltb-true, ltb-false}
 use lib.Dec.{ltb}
-use lib.ListN.{get_or}
+use lib.ListN.{length, get_or, set, take, length-set}
+use lib.Seq.{get_or-take, get_or-set_same, get_or-set_other}
 use Rattle.lists.specs.Sets.{count_of}
 use Rattle.exposure_rules.proofs.Bounds.{by_bool}
 use Rattle.exposure_rules.proofs.Sets.{half-on, counts_start, counts-one, counts-none}
@@ -40,6 +41,24 @@ counted-most false c k d h e = omega arith
 
 -- ---- the list, one constraint more
 
+pub noted_on : (b : Bool) (k count r : ℕ) (old new : List ℕ) → b ≡ true → count < length old → new ≡ set old count k → r ≡ count + 1 → Noted b k count old new r
+noted_on b k count r old new t h e q =
+    record {
+      length-kept = ap length e ∙ length-set old count k;
+      counts = rw t q;
+      kept = λ j l. ap (λ (cells : List ℕ). get_or cells j 0) e ∙ get_or-set_other old count j k 0 (λ s. absurd (omega arith));
+      noted = λ s. ap (λ (cells : List ℕ). get_or cells count 0) e ∙ get_or-set_same old count k 0 h;
+    }
+
+pub noted_off : (b : Bool) (k count r : ℕ) (old new : List ℕ) → b ≡ false → new ≡ old → r ≡ count → Noted b k count old new r
+noted_off b k count r old new f e q =
+    record {
+      length-kept = ap length e;
+      counts = rw f (q ∙ sym (add-zero count));
+      kept = λ j l. ap (λ (cells : List ℕ). get_or cells j 0) e;
+      noted = λ s. absurd (true≢false (sym s ∙ f));
+    }
+
 count-mono : (b : ℕ → Bool) (j k : ℕ) → j ≤ k → count_of j b ≤ count_of k b
 unfolding count_of
 count-mono b j zero h = rw (none j h) (omega arith)
@@ -48,6 +67,17 @@ count-mono b j zero h = rw (none j h) (omega arith)
     none j h = omega arith
 count-mono b j (suc k) h = ⊎_elim (λ e. le_of_eq (ap (λ (x : ℕ). count_of x b) e))
     (λ l. le_trans (count-mono b j k (omega arith)) (le-add_right (count_of k b) (cond (b k) 1 0))) (eq-or-lt_of_le h)
+
+-- the list without the cells behind it
+pub listed-front : (b : ℕ → Bool) (k count : ℕ) (over : List ℕ) → count ≡ count_of k b → Listed k b over → Listed k b (take count over)
+listed-front b k count over e l =
+    record {
+      at = λ j h t. get_or-take count over (count_of j b) 0 (inside j h t) ∙ l.at j h t;
+      below = λ s h. rw (get_or-take count over s 0 (rw e h)) (l.below s h);
+    }
+  where
+    inside : (j : ℕ) → j < k → b j ≡ true → count_of j b < count
+    inside j h t = let one = counts-one b j t in let up = count-mono b (suc j) k h in omega (arith, e, one, up)
 
 pub list_start : (b : ℕ → Bool) (over : List ℕ) → Listed 0 b over
 unfolding count_of

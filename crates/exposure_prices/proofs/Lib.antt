@@ -1,3 +1,4 @@
 pub mod Figures
 pub mod Counting
 pub mod Cells
+pub mod Chosen

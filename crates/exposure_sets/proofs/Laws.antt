@@ -10,7 +10,7 @@ use native.Mathlib.Omega.{arith}
 use borrow.Author.Tests.{ltb-true, ltb-false}
 use lib.Dec.{eqb, ltb}
 use lib.ListN.{length, get_or, set, take, length-set}
-use lib.Seq.{get_or-set_same, get_or-set_other, get_or-take}
+use lib.Seq.{get_or-set_same, get_or-set_other, get_or-take, length-take-le}
 use lib.Pow.{pow-add, pow_pos, pow_mono}
 use lib.IntN.{ℤ, pos, nat_abs, ◌+ℤ◌, ◌-ℤ◌, ◌*ℤ◌, +ℤ_idl, +ℤ_idr}
 use mir.Syntax.{w64}
@@ -170,18 +170,16 @@ pub sums_small : (b t n : ℕ) (x : ℕ → ℤ) (cells : List ℤ) → n ≡ 2 
     → SmallCells (b * 10) n cells
 sums_small b t n x cells e few h s m l = rw (s m (rw e at l)) (set-small b x m t few h)
 
-pub record Summed (count : ℕ) (x : ℕ → ℤ) (cells : List ℤ) (n t : ℕ) : Type 0 where
-  pub upto : t ≤ count
-  pub sets : n ≡ 2 ^ t
+pub record Summed (x : ℕ → ℤ) (cells : List ℤ) (t : ℕ) : Type 0 where
   pub length-is : length cells ≡ 1024
   pub sums : Sums t x cells
 
-pub summed-start : (count : ℕ) (x : ℕ → ℤ) (cells : List ℤ) → length cells ≡ 1024 → cell_in_of cells 0 ≡ pos 0 → Summed count x cells 1 0
-summed-start count x cells long e = record { upto = omega arith; sets = refl; length-is = long; sums = sums_start x cells e }
+pub summed-start : (x : ℕ → ℤ) (cells : List ℤ) → length cells ≡ 1024 → cell_in_of cells 0 ≡ pos 0 → Summed x cells 0
+summed-start x cells long e = record { length-is = long; sums = sums_start x cells e }
 
-module _ (count : ℕ) (x : ℕ → ℤ) (cells : List ℤ) (n t : ℕ) (s : Summed count x cells n t) (more : t < count) (few : count ≤ 10) where
-  pub half : n ≤ 512
-  half = rw s.sets (pow_mono {i = t} {j = 9} (omega arith))
+module _ (count : ℕ) (x : ℕ → ℤ) (cells : List ℤ) (n t : ℕ) (sets : n ≡ 2 ^ t) (s : Summed x cells t) (more : t < count) (few : count ≤ 10) where
+  half : n ≤ 512
+  half = rw sets (pow_mono {i = t} {j = 9} (omega arith))
 
   pub room-to_grow : ((u : ℕ) → u < count → nat_abs (x u) ≤ max_row) → (y : ℤ) → y ≡ x t
       → (n + n ≤ length cells) × (n ≤ 512) × (nat_abs y ≤ max_row) × SmallCells (max_row * 10) n cells
@@ -189,20 +187,14 @@ module _ (count : ℕ) (x : ℕ → ℤ) (cells : List ℤ) (n t : ℕ) (s : Sum
     omega (arith, half, s.length-is),
     half,
     rw e (small t more),
-    sums_small max_row t n x cells s.sets (omega arith) (λ u h. small u (omega arith)) s.sums,
+    sums_small max_row t n x cells sets (omega arith) (λ u h. small u (omega arith)) s.sums,
   )
 
-  pub summed-next : (y : ℤ) (new : List ℤ) → y ≡ x t → Grown n y cells new → Summed count x new (n + n) (t + 1)
-  summed-next y new e g =
-      record {
-        upto = omega arith;
-        sets = pow_on t n s.sets;
-        length-is = g.length-kept ∙ s.length-is;
-        sums = sums_grow t x n y cells new s.sets e s.sums g;
-      }
+  pub summed-next : (y : ℤ) (new : List ℤ) → y ≡ x t → Grown n y cells new → Summed x new (t + 1)
+  summed-next y new e g = record { length-is = g.length-kept ∙ s.length-is; sums = sums_grow t x n y cells new sets e s.sums g }
 
-pub summed-end : (count : ℕ) (x : ℕ → ℤ) (cells : List ℤ) (n t : ℕ) → Summed count x cells n t → count ≤ t → Sums count x cells × (length cells ≡ 1024)
-summed-end count x cells n t s h = let all : t ≡ count = omega (arith, s.upto) in (rw all at s.sums, s.length-is)
+pub summed-end : (count : ℕ) (x : ℕ → ℤ) (cells : List ℤ) (t : ℕ) → Summed x cells t → t ≡ count → Sums count x cells × (length cells ≡ 1024)
+summed-end count x cells t s all = (rw all at s.sums, s.length-is)
 
 -- ---- a loop that fills
 
@@ -232,13 +224,10 @@ pub filled-kept : (x : ℕ → ℤ) (t : ℕ) (y : ℤ) (old cells : List ℤ) �
 filled-kept x t y old cells inside e small f =
     let same = back y (omega (arith, small)) in filled_next x t (to_z w64 (of_z w64 y)) old cells inside (same ∙ e) (rw same small) f
 
-pub filled-end : (x : ℕ → ℤ) (t count : ℕ) (old cells : List ℤ) → t ≤ count → count ≤ t → Filled t x old cells → Filled count x old cells
-filled-end x t count old cells h l f = let all : t ≡ count = omega arith in rw all at f
+pub filled-end : (x : ℕ → ℤ) (t count : ℕ) (old cells : List ℤ) → t ≡ count → Filled t x old cells → Filled count x old cells
+filled-end x t count old cells all f = rw all at f
 
 -- ---- what is added
-
-pub pow_most : (count n : ℕ) → n ≡ 2 ^ count → count ≤ 10 → n ≤ 1024
-pow_most count n e few = rw e (pow_mono {i = count} {j = 10} few)
 
 pub added-small : (b n : ℕ) (f g : ℕ → ℤ) (old new : List ℤ) → ((m : ℕ) → m < n → (f m ≡ g m) × (nat_abs (g m) ≤ b)) → Added n f old new
     → AddedSmall b n g old new
@@ -303,6 +292,28 @@ module _ (k : ℕ) (fs : List ℤ) (over : List ℕ) (count : ℕ) (t : Period) 
           ap (counted Option) (s m (rw en at h) ∙ bit_cong (cell_in_of figures) figure m count f.each) ∙ sym (option_is true Option p e m),
           rw (option_is true Option p e m) (le_trans (counted-sized Option (bit_sum figure m count)) (set-small max_released figure m count few figure-small)),
         ))
+
+-- ---- sums of which the first n are added as they count
+
+pub front-ready : (n : ℕ) (sums costs : List ℤ) → n ≤ 1024 → length sums ≡ 1024 → length costs ≡ 1024 → SmallCells (max_row * 10) n sums
+    → SmallCells (2 ^ 61) n costs → (length (take n sums) ≤ 1024) × (length (take n sums) ≤ length costs)
+    × SmallCells (max_row * 10) (length (take n sums)) (take n sums) × SmallCells (2 ^ 61) (length (take n sums)) costs
+front-ready n sums costs most ls lc s c =
+    let long : length (take n sums) ≡ n = length-take-le n sums (omega (arith, most, ls)) in (
+      rw long most,
+      rw long (omega (arith, most, lc)),
+      λ m h. let l : m < n = rw long at h in rw (get_or-take n sums m (pos 0) l) (s m l),
+      λ m h. let l : m < n = rw long at h in c m l,
+    )
+
+pub front-added : (d : Kind) (n : ℕ) (sums old new : List ℤ) → n ≤ length sums
+    → Added (length (take n sums)) (λ (m : ℕ). counted d (cell_in_of (take n sums) m)) old new → Added n (λ (m : ℕ). counted d (cell_in_of sums m)) old new
+front-added d n sums old new h a =
+    let long : length (take n sums) ≡ n = length-take-le n sums h in
+    record {
+      length-kept = a.length-kept;
+      each = λ m l. a.each m (rw long l) ∙ ap (λ (z : ℤ). cell_in_of old m +ℤ counted d z) (get_or-take n sums m (pos 0) l);
+    }
 
 -- one contract more
 sum_more : (A S x : ℤ) → A +ℤ S +ℤ x ≡ A +ℤ (S +ℤ x)
@@ -378,6 +389,9 @@ in_period false d x m t = ap (λ (z : ℤ). z +ℤ pos 0) (bit_zero m t)
 
 -- ---- what the sums mean: the contracts of the period, by the grid's factors and limits
 
+pub cell_of : (n k : ℕ) (fs : List ℤ) (s j : ℕ) → s < n → j < k → get_or fs (s * k + j) (pos 0) ≡ factor (factors_of n k fs) s j
+cell_of n k fs s j hs hj = sym (get_or-take (n * k) fs (s * k + j) (pos 0) (place-in n k s j hs hj))
+
 module _ (n k : ℕ) (ls : List ℕ) (fs : List ℤ) (process : Process) (t : Period) (book : List ℕ) (over : List ℕ) (count : ℕ) (chosen : Chosen k count over)
     (ok : (i : ℕ) → i < contract_count_in book → InRange n (contract_at book i)) (m : ℕ) where
   abbrev g : Grid
@@ -386,11 +400,8 @@ module _ (n k : ℕ) (ls : List ℕ) (fs : List ℤ) (process : Process) (t : Pe
   abbrev cs : List Contract
   cs = of_period t (book_in book)
 
-  cell : (s j : ℕ) → s < n → j < k → get_or fs (s * k + j) (pos 0) ≡ factor (factors_of n k fs) s j
-  cell s j hs hj = sym (get_or-take (n * k) fs (s * k + j) (pos 0) (place-in n k s j hs hj))
-
   raw_is : (c : Contract) → InRange n c → (j : ℕ) → j < k → raw_in k fs c j ≡ raw_of g process cs over count c j
-  raw_is c h j b = ap₂ (λ (x y : ℤ). (x -ℤ y) *ℤ pos c.quantity.0) (cell c.source j h.source-below b) (cell c.sink j h.sink-below b)
+  raw_is c h j b = ap₂ (λ (x y : ℤ). (x -ℤ y) *ℤ pos c.quantity.0) (cell_of n k fs c.source j h.source-below b) (cell_of n k fs c.sink j h.sink-below b)
 
   abbrev raw : ℕ → ℕ → ℤ
   raw i s = raw_in k fs (contract_at book i) (get_or over s 0)

@@ -2,43 +2,25 @@
 // of those of smaller sets, one constraint at a time.
 #![tactic(auto)]
 
-ghost use Rattle.std.specs.Prelude.{◌≡◌, ℕ, ◌+◌, ◌*◌, ◌^◌, ◌≤◌, ◌<◌, length, get_or, pos, nat_abs};
+ghost use Rattle.std.specs.Prelude.{◌≡◌, ℕ, ◌+◌, ◌*◌, ◌^◌, ◌≤◌, ◌<◌, length, pos, nat_abs};
 ghost use Rattle.lists.specs.Lent.{before, after};
-ghost use Rattle.tariff.specs.declared.refusals.Checked.TheVariants.{Passed};
-ghost use Rattle.tariff.specs.Units.{grid_of, max_limit};
-ghost use Rattle.tariff.specs.ContractRules.{counted, of_period};
-ghost use Rattle.tariff.specs.Refusals.{first};
+ghost use Rattle.tariff.specs.ContractRules.{InRange, counted, of_period};
 ghost use Rattle.tariff.specs.Inner.{max_released};
 ghost use Rattle.layouts.specs.BookFile.{book_in};
-ghost use Rattle.grid_tables.specs.Inner.{GoodCells, GoodFactors};
-ghost use Rattle.book_rules.specs.BookChecks.{book_checks};
-ghost use Rattle.test_rules.specs.Inner.{Ends};
-ghost use Rattle.exposure_sets.specs.Inner.{
-  cell_in_of,
-  Chosen,
-  max_row,
-  SmallCells,
-  Grown,
-  Sums,
-  Filled,
-  Added,
-  AddedSmall,
-  raw_in,
-  due_in,
-  fixed_in,
-  option_in,
-  book_fixed,
-  book_options,
-  UnitCosts,
-};
+ghost use Rattle.grid_tables.specs.Grids.{grid_by};
+ghost use Rattle.exposure_sets.specs.Inner.{cell_in_of, max_row, SmallCells, Grown, Sums, Filled, Added, AddedSmall, UnitCosts};
+ghost use Rattle.exposure_sets.specs.Listings.{count_by, raw_by, due_by, fixed_by, option_by, book_fixed_by, book_options_by};
 
-use tariff::{Amount, Contract, Flow, Kind, Period, Process};
-use test_excesses::Terms;
+mod listing;
+
+use book_bits::Contracts;
+pub use listing::Listing;
+use tariff::{Amount, Contract, Flow, Kind};
 
 // Of how many constraints every set is tried, and how many sets they have.
-const MOST_LISTED: usize = 10;
+pub const MOST_LISTED: usize = 10;
 
-const MOST_SETS: usize = 1024;
+pub const MOST_SETS: usize = 1024;
 
 // How many sets so many constraints have.
 pub fn set_count(count: usize) -> usize
@@ -48,219 +30,129 @@ pub fn set_count(count: usize) -> usize
     1usize << count
 }
 
-// The sums of n sets, and of n more: each has x in addition.
+// The sums of n sets, and of n more: each has x in addition. n is not the slice's length: n more sums go behind the n that there are, in one slice, so by index.
 fn grow(n: usize, x: Flow, sums: &mut [i64])
     requires { (n + n ≤ length sums.old) × (n ≤ 512) × (nat_abs x.0 ≤ max_row) × SmallCells (max_row * 10) n sums.old }
     ensures { Grown n x.0 (before sums) (after sums) }
 {
-    let mut m = 0;
-    while m < n {
-        let base = Flow(sums[m]);
-        let more = base.plus(x);
-        let cell = more.0;
-        sums[n + m] = cell;
-        m += 1;
+    for m in 0..n {
+        let more = Flow(sums[m]) + x;
+        sums[n + m] = more.0;
     }
 }
 
 // The sum of each set's figures.
-fn set_sums(count: usize, figures: &[i64], sums: &mut [i64])
-    requires { (count ≤ 10) × (count ≤ length figures.now) × SmallCells max_row count figures.now × (length sums.old ≡ 1024) }
-    ensures { Sums count (cell_in_of figures.now) (after sums) × (length (after sums) ≡ 1024) }
+fn set_sums(figures: &[i64], sums: &mut [i64; MOST_SETS])
+    requires { (length figures.now ≤ 10) × SmallCells max_row (length figures.now) figures.now }
+    ensures { Sums (length figures.now) (cell_in_of figures.now) (after sums) }
 {
     sums[0] = 0;
-    let mut n = 1;
-    let mut t = 0;
-    while t < count {
-        let x = Flow(figures[t]);
-        grow(n, x, sums);
-        n += n;
-        t += 1;
+    for (t, figure) in figures.iter().enumerate() {
+        grow(set_count(t), Flow(*figure), sums);
     }
 }
 
-// A contract's spread × quantity at each of the listed constraints.
-fn fill_spreads(
-    constraints: usize,
-    factors: &[i64],
-    over: &[usize],
-    count: usize,
-    c: Contract,
-    figures: &mut [i64],
-)
-    requires { Ends constraints factors.now c × Chosen constraints count over.now × (count ≤ length figures.old) }
-    ensures { Filled count (λ (s : ℕ). raw_in constraints factors.now c (get_or over.now s 0)) (before figures) (after figures) }
+// A contract's spread × quantity at each of the listed constraints. That a place has a cell for each of them (`count_by`) is asked by each function that fills
+// one: the places differ and are lent to be written, so no one value has them.
+fn fill_spreads(listing: Listing, c: Contract, figures: &mut [i64])
+    requires { InRange listing.tested.grid.factors.nodes c × (count_by listing ≤ length figures.old) }
+    ensures { Filled (count_by listing.entry) (raw_by listing.entry c) (before figures) (after figures) }
 {
-    let source = c.source * constraints;
-    let sink = c.sink * constraints;
-    let quantity = c.quantity;
-    let mut t = 0;
-    while t < count {
-        let k = over[t];
-        let x = quantity.flow(factors[source + k], factors[sink + k]);
-        let cell = x.0;
-        figures[t] = cell;
-        t += 1;
+    let source = listing.tested.grid.factors.row(c.source);
+    let sink = listing.tested.grid.factors.row(c.sink);
+    // By index: what is written is said cell by cell (`Filled`, `Added`).
+    for (t, k) in listing.over.iter().enumerate() {
+        figures[t] = c.quantity.flow(source[*k], sink[*k]).0;
     }
 }
 
 // The rent at one cent at each of the listed constraints, negative.
-fn fill_rents(
-    constraints: usize,
-    process: Process,
-    limits: &[u64],
-    over: &[usize],
-    count: usize,
-    figures: &mut [i64],
-)
-    requires { GoodCells max_limit constraints limits.now × Chosen constraints count over.now × (count ≤ length figures.old) }
-    ensures { Filled count (λ (s : ℕ). due_in limits.now process (get_or over.now s 0)) (before figures) (after figures) }
+fn fill_rents(listing: Listing, figures: &mut [i64])
+    requires { count_by listing ≤ length figures.old }
+    ensures { Filled (count_by listing.entry) (due_by listing.entry) (before figures) (after figures) }
 {
-    let mut t = 0;
-    while t < count {
-        let k = over[t];
-        let x = Flow(0).minus(process.released(limits[k]));
-        let cell = x.0;
-        figures[t] = cell;
-        t += 1;
+    let tested = listing.tested;
+    for (t, k) in listing.over.iter().enumerate() {
+        let x = Flow(0) - tested.process.released(tested.grid.limits[*k]);
+        figures[t] = x.0;
     }
 }
 
 // Each figure, as it counts, added to its total.
-fn add_counted(kind: Kind, n: usize, figures: &[i64], totals: &mut [i64])
-    requires { (n ≤ 1024) × (n ≤ length figures.now) × (n ≤ length totals.old) × SmallCells (max_row * 10) n figures.now
-        × SmallCells (2 ^ 61) n totals.old }
-    ensures { Added n (λ (m : ℕ). counted kind (cell_in_of figures.now m)) (before totals) (after totals) }
+fn add_counted(kind: Kind, figures: &[i64], totals: &mut [i64])
+    requires { (length figures.now ≤ 1024) × (length figures.now ≤ length totals.old) × SmallCells (max_row * 10) (length figures.now) figures.now
+        × SmallCells (2 ^ 61) (length figures.now) totals.old }
+    ensures { Added (length figures.now) (λ (m : ℕ). counted kind (cell_in_of figures.now m)) (before totals) (after totals) }
 {
-    let mut m = 0;
-    while m < n {
-        let amount = Amount(figures[m]).counted(kind);
-        let base = Flow(totals[m]);
-        let more = base.plus(Flow(amount.0));
-        let cell = more.0;
-        totals[m] = cell;
-        m += 1;
+    for (m, figure) in figures.iter().enumerate() {
+        let amount = Amount(*figure).counted(kind);
+        let more = Flow(totals[m]) + Flow(amount.0);
+        totals[m] = more.0;
     }
 }
 
 // What a contract of the period pays at one cent: an obligation's added to its constraints' totals, an option's to its sets' costs. `sums` is a place for what
 // an option pays.
 fn add_contract(
-    constraints: usize,
-    period: Period,
-    factors: &[i64],
-    over: &[usize],
-    count: usize,
-    n: usize,
+    listing: Listing,
     c: Contract,
     row: &mut [i64],
-    sums: &mut [i64],
-    costs: &mut [i64],
+    sums: &mut [i64; MOST_SETS],
+    costs: &mut [i64; MOST_SETS],
 )
-    requires ends { Ends constraints factors.now c × Chosen constraints count over.now × (n ≡ 2 ^ count) × (count ≤ length row.old) }
-    requires sums_len { (length sums.old ≡ 1024) × (length costs.old ≡ 1024) × SmallCells (2 ^ 61) count row.old × SmallCells (2 ^ 61) n costs.old }
-    ensures { AddedSmall max_released count (fixed_in constraints factors.now over.now period c) (before row) (after row)
-        × AddedSmall (max_released * 10) n (option_in constraints (factors.now) (over.now) count period c) (before costs) (after costs)
-        × (length (after sums) ≡ 1024) }
+    requires ends { InRange listing.tested.grid.factors.nodes c × (count_by listing ≤ length row.old) }
+    requires small { SmallCells (2 ^ 61) (count_by listing) row.old × SmallCells (2 ^ 61) (2 ^ count_by listing) costs.old }
+    ensures { AddedSmall max_released (count_by listing.entry) (fixed_by listing.entry c) (before row) (after row)
+        × AddedSmall (max_released * 10) (2 ^ count_by listing.entry) (option_by listing.entry c) (before costs) (after costs) }
 {
-    let own = c.period;
-    if own.same(period) {
-        let mut figures = [0i64; MOST_LISTED];
-        fill_spreads(constraints, factors, over, count, c, &mut figures);
-        let kind = c.kind;
-        match kind {
-            Kind::Obligation => {
-                add_counted(Kind::Obligation, count, &figures, row);
-            }
+    if c.period == listing.tested.period {
+        let count = listing.over.len();
+        let mut cells = [0i64; MOST_LISTED];
+        let figures = &mut cells[..count];
+        fill_spreads(listing, c, figures);
+        match c.kind {
+            Kind::Obligation => add_counted(Kind::Obligation, figures, row),
             Kind::Option => {
-                set_sums(count, &figures, sums);
-                add_counted(Kind::Option, n, sums, costs);
+                set_sums(figures, sums);
+                add_counted(Kind::Option, &sums[..set_count(count)], costs);
             }
         }
-        return;
     }
 }
 
 // What the book's contracts of the period pay at one cent: obligations to the totals of constraints, options to the costs of sets.
 fn add_book(
-    nodes: usize,
-    constraints: usize,
-    period: Period,
-    factors: &[i64],
-    book: &[u8],
-    over: &[usize],
-    count: usize,
-    n: usize,
+    listing: Listing,
     row: &mut [i64],
-    sums: &mut [i64],
-    costs: &mut [i64],
+    sums: &mut [i64; MOST_SETS],
+    costs: &mut [i64; MOST_SETS],
 )
-    requires good_factors { GoodFactors nodes constraints factors.now × (first (book_checks nodes book.now) ≡ Passed) }
-    requires chosen { Chosen constraints count over.now × (n ≡ 2 ^ count) × (count ≤ length row.old) }
-    requires sums_len { (length sums.old ≡ 1024) × (length costs.old ≡ 1024) × SmallCells max_released count row.old × SmallCells (max_released * 10) n costs.old }
-    ensures added { Added count (book_fixed constraints factors.now over.now period book.now) (before row) (after row)
-        × SmallCells max_row count (after row) }
-    ensures added_2 { Added n (book_options constraints factors.now over.now count period book.now) (before costs) (after costs)
-        × SmallCells (max_row * 10) n (after costs) × (length (after sums) ≡ 1024) }
+    requires room { count_by listing ≤ length row.old }
+    requires small { SmallCells max_released (count_by listing) row.old × SmallCells (max_released * 10) (2 ^ count_by listing) costs.old }
+    ensures added { Added (count_by listing.entry) (book_fixed_by listing.entry) (before row) (after row)
+        × SmallCells max_row (count_by listing.entry) (after row) }
+    ensures added_2 { Added (2 ^ count_by listing.entry) (book_options_by listing.entry) (before costs) (after costs)
+        × SmallCells (max_row * 10) (2 ^ count_by listing.entry) (after costs) }
 {
-    let contracts = book_bits::contract_count(book);
-    let form = book_bits::book_form(book);
-    let mut i = 0;
-    while i < contracts {
-        let c = book_bits::contract_at(book, form, i);
-        add_contract(
-            constraints,
-            period,
-            factors,
-            over,
-            count,
-            n,
-            c,
-            row,
-            sums,
-            costs,
-        );
-        i += 1;
+    let contracts = Contracts::of(listing.tested.book);
+    for i in 0..contracts.len() {
+        let c = contracts.at(i);
+        add_contract(listing, c, row, sums, costs);
     }
 }
 
 // What one cent costs on every set of the listed constraints, in 10^-8 cents, into the first cells of `costs`, which are 0.
-pub fn set_costs(
-    terms: Terms,
-    limits: &[u64],
-    factors: &[i64],
-    book: &[u8],
-    over: &[usize],
-    count: usize,
-    costs: &mut [i64],
-)
-    requires good_cells { GoodCells max_limit terms.constraints limits.now × GoodFactors terms.nodes terms.constraints factors.now
-        × (first (book_checks terms.nodes book.now) ≡ Passed) }
-    requires chosen { Chosen terms.constraints count over.now × (length costs.old ≡ 1024) × ((m : ℕ) → m < 1024 → cell_in_of costs.old m ≡ pos 0) }
-    ensures { UnitCosts (grid_of terms.nodes terms.constraints limits.now factors.now) terms.process
-        (of_period terms.period (book_in (book.now))) (over.now) count (after costs) }
+pub fn set_costs(listing: Listing, costs: &mut [i64; MOST_SETS])
+    requires { (m : ℕ) → m < 1024 → cell_in_of costs.old m ≡ pos 0 }
+    ensures { UnitCosts (grid_by listing.entry.tested.grid) listing.entry.tested.process
+        (of_period listing.entry.tested.period (book_in listing.entry.tested.book.now)) listing.entry.over.now (count_by listing.entry) (after costs) }
 {
-    let nodes = terms.nodes;
-    let constraints = terms.constraints;
-    let process = terms.process;
-    let period = terms.period;
-    let n = set_count(count);
-    let mut row = [0i64; MOST_LISTED];
+    let count = listing.over.len();
+    let mut cells = [0i64; MOST_LISTED];
+    let row = &mut cells[..count];
     let mut sums = [0i64; MOST_SETS];
-    fill_rents(constraints, process, limits, over, count, &mut row);
-    add_book(
-        nodes,
-        constraints,
-        period,
-        factors,
-        book,
-        over,
-        count,
-        n,
-        &mut row,
-        &mut sums,
-        costs,
-    );
-    set_sums(count, &row, &mut sums);
-    add_counted(Kind::Obligation, n, &sums, costs);
+    fill_rents(listing, row);
+    add_book(listing, row, &mut sums, costs);
+    set_sums(row, &mut sums);
+    add_counted(Kind::Obligation, &sums[..set_count(count)], costs);
 }

@@ -7,8 +7,8 @@ use borrow.Author.Tests.{ltb-false, le-ltb}
 use lib.ListN.{length, take}
 use Rattle.lists.specs.Lists.{Each, any_of}
 use Rattle.tariff.specs.declared.refusals.Refusal.{Refusal}
-use Rattle.tariff.specs.declared.refusals.Checked.{Checked}
-use Rattle.tariff.specs.declared.refusals.Checked.TheVariants.{Passed, Refused}
+use Rattle.tariff.specs.Refusals.{Checked, passed}
+use Rattle.std.specs.Prelude.{Err}
 use Rattle.tariff.specs.Units.{max_price}
 use Rattle.tariff.specs.Refusals.{Check, first}
 use Rattle.tariff.specs.Checks.{node_count, constraint_count, process_number, period_number, price_bad}
@@ -24,7 +24,7 @@ use Rattle.exposure_shortfall.specs.FindShortfall.{shortfall_checks, shortfall_c
 use Rattle.exposure_shortfall.specs.Inner.{table_checks}
 
 -- no condition holds: none refuses
-all_pass : (cs : List Check) → Each (λ (c : Check). c.fails ≡ false) cs → first cs ≡ Passed
+all_pass : (cs : List Check) → Each (λ (c : Check). c.fails ≡ false) cs → first cs ≡ passed
 unfolding first
 all_pass [] h = refl
 all_pass (c ∷ cs) h = first_passes c cs h.0 ∙ all_pass cs h.1
@@ -46,21 +46,25 @@ module _ (q : TestCall) (prices : List ℕ) where
 
   -- x is what the tables' checks found
   module _ (x : Checked) (found : x ≡ first tables) where
-    pub tables-refuse : (r : Refusal) → x ≡ Refused r → Refused r ≡ shortfall_checked q prices
+    pub tables-refuse : (r : Refusal) → x ≡ Err r → Err r ≡ shortfall_checked q prices
     unfolding shortfall_checks
     tables-refuse r told = sym (append_refuses tables (book_checks q.nodes q.book) r (sym found ∙ told))
 
-    pub then_book : x ≡ Passed → first (book_checks q.nodes q.book) ≡ shortfall_checked q prices
+    pub then_book : x ≡ passed → first (book_checks q.nodes q.book) ≡ shortfall_checked q prices
     unfolding shortfall_checks
     then_book told = sym (append_passes tables (book_checks q.nodes q.book) (sym found ∙ told))
 
+    -- y is what the book's own did
+    pub both_pass : x ≡ passed → (y : Checked) → y ≡ first (book_checks q.nodes q.book) → y ≡ passed → passed ≡ shortfall_checked q prices
+    both_pass told y own pass = sym pass ∙ own ∙ then_book told
+
   -- what holds where none refuses
   pub record Asked : Type 0 where
-    pub test-passes : test_checked q ≡ Passed
+    pub test-passes : test_checked q ≡ passed
     pub as_tested : Tested q
     pub good-prices : GoodCells max_price q.constraints prices
 
-  pub asked : shortfall_checked q prices ≡ Passed → Asked
+  pub asked : shortfall_checked q prices ≡ passed → Asked
   unfolding shortfall_checks test_checks grid_table_checks
   asked e =
       let two = passed_all _ e in
@@ -69,7 +73,7 @@ module _ (q : TestCall) (prices : List ℕ) where
       let short = limits.1.1 in
       let six = short.1 in
       let fifteen = six.1.1 in
-      let t : test_checked q ≡ Passed = all_pass (test_checks q)
+      let t : test_checked q ≡ passed = all_pass (test_checks q)
       (two.0, (two.1.0, (sixteen.0, (sixteen.1.0, (limits.0, (limits.1.0, (six.0, (six.1.0, fifteen.1)))))))) in
       record {
         test-passes = t;
@@ -79,8 +83,8 @@ module _ (q : TestCall) (prices : List ℕ) where
       }
 
   -- the test's checks and good prices
-  pub passes-with : test_checked q ≡ Passed → q.constraints ≤ length prices → any_of price_bad (take q.constraints prices) ≡ false
-      → shortfall_checked q prices ≡ Passed
+  pub passes-with : test_checked q ≡ passed → q.constraints ≤ length prices → any_of price_bad (take q.constraints prices) ≡ false
+      → shortfall_checked q prices ≡ passed
   unfolding shortfall_checks test_checks grid_table_checks
   passes-with e room sized =
       let two = passed_all (test_checks q) e in

@@ -1,5 +1,5 @@
 -- What the figures mean: net payment, rent and shortfall of document 01, and the promise.
-use mathlib.Core.Path.{◌≡◌, refl, sym, ap, ap₂, ◌∙◌}
+use mathlib.Core.Path.{◌≡◌, refl, sym, ap, ap₂, ◌∙◌, subst}
 use mathlib.Core.List.{List, [], ◌∷◌}
 use Prim.Native.Nat.{ℕ, ◌*◌}
 use lib.ListN.{take}
@@ -11,9 +11,9 @@ use Rattle.tariff.specs.declared.contracts.Contract.{Contract}
 use Rattle.tariff.specs.declared.contracts.Period.{Period}
 use Rattle.tariff.specs.declared.processes.Process.{Process}
 use Rattle.tariff.specs.declared.refusals.Refusal.{Refusal}
-use Rattle.tariff.specs.declared.refusals.Checked.{Checked}
-use Rattle.tariff.specs.declared.refusals.Checked.TheVariants.{Passed, Refused}
-use Rattle.tariff.specs.Units.{grid_of, factors_of}
+use Rattle.tariff.specs.Refusals.{Checked, passed}
+use Rattle.std.specs.Prelude.{Ok, Err}
+use Rattle.tariff.specs.Units.{Grid, grid_of, factors_of}
 use Rattle.tariff.specs.ContractRules.{of_period}
 use Rattle.tariff.specs.Processes.{percent}
 use Rattle.tariff.specs.Feasibility.{released}
@@ -24,7 +24,6 @@ use Rattle.hour_rules.specs.SettleHour.{hour_total}
 use Rattle.test_rules.specs.TestBook.{TestCall, tested_grid, tested_process, tested_contracts}
 use Rattle.exposure_figures.specs.declared.Owed.{Owed}
 use Rattle.exposure_shortfall.specs.declared.Shortfall.{Shortfall}
-use Rattle.exposure_shortfall.specs.declared.ShortfallAnswer.TheVariants as is
 use Rattle.exposure_figures.specs.Inner.{exact_of, Exactly, rent_in, rent_of}
 use Rattle.exposure_figures.proofs.Figures.{exactly_of, figures}
 use Rattle.exposure_shortfall.specs.Inner.{Costs}
@@ -50,21 +49,29 @@ module _ (n k : ℕ) (ls : List ℕ) (fs : List ℤ) (process : Process) (t : Pe
         shortfall-is = exactly_of r.shortfall (ap₂ ◌-ℤ◌ (paid.is ∙ payment-is) (owes ∙ rent-is)) short;
       }
 
+-- the same of what is equal to them
+pub costs-kept : {g h : Grid} {p q : Process} {cs ds : List Contract} {ps qs : List ℕ} → g ≡ h → p ≡ q → cs ≡ ds → ps ≡ qs → (r : Shortfall)
+    → Costs g p cs ps r → Costs h q ds qs r
+costs-kept {g} {h} {p} {q} {cs} {ds} {ps} {qs} same-grid same-process same-contracts same-prices r costs =
+    let grids = subst (λ (x : Grid). Costs x p cs ps r) same-grid costs in
+    let processes = subst (λ (x : Process). Costs h x cs ps r) same-process grids in
+    let contracts = subst (λ (x : List Contract). Costs h q x ps r) same-contracts processes in
+    subst (λ (x : List ℕ). Costs h q ds x r) same-prices contracts
+
 -- ---- the promise
 
 module _ (q : TestCall) (prices : List ℕ) (x : Checked) (found : x ≡ shortfall_checked q prices) where
-  pub refuses : (r : Refusal) → x ≡ Refused r → FindsShortfall q prices (is.Refused r)
+  pub refuses : (r : Refusal) → x ≡ Err r → FindsShortfall q prices (Err r)
   refuses r told = record { figures-given = answer-refused x (shortfall_checked q prices) found r told (shortfall_values q prices) }
 
-  pub finds : x ≡ Passed → (r : Shortfall) → Costs (tested_grid q) (tested_process q) (tested_contracts q) (asked_prices q prices) r
-      → (pw ow sw : ℤ) → pw ≡ r.payment.whole → ow ≡ r.rent.whole → sw ≡ r.shortfall.whole
-      → FindsShortfall q prices (is.Found pw r.payment.parts ow r.rent.parts sw r.shortfall.parts)
-  finds told r e pw ow sw pe oe se =
+  pub finds : x ≡ passed → (r : Shortfall) → Costs (tested_grid q) (tested_process q) (tested_contracts q) (asked_prices q prices) r
+      → FindsShortfall q prices (Ok r)
+  finds told r e =
       let a = figures (payment_asked q prices) r.payment e.payment in
       let b = figures (rent_asked q prices) r.rent e.rent-is in
       let c = figures (shortfall_asked q prices) r.shortfall e.shortfall-is in
       record {
         figures-given =
-            (λ i. given ((pe ∙ a.0) i ∷ pos (a.1 i) ∷ (oe ∙ b.0) i ∷ pos (b.1 i) ∷ (se ∙ c.0) i ∷ pos (c.1 i) ∷ []))
+            (λ i. given (a.0 i ∷ pos (a.1 i) ∷ b.0 i ∷ pos (b.1 i) ∷ c.0 i ∷ pos (c.1 i) ∷ []))
             ∙ answer-passed x (shortfall_checked q prices) found told (shortfall_values q prices);
       }

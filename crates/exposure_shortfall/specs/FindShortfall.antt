@@ -1,21 +1,33 @@
 -- Finding the shortfall of a book at a price list (document 01, "Terms of the third demand"): net payment, rent, and net payment less rent.
-use Rattle.std.specs.Prelude.{◌≡◌, List, [], ◌∷◌, ℕ, ◌*◌, length, take, ℤ, pos}
+use Rattle.std.specs.Prelude.{◌≡◌, List, [], ◌∷◌, ℕ, ◌*◌, length, take, ℤ, pos, Ok, Err, Result}
 use Rattle.lists.specs.Lent.{Lent, before, after}
-use Rattle.tariff.specs.declared.refusals.Checked.{Checked}
+use Rattle.tariff.specs.Refusals.{Checked}
 use Rattle.tariff.specs.Settlement.{whole_cents, parts}
 use Rattle.tariff.specs.Refusals.{Check, first, Outcome, given, refused_by, answered, cell_after, number_after}
 use Rattle.tariff.specs.Checks.{node_count, constraint_count, process_number, period_number, short_table, limit_range, factor_range, price_range}
 use Rattle.tariff.specs.Shortfall.{net_payment, rent, shortfall}
 use Rattle.book_rules.specs.BookChecks.{book_checks}
 use Rattle.test_rules.specs.TestBook.{TestCall, tested_grid, tested_process, tested_contracts}
-use Rattle.exposure_shortfall.specs.declared.ShortfallAnswer.{ShortfallAnswer}
-use Rattle.exposure_shortfall.specs.declared.ShortfallAnswer.TheVariants.{Found, Refused}
+use Rattle.tariff.specs.declared.refusals.Refusal.{Refusal}
+use Rattle.exposure_shortfall.specs.declared.Shortfall.{Shortfall}
+
+-- what a book costs at a price list, or the refusal
+abbrev pub ShortfallAnswer : Type 0
+ShortfallAnswer = Result Shortfall Refusal
+
+-- net payment, rent and shortfall found, each as whole cents rounded down and parts
+abbrev pub shortfall_found : ℤ → ℕ → ℤ → ℕ → ℤ → ℕ → ShortfallAnswer
+shortfall_found a b c d e f = Ok (record {
+  payment = record { whole = a; parts = b };
+  rent = record { whole = c; parts = d };
+  shortfall = record { whole = e; parts = f };
+})
 
 -- net payment, rent and shortfall, each as whole cents rounded down and parts
 abbrev pub shortfall_outcome : ShortfallAnswer → Outcome
-shortfall_outcome (Found payWhole payParts rentWhole rentParts shortWhole shortParts) =
-    given (payWhole ∷ pos payParts ∷ rentWhole ∷ pos rentParts ∷ shortWhole ∷ pos shortParts ∷ [])
-shortfall_outcome (Refused r) = refused_by r
+shortfall_outcome (Ok found) =
+    given (found.payment.whole ∷ pos found.payment.parts ∷ found.rent.whole ∷ pos found.rent.parts ∷ found.shortfall.whole ∷ pos found.shortfall.parts ∷ [])
+shortfall_outcome (Err r) = refused_by r
 
 -- what the test is handed, and a table of prices
 module _ (q : TestCall) (prices : List ℕ) where

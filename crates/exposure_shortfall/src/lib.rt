@@ -3,35 +3,20 @@
 
 ghost use Rattle.std.specs.Prelude.{◌≡◌, ◌≤◌, take};
 ghost use Rattle.lists.specs.Lent.{before};
-ghost use Rattle.tariff.specs.declared.refusals.Checked.TheVariants.{Passed};
-ghost use Rattle.tariff.specs.Units.{grid_of, max_constraints, max_limit, max_nodes};
-ghost use Rattle.tariff.specs.ContractRules.{of_period};
 ghost use Rattle.tariff.specs.Refusals.{first};
+ghost use Rattle.tariff.specs.Units.{max_constraints, max_nodes, max_price};
+ghost use Rattle.tariff.specs.ContractRules.{of_period};
 ghost use Rattle.layouts.specs.BookFile.{book_in};
-ghost use Rattle.grid_tables.specs.Inner.{GoodCells, Hour};
-ghost use Rattle.book_rules.specs.BookChecks.{book_checks};
+ghost use Rattle.grid_tables.specs.Inner.{GoodCells};
+ghost use Rattle.grid_tables.specs.Grids.{grid_by};
 ghost use Rattle.test_terms.specs.Calls.{asked_test};
 ghost use Rattle.exposure_shortfall.specs.FindShortfall.{FindsShortfall};
 ghost use Rattle.exposure_shortfall.specs.Inner.{cell_checks, table_checks, Costs};
 
 use exposure_figures::Exact;
-use tariff::{Checked, MAX_CONSTRAINTS, MAX_CONTRACTS, MAX_LIMIT, MAX_PRICE, Refusal};
-use test_excesses::Terms;
-use test_terms::Asked;
-
-// What finding the shortfall gives: net payment, rent and shortfall, each as whole cents rounded down and parts.
-#[derive(Clone, Copy)]
-pub enum ShortfallAnswer {
-    Found {
-        payment_whole: i64,
-        payment_parts: u64,
-        rent_whole: i64,
-        rent_parts: u64,
-        shortfall_whole: i64,
-        shortfall_parts: u64,
-    },
-    Refused(Refusal),
-}
+use grid_tables::HourTable;
+use tariff::{MAX_CONSTRAINTS, MAX_CONTRACTS, MAX_LIMIT, MAX_PRICE, Refusal};
+use test_terms::{Asked, Tested};
 
 // What a book costs at a price list.
 #[derive(Clone, Copy)]
@@ -42,126 +27,100 @@ pub struct Shortfall {
 }
 
 // What a book costs at a price list, where no check refuses: its exact total is what settling the hour gives.
-pub fn shortfall_at(
-    terms: Terms,
-    limits: &[u64],
-    factors: &[i64],
-    prices: &[u64],
-    book: &[u8],
-) -> Shortfall
-    requires good_cells { GoodCells max_limit terms.constraints limits.now × Hour terms.nodes terms.constraints factors.now prices.now }
-    requires book_value { first (book_checks terms.nodes book.now) ≡ Passed }
-    ensures { Costs (grid_of terms.nodes terms.constraints limits.now factors.now) terms.process
-        (of_period terms.period (book_in (book.now))) (take terms.constraints (prices.now)) result }
+pub fn shortfall_at(tested: Tested, prices: &[u64]) -> Shortfall
+    requires { GoodCells max_price tested.grid.factors.constraints prices.now }
+    ensures { Costs (grid_by tested.entry.grid) tested.entry.process
+        (of_period tested.entry.period (book_in tested.entry.book.now)) (take tested.entry.grid.factors.constraints prices.now) result }
 {
-    let nodes = terms.nodes;
-    let constraints = terms.constraints;
-    let process = terms.process;
-    let period = terms.period;
     let mut cents = [0i64; MAX_CONTRACTS];
     let mut priced = [0u64; MAX_CONTRACTS];
-    let totals = hour_contracts::settle(
-        nodes,
-        constraints,
-        period,
-        factors,
-        prices,
-        book,
-        &mut cents,
-        &mut priced,
-    );
+    let factors = tested.grid.factors;
+    let hour = HourTable { factors, prices };
+    let totals = hour_contracts::settle(hour, tested.period, tested.book, &mut cents, &mut priced);
     let payment = Exact {
         whole: totals.whole,
         parts: totals.parts,
     };
-    let owed = exposure_figures::rent(constraints, process, limits, prices);
-    let shortfall = payment.less(owed);
+    let grid = tested.grid;
+    let owed = exposure_figures::rent(factors.constraints, tested.process, grid.limits, prices);
     Shortfall {
         payment,
         rent: owed.exact(),
-        shortfall,
+        shortfall: payment - owed,
     }
 }
 
-// 9 for each table and for the prices, 6, 7, 15.
+// 9 for each table and for the prices, 6, 7, 15. Counts and tables stand apart, as C lends them: they become a `Tested` and an `HourTable` once nothing here
+// refuses them. That the counts are few was checked before, or their product might not fit.
 fn check_cells(
     nodes: usize,
     constraints: usize,
     limits: &[u64],
     factors: &[i64],
     prices: &[u64],
-) -> Checked
+) -> Result<(), Refusal>
     requires { (nodes ≤ max_nodes) × (constraints ≤ max_constraints) }
     ensures { result ≡ first (cell_checks nodes constraints limits.now factors.now prices.now) }
 {
     let cells = nodes * constraints;
     if limits.len() < constraints {
-        return Checked::Refused(Refusal::ShortTable);
+        return Err(Refusal::ShortTable);
     }
     if factors.len() < cells {
-        return Checked::Refused(Refusal::ShortTable);
+        return Err(Refusal::ShortTable);
     }
     if prices.len() < constraints {
-        return Checked::Refused(Refusal::ShortTable);
+        return Err(Refusal::ShortTable);
     }
-    if grid_tables::cell_above(limits, constraints, MAX_LIMIT) {
-        return Checked::Refused(Refusal::LimitRange);
+    if grid_tables::cell_above(&limits[..constraints], MAX_LIMIT) {
+        return Err(Refusal::LimitRange);
     }
-    if grid_tables::factor_out_of_range(factors, cells) {
-        return Checked::Refused(Refusal::FactorRange);
+    if grid_tables::factor_out_of_range(&factors[..cells]) {
+        return Err(Refusal::FactorRange);
     }
-    if grid_tables::cell_above(prices, constraints, MAX_PRICE) {
-        return Checked::Refused(Refusal::PriceRange);
+    if grid_tables::cell_above(&prices[..constraints], MAX_PRICE) {
+        return Err(Refusal::PriceRange);
     }
-    Checked::Passed
+    Ok(())
 }
 
-// The checks of the tables: 2, 3, 16, 17, those of the cells.
-fn check_tables(asked: Asked, limits: &[u64], factors: &[i64], prices: &[u64]) -> Checked
+// The checks of the tables, as C lends them: 2, 3, 16, 17, those of the cells.
+// As `grid_tables::check_grid_tables` but for the cells' checks, among which the prices' stand.
+fn check_tables(
+    asked: Asked,
+    limits: &[u64],
+    factors: &[i64],
+    prices: &[u64],
+) -> Result<(), Refusal>
     ensures { result ≡ first (table_checks asked.nodes asked.constraints asked.process asked.period
         (limits.now) (factors.now) (prices.now)) }
 {
     if tariff::nodes_bad(asked.nodes) {
-        return Checked::Refused(Refusal::NodeCount);
+        return Err(Refusal::NodeCount);
     }
     if MAX_CONSTRAINTS < asked.constraints {
-        return Checked::Refused(Refusal::ConstraintCount);
+        return Err(Refusal::ConstraintCount);
     }
     if 2 < asked.process {
-        return Checked::Refused(Refusal::ProcessNumber);
+        return Err(Refusal::ProcessNumber);
     }
     if 1 < asked.period {
-        return Checked::Refused(Refusal::PeriodOrKind);
+        return Err(Refusal::PeriodOrKind);
     }
     check_cells(asked.nodes, asked.constraints, limits, factors, prices)
 }
 
-// Finds what a book costs at a price list: net payment, rent and shortfall.
+// Finds what a book costs at a price list: net payment, rent and shortfall. The tables are as C lends them.
 pub fn find_shortfall(
     asked: Asked,
     limits: &[u64],
     factors: &[i64],
     prices: &[u64],
     book: &[u8],
-) -> ShortfallAnswer
+) -> Result<Shortfall, Refusal>
     ensures { FindsShortfall (asked_test asked limits.now factors.now book.now) prices.now result }
 {
-    let tables = check_tables(asked, limits, factors, prices);
-    if let Checked::Refused(refusal) = tables {
-        return ShortfallAnswer::Refused(refusal);
-    }
-    let own = book_checks::check_book(asked.nodes, book);
-    if let Checked::Refused(refusal) = own {
-        return ShortfallAnswer::Refused(refusal);
-    }
-    let terms = Terms::from_asked(asked);
-    let found = shortfall_at(terms, limits, factors, prices, book);
-    ShortfallAnswer::Found {
-        payment_whole: found.payment.whole,
-        payment_parts: found.payment.parts,
-        rent_whole: found.rent.whole,
-        rent_parts: found.rent.parts,
-        shortfall_whole: found.shortfall.whole,
-        shortfall_parts: found.shortfall.parts,
-    }
+    check_tables(asked, limits, factors, prices)?;
+    book_checks::check_book(asked.nodes, book)?;
+    Ok(shortfall_at(Tested::of(asked, limits, factors, book), prices))
 }

@@ -1,7 +1,7 @@
 // Files read whole and texts written, for the programs, over std's files and printing. What fails is told on standard error: what it was, and why.
 #![tactic(auto)]
 
-ghost use Rattle.std.specs.Prelude.{◌≡◌, ◌<◌, length, take, IfOk, true, false};
+ghost use Rattle.std.specs.Prelude.{◌≡◌, ◌<◌, length, take, IfOk, IfSome, Some, false};
 ghost use Rattle.std.specs.Io.KnownBytes.{Consumes, IsAtEnd};
 ghost use Rattle.std.specs.Io.{ReadsAtMost};
 ghost use Rattle.files.specs.Counts.{IsPrefixLen};
@@ -10,33 +10,19 @@ use std::io::{ErrorKind, Read};
 use std::rt::Files;
 use std::{fs, io, str};
 
-// What a file gave: how many bytes, and whether it could be read at all. Of one that could not no byte is given.
-#[derive(Clone, Copy)]
-pub struct Found {
-    pub bytes: usize,
-    pub readable: bool,
-}
-
-// Reads a file into the first bytes of `buf`. A missing file counts as empty; one that is there and can't be read does not.
-pub fn read_file<R: Files + Eprint + Alloc>(rt: &R, path: &[u8], buf: &mut [u8]) -> Found
-    ensures count { IsPrefixLen result.bytes buf.new }
-    ensures unreadable { result.readable ≡ false → result.bytes ≡ 0 }
+// Reads a file into the first bytes of `buf`, and gives how many it has: none at all where it can't be read. A missing file counts as empty.
+pub fn read_file<R: Files + Eprint + Alloc>(rt: &R, path: &[u8], buf: &mut [u8]) -> Option<usize>
+    ensures count { IfSome result (λ n. IsPrefixLen n buf.new) }
 {
     match str::from_utf8(path) {
         Ok(name) => read_named(rt, name, buf),
         Err(_) => {
             let name = path.escape_ascii();
             eprintln!(rt; "{name}: not a name in UTF-8").unwrap_or(());
-            UNREADABLE
+            None
         }
     }
 }
-
-// Of a file that could not be read.
-const UNREADABLE: Found = Found {
-    bytes: 0,
-    readable: false,
-};
 
 // Reads a file behind one that was taken. Behind one that was not it is not looked at, and counts as empty.
 pub fn read_behind<R: Files + Eprint + Alloc>(
@@ -44,44 +30,37 @@ pub fn read_behind<R: Files + Eprint + Alloc>(
     taken: bool,
     path: &[u8],
     buf: &mut [u8],
-) -> Found
-    ensures count { IsPrefixLen result.bytes buf.new }
-    ensures unreadable { result.readable ≡ false → result.bytes ≡ 0 }
-    ensures behind_refused { taken ≡ false → (result.bytes ≡ 0) × (result.readable ≡ true) × (buf.new ≡ buf.old) }
+) -> Option<usize>
+    ensures count { IfSome result (λ n. IsPrefixLen n buf.new) }
+    ensures behind_refused { taken ≡ false → (result ≡ Some 0) × (buf.new ≡ buf.old) }
 {
     if !taken {
-        return Found {
-            bytes: 0,
-            readable: true,
-        };
+        return Some(0);
     }
     read_file(rt, path, buf)
 }
 
-fn read_named<R: Files + Eprint + Alloc>(rt: &R, name: &str, buf: &mut [u8]) -> Found
-    ensures count { IsPrefixLen result.bytes buf.new }
-    ensures unreadable { result.readable ≡ false → result.bytes ≡ 0 }
+fn read_named<R: Files + Eprint + Alloc>(rt: &R, name: &str, buf: &mut [u8]) -> Option<usize>
+    ensures { IfSome result (λ n. IsPrefixLen n buf.new) }
 {
-    match fs::open(rt, name) {
-        Ok(mut file) => match read_all(&mut file, buf) {
-            Ok(bytes) => Found {
-                bytes,
-                readable: true,
-            },
-            Err(error) => {
-                tell(rt, name, error);
-                UNREADABLE
-            }
-        },
-        Err(error) if error.kind() == ErrorKind::NotFound => Found {
-            bytes: 0,
-            readable: true,
-        },
+    match read_there(rt, name, buf) {
+        Ok(bytes) => Some(bytes),
         Err(error) => {
             tell(rt, name, error);
-            UNREADABLE
+            None
         }
     }
+}
+
+// A file that is there; a missing one counts as empty.
+fn read_there<R: Files>(rt: &R, name: &str, buf: &mut [u8]) -> io::Result<usize>
+    ensures { IfOk result (λ n. IsPrefixLen n buf.new) }
+{
+    let mut file = match fs::open(rt, name) {
+        Err(error) if error.kind() == ErrorKind::NotFound => return Ok(0),
+        opened => opened?,
+    };
+    read_all(&mut file, buf)
 }
 
 // Reads until `buf` is full or the file ends.
@@ -91,6 +70,7 @@ fn read_all<F: Read>(file: &mut F, buf: &mut [u8]) -> io::Result<usize>
     ensures whole { IfOk result (λ n. n < length buf.new → IsAtEnd (F.remaining file.new)) }
 {
     let mut bytes = 0;
+    // No `for`: each read gives as many bytes as it will.
     while bytes < buf.len() {
         let more = file.read(&mut buf[bytes..])?;
         if more == 0 {

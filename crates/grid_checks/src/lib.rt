@@ -8,11 +8,13 @@ ghost use Rattle.layouts.specs.Forms.{grid_header_bytes_of};
 ghost use Rattle.layouts.specs.GridFile.{grid_form_in, nodes_of, constraints_in_of};
 ghost use Rattle.grid_rules.specs.ReadGrid.{grid_size_checks};
 
+mod counted;
 mod sizes;
 
+pub use counted::CountedFile;
 use layouts::Form;
-pub use sizes::{factor_count, file_bytes, used_bits};
-use tariff::{Checked, MAX_CONSTRAINTS, Refusal};
+pub use sizes::GridSize;
+use tariff::{MAX_CONSTRAINTS, Refusal};
 
 // The bytes that tell the form, and hold the narrow header.
 const FORM_BYTES: usize = 2;
@@ -21,15 +23,14 @@ pub fn form_in(file: &[u8]) -> Form
     requires { 2 ≤ length file.now }
     ensures { result ≡ grid_form_in file.now }
 {
-    if bits::field(file, 0, 8) != 0 {
-        return Form::Narrow;
+    if bits::field(file, 0, 8) == 0 && bits::field(file, 15, 1) == 1 {
+        Form::Wide
+    } else {
+        Form::Narrow
     }
-    if bits::field(file, 15, 1) != 1 {
-        return Form::Narrow;
-    }
-    Form::Wide
 }
 
+// By the form that the caller has found: `CountedFile` holds both once the length is checked.
 pub fn nodes_in(file: &[u8], form: Form) -> usize
     requires { grid_header_bytes_of form ≤ length file.now }
     ensures { result ≡ nodes_of form file.now }
@@ -48,29 +49,34 @@ pub fn constraints_in(file: &[u8]) -> usize
 }
 
 // The file's checks up to its length: 1 to 5.
-pub fn check_size(file: &[u8]) -> Checked
+pub fn check_size(file: &[u8]) -> Result<(), Refusal>
     ensures { result ≡ first (grid_size_checks file.now) }
 {
     if file.len() < FORM_BYTES {
-        return Checked::Refused(Refusal::ShortFile);
+        return Err(Refusal::ShortFile);
     }
     let form = form_in(file);
     if file.len() < form.grid_header_bytes() {
-        return Checked::Refused(Refusal::ShortFile);
+        return Err(Refusal::ShortFile);
     }
     let nodes = nodes_in(file, form);
     let constraints = constraints_in(file);
     if tariff::nodes_outside(form.most_nodes(), nodes) {
-        return Checked::Refused(Refusal::NodeCount);
+        return Err(Refusal::NodeCount);
     }
     if MAX_CONSTRAINTS < constraints {
-        return Checked::Refused(Refusal::ConstraintCount);
+        return Err(Refusal::ConstraintCount);
     }
     if bits::field(file, 15, 1) != form.grid_spare() {
-        return Checked::Refused(Refusal::SpareBits);
+        return Err(Refusal::SpareBits);
     }
-    if file.len() != file_bytes(form.grid_header_bits(), nodes, constraints) {
-        return Checked::Refused(Refusal::FileLength);
+    let size = GridSize {
+        header: form.grid_header_bits(),
+        nodes,
+        constraints,
+    };
+    if file.len() != size.file_bytes() {
+        return Err(Refusal::FileLength);
     }
-    Checked::Passed
+    Ok(())
 }

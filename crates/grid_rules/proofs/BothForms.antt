@@ -10,7 +10,8 @@ use lib.Dec.{ltb}
 use lib.ListN.{length, take}
 use lib.IntN.{ℤ}
 use lib.Seq.{take_all}
-use Rattle.tariff.specs.declared.refusals.Checked.TheVariants.{Passed}
+use Rattle.std.specs.Prelude.{Ok}
+use Rattle.tariff.specs.Refusals.{passed}
 use Rattle.tariff.specs.Units.{grid_of}
 use Rattle.tariff.specs.Refusals.{first, number_after}
 use Rattle.tariff.specs.Former.{former_first, by_number}
@@ -64,7 +65,7 @@ fits_both f n k ls fs g = record { nodes-fit = nodes f g.nodes-fit; constraints-
     nodes Narrow h = h
     nodes Wide h = omega arith
 
-pub grid-in_file : (n k : ℕ) (limits : List ℕ) (factors : List ℤ) (place : List ℕ) → write_grid_checked (write_grid_call Narrow n k limits factors place) ≡ Passed
+pub grid-in_file : (n k : ℕ) (limits : List ℕ) (factors : List ℤ) (place : List ℕ) → write_grid_checked (write_grid_call Narrow n k limits factors place) ≡ passed
     → (f : Form) → grid_in (grid_file f (grid_of n k limits factors)) ≡ grid_of n k limits factors
 unfolding grid_file
 grid-in_file n k limits factors place e f =
@@ -87,7 +88,7 @@ few-factors : (h n k : ℕ) → 16 ≤ h → h + 27 * k + 18 * (n * k) ≤ 8 * p
 few-factors h n zero least le = rw (mul-zero n) (omega arith)
 few-factors h n (suc k) least le = omega arith
 
-pub fits-the_program : (s : List ℕ) → first (grid_size_checks s) ≡ Passed → length s ≤ program_bytes → nodes_in s * constraints_in_of s ≤ program_factors
+pub fits-the_program : (s : List ℕ) → first (grid_size_checks s) ≡ passed → length s ≤ program_bytes → nodes_in s * constraints_in_of s ≤ program_factors
 fits-the_program s e le =
     let c = (sized s e).counted in
     few-factors (header_in s) (nodes_in s) (constraints_in_of s) (omega (arith, header-whole (grid_form_in s), header-least (grid_form_in s))) (omega (arith, c.size))

@@ -16,8 +16,8 @@ use Rattle.lists.proofs.Lists.{every_cell}
 use Rattle.lists.proofs.Search.{neither}
 use Rattle.bits.specs.Bits.{field, fields}
 use Rattle.bits.proofs.Files.{length-file}
-use Rattle.tariff.specs.declared.refusals.Checked.{Checked}
-use Rattle.tariff.specs.declared.refusals.Checked.TheVariants.{Passed, Refused}
+use Rattle.tariff.specs.Refusals.{Checked, passed}
+use Rattle.std.specs.Prelude.{Ok, Err}
 use Rattle.tariff.specs.Units.{grid_of, max_nodes, max_limit}
 use Rattle.tariff.specs.Refusals.{Check, first, decided}
 use Rattle.tariff.specs.Checks.{node_count, nodes_outside_of, constraint_count, limit_range, factor_range, short_table}
@@ -82,7 +82,7 @@ pub record Sized (s : List ℕ) : Type 0 where
   pub counted : Counted s (header_in s) (nodes_in s) (constraints_in_of s)
   pub spare : grid_spare_in s ≡ grid_spare_of (grid_form_in s)
 
-pub sized : (s : List ℕ) → first (grid_size_checks s) ≡ Passed → Sized s
+pub sized : (s : List ℕ) → first (grid_size_checks s) ≡ passed → Sized s
 unfolding grid_size_checks
 sized s e =
     let one = passed_cons _ _ e in
@@ -115,7 +115,7 @@ pub record Readable (q : ReadGridCall) : Type 0 where
   pub limit-room : constraints_in_of q.file ≤ length q.limits
   pub factor-room : nodes_in q.file * constraints_in_of q.file ≤ length q.factors
 
-pub readable : (q : ReadGridCall) → read_grid_checked q ≡ Passed → Readable q
+pub readable : (q : ReadGridCall) → read_grid_checked q ≡ passed → Readable q
 unfolding grid_file_checks grid_figure_checks read_grid_checks
 readable q e =
     let own = passed_append (grid_file_checks q.file) _ e in
@@ -166,11 +166,11 @@ module _ (q : WriteGridCall) where
   same_checks few =
       first_passes count_check behind_count few ∙ sym (first_passes (node_count q.nodes) behind_count (count-passes few)) ∙ sym tables-then_room
 
-  pub write_checks : count_check.fails ≡ false → (x : Checked) → first table_checks ≡ x → write_grid_checked q ≡ decided x Refused (first (room_check ∷ []))
+  pub write_checks : count_check.fails ≡ false → (x : Checked) → first table_checks ≡ x → write_grid_checked q ≡ decided x Err (first (room_check ∷ []))
   write_checks few x e =
-      same_checks few ∙ first-append table_checks (room_check ∷ []) ∙ ap (λ (y : Checked). decided y Refused (first (room_check ∷ []))) e
+      same_checks few ∙ first-append table_checks (room_check ∷ []) ∙ ap (λ (y : Checked). decided y Err (first (room_check ∷ []))) e
 
-  pub writable : write_grid_checked q ≡ Passed → Writable q.form q.nodes q.constraints q.limits q.factors q.place
+  pub writable : write_grid_checked q ≡ passed → Writable q.form q.nodes q.constraints q.limits q.factors q.place
   unfolding write_grid_checks
   writable e =
       let few = (passed_cons _ _ e).0 in

@@ -9,7 +9,8 @@ use borrow.Author.Tests.{le-ltb}
 use lib.ListN.{length, take}
 use lib.IntN.{ℤ}
 use Rattle.bits.proofs.Numbers.{Below}
-use Rattle.tariff.specs.declared.refusals.Checked.TheVariants.{Passed}
+use Rattle.std.specs.Prelude.{Ok}
+use Rattle.tariff.specs.Refusals.{passed}
 use Rattle.tariff.specs.Checks.{nodes_outside_of}
 use Rattle.tariff.proofs.Checks.{first_passes, passed_cons, same, last-passes}
 use Rattle.layouts.specs.declared.forms.Form.{Form}
@@ -23,7 +24,7 @@ use Rattle.grid_rules.proofs.Passing.{readable, writable, written-fits}
 
 -- ---- read, then written
 
-pub read_then_written : (q : ReadGridCall) → Below 8 q.file → read_grid_checked q ≡ Passed → grid_file (grid_form_in q.file) (grid_in q.file) ≡ q.file
+pub read_then_written : (q : ReadGridCall) → Below 8 q.file → read_grid_checked q ≡ passed → grid_file (grid_form_in q.file) (grid_in q.file) ≡ q.file
 read_then_written q b e =
     let ok = readable q e in
     grid-file_read q.file b ok.file-sized.counted.size ok.file-sized.spare ok.pad
@@ -32,20 +33,20 @@ read_then_written q b e =
 
 -- what the reader finds in a file: it is not refused where the tables are long enough
 pub record ReadBack (f : Form) (n k : ℕ) (limits : List ℕ) (factors : List ℤ) (s : List ℕ) : Type 0 where
-  pub passes : (ls : List ℕ) (fs : List ℤ) → k ≤ length ls → n * k ≤ length fs → read_grid_checked (read_grid_call s ls fs) ≡ Passed
+  pub passes : (ls : List ℕ) (fs : List ℤ) → k ≤ length ls → n * k ≤ length fs → read_grid_checked (read_grid_call s ls fs) ≡ passed
   pub form-is : grid_form_in s ≡ f
   pub nodes : nodes_in s ≡ n
   pub constraints : constraints_in_of s ≡ k
   pub limits-are : limits_in s ≡ take k limits
   pub factors-are : factors_in s ≡ take (n * k) factors
 
-module _ (q : WriteGridCall) (e : write_grid_checked q ≡ Passed) where
+module _ (q : WriteGridCall) (e : write_grid_checked q ≡ passed) where
   found : GridWritten q.form q.nodes q.constraints (take q.constraints q.limits) (take (q.nodes * q.constraints) q.factors) (grid_written q)
   unfolding grid_file
   found = grid-written _ _ _ _ _ (written-fits q.form q.nodes q.constraints q.limits q.factors q.place (writable q e))
 
   -- each check of the reader is one that the writer made, or is settled by the file
-  not_refused : (ls : List ℕ) (fs : List ℤ) → q.constraints ≤ length ls → q.nodes * q.constraints ≤ length fs → read_grid_checked (read_grid_call (grid_written q) ls fs) ≡ Passed
+  not_refused : (ls : List ℕ) (fs : List ℤ) → q.constraints ≤ length ls → q.nodes * q.constraints ≤ length fs → read_grid_checked (read_grid_call (grid_written q) ls fs) ≡ passed
   unfolding grid_size_checks grid_figure_checks grid_file_checks read_grid_checks write_grid_checks
   not_refused ls fs h j =
       let s = grid_written q in

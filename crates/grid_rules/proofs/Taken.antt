@@ -9,7 +9,8 @@ use lib.IntN.{ℤ, pos}
 use lib.Seq.{take_all}
 use Rattle.lists.specs.Lent.{overwrite}
 use Rattle.lists.proofs.Fronts.{front-is, front-room}
-use Rattle.tariff.specs.declared.refusals.Checked.TheVariants.{Passed}
+use Rattle.std.specs.Prelude.{Ok}
+use Rattle.tariff.specs.Refusals.{passed}
 use Rattle.tariff.specs.Units.{grid_of, max_constraints, max_limit}
 use Rattle.tariff.specs.Refusals.{Check, first}
 use Rattle.tariff.specs.Checks.{short_table}
@@ -22,9 +23,8 @@ use Rattle.layouts.proofs.GridFile.{length-limits, length-factors}
 use Rattle.grid_tables.specs.Inner.{GoodFactors, GoodCells}
 use Rattle.grid_tables.proofs.Cells.{good-cells}
 use Rattle.grid_tables.proofs.Factors.{factors-in_range}
-use Rattle.grid_rules.specs.declared.GridAnswer.TheVariants.{Read}
 use Rattle.grid_rules.specs.ReadGrid.{read_grid_call, grid_size_checks, grid_figure_checks, grid_file_checks, capped_checks, read_grid_checks, within_checks, grid_values}
-use Rattle.grid_rules.specs.ReadGrid.{ReadsBy, ReadsGrid, ReadsWithin, program_bytes, program_factors}
+use Rattle.grid_rules.specs.ReadGrid.{ReadsBy, ReadsGrid, ReadsWithin, program_bytes, program_factors, grid_read}
 use Rattle.grid_rules.proofs.Passing.{sized}
 use Rattle.grid_rules.proofs.BothForms.{fits-the_program}
 
@@ -32,13 +32,13 @@ use Rattle.grid_rules.proofs.BothForms.{fits-the_program}
 
 -- where a reader's checks begin with those of the file's own that are named
 pub record GridTaken (own : List Check) (file : List ℕ) (n k : ℕ) (limits : List ℕ) (factors : List ℤ) : Type 0 where
-  pub passes : first own ≡ Passed
+  pub passes : first own ≡ passed
   pub grid-is : grid_in file ≡ grid_of n k limits factors
   pub good-limits : GoodCells max_limit k limits
   pub good-factors : GoodFactors n k factors
 
 -- a file that is not too long passes by its own checks
-pub capped-own : (most : ℕ) (s : List ℕ) → first (capped_checks most s) ≡ Passed → first (grid_file_checks s) ≡ Passed
+pub capped-own : (most : ℕ) (s : List ℕ) → first (capped_checks most s) ≡ passed → first (grid_file_checks s) ≡ passed
 unfolding grid_file_checks capped_checks
 capped-own most s e =
     let both = passed_append (grid_size_checks s) _ e in
@@ -57,7 +57,7 @@ module _ (s : List ℕ) (ls₀ : List ℕ) (fs₀ : List ℤ) where
   front-factors : take (N * K) (overwrite (factors_in s) fs₀) ≡ factors_in s
   front-factors = front-is (factors_in s) fs₀ (N * K) (length-factors s (header_in s) N K)
 
-  taken_by : (own : List Check) → first own ≡ Passed → first (grid_file_checks s) ≡ Passed → GridTaken own s N K (overwrite (limits_in s) ls₀) (overwrite (factors_in s) fs₀)
+  taken_by : (own : List Check) → first own ≡ passed → first (grid_file_checks s) ≡ passed → GridTaken own s N K (overwrite (limits_in s) ls₀) (overwrite (factors_in s) fs₀)
   unfolding grid_file_checks grid_figure_checks
   taken_by own p e =
       let both = passed_append (grid_size_checks s) _ e in
@@ -83,8 +83,8 @@ module _ (s : List ℕ) (ls₀ : List ℕ) (fs₀ : List ℤ) where
       }
 
   -- as the reader promises, by its checks: the file's own and then those of the tables
-  reads_taken : (own rooms : List Check) → (first own ≡ Passed → first (grid_file_checks s) ≡ Passed)
-      → (n k : ℕ) (f : Form) (ls : List ℕ) (fs : List ℤ) → ReadsBy (first (own ++ rooms)) (read_grid_call s ls₀ fs₀) (Read n k f) ls fs → GridTaken own s n k ls fs
+  reads_taken : (own rooms : List Check) → (first own ≡ passed → first (grid_file_checks s) ≡ passed)
+      → (n k : ℕ) (f : Form) (ls : List ℕ) (fs : List ℤ) → ReadsBy (first (own ++ rooms)) (read_grid_call s ls₀ fs₀) (grid_read n k f) ls fs → GridTaken own s n k ls fs
   reads_taken own rooms step n k f ls fs h =
       let told = given-told (first (own ++ rooms)) (grid_values (read_grid_call s ls₀ fs₀)) (pos n ∷ pos k ∷ pos (form_number f) ∷ []) h.values-given in
       let same : pos n ∷ pos k ∷ pos (form_number f) ∷ [] ≡ pos N ∷ pos K ∷ pos (form_number (grid_form_in s)) ∷ [] = told.1 in
@@ -95,11 +95,11 @@ module _ (s : List ℕ) (ls₀ : List ℕ) (fs₀ : List ℤ) where
       let p = (passed_append own rooms told.0).0 in
       rw (nodes, constraints, limits, factors) (taken_by own p (step p))
 
-  pub grid-taken : (n k : ℕ) (f : Form) (ls : List ℕ) (fs : List ℤ) → ReadsGrid (read_grid_call s ls₀ fs₀) (Read n k f) ls fs → GridTaken (grid_file_checks s) s n k ls fs
+  pub grid-taken : (n k : ℕ) (f : Form) (ls : List ℕ) (fs : List ℤ) → ReadsGrid (read_grid_call s ls₀ fs₀) (grid_read n k f) ls fs → GridTaken (grid_file_checks s) s n k ls fs
   unfolding read_grid_checks
   grid-taken = reads_taken (grid_file_checks s) _ (λ e. e)
 
-  pub within-taken : (most n k : ℕ) (f : Form) (ls : List ℕ) (fs : List ℤ) → ReadsWithin most (read_grid_call s ls₀ fs₀) (Read n k f) ls fs → GridTaken (capped_checks most s) s n k ls fs
+  pub within-taken : (most n k : ℕ) (f : Form) (ls : List ℕ) (fs : List ℤ) → ReadsWithin most (read_grid_call s ls₀ fs₀) (grid_read n k f) ls fs → GridTaken (capped_checks most s) s n k ls fs
   unfolding within_checks
   within-taken most = reads_taken (capped_checks most s) _ (capped-own most s)
 
@@ -111,8 +111,8 @@ pub program_room : (s : List ℕ) (ls : List ℕ) (fs : List ℤ) → length ls 
 unfolding capped_checks within_checks
 program_room s ls fs cells places = first-room (capped_checks program_bytes s) _ rooms
   where
-    rooms : first (capped_checks program_bytes s) ≡ Passed
-        → first (short_table (length ls) (constraints_in_of s) ∷ short_table (length fs) (nodes_in s * constraints_in_of s) ∷ []) ≡ Passed
+    rooms : first (capped_checks program_bytes s) ≡ passed
+        → first (short_table (length ls) (constraints_in_of s) ∷ short_table (length fs) (nodes_in s * constraints_in_of s) ∷ []) ≡ passed
     rooms e =
         let both = passed_append (grid_size_checks s) _ e in
         let short : length s ≤ program_bytes = ltb-false program_bytes (length s) (passed_cons _ _ both.1).0 in

@@ -4,7 +4,8 @@ use mathlib.Core.List.{List}
 use Prim.Native.Nat.{ℕ, ◌*◌, ◌≤◌}
 use lib.ListN.{length}
 use lib.IntN.{ℤ}
-use Rattle.tariff.specs.declared.refusals.Checked.TheVariants.{Passed}
+use Rattle.std.specs.Prelude.{Ok}
+use Rattle.tariff.specs.Refusals.{passed}
 use Rattle.tariff.specs.Units.{grid_of}
 use Rattle.tariff.specs.Refusals.{first, number_after}
 use Rattle.tariff.specs.Former.{former_first}
@@ -29,11 +30,11 @@ pub narrow-values_as_before : (s : List ℕ) → grid_form_in s ≡ Narrow → R
 narrow-values_as_before = B.narrow-values_as_before
 
 -- a grid that the narrow form takes is the same grid in either form
-pub grids_alike : (n k : ℕ) (limits : List ℕ) (factors : List ℤ) (place : List ℕ) → write_grid_checked (write_grid_call Narrow n k limits factors place) ≡ Passed
+pub grids_alike : (n k : ℕ) (limits : List ℕ) (factors : List ℤ) (place : List ℕ) → write_grid_checked (write_grid_call Narrow n k limits factors place) ≡ passed
     → grid_in (grid_file Narrow (grid_of n k limits factors)) ≡ grid_in (grid_file Wide (grid_of n k limits factors))
 grids_alike n k limits factors place e =
     grid-in_file n k limits factors place e Narrow ∙ sym (grid-in_file n k limits factors place e Wide)
 
 -- the program's table of factors takes every grid of at most 32 KiB whose length is right
-pub fits-the_program : (s : List ℕ) → first (grid_size_checks s) ≡ Passed → length s ≤ program_bytes → nodes_in s * constraints_in_of s ≤ program_factors
+pub fits-the_program : (s : List ℕ) → first (grid_size_checks s) ≡ passed → length s ≤ program_bytes → nodes_in s * constraints_in_of s ≤ program_factors
 fits-the_program = B.fits-the_program

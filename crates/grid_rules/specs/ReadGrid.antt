@@ -1,15 +1,16 @@
 -- Reading a grid (document 01, "When input is turned down" and "The three files"; document 02, request 9): what is handed in, the checks in order, what is
 -- given, the promise.
-use Rattle.std.specs.Prelude.{◌≡◌, List, [], ◌∷◌, ◌++◌, ℕ, ◌*◌, length, ℤ, pos}
+use Rattle.std.specs.Prelude.{◌≡◌, List, [], ◌∷◌, ◌++◌, ℕ, ◌*◌, length, ℤ, pos, Ok, Err, Result}
 use Rattle.lists.specs.Lent.{Lent, before, after}
-use Rattle.tariff.specs.declared.refusals.Checked.{Checked}
+use Rattle.tariff.specs.Refusals.{Checked}
 use Rattle.tariff.specs.Refusals.{Check, first, Outcome, given, refused_by, answered, cells_after, cell_after, number_after}
 use Rattle.tariff.specs.Checks.{nodes_outside_of, constraint_count, limit_range, factor_range, short_table}
+use Rattle.layouts.specs.declared.forms.Form.{Form}
 use Rattle.layouts.specs.Files.{short_file, spare_other, file_length, file_too_long, padding}
 use Rattle.layouts.specs.Forms.{form_number, grid_header_bytes_of, grid_spare_of, most_nodes_of}
 use Rattle.layouts.specs.GridFile.{grid_bytes, grid_form_in, nodes_in, constraints_in_of, grid_spare_in, limits_in, factors_in, grid_pad_in}
-use Rattle.grid_rules.specs.declared.GridAnswer.{GridAnswer}
-use Rattle.grid_rules.specs.declared.GridAnswer.TheVariants.{Read, Refused}
+use Rattle.tariff.specs.declared.refusals.Refusal.{Refusal}
+use Rattle.grid_rules.specs.declared.GridRead.{GridRead}
 
 -- the file, and the lent tables as they are at entry
 pub record ReadGridCall : Type 0 where
@@ -20,10 +21,17 @@ pub record ReadGridCall : Type 0 where
 abbrev pub read_grid_call : List ℕ → List ℕ → List ℤ → ReadGridCall
 read_grid_call file limits factors = record { file = file; limits = limits; factors = factors }
 
+-- what reading a grid's file answers: its counts and form, or the refusal
+abbrev pub GridAnswer : Type 0
+GridAnswer = Result GridRead Refusal
+
+abbrev pub grid_read : ℕ → ℕ → Form → GridAnswer
+grid_read n k f = Ok (record { nodes = n; constraints = k; form = f })
+
 -- the counts and the form read, or the refusal's number
 abbrev pub grid_outcome : GridAnswer → Outcome
-grid_outcome (Read n k f) = given (pos n ∷ pos k ∷ pos (form_number f) ∷ [])
-grid_outcome (Refused r) = refused_by r
+grid_outcome (Ok found) = given (pos found.nodes ∷ pos found.constraints ∷ pos (form_number found.form) ∷ [])
+grid_outcome (Err r) = refused_by r
 
 -- the file's own: "1: under two bytes. 2: nodes 0 or above 200. 3: constraints above 64. 4: spare bit set. 5: length differs from what the counts fix.",
 -- and by request 9 "a wide grid under four bytes draws 1", "Refusal 2 now means outside 1 to 4,000 for wide grids", "4 means spare bits other than the two patterns"

@@ -1,11 +1,11 @@
 -- Writing a grid (document 01, "When input is turned down" and "The three files"; document 02, request 9).
 use Rattle.std.specs.Prelude.{List, [], ◌∷◌, ℕ, ◌*◌, length, take, ℤ}
 use Rattle.lists.specs.Lent.{Lent, before, after}
-use Rattle.tariff.specs.declared.refusals.Checked.{Checked}
+use Rattle.tariff.specs.Refusals.{Checked}
 use Rattle.tariff.specs.Units.{grid_of}
 use Rattle.tariff.specs.Refusals.{Check, first}
 use Rattle.tariff.specs.Checks.{nodes_outside_of, constraint_count, limit_range, factor_range, short_table}
-use Rattle.layouts.specs.declared.WriteAnswer.{WriteAnswer}
+use Rattle.layouts.specs.Writing.{WriteAnswer}
 use Rattle.layouts.specs.declared.forms.Form.{Form}
 use Rattle.layouts.specs.Forms.{most_nodes_of}
 use Rattle.layouts.specs.GridFile.{grid_bytes, grid_file}

@@ -2,15 +2,11 @@
 #![tactic(auto)]
 
 use layouts::Form;
-use tariff::Refusal;
 
-// What reading a grid gives: its counts and the form of its file, or the refusal.
+// What reading a grid gives beside its tables: its counts and the form of its file.
 #[derive(Clone, Copy)]
-pub enum GridAnswer {
-    Read {
-        nodes: usize,
-        constraints: usize,
-        form: Form,
-    },
-    Refused(Refusal),
+pub struct GridRead {
+    pub nodes: usize,
+    pub constraints: usize,
+    pub form: Form,
 }

@@ -1,22 +1,23 @@
 -- Laws of factors in a table: their range, a search for one out of range, and a table that no check refuses.
 use mathlib.Core.Path.{◌≡◌, refl, sym, ap, ◌∙◌}
 use mathlib.Core.Bool.{Bool, true, false, ◌||◌}
-use mathlib.Core.Logic.{◌⊎◌, inl, inr, ⊎_elim}
-use mathlib.Core.List.{List}
-use Prim.Native.Nat.{ℕ, suc, ◌+◌, ◌*◌, ◌≤◌, ◌<◌}
+use mathlib.Core.List.{List, [], ◌∷◌}
+use Prim.Native.Nat.{ℕ, zero, suc, ◌+◌, ◌-◌, ◌*◌, ◌≤◌, ◌<◌}
 use native.Mathlib.Nat.{mul-le-mul, mul-le-mul_right}
 use native.Mathlib.Omega.{arith}
 use borrow.Author.Tests.{ltb-true, ltb-false, lt-ltb, le-ltb}
 use lib.IntN.{ℤ, pos, negsuc, nat_abs}
 use lib.Signed.{lt_z}
-use lib.ListN.{length, get_or, take}
-use lib.Seq.{get_or-take}
+use lib.ListN.{length, length-drop, get_or, take, drop, take-append-drop}
+use lib.Seq.{get_or-take, get_or-drop, drop-drop, length-take-le}
+use Rattle.std.specs.List.{list_any}
+use Rattle.std.specs.Simd.{first_chunks}
 use Rattle.lists.specs.Lists.{any_of}
-use Rattle.lists.proofs.Search.{neither, any_of_good, any_of_bad, none-bad, cell_in}
+use Rattle.lists.proofs.Search.{any_of_append, any_of_good, any_of_bad, none-bad, cell_in}
 use Rattle.tariff.specs.Units.{max_factor, max_nodes, max_constraints, factors_of, factor}
 use Rattle.tariff.specs.Checks.{factor_bad_of}
 use Rattle.tariff.specs.Inner.{FactorsInRange}
-use Rattle.grid_tables.specs.Inner.{GoodFactors, four_bad_of}
+use Rattle.grid_tables.specs.Inner.{GoodFactors, RowOf}
 
 -- ---- places
 
@@ -59,35 +60,38 @@ module _ (fs : List ℤ) (i : ℕ) (d : ℤ) (r : Bool) (h : i < length fs) (e :
 
 -- ---- four at once
 
-either : (a b : Bool) → (a || b) ≡ true → (a ≡ true) ⊎ (b ≡ true)
-either true b e = inl refl
-either false b e = inr e
+or_assoc : (a b c : Bool) → (a || b || c) ≡ (a || (b || c))
+or_assoc true b c = refl
+or_assoc false b c = refl
 
-module _ (fs : List ℤ) (i : ℕ) (r : Bool) (h : i + 4 ≤ length fs) (e : r ≡ four_bad_of fs i) where
-  pub four_turn : r ≡ false → any_of factor_bad_of (take i fs) ≡ false → any_of factor_bad_of (take (i + 4) fs) ≡ false
-  four_turn t none =
-      let a = neither _ _ (sym e ∙ t) in
-      let b = neither _ _ a.1 in
-      let c = neither _ _ b.1 in
-      let one = any_of_good factor_bad_of fs i (pos 0) (omega arith) none a.0 in
-      let two = any_of_good factor_bad_of fs (i + 1) (pos 0) (omega arith) one b.0 in
-      let three = any_of_good factor_bad_of fs (i + 2) (pos 0) (omega arith) (bad_so_far fs (i + 1 + 1) (i + 2) (omega arith) two) c.0 in
-      bad_so_far fs (i + 3 + 1) (i + 4) (omega arith) (any_of_good factor_bad_of fs (i + 3) (pos 0) (omega arith) (bad_so_far fs (i + 2 + 1) (i + 3) (omega arith) three) c.1)
+-- the first k fours, and what stands behind them
+pub in_fours : (k m : ℕ) (fs : List ℤ) → m ≡ k * 4
+    → (list_any (any_of factor_bad_of) (first_chunks 4 k fs) || any_of factor_bad_of (drop m fs)) ≡ any_of factor_bad_of fs
+in_fours zero m fs e = let none : m ≡ 0 = omega (arith, e) in rw none refl
+in_fours (suc k) m fs e =
+    let behind : drop m fs ≡ drop (m - 4) (drop 4 fs) = ap (λ (x : ℕ). drop x fs) {x = m} {y = 4 + (m - 4)} (omega (arith, e)) ∙ sym (drop-drop (m - 4) 4 fs) in
+    or_assoc (any_of factor_bad_of (take 4 fs)) _ _
+    ∙ ap (λ b. any_of factor_bad_of (take 4 fs) || b) (rw behind (in_fours k (m - 4) (drop 4 fs) (omega (arith, e))))
+    ∙ sym (any_of_append factor_bad_of (take 4 fs) (drop 4 fs))
+    ∙ ap (any_of factor_bad_of) (take-append-drop 4 fs)
 
-  pub four_found : r ≡ true → true ≡ any_of factor_bad_of fs
-  four_found t =
-      ⊎_elim (λ x. at i (omega arith) x)
-      (λ x. ⊎_elim (λ y. at (i + 1) (omega arith) y) (λ y. ⊎_elim (λ z. at (i + 2) (omega arith) z) (λ z. at (i + 3) (omega arith) z) (either _ _ y)) (either _ _ x))
-      (either _ _ (sym e ∙ t))
-    where
-      at : (j : ℕ) → j < length fs → factor_bad_of (get_or fs j (pos 0)) ≡ true → true ≡ any_of factor_bad_of fs
-      at j l x = sym (any_of_bad factor_bad_of fs j (pos 0) l x)
+last : (b : Bool) → (b || false) ≡ b
+last true = refl
+last false = refl
 
--- the first n cells have the same four
-pub four_same : (fs : List ℤ) (n i : ℕ) → i + 4 ≤ n → four_bad_of fs i ≡ four_bad_of (take n fs) i
-four_same fs n i h =
-    let one : (j : ℕ) → j < n → get_or (take n fs) j (pos 0) ≡ get_or fs j (pos 0) = λ j l. get_or-take n fs j (pos 0) l in
-    rw (one i (omega arith), one (i + 1) (omega arith), one (i + 2) (omega arith), one (i + 3) (omega arith))
+pub four_any : (fs : List ℤ) → length fs ≡ 4
+    → (factor_bad_of (get_or fs 0 (pos 0)) || factor_bad_of (get_or fs 1 (pos 0)) || factor_bad_of (get_or fs 2 (pos 0))
+    || factor_bad_of (get_or fs 3 (pos 0))) ≡ any_of factor_bad_of fs
+unfolding any_of
+four_any (a ∷ b ∷ c ∷ d ∷ []) e =
+    or_assoc (factor_bad_of a || factor_bad_of b) (factor_bad_of c) (factor_bad_of d)
+    ∙ or_assoc (factor_bad_of a) (factor_bad_of b) (factor_bad_of c || factor_bad_of d)
+    ∙ ap (λ x. factor_bad_of a || (factor_bad_of b || (factor_bad_of c || x))) (sym (last (factor_bad_of d)))
+four_any [] e = absurd (omega (arith, e))
+four_any (a ∷ []) e = absurd (omega (arith, e))
+four_any (a ∷ b ∷ []) e = absurd (omega (arith, e))
+four_any (a ∷ b ∷ c ∷ []) e = absurd (omega (arith, e))
+four_any (a ∷ b ∷ c ∷ d ∷ x ∷ fs) e = absurd (omega (arith, e))
 
 -- ---- a table that no check refuses
 
@@ -95,7 +99,8 @@ pub factors-in_range : (n k : ℕ) (fs : List ℤ) → n * k ≤ length fs → a
 factors-in_range n k fs long none =
     record {
       factor-sized = λ i j hi hj.
-          good-small (factor (factors_of n k fs) i j) (none-bad factor_bad_of (take (n * k) fs) (pos 0) none (i * k + j) (cell_in fs (n * k) (i * k + j) long (place-in n k i j hi hj)));
+          good-small (factor (factors_of n k fs) i j)
+          (none-bad factor_bad_of (take (n * k) fs) (pos 0) none (i * k + j) (cell_in fs (n * k) (i * k + j) long (place-in n k i j hi hj)));
     }
 
 module _ (n k : ℕ) (fs : List ℤ) (g : GoodFactors n k fs) (i j : ℕ) (hi : i < n) (hj : j < k) where
@@ -105,3 +110,14 @@ module _ (n k : ℕ) (fs : List ℤ) (g : GoodFactors n k fs) (i j : ℕ) (hi : 
 
   pub factor-cell_sized : nat_abs (get_or fs (i * k + j) (pos 0)) ≤ max_factor
   factor-cell_sized = rw factor-cell (g.in_range.factor-sized i j hi hj)
+
+-- the row of node i
+pub row-of : (n k : ℕ) (fs : List ℤ) → GoodFactors n k fs → (i : ℕ) → i < n → RowOf n k fs i (take k (drop (i * k) fs))
+row-of n k fs g i h =
+    let at : (j : ℕ) → j < k → get_or (take k (drop (i * k) fs)) j (pos 0) ≡ get_or fs (i * k + j) (pos 0) = λ j l. get_or-take k (drop (i * k) fs) j (pos 0) l
+    ∙ get_or-drop (i * k) fs j (pos 0) in
+    record {
+      long = length-take-le k (drop (i * k) fs) (rw length-drop (omega (arith, g.long, row_in n k i h)));
+      cell = λ j l. at j l ∙ factor-cell n k fs g i j h l;
+      sized = λ j l. rw (at j l) (factor-cell_sized n k fs g i j h l);
+    }

@@ -6,7 +6,7 @@ use mathlib.Core.Bool.{false}
 use borrow.Author.Tests.{ltb-false}
 use lib.ListN.{length, take}
 use lib.IntN.{ℤ}
-use Rattle.tariff.specs.declared.refusals.Checked.TheVariants.{Passed}
+use Rattle.tariff.specs.Refusals.{passed}
 use Rattle.tariff.specs.Units.{max_constraints, max_limit, max_price}
 use Rattle.lists.specs.Lists.{Each}
 use Rattle.tariff.specs.Refusals.{Check, first}
@@ -18,7 +18,7 @@ use Rattle.grid_tables.proofs.Factors.{factors-in_range}
 use Rattle.grid_tables.proofs.Cells.{good-cells}
 
 -- no condition of a list of checks holds
-pub passed_all : (cs : List Check) → first cs ≡ Passed → Each (λ (c : Check). c.fails ≡ false) cs
+pub passed_all : (cs : List Check) → first cs ≡ passed → Each (λ (c : Check). c.fails ≡ false) cs
 passed_all [] e = tt
 passed_all (c ∷ cs) e = let p = passed_cons c cs e in (p.0, passed_all cs p.1)
 
@@ -35,7 +35,7 @@ pub record GridTables (n k process period : ℕ) (limits : List ℕ) (factors : 
   pub good-factors : GoodFactors n k factors
 
 pub grid-tables : (n k process period : ℕ) (limits : List ℕ) (factors : List ℤ)
-    → first (grid_table_checks n k process period limits factors) ≡ Passed → GridTables n k process period limits factors
+    → first (grid_table_checks n k process period limits factors) ≡ passed → GridTables n k process period limits factors
 unfolding grid_table_checks
 grid-tables n k process period limits factors e =
     let two = passed_all _ e in
@@ -56,7 +56,7 @@ pub record HourTables (n k period : ℕ) (factors : List ℤ) (prices : List ℕ
   pub room : n ≤ place
 
 pub hour_tables : (n k period : ℕ) (factors : List ℤ) (prices : List ℕ) (place : ℕ)
-    → first (hour_table_checks n k period factors prices place) ≡ Passed → HourTables n k period factors prices place
+    → first (hour_table_checks n k period factors prices place) ≡ passed → HourTables n k period factors prices place
 unfolding hour_table_checks
 hour_tables n k period factors prices place e =
     let all = passed_all _ e in

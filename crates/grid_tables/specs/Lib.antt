@@ -1,2 +1,4 @@
 pub mod TableChecks
 pub mod Inner
+pub mod Hours
+pub mod Grids

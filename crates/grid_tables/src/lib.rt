@@ -1,30 +1,25 @@
 // Lent tables: the search for a figure out of range, and the checks that operations on a grid's tables and an hour's tables share.
 #![tactic(auto)]
 
-ghost use Rattle.std.specs.Prelude.{◌≡◌, false, [], ◌∷◌, ◌+◌, ◌*◌, ◌≤◌, ◌<◌, leb, length, take};
+ghost use Rattle.std.specs.Prelude.{◌≡◌, [], ◌∷◌, ◌*◌, ◌≤◌, ◌<◌, leb, length, take};
 ghost use Rattle.lists.specs.Lists.{any_of, above};
 ghost use Rattle.lists.specs.Lent.{before};
 ghost use Rattle.tariff.specs.Units.{max_nodes, max_constraints};
 ghost use Rattle.tariff.specs.Refusals.{first};
 ghost use Rattle.tariff.specs.Checks.{factor_bad_of, short_table, limit_range, factor_range, price_range};
 ghost use Rattle.grid_tables.specs.TableChecks.{grid_table_checks};
-ghost use Rattle.grid_tables.specs.Inner.{four_bad_of, hour_table_checks};
+ghost use Rattle.grid_tables.specs.Inner.{hour_table_checks};
 
-use tariff::{Checked, MAX_CONSTRAINTS, MAX_FACTOR, MAX_LIMIT, MAX_PRICE, Refusal};
+mod table;
 
-// Whether one of the first `count` cells is above `most`.
-pub fn cell_above(cells: &[u64], count: usize, most: u64) -> bool
-    requires { count ≤ length cells.now }
-    ensures { result ≡ any_of (above most) (take count cells.now) }
+pub use table::{FactorTable, GridTable, HourTable};
+use tariff::{MAX_CONSTRAINTS, MAX_FACTOR, MAX_LIMIT, MAX_PRICE, Refusal};
+
+// Whether a cell is above `most`.
+pub fn cell_above(cells: &[u64], most: u64) -> bool
+    ensures { result ≡ any_of (above most) cells.now }
 {
-    let mut i = 0;
-    while i < count {
-        if most < cells[i] {
-            return true;
-        }
-        i += 1;
-    }
-    false
+    cells.iter().any(|cell| most < *cell)
 }
 
 // Whether a listed number is not below `bound`.
@@ -32,66 +27,42 @@ pub fn listed_outside(bound: usize, list: &[u64]) -> bool
     requires { 0 < bound }
     ensures { result ≡ any_of (leb bound) list.now }
 {
-    cell_above(list, list.len(), (bound - 1) as u64)
+    cell_above(list, (bound - 1) as u64)
 }
 
 // The least factor.
 const MIN_FACTOR: i64 = -MAX_FACTOR;
 
-// Whether a factor is out of range.
+// Whether a factor is out of range. As short as a call of one function with `share_checks::balance_bad` would be: other bounds, and no crate of both.
 fn factor_bad(factor: i64) -> bool
     ensures { result ≡ factor_bad_of factor }
 {
-    if factor < MIN_FACTOR {
-        return true;
-    }
-    MAX_FACTOR < factor
+    factor < MIN_FACTOR || MAX_FACTOR < factor
 }
 
-// Whether one of the four factors from `i` on is out of range: all four are looked at, so that there is one branch for them.
-fn four_bad(factors: &[i64], i: usize) -> bool
-    requires { i + 4 ≤ length factors.now }
-    ensures { result ≡ four_bad_of factors.now i }
+// Whether one of four factors is out of range: all are looked at, so that there is one branch for them.
+fn four_bad(four: &[i64; 4]) -> bool
+    ensures { result ≡ any_of factor_bad_of four.now }
 {
-    let a = factor_bad(factors[i]);
-    let b = factor_bad(factors[i + 1]);
-    let c = factor_bad(factors[i + 2]);
-    let d = factor_bad(factors[i + 3]);
-    a | (b | (c | d))
+    factor_bad(four[0]) | factor_bad(four[1]) | factor_bad(four[2]) | factor_bad(four[3])
 }
 
-// The same of the first `count`, of which the first `start` are good.
-fn rest_bad(factors: &[i64], start: usize, count: usize) -> bool
-    requires { (start ≤ count) × (count ≤ length factors.now) × (any_of factor_bad_of (take start (take count factors.now)) ≡ false) }
-    ensures { result ≡ any_of factor_bad_of (take count factors.now) }
+// Whether a factor is out of range.
+pub fn factor_out_of_range(factors: &[i64]) -> bool
+    ensures { result ≡ any_of factor_bad_of factors.now }
 {
-    let mut i = start;
-    while i < count {
-        if factor_bad(factors[i]) {
-            return true;
-        }
-        i += 1;
-    }
-    false
+    let (fours, rest) = factors.as_chunks::<4>();
+    fours.iter().any(|four| four_bad(four)) || rest.iter().any(|factor| factor_bad(*factor))
 }
 
-// Whether one of the first `count` factors is out of range.
-pub fn factor_out_of_range(factors: &[i64], count: usize) -> bool
-    requires { count ≤ length factors.now }
-    ensures { result ≡ any_of factor_bad_of (take count factors.now) }
-{
-    let mut i = 0;
-    while 4 <= count - i {
-        if four_bad(factors, i) {
-            return true;
-        }
-        i += 4;
-    }
-    rest_bad(factors, i, count)
-}
-
-// 9 for each table, 6, 7.
-fn check_grid_cells(nodes: usize, constraints: usize, limits: &[u64], factors: &[i64]) -> Checked
+// 9 for each table, 6, 7. Counts and tables by themselves, here and below: they are no `GridTable` before these checks, and entries have them so from C; the
+// counts' bounds come from the tests before the call, so that `nodes * constraints` fits.
+fn check_grid_cells(
+    nodes: usize,
+    constraints: usize,
+    limits: &[u64],
+    factors: &[i64],
+) -> Result<(), Refusal>
     requires { (nodes ≤ max_nodes) × (constraints ≤ max_constraints) }
     ensures { result ≡ first (
         short_table (length (limits.now)) constraints ∷ short_table (length (factors.now)) (nodes * constraints)
@@ -99,18 +70,18 @@ fn check_grid_cells(nodes: usize, constraints: usize, limits: &[u64], factors: &
 {
     let cells = nodes * constraints;
     if limits.len() < constraints {
-        return Checked::Refused(Refusal::ShortTable);
+        return Err(Refusal::ShortTable);
     }
     if factors.len() < cells {
-        return Checked::Refused(Refusal::ShortTable);
+        return Err(Refusal::ShortTable);
     }
-    if cell_above(limits, constraints, MAX_LIMIT) {
-        return Checked::Refused(Refusal::LimitRange);
+    if cell_above(&limits[..constraints], MAX_LIMIT) {
+        return Err(Refusal::LimitRange);
     }
-    if factor_out_of_range(factors, cells) {
-        return Checked::Refused(Refusal::FactorRange);
+    if factor_out_of_range(&factors[..cells]) {
+        return Err(Refusal::FactorRange);
     }
-    Checked::Passed
+    Ok(())
 }
 
 // The test's checks up to 7: 2, 3, 16, 17, 9, 6, 7.
@@ -121,32 +92,32 @@ pub fn check_grid_tables(
     period: u64,
     limits: &[u64],
     factors: &[i64],
-) -> Checked
+) -> Result<(), Refusal>
     ensures { result ≡ first (grid_table_checks nodes constraints process period limits.now factors.now) }
 {
     if tariff::nodes_bad(nodes) {
-        return Checked::Refused(Refusal::NodeCount);
+        return Err(Refusal::NodeCount);
     }
     if MAX_CONSTRAINTS < constraints {
-        return Checked::Refused(Refusal::ConstraintCount);
+        return Err(Refusal::ConstraintCount);
     }
     if 2 < process {
-        return Checked::Refused(Refusal::ProcessNumber);
+        return Err(Refusal::ProcessNumber);
     }
     if 1 < period {
-        return Checked::Refused(Refusal::PeriodOrKind);
+        return Err(Refusal::PeriodOrKind);
     }
     check_grid_cells(nodes, constraints, limits, factors)
 }
 
-// 9 for each table and for the place, 7, 15.
+// 9 for each table and for the place, 7, 15. As above: they are no `HourTable` yet.
 fn check_hour_cells(
     nodes: usize,
     constraints: usize,
     factors: &[i64],
     prices: &[u64],
     place: usize,
-) -> Checked
+) -> Result<(), Refusal>
     requires { (nodes ≤ max_nodes) × (constraints ≤ max_constraints) }
     ensures { result ≡ first (
         short_table (length (factors.now)) (nodes * constraints) ∷ short_table (length (prices.now)) constraints ∷ short_table place nodes
@@ -154,21 +125,21 @@ fn check_hour_cells(
 {
     let cells = nodes * constraints;
     if factors.len() < cells {
-        return Checked::Refused(Refusal::ShortTable);
+        return Err(Refusal::ShortTable);
     }
     if prices.len() < constraints {
-        return Checked::Refused(Refusal::ShortTable);
+        return Err(Refusal::ShortTable);
     }
     if place < nodes {
-        return Checked::Refused(Refusal::ShortTable);
+        return Err(Refusal::ShortTable);
     }
-    if factor_out_of_range(factors, cells) {
-        return Checked::Refused(Refusal::FactorRange);
+    if factor_out_of_range(&factors[..cells]) {
+        return Err(Refusal::FactorRange);
     }
-    if cell_above(prices, constraints, MAX_PRICE) {
-        return Checked::Refused(Refusal::PriceRange);
+    if cell_above(&prices[..constraints], MAX_PRICE) {
+        return Err(Refusal::PriceRange);
     }
-    Checked::Passed
+    Ok(())
 }
 
 // The checks of an hour's tables, with `place` cells for an answer of one cell a node: 2, 3, 17, 9, 7, 15.
@@ -179,17 +150,17 @@ pub fn check_hour_tables(
     factors: &[i64],
     prices: &[u64],
     place: usize,
-) -> Checked
+) -> Result<(), Refusal>
     ensures { result ≡ first (hour_table_checks nodes constraints period factors.now prices.now place) }
 {
     if tariff::nodes_bad(nodes) {
-        return Checked::Refused(Refusal::NodeCount);
+        return Err(Refusal::NodeCount);
     }
     if MAX_CONSTRAINTS < constraints {
-        return Checked::Refused(Refusal::ConstraintCount);
+        return Err(Refusal::ConstraintCount);
     }
     if 1 < period {
-        return Checked::Refused(Refusal::PeriodOrKind);
+        return Err(Refusal::PeriodOrKind);
     }
     check_hour_cells(nodes, constraints, factors, prices, place)
 }

@@ -1,22 +1,25 @@
 // A grid's file written from its tables.
 #![tactic(auto)]
 
-ghost use Rattle.std.specs.Prelude.{◌≡◌, ℕ, ◌+◌, ◌*◌, ◌^◌, ◌≤◌, ◌<◌, length, get_or, pos, nat_abs};
+ghost use Rattle.std.specs.Prelude.{◌≡◌, ℕ, ◌+◌, ◌*◌, ◌^◌, ◌≤◌, ◌<◌, map, length, get_or, pos, nat_abs};
 ghost use Rattle.bits.specs.Bits.{number};
-ghost use Rattle.bits.specs.Inner.{written, bits_written, WriterReady, WritesOn};
+ghost use Rattle.bits.specs.Signed.{of_int};
+ghost use Rattle.bits.specs.Inner.{written, bits_written, WritesOn};
 ghost use Rattle.lists.specs.Lent.{before, after, overwrite};
 ghost use Rattle.tariff.specs.Units.{grid_of, max_constraints, max_factor};
 ghost use Rattle.layouts.specs.Forms.{most_nodes_of, grid_header_bytes_of};
 ghost use Rattle.layouts.specs.GridFile.{factor_width, grid_header, grid_file};
 ghost use Rattle.runs.specs.Inner.{WrittenFields};
 ghost use Rattle.grid_rules.specs.WriteGrid.{write_grid_call, write_grid_checked, WritesGrid};
-ghost use Rattle.grid_rules.specs.Inner.{Writable, coded};
+ghost use Rattle.grid_rules.specs.Inner.{Writable};
 
 use bits::BitWriter;
-use layouts::{FACTOR_WIDTH, Form, LIMIT_WIDTH, WriteAnswer};
-use tariff::{Checked, Refusal};
+use grid_checks::GridSize;
+use grid_tables::FactorTable;
+use layouts::{FACTOR_WIDTH, Form, LIMIT_WIDTH};
+use tariff::Refusal;
 
-// The tables are checked as for a test, of a process and a period that pass.
+// The tables are checked as for a test, of a process and a period that pass. Counts, tables and form as C hands them in: `FactorTable` holds what this has checked.
 fn check_write(
     form: Form,
     nodes: usize,
@@ -24,56 +27,51 @@ fn check_write(
     limits: &[u64],
     factors: &[i64],
     file: &[u8],
-) -> Checked
+) -> Result<(), Refusal>
     ensures { result ≡ write_grid_checked (write_grid_call form nodes constraints limits.now factors.now file.now) }
 {
     if tariff::nodes_outside(form.most_nodes(), nodes) {
-        return Checked::Refused(Refusal::NodeCount);
+        return Err(Refusal::NodeCount);
     }
-    match grid_tables::check_grid_tables(nodes, constraints, 0, 0, limits, factors) {
-        Checked::Refused(refusal) => Checked::Refused(refusal),
-        Checked::Passed => {
-            if file.len() < grid_checks::file_bytes(form.grid_header_bits(), nodes, constraints) {
-                return Checked::Refused(Refusal::ShortTable);
-            }
-            Checked::Passed
-        }
+    grid_tables::check_grid_tables(nodes, constraints, 0, 0, limits, factors)?;
+    let size = GridSize {
+        header: form.grid_header_bits(),
+        nodes,
+        constraints,
+    };
+    if file.len() < size.file_bytes() {
+        return Err(Refusal::ShortTable);
     }
+    Ok(())
 }
 
-// Writes each of the first `count` factors as the next bits.
-fn write_factors(buf: &mut [u8], from: BitWriter, factors: &[i64], count: usize) -> BitWriter
-    requires writer_ready { WriterReady from }
-    requires count_in_bounds { (count ≤ length factors.now) × ((k : ℕ) → k < count → nat_abs (get_or factors.now k (pos 0)) ≤ max_factor) }
-    requires count_bound { bits_written from + factor_width * count ≤ 8 * length buf.old }
-    ensures result_value { written (after buf) result ≡ written (before buf) from * 2 ^ (factor_width * count) + number factor_width (coded count factors.now) }
-    ensures result_value_2 { (bits_written result ≡ bits_written from + factor_width * count) × WriterReady result }
+// Writes each factor as the next bits.
+fn write_factors(buf: &mut [u8], from: BitWriter, factors: &[i64]) -> BitWriter
+    requires sized { (k : ℕ) → k < length factors.now → nat_abs (get_or factors.now k (pos 0)) ≤ max_factor }
+    requires run_bound { bits_written from + factor_width * length factors.now ≤ 8 * length buf.old }
+    ensures result_value { written (after buf) result ≡
+        written (before buf) from * 2 ^ (factor_width * length factors.now) + number factor_width (map (of_int factor_width) factors.now) }
+    ensures result_value_2 { bits_written result ≡ bits_written from + factor_width * length factors.now }
     ensures writes_on { WritesOn (before buf) from (after buf) result }
 {
     let mut writer = from;
-    let mut i = 0;
-    while i < count {
+    for factor in factors {
         writer = bits::put(
             buf,
             writer,
-            bits::unsigned(factors[i], FACTOR_WIDTH),
+            bits::unsigned(*factor, FACTOR_WIDTH),
             FACTOR_WIDTH,
         );
-        i += 1;
     }
     writer
 }
 
-// Writes the header in its form.
+// Writes the header in its form. What it asks of the counts stands in the contract of this function alone.
 fn put_header(file: &mut [u8], form: Form, nodes: usize, constraints: usize) -> BitWriter
     requires { (nodes ≤ most_nodes_of form) × (constraints ≤ max_constraints) × (grid_header_bytes_of form ≤ length file.old) }
     ensures { WrittenFields (grid_header form nodes constraints) (before file) (after file) result }
 {
-    let start = BitWriter {
-        at: 0,
-        held: 0,
-        bits: 0,
-    };
+    let start = BitWriter::new();
     match form {
         Form::Narrow => {
             let past_nodes = bits::put(file, start, nodes as u64, 8);
@@ -90,30 +88,26 @@ fn put_header(file: &mut [u8], form: Form, nodes: usize, constraints: usize) -> 
 }
 
 // Writes the file into the first bytes of `file`, and gives its length.
-fn fill(
-    form: Form,
-    nodes: usize,
-    constraints: usize,
-    limits: &[u64],
-    factors: &[i64],
-    file: &mut [u8],
-) -> usize
-    requires { Writable form nodes constraints limits.now factors.now file.old }
-    ensures value { result ≡ length (grid_file form (grid_of nodes constraints limits.now factors.now)) }
-    ensures file_value { after file ≡ overwrite (grid_file form (grid_of nodes constraints limits.now factors.now)) (before file) }
+fn fill(form: Form, limits: &[u64], table: FactorTable, file: &mut [u8]) -> usize
+    requires { Writable form table.nodes table.constraints limits.now table.cells.now file.old }
+    ensures value { result ≡ length (grid_file form (grid_of table.entry.nodes table.entry.constraints limits.now table.entry.cells.now)) }
+    ensures file_value { after file ≡ overwrite
+        (grid_file form (grid_of table.entry.nodes table.entry.constraints limits.now table.entry.cells.now)) (before file) }
 {
-    let header = form.grid_header_bits();
-    let used = grid_checks::used_bits(header, nodes, constraints);
-    let size = grid_checks::file_bytes(header, nodes, constraints);
-    let count = grid_checks::factor_count(nodes, constraints);
-    let past_header = put_header(file, form, nodes, constraints);
-    let past_limits = runs::write_run(file, past_header, limits, constraints, LIMIT_WIDTH);
-    let past_factors = write_factors(file, past_limits, factors, count);
-    bits::put_last(file, past_factors, 0, 8 * size - used);
-    size
+    let size = GridSize {
+        header: form.grid_header_bits(),
+        nodes: table.nodes,
+        constraints: table.constraints,
+    };
+    let bytes = size.file_bytes();
+    let past_header = put_header(file, form, size.nodes, size.constraints);
+    let past_limits = runs::write_run(file, past_header, &limits[..size.constraints], LIMIT_WIDTH);
+    let past_factors = write_factors(file, past_limits, &table.cells[..size.factors()]);
+    bits::put_last(file, past_factors, 0, 8 * bytes - size.used_bits());
+    bytes
 }
 
-// Writes a grid's file, in the form asked for, from the first cells of its tables.
+// Writes a grid's file, in the form asked for, from the first cells of its tables, all as C hands them in.
 pub fn write_grid(
     form: Form,
     nodes: usize,
@@ -121,13 +115,10 @@ pub fn write_grid(
     limits: &[u64],
     factors: &[i64],
     file: &mut [u8],
-) -> WriteAnswer
+) -> Result<usize, Refusal>
     ensures { WritesGrid (write_grid_call form nodes constraints limits.now factors.now (before file)) result (after file) }
 {
-    match check_write(form, nodes, constraints, limits, factors, file) {
-        Checked::Refused(refusal) => WriteAnswer::Refused(refusal),
-        Checked::Passed => WriteAnswer::Written {
-            bytes: fill(form, nodes, constraints, limits, factors, file),
-        },
-    }
+    check_write(form, nodes, constraints, limits, factors, file)?;
+    let table = FactorTable::of(nodes, constraints, factors);
+    Ok(fill(form, limits, table, file))
 }

@@ -9,6 +9,7 @@ use Rattle.integers.proofs.Linear.{⊖of, ⊖s}
 use Rattle.tariff.specs.Units.{per_cent}
 use Rattle.tariff.specs.Inner.{max_amount, max_cents}
 use Rattle.tariff.specs.Settlement.{cents}
+use Rattle.hour_rules.specs.declared.PricedAmount.{PricedAmount}
 use Rattle.hour_amounts.specs.declared.SettledAmount.{SettledAmount}
 use Rattle.hour_amounts.specs.Inner.{UpFrom, SettledAs}
 
@@ -89,6 +90,9 @@ module _ (w : ℤ) (d p u : ℕ) (whole : pos d ≡ w +ℤ pos max_cents) where
       (negative_up d p n e small (omega (arith, up.below refl)))
 
 -- ---- nothing, priced by nothing
+
+abbrev pub no_priced : PricedAmount
+no_priced = record { amount = record { 0 = pos 0 }; priced = 0; sized = omega arith }
 
 abbrev pub no_amount : SettledAmount
 no_amount = record { cents = pos 0; whole = pos 0; parts = 0; priced = 0 }

@@ -1,19 +1,17 @@
 // What a contract adds to an hour: its amount in cents and exactly, with the set of constraints that priced it, and the totals with one amount more.
 #![tactic(auto)]
 
-ghost use Rattle.std.specs.Prelude.{◌≡◌, ◌≤◌, ℤ, pos, nat_abs, ◌+ℤ◌};
-ghost use Rattle.lists.specs.Lent.{before};
+ghost use Rattle.std.specs.Prelude.{◌≡◌, ℤ, pos, ◌+ℤ◌};
 ghost use Rattle.tariff.specs.Units.{max_contracts};
 ghost use Rattle.tariff.specs.Inner.{max_amount};
 ghost use Rattle.tariff.specs.ContractRules.{InRange};
-ghost use Rattle.hour_rules.specs.Inner.{hour_factors_in, hour_prices_in, PricedBy, EndMccs, AmountOf, Bounded, Added};
+ghost use Rattle.grid_tables.specs.Hours.{factors_by, prices_by};
+ghost use Rattle.hour_rules.specs.Inner.{EndMccs, AmountOf, Bounded, Added};
 ghost use Rattle.hour_amounts.specs.Inner.{UpFrom, SizedAmount, SettledAs, HourSettled};
 
 use hour_priced::priced_set;
 use hour_rules::{PricedAmount, PricedHour, Totals};
-use tariff::{
-    Amount, Contract, MAX_CONSTRAINTS, MAX_FACTOR, MAX_PRICE, MAX_QUANTITY, Mcc, PER_CENT,
-};
+use tariff::{Contract, MAX_CONSTRAINTS, MAX_FACTOR, MAX_PRICE, MAX_QUANTITY, Mcc, PER_CENT};
 
 // The largest amount, in 10^-8 cents and in cents: the difference of two MCCs × quantity.
 const MAX_AMOUNT: u64 = 2
@@ -34,49 +32,32 @@ pub struct SettledAmount {
 }
 
 // The exact amount of a contract (003, 36.2.1 and 36.2.2), by the MCCs of its sink and of its source, with the constraints that priced it.
-fn amount_of(
-    hour: PricedHour,
-    factors: &[i64],
-    prices: &[u64],
-    c: Contract,
-    sink: Mcc,
-    source: Mcc,
-) -> PricedAmount
-    requires { PricedBy hour factors.now prices.now × InRange hour.nodes c × EndMccs hour factors.now prices.now c sink source }
-    ensures { AmountOf (hour_factors_in hour factors.now) (hour_prices_in hour prices.now) c result }
+fn amount_of(hour: PricedHour, c: Contract, sink: Mcc, source: Mcc) -> PricedAmount
+    requires { InRange hour.tables.factors.nodes c × EndMccs hour.tables c sink source }
+    ensures { AmountOf (factors_by hour.entry.tables) (prices_by hour.entry.tables) c result }
 {
-    let quantity = c.quantity;
-    let kind = c.kind;
-    let amount = sink.minus(source).times(quantity).counted(kind);
-    let priced = priced_set(
-        hour.nodes,
-        hour.constraints,
-        factors,
-        prices,
-        hour.posted,
-        c,
-    );
+    let amount = (sink - source).times(c.quantity).counted(c.kind);
+    let priced = priced_set(hour.tables, hour.posted, c);
     PricedAmount { amount, priced }
 }
 
 // An amount with the largest one added, so that it is not below 0 and one division serves either sign.
-fn raised(amount: Amount) -> u64
-    requires { nat_abs amount.0 ≤ max_amount }
-    ensures { pos result ≡ amount.0 +ℤ pos max_amount }
+fn raised(exact: PricedAmount) -> u64
+    ensures { pos result ≡ exact.amount.0 +ℤ pos max_amount }
 {
-    if amount.0 < 0 {
-        MAX_AMOUNT - ((-amount.0) as u64)
+    let amount = exact.amount.0;
+    if amount < 0 {
+        MAX_AMOUNT - ((-amount) as u64)
     } else {
-        MAX_AMOUNT + (amount.0 as u64)
+        MAX_AMOUNT + (amount as u64)
     }
 }
 
 // From how many parts on the cents are one above the whole cents: from half a cent on, and below 0 from more than that.
-fn up_from(amount: Amount) -> u64
-    requires { nat_abs amount.0 ≤ max_amount }
-    ensures { UpFrom amount.0 result }
+fn up_from(exact: PricedAmount) -> u64
+    ensures { UpFrom exact.amount.0 result }
 {
-    if amount.0 < 0 {
+    if exact.amount.0 < 0 {
         PER_CENT / 2 + 1
     } else {
         PER_CENT / 2
@@ -84,50 +65,29 @@ fn up_from(amount: Amount) -> u64
 }
 
 // An amount in cents and exactly, by one division.
-fn settled(amount: Amount, priced: u64) -> SettledAmount
-    requires { nat_abs amount.0 ≤ max_amount }
-    ensures { SettledAs amount.0 result × (result.priced ≡ priced) }
+fn settled(exact: PricedAmount) -> SettledAmount
+    ensures { SettledAs exact.amount.0 result × (result.priced ≡ exact.priced) }
 {
-    let raised = raised(amount);
-    let up = up_from(amount);
+    let raised = raised(exact);
+    let up = up_from(exact);
     let whole = ((raised / PER_CENT) as i64) - MAX_CENTS;
     let parts = raised % PER_CENT;
-    if parts < up {
-        SettledAmount {
-            cents: whole,
-            whole,
-            parts,
-            priced,
-        }
-    } else {
-        SettledAmount {
-            cents: whole + 1,
-            whole,
-            parts,
-            priced,
-        }
+    let cents = if parts < up { whole } else { whole + 1 };
+    SettledAmount {
+        cents,
+        whole,
+        parts,
+        priced: exact.priced,
     }
 }
 
 // What a contract adds to an hour of the period, and what priced it, by the MCCs of its two ends: nothing for the other period's.
-pub fn hour_amount(
-    hour: PricedHour,
-    factors: &[i64],
-    prices: &[u64],
-    c: Contract,
-    sink: Mcc,
-    source: Mcc,
-) -> SettledAmount
-    requires { PricedBy hour factors.now prices.now × InRange hour.nodes c × EndMccs hour factors.now prices.now c sink source }
-    ensures { HourSettled (hour_factors_in hour factors.now) (hour_prices_in hour prices.now) hour.period c result }
+pub fn hour_amount(hour: PricedHour, c: Contract, sink: Mcc, source: Mcc) -> SettledAmount
+    requires { InRange hour.tables.factors.nodes c × EndMccs hour.tables c sink source }
+    ensures { HourSettled (factors_by hour.entry.tables) (prices_by hour.entry.tables) hour.entry.period c result }
 {
-    let own = c.period;
-    let period = hour.period;
-    let counts = own.same(period);
-    if counts {
-        let exact = amount_of(hour, factors, prices, c, sink, source);
-        let amount = exact.amount;
-        settled(amount, exact.priced)
+    if c.period == hour.period {
+        settled(amount_of(hour, c, sink, source))
     } else {
         SettledAmount {
             cents: 0,

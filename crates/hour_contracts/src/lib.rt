@@ -3,86 +3,66 @@
 
 ghost use Rattle.std.specs.Prelude.{◌≡◌, ℕ, ◌≤◌, ◌<◌, length};
 ghost use Rattle.lists.specs.Lent.{before, after};
-ghost use Rattle.tariff.specs.declared.refusals.Checked.TheVariants.{Passed};
+ghost use Rattle.tariff.specs.Refusals.{passed, first};
 ghost use Rattle.tariff.specs.Units.{max_contracts};
-ghost use Rattle.tariff.specs.Refusals.{first};
 ghost use Rattle.tariff.specs.ContractRules.{InRange};
-ghost use Rattle.layouts.specs.BookFile.{book_bytes_of, contract_count_in, contract_in};
+ghost use Rattle.layouts.specs.BookFile.{contract_count_in, contract_in};
 ghost use Rattle.book_rules.specs.BookChecks.{book_checks};
-ghost use Rattle.grid_tables.specs.Inner.{Hour};
+ghost use Rattle.grid_tables.specs.Hours.{factors_by, prices_by};
 ghost use Rattle.hour_mcc.specs.Inner.{MccTable};
-ghost use Rattle.hour_rules.specs.Inner.{hour_factors_in, hour_prices_in, PricedBy, SettlesFirst, Settles};
+ghost use Rattle.hour_rules.specs.Inner.{SettlesFirst, SettlesBy};
 
+use book_bits::Contracts;
+use grid_tables::HourTable;
 use hour_amounts::{add_settled, hour_amount};
 use hour_mcc::all_mccs;
-use hour_priced::posted_set;
 use hour_rules::{PricedHour, Totals};
-use layouts::Form;
 use tariff::{MAX_NODES, Mcc, Period};
 
-// Settles the first `count` contracts, each into its own cells.
+// Settles a book's contracts, each into its own cells.
 fn settle_contracts(
     hour: PricedHour,
-    factors: &[i64],
-    prices: &[u64],
-    mccs: [Mcc; MAX_NODES],
-    book: &[u8],
-    form: Form,
-    count: usize,
+    mccs: &[Mcc; MAX_NODES],
+    contracts: Contracts,
     cents: &mut [i64],
     sets: &mut [u64],
 ) -> Totals
-    requires priced_by { PricedBy hour factors.now prices.now × MccTable hour.nodes hour.constraints factors.now prices.now mccs }
-    requires by_index { (i : ℕ) → i < count → InRange hour.nodes (contract_in form book.now i) }
-    requires count_le_max_contracts { (count ≤ max_contracts) × (book_bytes_of form count ≤ length book.now) × (count ≤ length cents.old) × (count ≤ length sets.old) }
-    ensures { SettlesFirst (hour_factors_in hour factors.now) (hour_prices_in hour prices.now) hour.period count (contract_in form book.now)
-        (before cents) (after cents) (before sets) (after sets) result }
+    requires mccs_are { MccTable hour.tables mccs.now }
+    requires by_index { (i : ℕ) → i < contracts.count → InRange hour.tables.factors.nodes (contract_in contracts.form contracts.file.now i) }
+    requires count_in_bounds { (contracts.count ≤ max_contracts) × (contracts.count ≤ length cents.old) × (contracts.count ≤ length sets.old) }
+    ensures { SettlesFirst (factors_by hour.entry.tables) (prices_by hour.entry.tables) hour.entry.period
+        contracts.entry.count (contract_in contracts.entry.form contracts.entry.file.now) (before cents) (after cents) (before sets) (after sets) result }
 {
     let mut totals = Totals {
         sum: 0,
         whole: 0,
         parts: 0,
     };
-    let mut i = 0;
-    while i < count {
-        let c = book_bits::contract_at(book, form, i);
-        let sink = c.sink;
-        let source = c.source;
-        let settled = hour_amount(hour, factors, prices, c, mccs[sink], mccs[source]);
-        let rounded = settled.cents;
-        cents[i] = rounded;
+    for i in 0..contracts.len() {
+        let c = contracts.at(i);
+        let settled = hour_amount(hour, c, mccs[c.sink], mccs[c.source]);
+        cents[i] = settled.cents;
         sets[i] = settled.priced;
         totals = add_settled(totals, settled);
-        i += 1;
     }
     totals
 }
 
-// Settles an hour whose tables and book no check refuses. The MCC of all nodes is worked out afresh.
+// Settles an hour whose tables and book no check refuses. The MCC of all nodes is worked out afresh. That no check refuses the book is asked as a fact: a
+// `Tested` has it, but with limits and a process, which settling has not. Cents and sets are two tables, as C lends them.
 pub fn settle(
-    nodes: usize,
-    constraints: usize,
+    tables: HourTable,
     period: Period,
-    factors: &[i64],
-    prices: &[u64],
     book: &[u8],
     cents: &mut [i64],
     sets: &mut [u64],
 ) -> Totals
-    requires hour { Hour nodes constraints factors.now prices.now × (first (book_checks nodes book.now) ≡ Passed) }
+    requires book_value { first (book_checks tables.factors.nodes book.now) ≡ passed }
     requires book_in_bounds { (contract_count_in book.now ≤ length cents.old) × (contract_count_in book.now ≤ length sets.old) }
-    ensures { Settles nodes constraints period factors.now prices.now book.now
-        (before cents) (after cents) (before sets) (after sets) result }
+    ensures { SettlesBy tables.entry period book.now (before cents) (after cents) (before sets) (after sets) result }
 {
-    let mccs = all_mccs(nodes, constraints, factors, prices);
-    let count = book_bits::contract_count(book);
-    let form = book_bits::book_form(book);
-    let posted = posted_set(constraints, prices);
-    let hour = PricedHour {
-        nodes,
-        constraints,
-        period,
-        posted,
-    };
-    settle_contracts(hour, factors, prices, mccs, book, form, count, cents, sets)
+    let hour = PricedHour::of(tables, period);
+    // Last, before it is lent: else the table stands on the stack twice, and `settle_hour` needs more of it than crr.h says.
+    let mccs = all_mccs(tables);
+    settle_contracts(hour, &mccs, Contracts::of(book), cents, sets)
 }

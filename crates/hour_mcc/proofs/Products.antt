@@ -19,12 +19,13 @@ use Rattle.lists.proofs.Lists.{length-list_to, get_d_list_to}
 use Rattle.tariff.specs.declared.units.Mcc.{Mcc}
 use Rattle.tariff.specs.Units.{factors_of, factor, price, max_factor, max_price}
 use Rattle.tariff.specs.Inner.{PricesInRange, max_mcc}
-use Rattle.tariff.specs.Settlement.{congestion}
+use Rattle.tariff.specs.Settlement.{congestion, mcc}
 use Rattle.tariff.proofs.Theorems.{sum-takes_the_next, mcc-is_one_negation}
 use Rattle.tariff.proofs.Sizes.{congestion-sized, mcc-sized}
-use Rattle.grid_tables.proofs.Factors.{place-in, factor-cell, factor-cell_sized}
 use Rattle.grid_tables.proofs.Cells.{cut-sized}
-use Rattle.grid_tables.specs.Inner.{Hour}
+use Rattle.grid_tables.specs.declared.table.HourTable.{HourTable}
+use Rattle.grid_tables.specs.Hours.{factors_by, prices_by}
+use Rattle.grid_tables.specs.Inner.{Hour, RowOf}
 use Rattle.hour_mcc.specs.Inner.{mcc_in, MccAt}
 
 -- ---- an hour's tables
@@ -33,52 +34,65 @@ module _ (n k : ℕ) (fs : List ℤ) (ps : List ℕ) (h : Hour n k fs ps) where
   pub prices-in : PricesInRange k (take k ps)
   prices-in = record { price-sized = cut-sized max_price k ps h.good-prices }
 
-  pub node_sized : (i : ℕ) → i < n → nat_abs (mcc_in n k fs ps i) ≤ max_mcc
+  pub node_sized : (i : ℕ) → i < n → nat_abs (mcc (factors_of n k fs) (take k ps) i) ≤ max_mcc
   node_sized = mcc-sized (factors_of n k fs) (take k ps) h.good-factors.few h.good-factors.in_range prices-in
+
+module _ (t : HourTable) where
+  abbrev n : ℕ
+  n = t.factors.nodes
+
+  abbrev k : ℕ
+  k = t.factors.constraints
+
+  abbrev fs : List ℤ
+  fs = t.factors.cells.now
+
+  abbrev ps : List ℕ
+  ps = t.prices.now
+
+  pub mcc_sized : (i : ℕ) → i < n → nat_abs (mcc_in t i) ≤ max_mcc
+  mcc_sized = node_sized n k fs ps t.good
 
   module _ (node : ℕ) (hn : node < n) where
     -- the sum of the first products, not yet negated
     abbrev sum_so_far : ℕ → ℤ
-    sum_so_far = congestion (factors_of n k fs) (take k ps) node
+    sum_so_far = congestion (factors_by t) (prices_by t) node
 
     sum-sized : (s : ℤ) (j : ℕ) → j ≤ k → s ≡ sum_so_far j → nat_abs s ≤ max_factor * max_price * j
-    sum-sized s j hj e = rw e (congestion-sized (factors_of n k fs) (take k ps) h.good-factors.few h.good-factors.in_range prices-in node j hn hj)
+    sum-sized s j hj e = rw e (congestion-sized (factors_by t) (prices_by t) t.good.good-factors.few t.good.good-factors.in_range (prices-in n k fs ps t.good) node j hn hj)
 
-    module _ (j : ℕ) (hj : j < k) where
-      pub factor-place : node * k + j < length fs
-      factor-place = omega (arith, place-in n k node j hn hj, h.good-factors.long)
-
+    module _ (row : List ℤ) (of : RowOf n k fs node row) (j : ℕ) (hj : j < k) where
       -- the factor on constraint j, as it is read from its cell
       abbrev factor_read : ℤ
-      factor_read = to_z w64 (of_z w64 (get_or fs (node * k + j) (pos 0)))
+      factor_read = to_z w64 (of_z w64 (get_or row j (pos 0)))
 
-      factor-back : factor_read ≡ get_or fs (node * k + j) (pos 0)
-      factor-back = back (get_or fs (node * k + j) (pos 0)) (omega (arith, factor-cell_sized n k fs h.good-factors node j hn hj))
+      factor-back : factor_read ≡ get_or row j (pos 0)
+      factor-back = back (get_or row j (pos 0)) (omega (arith, of.sized j hj))
 
       pub factor-small : nat_abs factor_read ≤ max_factor
-      factor-small = rw factor-back (factor-cell_sized n k fs h.good-factors node j hn hj)
+      factor-small = rw factor-back (of.sized j hj)
 
-      -- a product x by any price fits beside the sum s before it
-      module _ (s : ℤ) (so_far : s ≡ sum_so_far j) (x : ℤ) where
-        pub sum_fits : (i : ℕ) → x ≡ factor_read *ℤ pos (get_or ps i 0) → i < k → nat_abs s + nat_abs x ≤ max_mcc
-        sum_fits i e hi =
-            let small : nat_abs x ≤ max_factor * max_price = rw e (nat_abs_times factor_read (pos (get_or ps i 0)) factor-small (h.good-prices.sized i hi)) in
-            omega (arith, sum-sized s j (omega arith) so_far, small, h.good-factors.few)
+      -- its product x by the price fits beside the sum s before it
+      module _ (s : ℤ) (so_far : s ≡ sum_so_far j) (x : ℤ) (e : x ≡ factor_read *ℤ pos (get_or ps j 0)) where
+        pub sum_fits : nat_abs s + nat_abs x ≤ max_mcc
+        sum_fits =
+            let small : nat_abs x ≤ max_factor * max_price = rw e (nat_abs_times factor_read (pos (get_or ps j 0)) factor-small (t.good.good-prices.sized j hj)) in
+            omega (arith, sum-sized s j (omega arith) so_far, small, t.good.good-factors.few)
 
-        -- and, by the price of constraint j, makes it the sum of one more
-        product_is : x ≡ factor_read *ℤ pos (get_or ps j 0) → x ≡ factor (factors_of n k fs) node j *ℤ pos (price (take k ps) j)
-        product_is e = e ∙ ap₂ (λ (f : ℤ) (p : ℕ). f *ℤ pos p) (factor-back ∙ factor-cell n k fs h.good-factors node j hn hj) (sym (get_or-take k ps j 0 hj))
+        -- and makes it the sum of one more
+        product_is : x ≡ factor (factors_by t) node j *ℤ pos (price (prices_by t) j)
+        product_is = e ∙ ap₂ (λ (f : ℤ) (p : ℕ). f *ℤ pos p) (factor-back ∙ of.cell j hj) (sym (get_or-take k ps j 0 hj))
 
-        pub sum_more : x ≡ factor_read *ℤ pos (get_or ps j 0) → (r : ℤ) → r ≡ s +ℤ x → (r ≡ sum_so_far (j + 1)) × (nat_abs r ≤ max_factor * max_price * (j + 1))
-        sum_more e r q =
-            let is : r ≡ sum_so_far (j + 1) = q ∙ ap₂ ◌+ℤ◌ so_far (product_is e) ∙ sym (sum-takes_the_next (factors_of n k fs) (take k ps) node j) in
+        pub sum_more : (r : ℤ) → r ≡ s +ℤ x → (r ≡ sum_so_far (j + 1)) × (nat_abs r ≤ max_factor * max_price * (j + 1))
+        sum_more r q =
+            let is : r ≡ sum_so_far (j + 1) = q ∙ ap₂ ◌+ℤ◌ so_far product_is ∙ sym (sum-takes_the_next (factors_by t) (prices_by t) node j) in
             (is, sum-sized r (j + 1) (omega arith) is)
 
     -- one negation at the end
-    pub mcc-end : (s r : ℤ) (j : ℕ) → j ≡ k → s ≡ sum_so_far j → r ≡ neg_ℤ s → (r ≡ mcc_in n k fs ps node) × (nat_abs r ≤ max_mcc)
+    pub mcc-end : (s r : ℤ) (j : ℕ) → j ≡ k → s ≡ sum_so_far j → r ≡ neg_ℤ s → (r ≡ mcc_in t node) × (nat_abs r ≤ max_mcc)
     mcc-end s r j hj e a =
-        let same : r ≡ mcc_in n k fs ps node = a ∙ ap neg_ℤ (e ∙ ap sum_so_far hj) ∙ sym (mcc-is_one_negation (factors_of n k fs) (take k ps) node) in
-        (same, rw same (node_sized node hn))
+        let same : r ≡ mcc_in t node = a ∙ ap neg_ℤ (e ∙ ap sum_so_far hj) ∙ sym (mcc-is_one_negation (factors_by t) (prices_by t) node) in
+        (same, rw same (mcc_sized node hn))
 
 -- ---- the MCCs of an hour's nodes in a table
 
@@ -86,10 +100,10 @@ pub front_at : {A : Type 0} (n : ℕ) (f : ℕ → A) (rest : List A) (d : A) (i
 front_at n f rest d i h = get_or-append (list_to n f) rest d i (rw (length-list_to n f) h) ∙ get_d_list_to n f i d h
 
 -- one more is stored
-pub mcc-stored : (n k : ℕ) (fs : List ℤ) (ps : List ℕ) (mccs : List Mcc) (j : ℕ) (x d : Mcc) → j < length mccs → MccAt n k fs ps j x
-    → ((i : ℕ) → i < j → MccAt n k fs ps i (get_or mccs i d)) → (i : ℕ) → i < j + 1 → MccAt n k fs ps i (get_or (set mccs j x) i d)
-mcc-stored n k fs ps mccs j x d long new old i h = by (ltb i j) refl
+pub mcc-stored : (t : HourTable) (mccs : List Mcc) (j : ℕ) (x d : Mcc) → j < length mccs → MccAt t j x
+    → ((i : ℕ) → i < j → MccAt t i (get_or mccs i d)) → (i : ℕ) → i < j + 1 → MccAt t i (get_or (set mccs j x) i d)
+mcc-stored t mccs j x d long new old i h = by (ltb i j) refl
   where
-    by : (b : Bool) → ltb i j ≡ b → MccAt n k fs ps i (get_or (set mccs j x) i d)
+    by : (b : Bool) → ltb i j ≡ b → MccAt t i (get_or (set mccs j x) i d)
     by true e = let b = ltb-true i j e in rw (get_or-set_other mccs j i x d (λ q. lt_irrefl i (subst (λ (m : ℕ). i < m) (sym q) b))) (old i b)
     by false e = let q : i ≡ j = omega (arith, ltb-false i j e) in rw q (rw (get_or-set_same mccs j x d long) new)

@@ -1,14 +1,13 @@
 -- Finding the MCC of all nodes (document 01, "The rules" and "When input is turned down").
-use Rattle.std.specs.Prelude.{◌≡◌, List, [], ◌∷◌, ℕ, length, take, ℤ}
+use Rattle.std.specs.Prelude.{◌≡◌, List, [], ◌∷◌, ℕ, length, take, ℤ, Ok, Err, Result, ⊤}
 use Rattle.grid_tables.specs.TableChecks.{hour_tables_with}
 use Rattle.lists.specs.Lists.{list_to}
-use Rattle.tariff.specs.declared.refusals.Checked.{Checked}
+use Rattle.tariff.specs.Refusals.{Checked}
 use Rattle.tariff.specs.Units.{factors_of}
 use Rattle.tariff.specs.Refusals.{Check, first, Outcome, given, refused_by, answered, cells_after, ForC}
 use Rattle.tariff.specs.Checks.{short_table}
 use Rattle.tariff.specs.Settlement.{mcc}
-use Rattle.hour_mcc.specs.declared.MccAnswer.{MccAnswer}
-use Rattle.hour_mcc.specs.declared.MccAnswer.TheVariants.{Found, Refused}
+use Rattle.tariff.specs.declared.refusals.Refusal.{Refusal}
 
 -- the counts, the tables, and the place for the answer as it is at entry
 pub record FindMccCall : Type 0 where
@@ -21,10 +20,14 @@ pub record FindMccCall : Type 0 where
 abbrev pub find_mcc_call : ℕ → ℕ → List ℤ → List ℕ → List ℤ → FindMccCall
 find_mcc_call n k factors prices place = record { nodes = n; constraints = k; factors = factors; prices = prices; place = place }
 
+-- what finding MCCs answers beside the cells: nothing, or the refusal
+abbrev pub MccAnswer : Type 0
+MccAnswer = Result ⊤ Refusal
+
 -- cells alone are given
 abbrev pub mcc_outcome : MccAnswer → Outcome
-mcc_outcome Found = given []
-mcc_outcome (Refused r) = refused_by r
+mcc_outcome (Ok _) = given []
+mcc_outcome (Err r) = refused_by r
 
 module _ (q : FindMccCall) where
   -- "2, 3, 9 (tables or the place for the answer), 7, 15"

@@ -20,7 +20,7 @@ use Rattle.lists.specs.Lent.{overwrite}
 use Rattle.lists.proofs.Lists.{list_to-cong, map-list_to}
 use Rattle.tariff.specs.declared.contracts.Contract.{Contract}
 use Rattle.tariff.specs.declared.contracts.Period.{Period}
-use Rattle.tariff.specs.declared.refusals.Checked.TheVariants.{Passed}
+use Rattle.tariff.specs.Refusals.{passed}
 use Rattle.tariff.specs.Units.{Factors, factors_of, max_constraints, per_cent}
 use Rattle.tariff.specs.ContractRules.{same_period, of_period, InRange}
 use Rattle.tariff.specs.Refusals.{first}
@@ -32,8 +32,8 @@ use Rattle.layouts.specs.BookFile.{contract_count_in, contract_at}
 use Rattle.book_rules.specs.BookChecks.{book_checks}
 use Rattle.book_rules.proofs.Accepted.{book-accepted}
 use Rattle.hour_rules.specs.declared.Totals.{Totals}
-use Rattle.hour_rules.specs.declared.SettleAnswer.TheVariants.{Settled}
 use Rattle.hour_rules.specs.SettleHour.{cents_of, priced_of, cents_sum, hour_total}
+use Rattle.hour_rules.specs.SettleHour.{settled as settled_answer}
 use Rattle.grid_tables.specs.Inner.{Hour}
 use Rattle.hour_rules.specs.Inner.{hour_amount, exact_of, Bounded, SettlesFirst, Settles}
 use Rattle.hour_mcc.proofs.Products.{prices-in, front_at}
@@ -113,10 +113,10 @@ values-are f p t cs r small sum exact =
     rw (← exact, ← sum) (λ i. r.sum ∷ sym only.0 i ∷ pos (sym only.1 i) ∷ [])
 
 -- an answer of the exact total's figures makes it
-pub exact-of : (S W s w : ℤ) (P p : ℕ) (total : ℤ) → W *ℤ pos per_cent +ℤ pos P ≡ total → Settled S W P ≡ Settled s w p → w *ℤ pos per_cent +ℤ pos p ≡ total
-exact-of S W s w P p total e q =
-    let whole : W ≡ w = cc in
-    let part : P ≡ p = cc in
+pub exact-of : (r : Totals) (s w : ℤ) (p : ℕ) (total : ℤ) → exact_of r ≡ total → settled_answer r.sum r.whole r.parts ≡ settled_answer s w p → w *ℤ pos per_cent +ℤ pos p ≡ total
+exact-of r s w p total e q =
+    let whole : r.whole ≡ w = cc in
+    let part : r.parts ≡ p = cc in
     rw (← whole, ← part) e
 
 -- ---- an hour's figures
@@ -156,7 +156,7 @@ module _ (n k : ℕ) (fs : List ℤ) (ps : List ℕ) (h : Hour n k fs ps) (t : P
     total-is = period-sum t m f (amount (factors_of n k fs) (take k ps)) _ (λ i b. refl)
 
   -- what the first contracts of an accepted book settle to, all of them being the first, the book does
-  pub settled : (s : List ℕ) → first (book_checks n s) ≡ Passed → (m : ℕ) → m ≡ contract_count_in s → (entry exit : List ℤ) (sets handed : List ℕ) (r : Totals)
+  pub settled : (s : List ℕ) → first (book_checks n s) ≡ passed → (m : ℕ) → m ≡ contract_count_in s → (entry exit : List ℤ) (sets handed : List ℕ) (r : Totals)
       → SettlesFirst (factors_of n k fs) (take k ps) t m (contract_at s) entry exit sets handed r → Settles n k t fs ps s entry exit sets handed r
   settled s passed m count entry exit sets handed r by =
       let each = (book-accepted n s passed).each in

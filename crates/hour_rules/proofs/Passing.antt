@@ -6,8 +6,8 @@ use native.Mathlib.Omega.{arith}
 use borrow.Author.Tests.{ltb-false, lt-ltb, le-ltb}
 use Rattle.tariff.specs.declared.refusals.Refusal.{Refusal}
 use Rattle.tariff.specs.declared.refusals.Refusal.TheVariants.{ShortTable}
-use Rattle.tariff.specs.declared.refusals.Checked.{Checked}
-use Rattle.tariff.specs.declared.refusals.Checked.TheVariants.{Passed, Refused}
+use Rattle.tariff.specs.Refusals.{Checked, passed}
+use Rattle.std.specs.Prelude.{Err}
 use Rattle.tariff.specs.Refusals.{Check, first, decided}
 use Rattle.tariff.specs.Checks.{short_table}
 use Rattle.tariff.proofs.Checks.{first-append, passed_cons, passed_append}
@@ -37,42 +37,42 @@ module _ (q : HourCall) where
     unfolding first settle_checks hour_table_checks
     in_parts = rw (le-ltb q.nodes q.nodes (omega arith))
 
-    one_by_one : found ≡ decided table_checked Refused (decided book_checked Refused (first room_checks))
+    one_by_one : found ≡ decided table_checked Err (decided book_checked Err (first room_checks))
     one_by_one =
         in_parts
         ∙ first-append (hour_table_checks q.nodes q.constraints q.period q.factors q.prices q.nodes) (book_checks q.nodes q.book ++ room_checks)
-        ∙ ap (λ (x : Checked). decided table_checked Refused x) (first-append (book_checks q.nodes q.book) room_checks)
+        ∙ ap (λ (x : Checked). decided table_checked Err x) (first-append (book_checks q.nodes q.book) room_checks)
 
     -- x is what the tables' checks found, y what the book's own did, m how many contracts the book has
     module _ (x : Checked) (tables : x ≡ table_checked) where
-      pub tables-refuse : (r : Refusal) → x ≡ Refused r → Refused r ≡ found
+      pub tables-refuse : (r : Refusal) → x ≡ Err r → Err r ≡ found
       tables-refuse r told = sym (one_by_one ∙ rw (← tables, told))
 
-      module _ (pass : x ≡ Passed) (y : Checked) (own : y ≡ book_checked) where
-        pub book-refuses : (r : Refusal) → y ≡ Refused r → Refused r ≡ found
+      module _ (pass : x ≡ passed) (y : Checked) (own : y ≡ book_checked) where
+        pub book-refuses : (r : Refusal) → y ≡ Err r → Err r ≡ found
         book-refuses r told = sym (one_by_one ∙ rw (← tables, pass, ← own, told))
 
-        module _ (own-pass : y ≡ Passed) (m : ℕ) (count : m ≡ contract_count_in q.book) where
-          pub no_room : cells < m → Refused ShortTable ≡ found
+        module _ (own-pass : y ≡ passed) (m : ℕ) (count : m ≡ contract_count_in q.book) where
+          pub no_room : cells < m → Err ShortTable ≡ found
           unfolding first
           no_room h = sym (one_by_one ∙ rw (← tables, pass, ← own, own-pass, ← count, lt-ltb cells m h))
 
-          pub no_set_room : m ≤ cells → sets < m → Refused ShortTable ≡ found
+          pub no_set_room : m ≤ cells → sets < m → Err ShortTable ≡ found
           unfolding first
           no_set_room h g = sym (one_by_one ∙ rw (← tables, pass, ← own, own-pass, ← count, le-ltb cells m h, lt-ltb sets m g))
 
-          pub all-fits : m ≤ cells → m ≤ sets → Passed ≡ found
+          pub all-fits : m ≤ cells → m ≤ sets → passed ≡ found
           unfolding first
           all-fits h g = sym (one_by_one ∙ rw (← tables, pass, ← own, own-pass, ← count, le-ltb cells m h, le-ltb sets m g))
 
     -- what holds where none refuses
     pub record Ready : Type 0 where
       pub hour : Hour q.nodes q.constraints q.factors q.prices
-      pub own : book_checked ≡ Passed
+      pub own : book_checked ≡ passed
       pub room : contract_count_in q.book ≤ cells
       pub set_room : contract_count_in q.book ≤ sets
 
-    pub settle_ready : found ≡ Passed → Ready
+    pub settle_ready : found ≡ passed → Ready
     settle_ready e =
         let all = passed_append (hour_table_checks q.nodes q.constraints q.period q.factors q.prices q.nodes) (book_checks q.nodes q.book ++ room_checks) (sym in_parts ∙ e) in
         let rest = passed_append (book_checks q.nodes q.book) room_checks all.1 in

@@ -7,7 +7,7 @@ use lib.IntN.{ℤ, pos}
 use Rattle.lists.specs.Lists.{Each}
 use Rattle.lists.specs.Lent.{Lent, before}
 use Rattle.tariff.specs.declared.contracts.Contract.{Contract}
-use Rattle.tariff.specs.declared.refusals.Checked.TheVariants.{Refused}
+use Rattle.std.specs.Prelude.{Err}
 use Rattle.tariff.specs.Units.{max_contracts}
 use Rattle.tariff.specs.Refusals.{Check, first, decided, answered, cells_after}
 use Rattle.tariff.specs.Checks.{node_count, constraint_count, period_number, short_table, factor_range, price_range}
@@ -20,7 +20,7 @@ use Rattle.layouts.specs.BookTable.{ContractFits}
 use Rattle.layouts.proofs.BookFile.{length-book_in}
 use Rattle.book_rules.specs.BookChecks.{book_checks}
 use Rattle.book_rules.proofs.Theorems.{both-forms_alike, both-forms_checked_alike}
-use Rattle.hour_rules.specs.declared.SettleAnswer.{SettleAnswer}
+use Rattle.hour_rules.specs.SettleHour.{SettleAnswer}
 use Rattle.hour_rules.specs.SettleHour.{HourCall, settle_checks, settle_checked, hour_factors, hour_prices, hour_period, cents_of, priced_of, cents_sum, hour_total, SettlesHour}
 use Rattle.hour_rules.specs.Theorems.{SettledAlike, hour_for}
 
@@ -48,7 +48,7 @@ module _ (n k period : ℕ) (factors : List ℤ) (prices : List ℕ) (cs : List 
   unfolding settle_checks
   checked_alike x y =
       first-append (front Narrow) (room (contract_count_in (book_file Narrow cs)))
-      ∙ (λ t. decided (front-alike t) Refused (first (room (count-alike t))))
+      ∙ (λ t. decided (front-alike t) Err (first (room (count-alike t))))
       ∙ sym (first-append (front Wide) (room (contract_count_in (book_file Wide cs))))
     where
       room : ℕ → List Check

@@ -12,30 +12,16 @@ use Rattle.tariff.specs.ContractRules.{same_period}
 use Rattle.tariff.specs.Inner.{max_amount, max_cents}
 use Rattle.tariff.specs.Settlement.{amount, priced_set_of, cents}
 use Rattle.layouts.specs.BookFile.{contract_count_in, book_in}
-use Rattle.grid_tables.specs.Inner.{Hour}
+use Rattle.grid_tables.specs.declared.table.HourTable.{HourTable}
 use Rattle.hour_mcc.specs.Inner.{MccAt}
-use Rattle.hour_priced.specs.Inner.{posted_in}
-use Rattle.hour_rules.specs.declared.PricedHour.{PricedHour}
 use Rattle.hour_rules.specs.declared.PricedAmount.{PricedAmount}
 use Rattle.hour_rules.specs.declared.Totals.{Totals}
 use Rattle.hour_rules.specs.SettleHour.{cents_of, priced_of, cents_sum, hour_total}
 
--- the factors and prices of an hour, by its counts
-abbrev pub hour_factors_in : PricedHour → List ℤ → Factors
-hour_factors_in hour factors = factors_of hour.nodes hour.constraints factors
-
-abbrev pub hour_prices_in : PricedHour → List ℕ → List ℕ
-hour_prices_in hour prices = take hour.constraints prices
-
--- tables that no check refuses, and the set of the prices that aren't 0
-pub record PricedBy (hour : PricedHour) (factors : List ℤ) (prices : List ℕ) : Type 0 where
-  pub tables : Hour hour.nodes hour.constraints factors prices
-  pub posted_is : hour.posted ≡ posted_in hour.constraints prices
-
 -- the MCCs of a contract's two ends
-pub record EndMccs (hour : PricedHour) (factors : List ℤ) (prices : List ℕ) (c : Contract) (sink source : Mcc) : Type 0 where
-  pub sink-is : MccAt hour.nodes hour.constraints factors prices c.sink sink
-  pub source_is : MccAt hour.nodes hour.constraints factors prices c.source source
+pub record EndMccs (t : HourTable) (c : Contract) (sink source : Mcc) : Type 0 where
+  pub sink-is : MccAt t c.sink sink
+  pub source_is : MccAt t c.source source
 
 -- what a contract adds to an hour of the period: nothing for the other period's
 unfoldable pub hour_amount : Factors → List ℕ → Period → Contract → ℤ
@@ -91,3 +77,6 @@ module _ (n k : ℕ) (t : Period) (factors : List ℤ) (prices : List ℕ) (book
     pub bounded : Bounded (contract_count_in book) r
     pub cells-sized : (i : ℕ) → i < contract_count_in book → nat_abs (get_or exit i (pos 0)) ≤ max_cents
     pub priced-sized : (i : ℕ) → i < contract_count_in book → ones (get_or handed i 0) ≤ max_constraints
+
+abbrev pub SettlesBy : HourTable → Period → List ℕ → List ℤ → List ℤ → List ℕ → List ℕ → Totals → Type 0
+SettlesBy t period = Settles t.factors.nodes t.factors.constraints period t.factors.cells.now t.prices.now

@@ -1,12 +1,11 @@
 -- Settling an hour (document 01, "The rules" and "When input is turned down"; document 02, paper 8).
-use Rattle.std.specs.Prelude.{◌≡◌, cond, List, [], ◌∷◌, ◌++◌, map, ℕ, length, take, ℤ, pos, ◌+ℤ◌, ◌*ℤ◌}
+use Rattle.std.specs.Prelude.{◌≡◌, cond, List, [], ◌∷◌, ◌++◌, map, ℕ, length, take, ℤ, pos, ◌+ℤ◌, ◌*ℤ◌, Ok, Err, Result}
 use Rattle.grid_tables.specs.TableChecks.{hour_tables_with}
 use Rattle.lists.specs.Lent.{Lent, before, after}
 use Rattle.integers.specs.Sums.{sum_over_of}
 use Rattle.tariff.specs.declared.contracts.Contract.{Contract}
 use Rattle.tariff.specs.declared.contracts.Period.{Period}
-use Rattle.tariff.specs.declared.refusals.Checked.{Checked}
-use Rattle.tariff.specs.declared.refusals.Checked.TheVariants.{Passed}
+use Rattle.tariff.specs.Refusals.{Checked, passed}
 use Rattle.tariff.specs.Units.{Factors, factors_of, per_cent}
 use Rattle.tariff.specs.ContractRules.{same_period, period_of, of_period}
 use Rattle.tariff.specs.Refusals.{Check, first, Outcome, given, refused_by, answered, cells_after, cell_after, number_after}
@@ -14,8 +13,8 @@ use Rattle.tariff.specs.Checks.{period_number, short_table}
 use Rattle.tariff.specs.Settlement.{amount, priced_set_of, exact_total, cents, whole_cents, parts}
 use Rattle.layouts.specs.BookFile.{contract_count_in, book_in}
 use Rattle.book_rules.specs.BookChecks.{book_checks}
-use Rattle.hour_rules.specs.declared.SettleAnswer.{SettleAnswer}
-use Rattle.hour_rules.specs.declared.SettleAnswer.TheVariants.{Settled, Refused}
+use Rattle.tariff.specs.declared.refusals.Refusal.{Refusal}
+use Rattle.hour_rules.specs.declared.Totals.{Totals}
 
 -- the counts, the period by number, the tables and the book's bytes
 pub record HourCall : Type 0 where
@@ -29,10 +28,17 @@ pub record HourCall : Type 0 where
 abbrev pub hour_call : ℕ → ℕ → ℕ → List ℤ → List ℕ → List ℕ → HourCall
 hour_call n k period factors prices book = record { nodes = n; constraints = k; period = period; factors = factors; prices = prices; book = book }
 
+-- what settling an hour answers beside the cells: the totals, or the refusal
+abbrev pub SettleAnswer : Type 0
+SettleAnswer = Result Totals Refusal
+
+abbrev pub settled : ℤ → ℤ → ℕ → SettleAnswer
+settled sum whole part = Ok (record { sum = sum; whole = whole; parts = part })
+
 -- the sum of the rounded cents, and the exact total as whole cents and parts
 abbrev pub settle_outcome : SettleAnswer → Outcome
-settle_outcome (Settled sum whole part) = given (sum ∷ whole ∷ pos part ∷ [])
-settle_outcome (Refused r) = refused_by r
+settle_outcome (Ok totals) = given (totals.sum ∷ totals.whole ∷ pos totals.parts ∷ [])
+settle_outcome (Err r) = refused_by r
 
 module _ (f : Factors) (p : List ℕ) (t : Period) where
   -- "One cell of cents for each contract; the other period's are 0."
@@ -94,8 +100,8 @@ module _ (q : HourCall) where
     pub totals : settle_outcome answer ≡ answered (settle_checked q cents sets) (sum_given q ∷ whole_cents (exact_given q) ∷ pos (parts (exact_given q)) ∷ [])
     pub cents-settled : after cents ≡ cells_after (settle_checked q cents sets) (cents_cells q) (before cents)
     pub sets-handed_on : after sets ≡ cells_after (settle_checked q cents sets) (priced_cells q) (before sets)
-    pub exact : settle_checked q cents sets ≡ Passed
-        → (sum whole : ℤ) (part : ℕ) → answer ≡ Settled sum whole part → whole *ℤ pos per_cent +ℤ pos part ≡ exact_given q
+    pub exact : settle_checked q cents sets ≡ passed
+        → (sum whole : ℤ) (part : ℕ) → answer ≡ settled sum whole part → whole *ℤ pos per_cent +ℤ pos part ≡ exact_given q
 
   -- the same for C: the refusal's number, and the totals in lent figures
   pub record SettlesForC (number : ℕ) (cents : Lent (List ℤ)) (sets : Lent (List ℕ)) (sum whole : Lent ℤ) (part : Lent ℕ) : Type 0 where
@@ -105,4 +111,4 @@ module _ (q : HourCall) where
     pub sum-given : after sum ≡ cell_after (settle_checked q cents sets) (sum_given q) (before sum)
     pub whole-given : after whole ≡ cell_after (settle_checked q cents sets) (whole_cents (exact_given q)) (before whole)
     pub parts-given : after part ≡ cell_after (settle_checked q cents sets) (parts (exact_given q)) (before part)
-    pub exact : settle_checked q cents sets ≡ Passed → after whole *ℤ pos per_cent +ℤ pos (after part) ≡ exact_given q
+    pub exact : settle_checked q cents sets ≡ passed → after whole *ℤ pos per_cent +ℤ pos (after part) ≡ exact_given q

@@ -4,7 +4,7 @@ use Rattle.tariff.specs.declared.contracts.Contract.{Contract}
 use Rattle.layouts.specs.declared.forms.Form.{Form}
 use Rattle.layouts.specs.BookFile.{book_file}
 use Rattle.lists.specs.Lent.{Lent, after}
-use Rattle.hour_rules.specs.declared.SettleAnswer.{SettleAnswer}
+use Rattle.hour_rules.specs.SettleHour.{SettleAnswer}
 use Rattle.hour_rules.specs.SettleHour.{HourCall, hour_call, settle_outcome}
 
 -- two hours settled alike: the answer, the cents and the sets

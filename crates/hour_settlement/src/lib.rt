@@ -2,15 +2,16 @@
 #![tactic(auto)]
 
 ghost use Rattle.std.specs.Prelude.{◌≡◌};
-ghost use Rattle.lists.specs.Lent.{before};
 ghost use Rattle.tariff.specs.Refusals.{first};
 ghost use Rattle.hour_rules.specs.SettleHour.{hour_call, settle_checks, SettlesHour};
 
+use grid_tables::HourTable;
 use hour_contracts::settle;
-use hour_rules::SettleAnswer;
-use tariff::{Checked, Period, Refusal};
+use hour_rules::Totals;
+use tariff::{Period, Refusal};
 
 // The checks of settling an hour, with `cells` cells for the cents and `sets` for the sets: the tables', the book's own, 9.
+// Here and in the entry the tables stand apart as C lends them: nothing of them is checked yet, and `HourTable` is for what is.
 fn check_settle(
     nodes: usize,
     constraints: usize,
@@ -20,26 +21,20 @@ fn check_settle(
     book: &[u8],
     cells: usize,
     sets: usize,
-) -> Checked
+) -> Result<(), Refusal>
     ensures { result ≡ first (settle_checks (hour_call nodes constraints period factors.now prices.now book.now) cells sets) }
 {
     // No answer of a cell a node is given: as many cells as nodes suffice.
-    let hour = grid_tables::check_hour_tables(nodes, constraints, period, factors, prices, nodes);
-    if let Checked::Refused(refusal) = hour {
-        return Checked::Refused(refusal);
-    }
-    let own = book_checks::check_book(nodes, book);
-    if let Checked::Refused(refusal) = own {
-        return Checked::Refused(refusal);
-    }
+    grid_tables::check_hour_tables(nodes, constraints, period, factors, prices, nodes)?;
+    book_checks::check_book(nodes, book)?;
     let count = book_bits::contract_count(book);
     if cells < count {
-        return Checked::Refused(Refusal::ShortTable);
+        return Err(Refusal::ShortTable);
     }
     if sets < count {
-        return Checked::Refused(Refusal::ShortTable);
+        return Err(Refusal::ShortTable);
     }
-    Checked::Passed
+    Ok(())
 }
 
 // Settles an hour of a period: a cell of cents and a cell of the constraints that priced it for each contract, the other period's 0.
@@ -52,10 +47,10 @@ pub fn settle_hour(
     book: &[u8],
     cents: &mut [i64],
     sets: &mut [u64],
-) -> SettleAnswer
+) -> Result<Totals, Refusal>
     ensures { SettlesHour (hour_call nodes constraints period factors.now prices.now book.now) result cents sets }
 {
-    match check_settle(
+    check_settle(
         nodes,
         constraints,
         period,
@@ -64,16 +59,8 @@ pub fn settle_hour(
         book,
         cents.len(),
         sets.len(),
-    ) {
-        Checked::Refused(refusal) => SettleAnswer::Refused(refusal),
-        Checked::Passed => {
-            let hour = Period::from_number(period);
-            let totals = settle(nodes, constraints, hour, factors, prices, book, cents, sets);
-            SettleAnswer::Settled {
-                sum: totals.sum,
-                whole: totals.whole,
-                parts: totals.parts,
-            }
-        }
-    }
+    )?;
+    let tables = HourTable::of(nodes, constraints, factors, prices);
+    let totals = settle(tables, Period::from(period), book, cents, sets);
+    Ok(totals)
 }

@@ -7,7 +7,8 @@ use borrow.Author.Tests.{lt-ltb, le-ltb, le-leb, lt-leb}
 use Rattle.lists.specs.Lists.{any_of}
 use Rattle.tariff.specs.declared.refusals.Refusal.{Refusal}
 use Rattle.tariff.specs.declared.refusals.Refusal.TheVariants.{PeriodOrKind, HolderRange, NodeNumber}
-use Rattle.tariff.specs.declared.refusals.Checked.TheVariants.{Passed, Refused}
+use Rattle.std.specs.Prelude.{Err}
+use Rattle.tariff.specs.Refusals.{passed}
 use Rattle.tariff.specs.Refusals.{Check, first}
 use Rattle.tariff.specs.Checks.{kind_and_period, quantity_range, listed_nodes}
 use Rattle.tariff.specs.Units.{max_holder}
@@ -22,12 +23,12 @@ use Rattle.hub_book.specs.Inner.{term_checks, given_checks}
 -- ---- the terms
 
 module _ (below : ℕ) (t : Terms) (ns : List ℕ) (q : ℕ) where
-  pub kind-refused : 1 < t.kind → Refused PeriodOrKind ≡ first (term_checks below t ns q)
+  pub kind-refused : 1 < t.kind → Err PeriodOrKind ≡ first (term_checks below t ns q)
   unfolding term_checks
   kind-refused h = sym (first-refuses _ _ (rw (lt-ltb 1 t.kind h)))
 
   module _ (k : t.kind ≤ 1) where
-    pub period-refused : 1 < t.period → Refused PeriodOrKind ≡ first (term_checks below t ns q)
+    pub period-refused : 1 < t.period → Err PeriodOrKind ≡ first (term_checks below t ns q)
     unfolding term_checks
     period-refused h = sym (first-refuses _ _ (rw (le-ltb 1 t.kind k) (lt-ltb 1 t.period h)))
 
@@ -35,17 +36,17 @@ module _ (below : ℕ) (t : Terms) (ns : List ℕ) (q : ℕ) where
       both : (kind_and_period t.kind t.period).fails ≡ false
       both = rw (le-ltb 1 t.kind k) (le-ltb 1 t.period p)
 
-      pub holder-refused : max_holder < t.holder → Refused HolderRange ≡ first (term_checks below t ns q)
+      pub holder-refused : max_holder < t.holder → Err HolderRange ≡ first (term_checks below t ns q)
       unfolding term_checks
       holder-refused h = sym (first_passes _ _ both ∙ first-refuses _ _ (lt-ltb max_holder t.holder h))
 
       module _ (held : t.holder ≤ max_holder) where
-        pub nodes-refused : (listed_nodes below ns).fails ≡ true → Refused NodeNumber ≡ first (term_checks below t ns q)
+        pub nodes-refused : (listed_nodes below ns).fails ≡ true → Err NodeNumber ≡ first (term_checks below t ns q)
         unfolding term_checks
         nodes-refused h = sym (first_passes _ _ both ∙ first_passes _ _ (le-ltb max_holder t.holder held) ∙ first-refuses _ _ h)
 
         module _ (listed : (listed_nodes below ns).fails ≡ false) where
-          pub sink-refused : below ≤ t.sink → Refused NodeNumber ≡ first (term_checks below t ns q)
+          pub sink-refused : below ≤ t.sink → Err NodeNumber ≡ first (term_checks below t ns q)
           unfolding term_checks any_of
           sink-refused h =
               sym (first_passes _ _ both ∙ first_passes _ _ (le-ltb max_holder t.holder held) ∙ first_passes _ _ listed ∙ first-refuses _ _ (rw (le-leb below t.sink h)))
@@ -64,15 +65,15 @@ module _ (n : ℕ) (s : List ℕ) (t : Terms) (ns ws : List ℕ) (q : ℕ) where
   abbrev shape : List Check
   shape = hub_shape ns ws ∷ hub_twice ns ∷ []
 
-  pub own_refuses : (r : Refusal) → first (own_checks n s) ≡ Refused r → first (given_checks n s t ns ws q) ≡ Refused r
+  pub own_refuses : (r : Refusal) → first (own_checks n s) ≡ Err r → first (given_checks n s t ns ws q) ≡ Err r
   unfolding given_checks
   own_refuses r e = append_refuses (own_checks n s) _ r e
 
-  module _ (own : first (own_checks n s) ≡ Passed) where
-    pub terms_refuse : (r : Refusal) → first (term_checks ends t ns q) ≡ Refused r → first (given_checks n s t ns ws q) ≡ Refused r
+  module _ (own : first (own_checks n s) ≡ passed) where
+    pub terms_refuse : (r : Refusal) → first (term_checks ends t ns q) ≡ Err r → first (given_checks n s t ns ws q) ≡ Err r
     unfolding given_checks
     terms_refuse r e = append_passes (own_checks n s) _ own ∙ append_refuses (term_checks ends t ns q) shape r e
 
-    pub shape-next : first (term_checks ends t ns q) ≡ Passed → first (given_checks n s t ns ws q) ≡ first shape
+    pub shape-next : first (term_checks ends t ns q) ≡ passed → first (given_checks n s t ns ws q) ≡ first shape
     unfolding given_checks
     shape-next e = append_passes (own_checks n s) _ own ∙ append_passes (term_checks ends t ns q) shape e

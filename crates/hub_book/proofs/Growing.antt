@@ -12,7 +12,8 @@ use Rattle.lists.proofs.Lists.{length-list_to, get_d_list_to, each_append, each-
 use Rattle.lists.proofs.Search.{neither}
 use Rattle.tariff.specs.declared.contracts.Contract.{Contract}
 use Rattle.tariff.specs.declared.refusals.Refusal.{Refusal}
-use Rattle.tariff.specs.declared.refusals.Checked.TheVariants.{Passed, Refused}
+use Rattle.std.specs.Prelude.{Err}
+use Rattle.tariff.specs.Refusals.{passed}
 use Rattle.tariff.specs.Refusals.{Check, first}
 use Rattle.tariff.specs.Checks.{node_number, quantity_range}
 use Rattle.tariff.specs.Units.{max_nodes, max_contracts, max_holder, max_quantity, max_hub_nodes}
@@ -48,13 +49,13 @@ given_of q = given_checks q.nodes q.book (terms_of q) q.hub-nodes q.hub-weights 
 
 -- what they leave
 pub record Given (q : HubCall) : Type 0 where
-  pub own : first (own_checks q.nodes q.book) ≡ Passed
+  pub own : first (own_checks q.nodes q.book) ≡ passed
   pub held : q.holder ≤ max_holder
   pub hub : IsHub (hub_ends q) q.hub-nodes q.hub-weights
   pub sunk : q.sink < hub_ends q
   pub sized : q.quantity ≤ max_quantity
 
-pub given_is : (q : HubCall) → first (given_of q) ≡ Passed → Given q
+pub given_is : (q : HubCall) → first (given_of q) ≡ passed → Given q
 unfolding given_checks term_checks any_of
 given_is q e =
     let own = passed_append (own_checks q.nodes q.book) _ e in
@@ -84,15 +85,15 @@ module _ (q : HubCall) where
       let shape = hub_shape q.hub-nodes q.hub-weights ∷ hub_twice q.hub-nodes ∷ [] in
       sym (append_assoc (own_checks q.nodes q.book) (term_checks (hub_ends q) (terms_of q) q.hub-nodes q.quantity ++ shape) growth)
 
-  pub given-refuses : (r : Refusal) → first (given_of q) ≡ Refused r → hub_contract_checked q ≡ Refused r
+  pub given-refuses : (r : Refusal) → first (given_of q) ≡ Err r → hub_contract_checked q ≡ Err r
   given-refuses r e = ap first all-checks ∙ append_refuses (given_of q) growth r e
 
-  pub passed_parts : hub_contract_checked q ≡ Passed → (first (given_of q) ≡ Passed) × (count_grown q ≤ max_contracts)
+  pub passed_parts : hub_contract_checked q ≡ passed → (first (given_of q) ≡ passed) × (count_grown q ≤ max_contracts)
   passed_parts e =
       let parts = passed_append (given_of q) growth (sym (ap first all-checks) ∙ e) in
       (parts.0, ltb-false max_contracts (count_grown q) (passed_cons _ _ parts.1).0)
 
-  module _ (given : first (given_of q) ≡ Passed) where
+  module _ (given : first (given_of q) ≡ passed) where
     pub growth_next : hub_contract_checked q ≡ first growth
     growth_next = ap first all-checks ∙ append_passes (given_of q) growth given
 
@@ -134,11 +135,11 @@ module _ (q : HubCall) (g : Given q) where
   made_fit = each-made (ContractFits (end_width form)) (λ m b p most.
       in_range_fits form q.nodes (made m) few-nodes (record { source-below = b; sink-below = g.sunk; quantity-sized = most }) g.held)
 
-  made_pass : Each (λ c. first (contract_checks q.nodes c) ≡ Passed) (contracts_made q)
+  made_pass : Each (λ c. first (contract_checks q.nodes c) ≡ passed) (contracts_made q)
   unfolding contract_checks
-  made_pass = each-made (λ c. first (contract_checks q.nodes c) ≡ Passed) pass
+  made_pass = each-made (λ c. first (contract_checks q.nodes c) ≡ passed) pass
     where
-      pass : (m : ℕ) → m < hub_ends q → 0 < (made m).quantity.0 → (made m).quantity.0 ≤ max_quantity → first (contract_checks q.nodes (made m)) ≡ Passed
+      pass : (m : ℕ) → m < hub_ends q → 0 < (made m).quantity.0 → (made m).quantity.0 ≤ max_quantity → first (contract_checks q.nodes (made m)) ≡ passed
       pass m b p most =
           let from : m < q.nodes = omega (arith, ends-fewer form q.nodes) in
           let to : q.sink < q.nodes = omega (arith, g.sunk, ends-fewer form q.nodes) in
@@ -156,8 +157,8 @@ module _ (q : HubCall) (g : Given q) where
   pub grown : count_grown q ≤ max_contracts → Made form q.nodes (book_in q.book ++ contracts_made q)
   grown few =
       book-made form q.nodes (book_in q.book ++ contracts_made q) (omega (arith, count-all)) all_fit
-      (each_append (λ c. first (contract_checks q.nodes c) ≡ Passed) (book_in q.book) (contracts_made q)
-      (each-list_to (λ c. first (contract_checks q.nodes c) ≡ Passed) (contract_count_in q.book) (contract_at q.book)
+      (each_append (λ c. first (contract_checks q.nodes c) ≡ passed) (book_in q.book) (contracts_made q)
+      (each-list_to (λ c. first (contract_checks q.nodes c) ≡ passed) (contract_count_in q.book) (contract_at q.book)
       (contracts-pass q.nodes q.book (own_parts q.nodes q.book g.own).1))
       made_pass)
 

@@ -1,6 +1,6 @@
 -- THE THEOREMS of adding a hub contract (document 02, paper 7), each for every call that the checks accept. What they stand on is in Growing.antt and Sums.antt.
 use mathlib.Core.Path.{◌≡◌}
-use Rattle.tariff.specs.declared.refusals.Checked.TheVariants.{Passed}
+use Rattle.tariff.specs.Refusals.{passed}
 use Rattle.layouts.specs.BookFile.{book_in}
 use Rattle.hub_rules.proofs.Contracts.{add_up, rows_of}
 use Rattle.hub_book.specs.AddHubContract.{HubCall, contracts_made, hub_contract_checked, book_grown}
@@ -8,7 +8,7 @@ use Rattle.hub_book.specs.Theorems.{HubMade, Grown}
 use Rattle.hub_book.proofs.Growing.{passed_parts, given_is, hub-of_nodes, made_fit, grown}
 use Rattle.hub_book.proofs.Sums.{flow-both, total-both}
 
-module _ (q : HubCall) (pass : hub_contract_checked q ≡ Passed) where
+module _ (q : HubCall) (pass : hub_contract_checked q ≡ passed) where
   pub hub-made : HubMade q
   hub-made =
       let g = given_is q (passed_parts q pass).0 in

@@ -2,7 +2,7 @@
 use Rattle.std.specs.Prelude.{◌≡◌, List, ◌++◌, ℕ, ◌+ℤ◌}
 use Rattle.lists.specs.Lists.{Each}
 use Rattle.tariff.specs.declared.contracts.Period.{Period}
-use Rattle.tariff.specs.declared.refusals.Checked.TheVariants.{Passed}
+use Rattle.tariff.specs.Refusals.{passed}
 use Rattle.tariff.specs.ContractRules.{of_period}
 use Rattle.tariff.specs.Feasibility.{total_flow}
 use Rattle.tariff.specs.Refusals.{first}
@@ -22,7 +22,7 @@ pub record HubMade (q : HubCall) : Type 0 where
   pub fitting : Each (ContractFits (end_width (book_form_in q.book))) (contracts_made q)
 
 pub record Grown (q : HubCall) (file : List ℕ) : Type 0 where
-  pub accepted : first (book_checks q.nodes file) ≡ Passed
+  pub accepted : first (book_checks q.nodes file) ≡ passed
   pub form-kept : book_form_in file ≡ book_form_in q.book
   -- "the rest join the book's end"
   pub contracts : book_in file ≡ book_in q.book ++ contracts_made q

@@ -3,17 +3,16 @@
 
 ghost use Rattle.std.specs.Prelude.{◌≡◌, ◌<◌, length};
 ghost use Rattle.lists.specs.Lent.{before, after, overwrite};
-ghost use Rattle.tariff.specs.declared.refusals.Checked.TheVariants.{Passed};
-ghost use Rattle.tariff.specs.Refusals.{first};
+ghost use Rattle.tariff.specs.Refusals.{passed, first};
 ghost use Rattle.layouts.specs.BookFile.{contract_count_in};
 ghost use Rattle.hub_book.specs.AddHubContract.{hub_call, AddsHub};
 ghost use Rattle.book_growth.specs.Inner.{Whole};
 ghost use Rattle.hub_book.specs.Inner.{term_checks, given_checks, terms_call, row_contract, HubRoom, grown_front};
 
-use layouts::{Form, WriteAnswer};
-use tariff::{Checked, Contract, Kind, MAX_HOLDER, MAX_HUB_NODES, Period, Quantity, Refusal};
+use book_bits::Contracts;
+use tariff::{Contract, Kind, MAX_HOLDER, MAX_HUB_NODES, Period, Quantity, Refusal};
 
-// What a hub contract says beside its hub and its quantity.
+// What a hub contract says beside its hub and its quantity. Kind and period are numbers as C gives them: `check_terms` refuses those that are none (17, 18).
 #[derive(Clone, Copy)]
 struct Terms {
     kind: u64,
@@ -23,33 +22,32 @@ struct Terms {
 }
 
 // 17, 18, 11 for the hub's nodes, 11 for the sink, 13; ends are held to be below a number.
-fn check_terms(below: usize, terms: Terms, hub: &[u64], quantity: u64) -> Checked
+fn check_terms(below: usize, terms: Terms, hub: &[u64], quantity: u64) -> Result<(), Refusal>
     requires { 0 < below }
     ensures { result ≡ first (term_checks below terms hub.now quantity) }
 {
     if 1 < terms.kind {
-        return Checked::Refused(Refusal::PeriodOrKind);
+        return Err(Refusal::PeriodOrKind);
     }
     if 1 < terms.period {
-        return Checked::Refused(Refusal::PeriodOrKind);
+        return Err(Refusal::PeriodOrKind);
     }
     if MAX_HOLDER < terms.holder {
-        return Checked::Refused(Refusal::HolderRange);
+        return Err(Refusal::HolderRange);
     }
     if grid_tables::listed_outside(below, hub) {
-        return Checked::Refused(Refusal::NodeNumber);
+        return Err(Refusal::NodeNumber);
     }
-    let bound = below as u64;
-    if bound <= terms.sink {
-        return Checked::Refused(Refusal::NodeNumber);
+    if below as u64 <= terms.sink {
+        return Err(Refusal::NodeNumber);
     }
     if tariff::quantity_bad(quantity) {
-        return Checked::Refused(Refusal::QuantityRange);
+        return Err(Refusal::QuantityRange);
     }
-    Checked::Passed
+    Ok(())
 }
 
-// The book's own checks, those of the terms, 24, 25.
+// The book's own checks, those of the terms, 24, 25. `hub` and `weights` stand apart here and below as C lends them: the entry takes two lists.
 fn check_given(
     nodes: usize,
     book: &[u8],
@@ -57,60 +55,51 @@ fn check_given(
     hub: &[u64],
     weights: &[u64],
     quantity: u64,
-) -> Checked
+) -> Result<(), Refusal>
     ensures { result ≡ first (given_checks nodes book.now terms hub.now weights.now quantity) }
 {
-    if let Checked::Refused(refusal) = book_checks::check_own(nodes, book) {
-        return Checked::Refused(refusal);
-    }
+    book_checks::check_own(nodes, book)?;
     let form = book_bits::book_form(book);
     let below = form.ends_below(nodes);
-    if let Checked::Refused(refusal) = check_terms(below, terms, hub, quantity) {
-        return Checked::Refused(refusal);
-    }
+    check_terms(below, terms, hub, quantity)?;
     hub_checks::check_shape(hub, weights)
 }
 
-// The contract of row i.
+// The contract of row i. Sources and quantities are two lists, of which the first `made` count, here and below: `HubRoom` and `grown_front` say the rows so.
 fn row_at(terms: Terms, sources: &[u64], quantities: &[u64], i: usize) -> Contract
     requires { (i < length sources.now) × (i < length quantities.now) }
     ensures { result ≡ row_contract terms sources.now quantities.now i }
 {
-    let kind = Kind::from_number(terms.kind);
-    let period = Period::from_number(terms.period);
-    let source = sources[i] as usize;
-    let sink = terms.sink as usize;
-    let quantity = Quantity(quantities[i]);
     Contract {
-        kind,
-        period,
+        kind: Kind::from(terms.kind),
+        period: Period::from(terms.period),
         holder: terms.holder,
-        source,
-        sink,
-        quantity,
+        source: sources[i] as usize,
+        sink: terms.sink as usize,
+        quantity: Quantity(quantities[i]),
     }
 }
 
-// Writes a book of `count` contracts with `made` rows behind them: its bytes under a new header, then row by row.
+// Writes a book with `made` rows behind its contracts: its bytes under a new header, then row by row. What stands at `book_writing::write_contracts` holds here.
 fn write_grown(
-    book: &[u8],
-    form: Form,
-    count: usize,
+    contracts: Contracts,
     terms: Terms,
     made: usize,
     sources: &[u64],
     quantities: &[u64],
     file: &mut [u8],
 )
-    requires { Whole form book.now × (contract_count_in book.now ≡ count) × HubRoom form count terms made sources.now quantities.now file.old }
-    ensures { after file ≡ overwrite (grown_front form count terms made sources.now quantities.now book.now) (before file) }
+    requires whole { Whole contracts.form contracts.file.now × (contract_count_in contracts.file.now ≡ contracts.count) }
+    requires room { HubRoom contracts.form contracts.count terms made sources.now quantities.now file.old }
+    ensures { after file ≡ overwrite (grown_front contracts.entry.form contracts.entry.count terms made sources.now quantities.now contracts.entry.file.now)
+        (before file) }
 {
-    book_growth::keep_contracts(book, form, count + made, file);
-    let mut i = 0;
-    while i < made {
+    let count = contracts.count;
+    let form = contracts.form;
+    book_growth::keep_contracts(contracts.file, form, count + made, file);
+    for i in 0..made {
         let c = row_at(terms, sources, quantities, i);
         book_bits::store_contract(file, form, count + i, c);
-        i += 1;
     }
 }
 
@@ -123,8 +112,8 @@ fn add_made(
     weights: &[u64],
     quantity: u64,
     file: &mut [u8],
-) -> WriteAnswer
-    requires { first (given_checks nodes book.now terms hub.now weights.now quantity) ≡ Passed }
+) -> Result<usize, Refusal>
+    requires { first (given_checks nodes book.now terms hub.now weights.now quantity) ≡ passed }
     ensures { AddsHub (terms_call nodes book.now terms hub.now weights.now quantity (before file)) result (after file) }
 {
     let mut sources = [0u64; MAX_HUB_NODES];
@@ -137,15 +126,13 @@ fn add_made(
         &mut sources,
         &mut quantities,
     );
-    let count = book_bits::contract_count(book);
-    let form = book_bits::book_form(book);
-    let grown = count + made;
-    if let Checked::Refused(refusal) = book_growth::check_room(form, grown, file.len()) {
-        return WriteAnswer::Refused(refusal);
-    }
+    let contracts = Contracts::of(book);
+    let form = contracts.form;
+    let grown = contracts.count + made;
+    book_growth::check_room(form, grown, file.len())?;
     let bytes = form.book_bytes(grown);
-    write_grown(book, form, count, terms, made, &sources, &quantities, file);
-    WriteAnswer::Written { bytes }
+    write_grown(contracts, terms, made, &sources, &quantities, file);
+    Ok(bytes)
 }
 
 // Adds the contracts of a hub contract to a book for a grid of `nodes` nodes.
@@ -160,7 +147,7 @@ pub fn add_hub_contract(
     sink: u64,
     quantity: u64,
     file: &mut [u8],
-) -> WriteAnswer
+) -> Result<usize, Refusal>
     ensures { AddsHub (hub_call nodes book.now kind period holder hub.now weights.now sink quantity (before file)) result (after file) }
 {
     let terms = Terms {
@@ -169,8 +156,6 @@ pub fn add_hub_contract(
         holder,
         sink,
     };
-    match check_given(nodes, book, terms, hub, weights, quantity) {
-        Checked::Refused(refusal) => WriteAnswer::Refused(refusal),
-        Checked::Passed => add_made(nodes, book, terms, hub, weights, quantity, file),
-    }
+    check_given(nodes, book, terms, hub, weights, quantity)?;
+    add_made(nodes, book, terms, hub, weights, quantity, file)
 }

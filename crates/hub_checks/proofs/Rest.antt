@@ -1,57 +1,53 @@
 -- Laws of what is left of a list from a place on: a search, a sum, and nodes that stand again.
-use mathlib.Core.Path.{◌≡◌, sym, ap, ◌∙◌}
+use mathlib.Core.Path.{◌≡◌, refl, sym, ap, ◌∙◌}
 use mathlib.Core.Bool.{Bool, true, false, ◌||◌}
-use mathlib.Core.List.{List, ◌∷◌}
-use Prim.Native.Nat.{ℕ, ◌+◌, ◌≤◌, ◌<◌}
+use mathlib.Core.List.{List, [], ◌∷◌}
+use Rattle.std.specs.List.{list_any, sum}
+use Rattle.std.proofs.lemmas.List.{take_all, length-drop}
+use Rattle.std.proofs.lemmas.List.Sums.{sum_by-cons}
+use Prim.Native.Nat.{ℕ, ◌+◌, ◌-◌, ◌*◌, ◌≤◌, ◌<◌}
 use native.Mathlib.Numerals.{add-one}
-use lib.ListN.{length, get_or, drop, drop_of_length-le}
+use native.Mathlib.Omega.{arith}
+use lib.ListN.{length, get_or, take, drop, drop_of_length-le}
 use lib.Seq.{drop-cons}
 use borrow.Author.Tests.{ltb-false}
 use lib.Dec.{ltb, eqb}
 use Rattle.lists.specs.Lists.{any_of}
-use Rattle.lists.proofs.Search.{neither, none-bad}
+use Rattle.lists.proofs.Search.{neither}
 use Rattle.tariff.specs.Units.{hub_weight}
+use Rattle.grid_tables.proofs.Cells.{searched}
 use Rattle.hub_rules.specs.Hubs.{sum_by_of, weight_bad_of, listed, twice}
 
 -- the element at a place, then the rest
 pub rest-cons : {A : Type 0} (xs : List A) (i : ℕ) (d : A) → i < length xs → drop i xs ≡ get_or xs i d ∷ drop (i + 1) xs
 rest-cons xs i d h = rw (add-one) (drop-cons xs i d h)
 
--- ---- a search
-
-module _ {A : Type 0} (bad : A → Bool) (xs : List A) (i : ℕ) where
-  any_of_rest : (d : A) → i < length xs → any_of bad (drop i xs) ≡ (bad (get_or xs i d) || any_of bad (drop (i + 1) xs))
-  unfolding any_of
-  any_of_rest d h = ap (any_of bad) (rest-cons xs i d h)
-
-  pub any_of_here : (d : A) → i < length xs → bad (get_or xs i d) ≡ true → true ≡ any_of bad (drop i xs)
-  any_of_here d h e = sym (any_of_rest d h ∙ rw e)
-
-  pub any_of_later : (d : A) → i < length xs → bad (get_or xs i d) ≡ false → any_of bad (drop i xs) ≡ any_of bad (drop (i + 1) xs)
-  any_of_later d h e = any_of_rest d h ∙ rw e
-
-  pub any_of_over : length xs ≤ i → false ≡ any_of bad (drop i xs)
-  unfolding any_of
-  any_of_over h = rw (drop_of_length-le xs h)
-
 -- ---- a sum
 
-module _ (f : ℕ → ℕ) (ws : List ℕ) (i : ℕ) where
-  pub sum-rest : i < length ws → sum_by_of f (drop i ws) ≡ f (get_or ws i 0) + sum_by_of f (drop (i + 1) ws)
-  unfolding sum_by_of
-  sum-rest h = ap (sum_by_of f) (rest-cons ws i 0 h)
+pub sum-rest : (f : ℕ → ℕ) (ws : List ℕ) (i : ℕ) → i < length ws → sum_by_of f (drop i ws) ≡ f (get_or ws i 0) + sum_by_of f (drop (i + 1) ws)
+unfolding sum_by_of
+sum-rest f ws i h = ap (sum_by_of f) (rest-cons ws i 0 h)
 
-  pub sum_over : length ws ≤ i → sum_by_of f (drop i ws) ≡ 0
-  unfolding sum_by_of
-  sum_over h = rw (drop_of_length-le ws h)
+-- the library's sum
+pub summed : (ws : List ℕ) → sum ws ≡ sum_by_of (λ w. w) ws
+unfolding sum_by_of
+summed [] = refl
+summed (w ∷ ws) = sum_by-cons (λ x. x) w ws ∙ ap (λ s. w + s) (summed ws)
 
--- a weight in range
-pub weight_small : (ws : List ℕ) → any_of weight_bad_of ws ≡ false → (i : ℕ) → i < length ws → get_or ws i 0 ≤ hub_weight
-weight_small ws e i h =
-    let w = get_or ws i 0 in
-    ltb-false hub_weight w (neither (eqb w 0) (ltb hub_weight w) (none-bad weight_bad_of ws 0 e i h)).1
+-- weights in range
+pub weights_small : (ws : List ℕ) → any_of weight_bad_of ws ≡ false → sum_by_of (λ w. w) ws ≤ hub_weight * length ws
+unfolding any_of sum_by_of
+weights_small [] e = omega arith
+weights_small (w ∷ ws) e =
+    let here = neither (weight_bad_of w) (any_of weight_bad_of ws) e in
+    omega (arith, ltb-false hub_weight w (neither (eqb w 0) (ltb hub_weight w) here.0).1, weights_small ws here.1)
 
 -- ---- a node that stands again
+
+-- a node among those behind place i, as the library's search tells it
+pub told-behind : (ns : List ℕ) (i m : ℕ) (b : Bool) → b ≡ list_any (λ y. eqb y m) (take (length ns - (i + 1)) (drop (i + 1) ns)) → listed (drop (i + 1) ns) m ≡ b
+told-behind ns i m b e =
+    sym (e ∙ searched _ _ ∙ ap (any_of (λ y. eqb y m)) (take_all (length ns - (i + 1)) (drop (i + 1) ns) (omega (arith, length-drop (i + 1) ns))))
 
 module _ (ns : List ℕ) (i : ℕ) where
   twice-rest : i < length ns → twice (drop i ns) ≡ (listed (drop (i + 1) ns) (get_or ns i 0) || twice (drop (i + 1) ns))

@@ -6,7 +6,7 @@ use native.Mathlib.Omega.{arith}
 use borrow.Author.Tests.{le-ltb}
 use lib.ListN.{get_or}
 use lib.IntN.{ℤ, pos, nat_abs}
-use Rattle.tariff.specs.declared.refusals.Checked.TheVariants.{Passed}
+use Rattle.tariff.specs.Refusals.{passed}
 use Rattle.tariff.specs.declared.units.Mcc.{Mcc}
 use Rattle.tariff.specs.Units.{hub_weight}
 use Rattle.tariff.specs.Inner.{max_mcc}
@@ -22,9 +22,8 @@ use Rattle.hub_rules.specs.Hubs.{hub_shape, hub_twice, hub_sum, hub_quotient}
 use Rattle.hub_rules.specs.Inner.{IsHub}
 use Rattle.hub_rules.proofs.Sharing.{is-hub}
 use Rattle.hub_rules.proofs.Theorems.{hub-mcc_exact}
-use Rattle.hub_mcc.specs.declared.HubMccAnswer.{HubMccAnswer}
-use Rattle.hub_mcc.specs.declared.HubMccAnswer.TheVariants.{Found}
-use Rattle.hub_mcc.specs.FindHubMcc.{FindHubMccCall, hub_mcc_outcome, find_hub_mcc_checks, find_hub_mcc_checked, hub_factors, hub_prices}
+use Rattle.hub_mcc.specs.FindHubMcc.{HubMccAnswer}
+use Rattle.hub_mcc.specs.FindHubMcc.{hub_mcc_found, FindHubMccCall, hub_mcc_outcome, find_hub_mcc_checks, find_hub_mcc_checked, hub_factors, hub_prices}
 use Rattle.hub_mcc.specs.FindHubMcc.{quotient_given, remainder_given, IsExact}
 use Rattle.hub_mcc.proofs.Weighing.{sum-sized}
 
@@ -43,11 +42,11 @@ module _ (q : FindHubMccCall) where
       let room = first_passes (short_table q.nodes q.nodes) _ (le-ltb q.nodes q.nodes (omega arith)) in
       first_under _ _ _ (first_under _ _ _ (first_passes _ _ refl ∙ first_under _ _ _ (first_under _ _ _ room)))
 
-  pub some_node : first all_nodes ≡ Passed → 0 < q.nodes
+  pub some_node : first all_nodes ≡ passed → 0 < q.nodes
   unfolding hour_table_checks
   some_node e = nodes-some_of q.nodes (passed_cons _ _ e).0
 
-  pub ready : find_hub_mcc_checked q ≡ Passed → Hour q.nodes q.constraints q.factors q.prices × IsHub q.nodes q.hub-nodes q.hub-weights
+  pub ready : find_hub_mcc_checked q ≡ passed → Hour q.nodes q.constraints q.factors q.prices × IsHub q.nodes q.hub-nodes q.hub-weights
   ready e =
       let parts = passed_append all_nodes the_hub (as_for_all ∙ e) in
       let eleven = passed_cons _ _ parts.1 in
@@ -62,7 +61,7 @@ module _ (q : FindHubMccCall) where
   given-exact quotient remainder eq er = let e = hub-mcc_exact (hub_factors q) (hub_prices q) q.hub-nodes q.hub-weights in rw (eq, er) (e.whole, e.small)
 
   -- an MCC's size
-  pub quotient_sized : find_hub_mcc_checked q ≡ Passed → nat_abs (quotient_given q) ≤ max_mcc
+  pub quotient_sized : find_hub_mcc_checked q ≡ passed → nat_abs (quotient_given q) ≤ max_mcc
   unfolding hub_quotient
   quotient_sized e =
       let r = ready e in
@@ -70,7 +69,7 @@ module _ (q : FindHubMccCall) where
       floor_sized (hub_sum (hub_factors q) (hub_prices q) q.hub-nodes q.hub-weights) max_mcc hub_weight (omega arith) (omega (arith, size, r.1.together))
 
   module _ (answer : HubMccAnswer) (told : hub_mcc_outcome answer ≡ answered (find_hub_mcc_checked q) (quotient_given q ∷ pos (remainder_given q) ∷ [])) where
-    module _ (quotient : Mcc) (remainder : ℕ) (found : answer ≡ Found quotient remainder) where
+    module _ (quotient : Mcc) (remainder : ℕ) (found : answer ≡ hub_mcc_found quotient remainder) where
       pub outcome-given : given (quotient.0 ∷ pos remainder ∷ []) ≡ answered (find_hub_mcc_checked q) (quotient_given q ∷ pos (remainder_given q) ∷ [])
       outcome-given = sym (ap hub_mcc_outcome found) ∙ told
 

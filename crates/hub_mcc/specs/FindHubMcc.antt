@@ -1,16 +1,15 @@
 -- Finding the MCC of a hub (document 02, paper 7).
-use Rattle.std.specs.Prelude.{◌≡◌, List, [], ◌∷◌, ◌++◌, ℕ, ◌<◌, take, ℤ, pos, ◌+ℤ◌, ◌*ℤ◌}
+use Rattle.std.specs.Prelude.{◌≡◌, List, [], ◌∷◌, ◌++◌, ℕ, ◌<◌, take, ℤ, pos, ◌+ℤ◌, ◌*ℤ◌, Ok, Err, Result}
 use Rattle.grid_tables.specs.TableChecks.{hour_tables_with}
 use Rattle.lists.specs.Lent.{Lent, before, after}
-use Rattle.tariff.specs.declared.refusals.Checked.{Checked}
-use Rattle.tariff.specs.declared.refusals.Checked.TheVariants.{Passed}
+use Rattle.tariff.specs.Refusals.{Checked, passed}
 use Rattle.tariff.specs.declared.units.Mcc.{Mcc}
 use Rattle.tariff.specs.Units.{Factors, factors_of, hub_weight}
 use Rattle.tariff.specs.Refusals.{Check, first, Outcome, given, refused_by, answered, cell_after, number_after}
 use Rattle.tariff.specs.Checks.{listed_nodes}
 use Rattle.hub_rules.specs.Hubs.{hub_shape, hub_twice, hub_sum, hub_quotient, hub_remainder}
-use Rattle.hub_mcc.specs.declared.HubMccAnswer.{HubMccAnswer}
-use Rattle.hub_mcc.specs.declared.HubMccAnswer.TheVariants.{Found, Refused}
+use Rattle.tariff.specs.declared.refusals.Refusal.{Refusal}
+use Rattle.hub_mcc.specs.declared.HubMcc.{HubMcc}
 
 -- the counts, the tables, and the hub: its nodes and the weights beside them
 pub record FindHubMccCall : Type 0 where
@@ -25,10 +24,17 @@ abbrev pub find_hub_mcc_call : ℕ → ℕ → List ℤ → List ℕ → List �
 find_hub_mcc_call n k factors prices ns ws =
     record { nodes = n; constraints = k; factors = factors; prices = prices; hub-nodes = ns; hub-weights = ws }
 
+-- a hub's MCC, or the refusal
+abbrev pub HubMccAnswer : Type 0
+HubMccAnswer = Result HubMcc Refusal
+
+abbrev pub hub_mcc_found : Mcc → ℕ → HubMccAnswer
+hub_mcc_found quotient remainder = Ok (record { quotient = quotient; remainder = remainder })
+
 -- "quotient rounded down and remainder"
 abbrev pub hub_mcc_outcome : HubMccAnswer → Outcome
-hub_mcc_outcome (Found quotient remainder) = given (quotient.0 ∷ pos remainder ∷ [])
-hub_mcc_outcome (Refused r) = refused_by r
+hub_mcc_outcome (Ok found) = given (found.quotient.0 ∷ pos found.remainder ∷ [])
+hub_mcc_outcome (Err r) = refused_by r
 
 module _ (q : FindHubMccCall) where
   -- "it checks as for all nodes, then 11, 24, 25": 2, 3, 9 (tables; the two figures need no place), 7, 15 and these
@@ -64,11 +70,11 @@ module _ (q : FindHubMccCall) where
 -- the promise: the answer, and that its figures are exact
 pub record FindsHubMcc (q : FindHubMccCall) (answer : HubMccAnswer) : Type 0 where
   pub mcc-found : hub_mcc_outcome answer ≡ answered (find_hub_mcc_checked q) (quotient_given q ∷ pos (remainder_given q) ∷ [])
-  pub exact : find_hub_mcc_checked q ≡ Passed → (quotient : Mcc) (remainder : ℕ) → answer ≡ Found quotient remainder → IsExact q quotient.0 remainder
+  pub exact : find_hub_mcc_checked q ≡ passed → (quotient : Mcc) (remainder : ℕ) → answer ≡ hub_mcc_found quotient remainder → IsExact q quotient.0 remainder
 
 -- the same for C: the refusal's number, and the two figures in lent cells
 pub record FindsHubMccForC (q : FindHubMccCall) (number : ℕ) (quotient : Lent ℤ) (remainder : Lent ℕ) : Type 0 where
   pub refusal-number : number ≡ number_after (find_hub_mcc_checked q)
   pub quotient_given_lem : after quotient ≡ cell_after (find_hub_mcc_checked q) (quotient_given q) (before quotient)
   pub remainder_given_lem : after remainder ≡ cell_after (find_hub_mcc_checked q) (remainder_given q) (before remainder)
-  pub exact : find_hub_mcc_checked q ≡ Passed → IsExact q (after quotient) (after remainder)
+  pub exact : find_hub_mcc_checked q ≡ passed → IsExact q (after quotient) (after remainder)

@@ -2,9 +2,9 @@
 -- which on there are exactly l.
 use mathlib.Core.Path.{◌≡◌, sym, ap, subst, ◌∙◌}
 use mathlib.Core.Bool.{Bool, true, false, not}
-use mathlib.Core.Logic.{◌⊎◌, inl, inr, ⊎_elim}
-use Prim.Native.Nat.{ℕ, suc, ◌+◌, ◌-◌, ◌*◌, ◌/◌, ◌%◌, ◌^◌, ◌≤◌, ◌<◌}
-use native.Mathlib.Nat.{eq-or-lt_of_le, eq-zero-or-pos, div-add-mod', mul-le-mul_left, mul-suc, zero-mul}
+use mathlib.Core.Logic.{⊎_elim}
+use Prim.Native.Nat.{ℕ, suc, ◌+◌, ◌-◌, ◌/◌, ◌^◌, ◌≤◌, ◌<◌}
+use native.Mathlib.Nat.{eq-or-lt_of_le}
 use native.Mathlib.Omega.{arith}
 use lib.Dec.{T, leb, eqb, leb→le, le→leb, nleb→lt, eqb→eq, eqb_refl}
 use Rattle.lists.specs.Sets.{count_of}
@@ -43,7 +43,8 @@ module _ (n : ℕ) (key : ℕ → ℕ) where
 
   pub from_step : Different n key → (x : ℕ) → keys_from_of n key x ≤ keys_from_of n key (suc x) + 1
   from_step apart x =
-      let one : count_of n (λ j. eqb (key j) x) ≤ 1 = count-one n (λ j. eqb (key j) x) (λ i j b c p q. apart i j b c (eqb→eq (key i) x p ∙ sym (eqb→eq (key j) x q))) in
+      let one : count_of n (λ j. eqb (key j) x) ≤ 1 =
+      count-one n (λ j. eqb (key j) x) (λ i j b c p q. apart i j b c (eqb→eq (key i) x p ∙ sym (eqb→eq (key j) x q))) in
       omega (
         arith,
         count-is_sum n (λ j. leb x (key j)),
@@ -64,11 +65,3 @@ module _ (n : ℕ) (key : ℕ → ℕ) where
   met apart l low enough high fewer b g h =
       let next : keys_from_of n key high ≡ keys_from_of n key (suc low) = ap (keys_from_of n key) (omega arith) in
       omega (arith, b.enough-is, b.fewer_is, b.is-enough, b.is-fewer, next, from_step apart low)
-
--- a step by how the keys are spread stays below the whole
-pub step_small : (x d e : ℕ) → 0 < x → e < d → x / d * e < x
-step_small x d e some h = by (x / d) (div-add-mod' x d) (eq-zero-or-pos (x / d))
-  where
-    by : (q : ℕ) → q * d + x % d ≡ x → (q ≡ 0) ⊎ (0 < q) → q * e < x
-    by q s (inl z) = rw z (omega (arith, zero-mul e))
-    by q s (inr p) = omega (arith, mul-le-mul_left q h, mul-suc q e)

@@ -27,7 +27,9 @@ module _ (rest : ℕ → ℕ) where
       by false false c f g h t = absurd t
 
   pub later : (j i : ℕ) → Earlier (rest j) j (rest i) i → T (before_by rest j i)
-  later j i = by (ltb (rest i) (rest j)) (eqb (rest j) (rest i)) (ltb j i) (lt→ltb (rest i) (rest j)) (λ e. subst (λ (x : ℕ). T (eqb (rest j) x)) e (eqb_refl (rest j))) (lt→ltb j i)
+  later j i =
+      by (ltb (rest i) (rest j)) (eqb (rest j) (rest i)) (ltb j i) (lt→ltb (rest i) (rest j))
+      (λ e. subst (λ (x : ℕ). T (eqb (rest j) x)) e (eqb_refl (rest j))) (lt→ltb j i)
     where
       by : (a b c : Bool) → (rest i < rest j → T a) → (rest j ≡ rest i → T b) → (j < i → T c) → Earlier (rest j) j (rest i) i → T (a || (b && c))
       by true b c f g h t = tt
@@ -90,7 +92,8 @@ module _ (rest : ℕ → ℕ) where
   key_small w top i b h = omega (arith, mul-le-mul_right w h)
 
   -- so the rank is that by a table of keys
-  pub rank-by_key : (n w : ℕ) (key : ℕ → ℕ) → n ≤ w → ((j : ℕ) → j < n → key j ≡ remainder_key rest w j) → (i : ℕ) → i < n → rank_of n (above_by key) i ≡ rank_of n (before_by rest) i
+  pub rank-by_key : (n w : ℕ) (key : ℕ → ℕ) → n ≤ w → ((j : ℕ) → j < n → key j ≡ remainder_key rest w j) → (i : ℕ) → i < n
+      → rank_of n (above_by key) i ≡ rank_of n (before_by rest) i
   unfolding rank_of
   rank-by_key n w key h k i b = count_same n (λ j. above_by key j i) (λ j. before_by rest j i)
       (λ j c. ap₂ ltb (k i b) (k j c) ∙ sym (by_key w j i (omega arith) (omega arith)))

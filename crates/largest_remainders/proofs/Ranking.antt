@@ -30,7 +30,8 @@ module _ (n : ℕ) (rank : ℕ → ℕ) (small : (i : ℕ) → i < n → rank i 
   under_step : (l : ℕ) → under (suc l) ≤ under l + 1
   unfolding under
   under_step l =
-      let one : count_of n (λ i. eqb (rank i) l) ≤ 1 = count-one n (λ i. eqb (rank i) l) (λ i j b c p q. apart i j b c (same (rank i) (rank j) (eqb→eq (rank i) l p) (eqb→eq (rank j) l q))) in
+      let one : count_of n (λ i. eqb (rank i) l) ≤ 1 =
+      count-one n (λ i. eqb (rank i) l) (λ i j b c p q. apart i j b c (same (rank i) (rank j) (eqb→eq (rank i) l p) (eqb→eq (rank j) l q))) in
       omega (
         arith,
         count-is_sum n (λ i. ltb (rank i) (suc l)),

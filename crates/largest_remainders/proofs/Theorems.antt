@@ -71,7 +71,8 @@ module _ (n : ℕ) (weight : ℕ → ℕ) (size : ℕ) (some : 0 < total_weight 
         leftover-is n weight size some,
       )
 
-  pub near : (i : ℕ) → (share n weight size i * total_weight n weight < size * weight i + total_weight n weight) × (size * weight i < share n weight size i * total_weight n weight + total_weight n weight)
+  pub near : (i : ℕ) → (share n weight size i * total_weight n weight < size * weight i + total_weight n weight)
+      × (size * weight i < share n weight size i * total_weight n weight + total_weight n weight)
   unfolding share
   near i = by (given_one n weight size i) (to_positive i)
     where
@@ -82,10 +83,12 @@ module _ (n : ℕ) (weight : ℕ → ℕ) (size : ℕ) (some : 0 < total_weight 
       by false f = omega (arith, split n weight size some i, rest_lt n weight size some i, some)
 
   pub no_weight : (i : ℕ) → weight i ≡ 0 → share n weight size i ≡ 0
-  no_weight i e = omega (arith, lt_of_mul-lt-mul_right (total_weight n weight) {m = share n weight size i} {n = 1} (omega (arith, (near i).0, ap (λ (x : ℕ). size * x) e)))
+  no_weight i e =
+      omega (arith, lt_of_mul-lt-mul_right (total_weight n weight) {m = share n weight size i} {n = 1} (omega (arith, (near i).0, ap (λ (x : ℕ). size * x) e)))
 
   pub no_size : size ≡ 0 → (i : ℕ) → share n weight size i ≡ 0
-  no_size e i = omega (arith, lt_of_mul-lt-mul_right (total_weight n weight) {m = share n weight size i} {n = 1} (omega (arith, (near i).0, ap (λ (x : ℕ). x * weight i) e)))
+  no_size e i =
+      omega (arith, lt_of_mul-lt-mul_right (total_weight n weight) {m = share n weight size i} {n = 1} (omega (arith, (near i).0, ap (λ (x : ℕ). x * weight i) e)))
 
   pub largest_first : (i j : ℕ) → i < n → j < n → T (given_one n weight size i) → T (not (given_one n weight size j)) → T (before_by (rest n weight size) i j)
   unfolding rank

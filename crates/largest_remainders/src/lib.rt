@@ -2,7 +2,6 @@
 #![tactic(auto)]
 
 ghost use Rattle.std.specs.Prelude.{◌≡◌, ℕ, ◌+◌, ◌≤◌, ◌<◌, length};
-ghost use Rattle.lists.specs.Lent.{before};
 ghost use Rattle.largest_remainders.specs.Inner.{key_limit, key_at, Searchable};
 ghost use Rattle.largest_remainders.specs.Ranks.{keys_from_of};
 
@@ -12,64 +11,70 @@ const KEY_LIMIT: u64 = 1 << 63;
 // So many turns of the search go by how the keys are spread.
 const SPREAD_TURNS: u64 = 6;
 
-// How many of the first `count` keys are `least` or above: with `lift` added, those and no others have bit 63. One addition and one shift a key, and no branch.
-fn keys_from(keys: &[u64], count: usize, least: u64) -> u64
-    requires { (count ≤ length keys.now) × (least ≤ key_limit) × ((i : ℕ) → i < count → key_at keys.now i < key_limit) }
-    ensures { result ≡ keys_from_of count (key_at keys.now) least }
+// A number, and how many keys are that or above.
+#[derive(Clone, Copy)]
+struct Edge {
+    at: u64,
+    keys: u64,
+}
+
+// How many keys are `least` or above: with `lift` added, those and no others have bit 63. One addition and one shift a key, and no branch.
+fn keys_from(keys: &[u64], least: u64) -> u64
+    requires { (least ≤ key_limit) × ((i : ℕ) → i < length keys.now → key_at keys.now i < key_limit) }
+    ensures { result ≡ keys_from_of (length keys.now) (key_at keys.now) least }
 {
     let lift = KEY_LIMIT - least;
     let mut many = 0;
-    let mut i = 0;
-    while i < count {
-        many += (keys[i] + lift) >> 63;
-        i += 1;
+    for key in keys {
+        many += (*key + lift) >> 63;
     }
     many
 }
 
-// A number between two, from which on `enough` and `fewer` keys are: where `wanted` keys would be from, were the keys between them spread evenly. After some
-// turns it is the one half way, so that the turns stay few however they are spread.
-fn between(low: u64, high: u64, enough: u64, fewer: u64, wanted: u64, turn: u64) -> u64
-    requires { (low + 1 < high) × (fewer < wanted) × (wanted ≤ enough) }
-    ensures { (low < result) × (result < high) }
+// A number between two, with enough keys from `low` on and too few from `high` on: where `wanted` keys would be from, were the keys between them spread evenly.
+// After some turns it is the one half way, so that the turns stay few however they are spread.
+fn between(low: Edge, high: Edge, wanted: u64, turn: u64) -> u64
+    requires { (low.at + 1 < high.at) × (high.keys < wanted) × (wanted ≤ low.keys) }
+    ensures { (low.at < result) × (result < high.at) }
 {
-    let step = (high - low) / (enough - fewer) * (enough - wanted);
-    if step == 0 {
-        return low + (high - low) / 2;
+    let step = (high.at - low.at) / (low.keys - high.keys) * (low.keys - wanted);
+    if step == 0 || SPREAD_TURNS <= turn {
+        low.at + (high.at - low.at) / 2
+    } else {
+        low.at + step
     }
-    if SPREAD_TURNS <= turn {
-        return low + (high - low) / 2;
-    }
-    low + step
 }
 
-// A number such that exactly `wanted` of the first `count` keys are that or above: the first that is met.
-pub fn threshold(keys: &[u64], count: usize, top: u64, wanted: u64) -> u64
-    requires { Searchable keys.now count top wanted }
-    ensures { keys_from_of count (key_at keys.now) result ≡ wanted }
+// A number such that exactly `wanted` keys are that or above: the first that is met.
+pub fn threshold(keys: &[u64], top: u64, wanted: u64) -> u64
+    requires { Searchable keys.now (length keys.now) top wanted }
+    ensures { keys_from_of (length keys.now) (key_at keys.now) result ≡ wanted }
 {
     if wanted == 0 {
         return top;
     }
-    let mut low = 0;
-    let mut enough = count as u64;
-    let mut high = top;
-    let mut fewer = 0;
+    let mut low = Edge {
+        at: 0,
+        keys: keys.len() as u64,
+    };
+    let mut high = Edge { at: top, keys: 0 };
     let mut turn = 0;
-    while 1 < high - low {
-        let middle = between(low, high, enough, fewer, wanted, turn);
-        let many = keys_from(keys, count, middle);
+    // No `for`: the edges close in, by how the keys are spread and then by halves.
+    while 1 < high.at - low.at {
+        let at = between(low, high, wanted, turn);
+        let middle = Edge {
+            at,
+            keys: keys_from(keys, at),
+        };
         turn += 1;
-        if many == wanted {
-            return middle;
+        if middle.keys == wanted {
+            return at;
         }
-        if many < wanted {
+        if middle.keys < wanted {
             high = middle;
-            fewer = many;
         } else {
             low = middle;
-            enough = many;
         }
     }
-    low
+    low.at
 }

@@ -1,14 +1,13 @@
 -- What inner functions and proofs say: a writer's answer as a lent figure takes it, contracts that a book's fields can hold, and a contract as one number.
-use Rattle.std.specs.Prelude.{ℕ, ◌+◌, ◌/◌, ◌%◌, ◌^◌}
+use Rattle.std.specs.Prelude.{ℕ, ◌+◌, ◌/◌, ◌%◌, ◌^◌, Ok, Err}
 use Rattle.tariff.specs.declared.contracts.Contract.{Contract}
-use Rattle.layouts.specs.declared.WriteAnswer.{WriteAnswer}
-use Rattle.layouts.specs.declared.WriteAnswer.TheVariants.{Written, Refused}
+use Rattle.layouts.specs.Writing.{WriteAnswer}
 use Rattle.layouts.specs.BookFile.{contract}
 
 -- a lent figure that takes the length
 abbrev pub length_after : WriteAnswer → ℕ → ℕ
-length_after (Written n) entry = n
-length_after (Refused r) entry = entry
+length_after (Ok n) entry = n
+length_after (Err r) entry = entry
 
 -- the contract whose bits are v, with ends of w bits
 abbrev pub contract_for : ℕ → ℕ → Contract

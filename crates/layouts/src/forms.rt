@@ -10,33 +10,34 @@ use crate::{
 };
 use tariff::{MAX_NARROW_NODES, MAX_NODES};
 
-#[derive(Clone, Copy)]
+#[derive(Clone, Copy, Debug, PartialEq, Eq)]
 pub enum Form {
-    Narrow,
-    Wide,
+    Narrow = 0,
+    Wide = 1,
 }
 
+// By the number that a caller gives: any number but 0 is the wide form's. Written out: tariff/src/contracts.rt says why.
+impl From<u64> for Form {
+    ghost from_gives = { λ number form. form ≡ form_of number };
+
+    fn from(number: u64) -> Form {
+        match number {
+            0 => Form::Narrow,
+            _ => Form::Wide,
+        }
+    }
+}
+
+impl From<Form> for u64 {
+    ghost from_gives = { λ form number. number ≡ form_number form };
+
+    fn from(form: Form) -> u64 {
+        form as u64
+    }
+}
+
+// What a form fixes: each function is a match whose arms are constants of its own, and a function that took them in would be no plainer.
 impl Form {
-    pub fn number(self) -> u64
-        ensures { result ≡ form_number self }
-    {
-        match self {
-            Form::Narrow => 0,
-            Form::Wide => 1,
-        }
-    }
-
-    // Any number but 0 is the wide form's.
-    pub fn from_number(number: u64) -> Form
-        ensures { result ≡ form_of number }
-    {
-        if number == 0 {
-            Form::Narrow
-        } else {
-            Form::Wide
-        }
-    }
-
     // The most nodes of a grid's file.
     pub fn most_nodes(self) -> usize
         ensures { result ≡ most_nodes_of self }
@@ -86,7 +87,7 @@ impl Form {
         }
     }
 
-    // The bytes of a book of so many contracts.
+    // The bytes of a book of so many contracts. Their bound is a clause: counts are plain numbers, which are compared and added to before there is a book.
     pub fn book_bytes(self, contracts: usize) -> usize
         requires { contracts ≤ max_contracts }
         ensures { result ≡ book_bytes_of self contracts }
@@ -102,13 +103,7 @@ impl Form {
         ensures { result ≡ ends_below_of self nodes }
     {
         match self {
-            Form::Narrow => {
-                if nodes < NARROW_ENDS {
-                    nodes
-                } else {
-                    NARROW_ENDS
-                }
-            }
+            Form::Narrow => nodes.min(NARROW_ENDS),
             Form::Wide => nodes,
         }
     }

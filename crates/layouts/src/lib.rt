@@ -3,13 +3,7 @@
 
 mod forms;
 
-ghost use Rattle.std.specs.Prelude.{◌≡◌};
-ghost use Rattle.lists.specs.Lent.{before, after};
-ghost use Rattle.layouts.specs.Writing.{write_outcome};
-ghost use Rattle.layouts.specs.Inner.{length_after};
-
 pub use forms::Form;
-use tariff::Refusal;
 
 // The bytes of the largest files.
 pub const MAX_BOOK_BYTES: usize = 7002;
@@ -44,25 +38,3 @@ pub const WIDE_CONTRACT_BYTES: usize = 7;
 pub const NARROW_ENDS: usize = 256;
 
 pub const CONTRACT_CELLS: usize = 6;
-
-// What writing a file gives: the bytes written, or the refusal.
-#[derive(Clone, Copy)]
-pub enum WriteAnswer {
-    Written { bytes: usize },
-    Refused(Refusal),
-}
-
-impl WriteAnswer {
-    // The refusal's number, 0 for none; the length goes into a lent figure.
-    pub fn into_cell(self, bytes: &mut usize) -> u64
-        ensures { (result ≡ (write_outcome self).number) × (after bytes ≡ length_after self (before bytes)) }
-    {
-        match self {
-            WriteAnswer::Refused(refusal) => refusal.number(),
-            WriteAnswer::Written { bytes: written } => {
-                *bytes = written;
-                0
-            }
-        }
-    }
-}

@@ -12,7 +12,7 @@ use Rattle.lists.proofs.Lists.{each_append, each-list_to, length-list_to}
 use Rattle.tariff.specs.declared.contracts.Contract.{Contract}
 use Rattle.tariff.specs.declared.contracts.Period.{Period}
 use Rattle.tariff.specs.declared.units.Transfer.{Transfer}
-use Rattle.tariff.specs.declared.refusals.Checked.TheVariants.{Passed}
+use Rattle.tariff.specs.Refusals.{passed}
 use Rattle.tariff.specs.Refusals.{first}
 use Rattle.tariff.specs.Units.{max_entities, max_contracts, max_quantity}
 use Rattle.tariff.proofs.Checks.{first_passes, last-passes}
@@ -35,7 +35,7 @@ use Rattle.migration_pairs.proofs.Pairs.{fits-gained, fits-countered}
 use Rattle.migration_book.specs.Inner.{contracts_to, new_to}
 
 -- a contract of ends below the node count and of a quantity in range passes its own checks
-passes_of : (n : ℕ) (c : Contract) → c.source < n → c.sink < n → 0 < c.quantity.0 → c.quantity.0 ≤ max_quantity → first (contract_checks n c) ≡ Passed
+passes_of : (n : ℕ) (c : Contract) → c.source < n → c.sink < n → 0 < c.quantity.0 → c.quantity.0 ≤ max_quantity → first (contract_checks n c) ≡ passed
 unfolding contract_checks
 passes_of n c hs ht some most =
     first_passes _ _ (rw (lt-leb n c.source hs) (lt-leb n c.sink ht))
@@ -57,13 +57,13 @@ module _ (lost : ℕ → ℕ → ℕ) (loads : List ℕ) (few : length loads ≤
       pairs (c ∷ cs) h = ((λ j q some most above within. (fits-gained w c h.0 q within j (le_trans most few), fits-countered w c h.0 q within)), pairs cs h.1)
 
   -- ends as the base contract's, and 1 to its quantity
-  pub grown_passes : (n : ℕ) (book : List Contract) → Each (λ (c : Contract). first (contract_checks n c) ≡ Passed) book
-      → Each (λ (c : Contract). first (contract_checks n c) ≡ Passed) (new_book lost loads t book)
-  grown_passes n book own = grown_each (λ (c : Contract). first (contract_checks n c) ≡ Passed) book own (pairs book own)
+  pub grown_passes : (n : ℕ) (book : List Contract) → Each (λ (c : Contract). first (contract_checks n c) ≡ passed) book
+      → Each (λ (c : Contract). first (contract_checks n c) ≡ passed) (new_book lost loads t book)
+  grown_passes n book own = grown_each (λ (c : Contract). first (contract_checks n c) ≡ passed) book own (pairs book own)
     where
-      pairs : (book : List Contract) → Each (λ (c : Contract). first (contract_checks n c) ≡ Passed) book
+      pairs : (book : List Contract) → Each (λ (c : Contract). first (contract_checks n c) ≡ passed) book
           → Each (λ (c : Contract). (j q : ℕ) → 0 < j → j ≤ length loads → 0 < q → q ≤ c.quantity.0
-          → (first (contract_checks n (gained c j q)) ≡ Passed) × (first (contract_checks n (countered c q)) ≡ Passed)) book
+          → (first (contract_checks n (gained c j q)) ≡ passed) × (first (contract_checks n (countered c q)) ≡ passed)) book
       pairs [] h = tt
       pairs (c ∷ cs) h =
           let r = contract-in_range n c h.0 in (

@@ -2,7 +2,7 @@
 use mathlib.Core.Path.{◌≡◌, refl, ap, ap₂, ◌∙◌}
 use mathlib.Core.Logic.{⊎_elim}
 use mathlib.Core.List.{List, [], ◌++◌, flat_map}
-use Prim.Native.Nat.{ℕ, zero, suc, ◌+◌, ◌≤◌, ◌<◌}
+use Prim.Native.Nat.{ℕ, zero, suc, ◌+◌, ◌≤◌}
 use native.Mathlib.Nat.{eq-or-lt_of_le, le_trans}
 use native.Mathlib.Numerals.{add-one}
 use native.Mathlib.Omega.{arith}
@@ -12,18 +12,12 @@ use Rattle.lists.proofs.Lists.{flat_map_more}
 use Rattle.tariff.specs.declared.contracts.Period.{Period}
 use Rattle.tariff.specs.declared.units.Transfer.{Transfer}
 use Rattle.layouts.specs.declared.forms.Form.{Form}
-use Rattle.layouts.specs.Forms.{record_bytes}
-use Rattle.layouts.specs.BookFile.{book_bytes_of, contract_in, book_in}
-use Rattle.layouts.proofs.BookFile.{record_room}
+use Rattle.layouts.specs.BookFile.{contract_in, book_in}
 use Rattle.migration_rules.specs.ContractRules.{new_from}
 use Rattle.migration_transfers.specs.Squares.{lost_in}
 use Rattle.migration_book.specs.Inner.{Readable, contracts_to, new_to}
 
--- contract i of a book that can be read has its bytes
-pub contract-there : (f : Form) (m : ℕ) (book : List ℕ) → Readable f m book → (i : ℕ) → i < m → (i < 1024) × (book_bytes_of f i + record_bytes f ≤ length book)
-contract-there f m book ok i h = (omega (arith, ok.few), record_room f i m (length book) h ok.there)
-
--- and its contracts are the book's
+-- the contracts of a book that can be read are the book's
 pub contracts-of : (f : Form) (m : ℕ) (book : List ℕ) → Readable f m book → book_in book ≡ contracts_to f book m
 contracts-of f m book ok = ap₂ (λ (g : Form) (n : ℕ). list_to n (contract_in g book)) ok.whole.form-is ok.count-is
 

@@ -7,7 +7,7 @@ use Rattle.lists.proofs.Lists.{each-list_to}
 use Rattle.bits.proofs.Bytes.{bytes_below}
 use Rattle.bits.specs.Bits.{Bytes}
 use Rattle.tariff.specs.declared.contracts.Contract.{Contract}
-use Rattle.tariff.specs.declared.refusals.Checked.TheVariants.{Passed}
+use Rattle.tariff.specs.Refusals.{passed}
 use Rattle.tariff.specs.Refusals.{first}
 use Rattle.tariff.specs.Units.{max_contracts}
 use Rattle.tariff.specs.ContractRules.{period_of}
@@ -25,11 +25,11 @@ use Rattle.migration_book.specs.MigrateLoad.{MigrateLoadCall, rows_given, contra
 use Rattle.migration_book.proofs.Passing.{input_of, room_for, split, input_figures, input_own}
 use Rattle.migration_book.proofs.Accepted.{grown_fits, grown_passes}
 
-module _ (q : MigrateLoadCall) (pass : migrate_load_checked q ≡ Passed) where
-  input_passed : first (input_of q) ≡ Passed
+module _ (q : MigrateLoadCall) (pass : migrate_load_checked q ≡ passed) where
+  input_passed : first (input_of q) ≡ passed
   input_passed = (passed_append (input_of q) _ (sym (ap first (split q)) ∙ pass)).0
 
-  rest-passed : first (load_exceeded (loss (rows_given q)) q.loads ∷ room_for q) ≡ Passed
+  rest-passed : first (load_exceeded (loss (rows_given q)) q.loads ∷ room_for q) ≡ passed
   rest-passed = (passed_append (input_of q) _ (sym (ap first (split q)) ∙ pass)).1
 
   few-grown : length (contracts_grown q) ≤ max_contracts
@@ -45,9 +45,9 @@ module _ (q : MigrateLoadCall) (pass : migrate_load_checked q ≡ Passed) where
       book-made f q.nodes (contracts_grown q) few-grown
       (grown_fits (loss (rows_given q)) q.loads figures.few within t (end_width f) (book_in q.book) (book-fits q.book))
       (grown_passes (loss (rows_given q)) q.loads figures.few within t q.nodes (book_in q.book)
-      (each-list_to (λ (c : Contract). first (contract_checks q.nodes c) ≡ Passed) (contract_count_in q.book) (contract_at q.book) (contracts-pass q.nodes q.book own)))
+      (each-list_to (λ (c : Contract). first (contract_checks q.nodes c) ≡ passed) (contract_count_in q.book) (contract_at q.book) (contracts-pass q.nodes q.book own)))
 
-  pub new-book_accepted : first (own_checks q.nodes (book_migrated q)) ≡ Passed
+  pub new-book_accepted : first (own_checks q.nodes (book_migrated q)) ≡ passed
   new-book_accepted = own_passes q.nodes (book_migrated q) (own_parts q.nodes q.book (input_own q input_passed)).0 book-grown.accepted
 
   -- where the contracts are as they were, so are the bytes

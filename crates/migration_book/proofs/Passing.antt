@@ -12,7 +12,8 @@ use Rattle.lists.proofs.Search.{none-bad, any_of_append}
 use Rattle.integers.specs.Sums.{max0}
 use Rattle.tariff.specs.declared.refusals.Refusal.{Refusal}
 use Rattle.tariff.specs.declared.refusals.Refusal.TheVariants.{LoadExceeded}
-use Rattle.tariff.specs.declared.refusals.Checked.TheVariants.{Passed, Refused}
+use Rattle.std.specs.Prelude.{Err}
+use Rattle.tariff.specs.Refusals.{passed}
 use Rattle.tariff.specs.Refusals.{Check, first}
 use Rattle.tariff.specs.Units.{max_entities, max_load}
 use Rattle.tariff.proofs.Checks.{first_passes, first-refuses, append_refuses, append_passes, passed_cons, passed_append}
@@ -44,11 +45,11 @@ module _ (q : MigrateLoadCall) where
   unfolding migrate_load_checks input_checks
   split = rw append_assoc
 
-  pub input_refuses : (r : Refusal) → first input_of ≡ Refused r → migrate_load_checked q ≡ Refused r
+  pub input_refuses : (r : Refusal) → first input_of ≡ Err r → migrate_load_checked q ≡ Err r
   input_refuses r e = ap first split ∙ append_refuses input_of _ r e
 
-  module _ (pass : first input_of ≡ Passed) where
-    pub load-refuses : loads_exceeded_of (loss (rows_given q)) q.loads ≡ true → migrate_load_checked q ≡ Refused LoadExceeded
+  module _ (pass : first input_of ≡ passed) where
+    pub load-refuses : loads_exceeded_of (loss (rows_given q)) q.loads ≡ true → migrate_load_checked q ≡ Err LoadExceeded
     load-refuses e = ap first split ∙ append_passes input_of _ pass ∙ first-refuses _ _ e
 
     pub room_next : loads_exceeded_of (loss (rows_given q)) q.loads ≡ false → migrate_load_checked q ≡ first room_for
@@ -62,7 +63,7 @@ pub record Figures (q : MigrateLoadCall) : Type 0 where
   pub rows : RowsIn q.lists.customers q.lists.rates q.lists.olds q.lists.news
 
 module _ (q : MigrateLoadCall) where
-  figures : first (range_checks q.lists q.loads) ≡ Passed → Figures q
+  figures : first (range_checks q.lists q.loads) ≡ passed → Figures q
   unfolding range_checks
   figures e =
       let p = passed_append (migration_row_checks (length q.loads) q.lists) _ e in
@@ -73,15 +74,15 @@ module _ (q : MigrateLoadCall) where
         rows = r.rows;
       }
 
-  pub input_figures : first (input_of q) ≡ Passed → Figures q
+  pub input_figures : first (input_of q) ≡ passed → Figures q
   unfolding input_checks
   input_figures e = figures (passed_append (own_checks q.nodes q.book) _ (passed_cons _ _ e).1).1
 
-  pub input_own : first (input_of q) ≡ Passed → first (own_checks q.nodes q.book) ≡ Passed
+  pub input_own : first (input_of q) ≡ passed → first (own_checks q.nodes q.book) ≡ passed
   unfolding input_checks
   input_own e = (passed_append (own_checks q.nodes q.book) _ (passed_cons _ _ e).1).0
 
-  pub input_accepted : first (input_of q) ≡ Passed → Accepted q.nodes q.book
+  pub input_accepted : first (input_of q) ≡ passed → Accepted q.nodes q.book
   input_accepted e = own_accepted q.nodes q.book (input_own e)
 
 -- a book that is accepted can be read

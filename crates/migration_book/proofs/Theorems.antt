@@ -4,7 +4,7 @@ use Prim.Native.Nat.{ℕ}
 use lib.IntN.{pos}
 use lib.Signed.{◌≤ℤ◌}
 use Rattle.bits.specs.Bits.{Bytes}
-use Rattle.tariff.specs.declared.refusals.Checked.TheVariants.{Passed}
+use Rattle.tariff.specs.Refusals.{passed}
 use Rattle.tariff.specs.Refusals.{first}
 use Rattle.tariff.specs.ContractRules.{period_of}
 use Rattle.layouts.specs.BookFile.{book_form_in, book_in}
@@ -16,9 +16,9 @@ use Rattle.migration_book.specs.MigrateLoad.{MigrateLoadCall, rows_given, contra
 use Rattle.migration_book.proofs.Made.{book-grown, bytes_same}
 use Rattle.migration_book.proofs.Made as M
 
-module _ (q : MigrateLoadCall) (pass : migrate_load_checked q ≡ Passed) where
+module _ (q : MigrateLoadCall) (pass : migrate_load_checked q ≡ passed) where
   -- the new book is accepted for the same node count
-  pub new-book_accepted : first (own_checks q.nodes (book_migrated q)) ≡ Passed
+  pub new-book_accepted : first (own_checks q.nodes (book_migrated q)) ≡ passed
   new-book_accepted = M.new-book_accepted q pass
 
   -- "a book made from a book keeps its form"

@@ -8,7 +8,7 @@ use Rattle.tariff.specs.declared.units.Transfer.{Transfer}
 use Rattle.tariff.specs.Refusals.{Check, first}
 use Rattle.tariff.specs.Checks.{period_number}
 use Rattle.tariff.specs.Units.{max_contracts, max_quantity}
-use Rattle.layouts.specs.declared.WriteAnswer.{WriteAnswer}
+use Rattle.layouts.specs.Writing.{WriteAnswer}
 use Rattle.layouts.specs.declared.forms.Form.{Form}
 use Rattle.layouts.specs.BookFile.{book_bytes_of, book_file, contract_count_in, book_form_in, contract_in}
 use Rattle.layouts.specs.Writing.{Writes}

@@ -1,2 +1,3 @@
 pub mod MigrateLoad
 pub mod Inner
+pub mod Growth

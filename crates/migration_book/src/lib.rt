@@ -7,131 +7,125 @@ ghost use Rattle.tariff.specs.Refusals.{first};
 ghost use Rattle.layouts.specs.BookFile.{book_file, contract_count_in, book_form_in, book_in};
 ghost use Rattle.migration_rules.specs.Transfers.{row_lists};
 ghost use Rattle.migration_rules.specs.ContractRules.{new_book};
+ghost use Rattle.migration_transfers.specs.Inner.{lists_of};
 ghost use Rattle.migration_transfers.specs.Squares.{lost_in};
 ghost use Rattle.book_growth.specs.Inner.{Appended};
 ghost use Rattle.migration_pairs.specs.Inner.{MigrationReady};
 ghost use Rattle.migration_book.specs.MigrateLoad.{migrate_load_call, MigratesLoad};
-ghost use Rattle.migration_book.specs.Inner.{input_checks, Readable, contracts_to, new_to, grown_to, Roomy, Grows};
+ghost use Rattle.migration_book.specs.Inner.{input_checks, Readable, Roomy, Grows};
+ghost use Rattle.migration_book.specs.Growth.{old_of, new_of, grown_of};
 
-use layouts::{Form, WriteAnswer};
-use migration_transfers::Square;
-use tariff::{Checked, Period, Refusal};
+mod migration;
 
-// The checks before the square: 17, the book's own, 22.
+use book_bits::Contracts;
+use migration::Migration;
+use migration_pairs::Base;
+use migration_transfers::{RowLists, Square};
+use tariff::{Period, Refusal};
+
+// The checks before the square: 17, the book's own, 22. The period is C's number: 17 is looked for here.
 fn check_input(
     nodes: usize,
     period: u64,
     book: &[u8],
-    classes: &[u8],
-    customers: &[u64],
-    rates: &[u64],
-    olds: &[u64],
-    news: &[u64],
+    lists: RowLists,
     loads: &[u64],
-) -> Checked
-    ensures { result ≡ first (input_checks nodes period book.now (row_lists classes.now customers.now rates.now olds.now news.now) loads.now) }
+) -> Result<(), Refusal>
+    ensures { result ≡ first (input_checks nodes period book.now (lists_of lists.entry) loads.now) }
 {
     if 1 < period {
-        return Checked::Refused(Refusal::PeriodOrKind);
+        return Err(Refusal::PeriodOrKind);
     }
-    if let Checked::Refused(refusal) = book_checks::check_own(nodes, book) {
-        return Checked::Refused(refusal);
-    }
-    migration_transfers::check_figures(classes, customers, rates, olds, news, loads)
+    book_checks::check_own(nodes, book)?;
+    migration_transfers::check_figures(lists, loads)
 }
 
-// How many contracts the book grows to.
-fn grown_count(
-    book: &[u8],
-    form: Form,
-    count: usize,
-    period: Period,
-    square: Square,
-    loads: &[u64],
-) -> usize
-    requires { Readable form count book.now × MigrationReady square loads.now }
-    ensures { result ≡ count + length (new_to form book.now period square loads.now count) }
+// How many contracts the book grows to. `MigrationReady` stays a clause here and below: `Migration` says why.
+fn grown_count(migration: Migration, square: Square) -> usize
+    requires { MigrationReady square migration.loads.now }
+    ensures { result ≡ migration.entry.contracts.count + length (new_of migration.entry square) }
 {
+    let loads = migration.loads;
     let losers = migration_pairs::losers_of(square, loads.len());
-    let mut grown = count;
-    let mut i = 0;
-    while i < count {
-        let base = book_bits::contract_at(book, form, i);
-        let place = migration_transfers::row_of(base.holder);
-        grown += migration_pairs::new_count(base, period, square[place], losers[place], loads);
-        i += 1;
+    let mut grown = migration.contracts.count;
+    for i in 0..migration.contracts.count {
+        let contract = migration.contracts.at(i);
+        let place = migration_transfers::row_of(contract.holder);
+        let row = square[place];
+        let base = Base {
+            contract,
+            row,
+            loads,
+        };
+        grown += migration_pairs::new_count(base, migration.period, losers[place]);
     }
     grown
 }
 
 // Stores the new contracts behind the old ones, base contract by base contract.
-fn store_grown(
-    file: &mut [u8],
-    form: Form,
-    book: &[u8],
-    count: usize,
-    period: Period,
-    square: Square,
-    loads: &[u64],
-) -> usize
-    requires readable { Readable form count book.now × MigrationReady square loads.now }
-    requires roomy { Roomy form (contracts_to form book.now count) (new_to form book.now period square loads.now count) file.old }
-    ensures { Appended form count (new_to form book.now period square loads.now count) (before file) (after file) result }
+// Each loop makes its own base: a function of both would be owed `RowReady` in a clause once more.
+fn store_grown(file: &mut [u8], migration: Migration, square: Square) -> usize
+    requires ready { MigrationReady square migration.loads.now }
+    requires roomy { Roomy migration.contracts.form (old_of migration) (new_of migration square) file.old }
+    ensures { Appended migration.entry.contracts.form migration.entry.contracts.count (new_of migration.entry square) (before file) (after file) result }
 {
-    let mut place = count;
-    let mut i = 0;
-    while i < count {
-        let base = book_bits::contract_at(book, form, i);
-        let row = square[migration_transfers::row_of(base.holder)];
-        place = migration_pairs::store_new(file, form, place, base, period, row, loads);
-        i += 1;
+    let loads = migration.loads;
+    let form = migration.contracts.form;
+    let mut place = migration.contracts.count;
+    for i in 0..migration.contracts.count {
+        let contract = migration.contracts.at(i);
+        let row = square[migration_transfers::row_of(contract.holder)];
+        let base = Base {
+            contract,
+            row,
+            loads,
+        };
+        place = migration_pairs::store_new(file, form, place, base, migration.period);
     }
     place
 }
 
 // Writes the grown book: the old contracts, then the new ones.
-fn write_grown(
-    book: &[u8],
-    form: Form,
-    count: usize,
-    grown: usize,
-    period: Period,
-    square: Square,
-    loads: &[u64],
-    file: &mut [u8],
-)
-    requires readable { Readable form count book.now × MigrationReady square loads.now }
-    requires grown_value { grown ≡ length (contracts_to form book.now count) + length (new_to form book.now period square loads.now count) }
-    requires roomy { Roomy form (contracts_to form book.now count) (new_to form book.now period square loads.now count) file.old }
-    ensures { after file ≡ overwrite (book_file form (grown_to form book.now period square loads.now count)) (before file) }
+fn write_grown(migration: Migration, square: Square, grown: usize, file: &mut [u8])
+    requires ready { MigrationReady square migration.loads.now }
+    requires grown_value { grown ≡ length (old_of migration) + length (new_of migration square) }
+    requires roomy { Roomy migration.contracts.form (old_of migration) (new_of migration square) file.old }
+    ensures { after file ≡ overwrite (book_file migration.entry.contracts.form (grown_of migration.entry square)) (before file) }
 {
-    book_growth::keep_contracts(book, form, grown, file);
-    store_grown(file, form, book, count, period, square, loads);
+    let contracts = migration.contracts;
+    book_growth::keep_contracts(contracts.file, contracts.form, grown, file);
+    store_grown(file, migration, square);
 }
 
 // The last checks, and the book written where they pass.
+fn grow(migration: Migration, square: Square, file: &mut [u8]) -> Result<usize, Refusal>
+    requires { MigrationReady square migration.loads.now }
+    ensures { Grows migration.entry.contracts.file.now (grown_of migration.entry square) (before file) result (after file) }
+{
+    let form = migration.contracts.form;
+    let grown = grown_count(migration, square);
+    book_growth::check_room(form, grown, file.len())?;
+    write_grown(migration, square, grown, file);
+    Ok(form.book_bytes(grown))
+}
+
+// Migrates by a square, behind 23.
 fn migrate_by(
     book: &[u8],
     period: Period,
     square: Square,
     loads: &[u64],
     file: &mut [u8],
-) -> WriteAnswer
+) -> Result<usize, Refusal>
     requires { Readable (book_form_in book.now) (contract_count_in book.now) book.now × MigrationReady square loads.now }
     ensures { Grows book.now (new_book (lost_in square) loads.now period (book_in book.now)) (before file) result (after file) }
 {
-    let form = book_bits::book_form(book);
-    let count = book_bits::contract_count(book);
-    let grown = grown_count(book, form, count, period, square, loads);
-    match book_growth::check_room(form, grown, file.len()) {
-        Checked::Refused(refusal) => WriteAnswer::Refused(refusal),
-        Checked::Passed => {
-            write_grown(book, form, count, grown, period, square, loads, file);
-            WriteAnswer::Written {
-                bytes: form.book_bytes(grown),
-            }
-        }
-    }
+    let migration = Migration {
+        contracts: Contracts::of(book),
+        period,
+        loads,
+    };
+    grow(migration, square, file)
 }
 
 // Migrates the contracts of LSEs that lost load, for a grid of `nodes` nodes: rows of moved customers, netted, and the LSEs' loads.
@@ -146,17 +140,21 @@ pub fn migrate_load(
     news: &[u64],
     loads: &[u64],
     file: &mut [u8],
-) -> WriteAnswer
-    ensures { MigratesLoad (migrate_load_call nodes period book.now (row_lists classes.now customers.now rates.now olds.now news.now) loads.now file) result (after file) }
+) -> Result<usize, Refusal>
+    ensures { MigratesLoad (migrate_load_call nodes period book.now (row_lists classes.now customers.now rates.now olds.now news.now) loads.now file)
+        result (after file) }
 {
-    if let Checked::Refused(refusal) = check_input(
-        nodes, period, book, classes, customers, rates, olds, news, loads,
-    ) {
-        return WriteAnswer::Refused(refusal);
-    }
-    let square = migration_transfers::net_square(customers, rates, olds, news);
+    let lists = RowLists {
+        classes,
+        customers,
+        rates,
+        olds,
+        news,
+    };
+    check_input(nodes, period, book, lists, loads)?;
+    let square = migration_transfers::net_square(lists);
     if migration_transfers::loads_exceeded(square, loads) {
-        return WriteAnswer::Refused(Refusal::LoadExceeded);
+        return Err(Refusal::LoadExceeded);
     }
-    migrate_by(book, Period::from_number(period), square, loads, file)
+    migrate_by(book, Period::from(period), square, loads, file)
 }

@@ -8,32 +8,36 @@ ghost use Rattle.tariff.specs.Units.{max_contracts, max_entities, max_quantity};
 ghost use Rattle.layouts.specs.Forms.{end_width};
 ghost use Rattle.layouts.specs.BookFile.{book_bytes_of};
 ghost use Rattle.layouts.specs.BookTable.{ContractFits};
-ghost use Rattle.migration_rules.specs.ContractRules.{gained, countered, pairs_to, new_from};
-ghost use Rattle.migration_transfers.specs.Squares.{no_transfer, row_losses};
+ghost use Rattle.migration_rules.specs.ContractRules.{gained, countered};
+ghost use Rattle.migration_transfers.specs.Squares.{no_transfer};
 ghost use Rattle.migration_transfers.specs.Inner.{SizedRow, SizedSquare, max_net};
 ghost use Rattle.migration_shares.specs.Inner.{Held};
 ghost use Rattle.book_growth.specs.Inner.{Appended};
-ghost use Rattle.migration_pairs.specs.Inner.{RowReady, GainersOf, LosersOf, Basis, pair_of};
+ghost use Rattle.migration_pairs.specs.Inner.{GainersOf, LosersOf, Basis, pair_of};
+ghost use Rattle.migration_pairs.specs.Bases.{pairs_by, new_by};
 
+mod base;
+
+pub use base::Base;
 use layouts::Form;
 use migration_transfers::{Row, Square};
 use tariff::{Contract, Kind, MAX_ENTITIES, Period, Quantity, Transfer};
 
 // How many contracts follow a base contract, share by share.
-fn pair_count(c: Contract, row: Row, loads: &[u64]) -> usize
-    requires { RowReady row loads.now c × Held loads.now c }
-    ensures { (result ≡ length (pairs_to (row_losses row) loads.now c (length loads.now))) × (result ≤ 32) }
+fn pair_count(base: Base) -> usize
+    requires { Held base.loads.now base.contract }
+    ensures { (result ≡ length (pairs_by base.entry)) × (result ≤ 32) }
 {
     let mut count = 0;
-    let mut j = 0;
-    while j < loads.len() {
-        count += migration_shares::pair_size(migration_shares::share_of(c, row[j], loads));
-        j += 1;
+    for net in &base.row[..base.loads.len()] {
+        let share = migration_shares::share_of(base.contract, *net, base.loads);
+        count += migration_shares::pair_size(share);
     }
     count
 }
 
 // How many LSEs gain of a loser, and the least net that one of them gains: 0 where none does.
+// No `Option` for the least: a net of 0 is no gain, and its share is nought as that of none.
 #[derive(Clone, Copy)]
 pub struct Gainers {
     pub count: usize,
@@ -49,22 +53,19 @@ fn with_net(gainers: Gainers, net: Transfer) -> Gainers
     ensures { (row : List Transfer) (m : ℕ) → get_or row m no_transfer ≡ net → GainersOf row m gainers → GainersOf row (m + 1) result }
 {
     let lost = net.lost();
-    if lost.is_zero() {
+    if lost == Quantity(0) {
         return gainers;
     }
     let least = gainers.least;
     let lowest = least.lost();
     let count = gainers.count + 1;
-    if lowest.is_zero() {
-        return Gainers { count, least: net };
-    }
-    if lowest.exceeds(lost) {
+    if lowest == Quantity(0) || lost < lowest {
         return Gainers { count, least: net };
     }
     Gainers { count, least }
 }
 
-// Those of a loser among so many LSEs, by its row.
+// Those of a loser among so many LSEs, by its row. `SizedRow` and `entities ≤ max_entities` stay clauses, as said in migration_transfers.
 pub fn gainers_of(row: Row, entities: usize) -> Gainers
     requires { SizedRow row × (entities ≤ max_entities) }
     ensures { GainersOf row entities result }
@@ -73,10 +74,8 @@ pub fn gainers_of(row: Row, entities: usize) -> Gainers
         count: 0,
         least: Transfer(0),
     };
-    let mut j = 0;
-    while j < entities {
-        gainers = with_net(gainers, row[j]);
-        j += 1;
+    for net in &row[..entities] {
+        gainers = with_net(gainers, *net);
     }
     gainers
 }
@@ -91,34 +90,31 @@ pub fn losers_of(square: Square, entities: usize) -> Losers
         least: Transfer(0),
     };
     let mut losers = [none; MAX_ENTITIES];
-    let mut i = 0;
-    while i < MAX_ENTITIES {
-        losers[i] = gainers_of(square[i], entities);
-        i += 1;
+    for (i, row) in square.iter().enumerate() {
+        losers[i] = gainers_of(*row, entities);
     }
     losers
 }
 
 // How many contracts follow a base contract: where the least share is not nought, a pair for each gainer.
-fn base_count(c: Contract, row: Row, gainers: Gainers, loads: &[u64]) -> usize
-    requires { RowReady row loads.now c × Held loads.now c × GainersOf row (length loads.now) gainers }
-    ensures { (result ≡ length (pairs_to (row_losses row) loads.now c (length loads.now))) × (result ≤ 32) }
+fn base_count(base: Base, gainers: Gainers) -> usize
+    requires { Held base.loads.now base.contract × GainersOf base.row (length base.loads.now) gainers }
+    ensures { (result ≡ length (pairs_by base.entry)) × (result ≤ 32) }
 {
-    let net = gainers.least;
-    let least = migration_shares::share_of(c, net, loads);
-    if least.is_zero() {
-        return pair_count(c, row, loads);
+    let least = migration_shares::share_of(base.contract, gainers.least, base.loads);
+    if least == Quantity(0) {
+        return pair_count(base);
     }
     gainers.count * 2
 }
 
 // How many follow any contract: none where it is no base contract.
-pub fn new_count(c: Contract, period: Period, row: Row, gainers: Gainers, loads: &[u64]) -> usize
-    requires { RowReady row loads.now c × (c.quantity.0 ≤ max_quantity) × GainersOf row (length loads.now) gainers }
-    ensures { (result ≡ length (new_from (row_losses row) loads.now period c)) × (result ≤ 32) }
+pub fn new_count(base: Base, period: Period, gainers: Gainers) -> usize
+    requires { (base.contract.quantity.0 ≤ max_quantity) × GainersOf base.row (length base.loads.now) gainers }
+    ensures { (result ≡ length (new_by base.entry period)) × (result ≤ 32) }
 {
-    if migration_shares::migrates(c, period, loads.len()) {
-        return base_count(c, row, gainers, loads);
+    if migration_shares::migrates(base.contract, period, base.loads.len()) {
+        return base_count(base, gainers);
     }
     0
 }
@@ -127,14 +123,11 @@ pub fn new_count(c: Contract, period: Period, row: Row, gainers: Gainers, loads:
 fn gained_by(c: Contract, gainer: u64, quantity: Quantity) -> Contract
     ensures { result ≡ gained c gainer quantity.0 }
 {
-    let period = c.period;
     Contract {
         kind: Kind::Obligation,
-        period,
         holder: gainer,
-        source: c.source,
-        sink: c.sink,
         quantity,
+        ..c
     }
 }
 
@@ -142,18 +135,17 @@ fn gained_by(c: Contract, gainer: u64, quantity: Quantity) -> Contract
 fn countered_by(c: Contract, quantity: Quantity) -> Contract
     ensures { result ≡ countered c quantity.0 }
 {
-    let period = c.period;
     Contract {
         kind: Kind::Obligation,
-        period,
-        holder: c.holder,
         source: c.sink,
         sink: c.source,
         quantity,
+        ..c
     }
 }
 
-// Stores the contracts of one share at place `at` of a book, and gives the next place.
+// Stores the contracts of one share at place `at` of a book, and gives the next place. `file` and `form` are of the book that is written: `Contracts` is of one
+// that is read.
 fn store_pair(
     file: &mut [u8],
     form: Form,
@@ -167,7 +159,7 @@ fn store_pair(
     requires contract_fits { ContractFits (end_width form) c × (gainer ≤ 16) × (quantity.0 ≤ c.quantity.0) }
     ensures { Appended form at (pair_of c gainer quantity.0) (before file) (after file) result }
 {
-    if quantity.is_zero() {
+    if quantity == Quantity(0) {
         return at;
     }
     let gained = gained_by(c, gainer, quantity);
@@ -178,43 +170,26 @@ fn store_pair(
 }
 
 // Stores all contracts of a base contract, gainer by gainer.
-fn store_pairs(
-    file: &mut [u8],
-    form: Form,
-    at: usize,
-    c: Contract,
-    row: Row,
-    loads: &[u64],
-) -> usize
-    requires row_ready { RowReady row loads.now c × Held loads.now c }
-    requires basis { Basis form (pairs_to (row_losses row) loads.now c (length loads.now)) at c file.old }
-    ensures { Appended form at (pairs_to (row_losses row) loads.now c (length loads.now)) (before file) (after file) result }
+fn store_pairs(file: &mut [u8], form: Form, at: usize, base: Base) -> usize
+    requires held { Held base.loads.now base.contract }
+    requires basis { Basis form (pairs_by base) at base.contract file.old }
+    ensures { Appended form at (pairs_by base.entry) (before file) (after file) result }
 {
     let mut place = at;
-    let mut j = 0;
-    while j < loads.len() {
-        let quantity = migration_shares::share_of(c, row[j], loads);
-        place = store_pair(file, form, place, c, (j + 1) as u64, quantity);
-        j += 1;
+    for j in 0..base.loads.len() {
+        let quantity = migration_shares::share_of(base.contract, base.row[j], base.loads);
+        place = store_pair(file, form, place, base.contract, (j + 1) as u64, quantity);
     }
     place
 }
 
 // Stores what follows any contract: nothing where it is no base contract.
-pub fn store_new(
-    file: &mut [u8],
-    form: Form,
-    at: usize,
-    c: Contract,
-    period: Period,
-    row: Row,
-    loads: &[u64],
-) -> usize
-    requires { RowReady row loads.now c × Basis form (new_from (row_losses row) loads.now period c) at c file.old }
-    ensures { Appended form at (new_from (row_losses row) loads.now period c) (before file) (after file) result }
+pub fn store_new(file: &mut [u8], form: Form, at: usize, base: Base, period: Period) -> usize
+    requires { Basis form (new_by base period) at base.contract file.old }
+    ensures { Appended form at (new_by base.entry period) (before file) (after file) result }
 {
-    if migration_shares::migrates(c, period, loads.len()) {
-        return store_pairs(file, form, at, c, row, loads);
+    if migration_shares::migrates(base.contract, period, base.loads.len()) {
+        return store_pairs(file, form, at, base);
     }
     at
 }

@@ -1,12 +1,14 @@
 -- Rows of a square, laid one after the other: a row stored from a place on, so many rows, and the rows' nets.
 use mathlib.Core.Path.{◌≡◌, refl, sym, ap, ap₂, ◌∙◌}
 use mathlib.Core.List.{List, [], ◌++◌, map, flat_map, append_assoc}
-use Prim.Native.Nat.{ℕ, zero, suc, ◌+◌, ◌*◌, ◌≤◌, ◌<◌}
+use Prim.Native.Nat.{ℕ, zero, suc, ◌+◌, ◌*◌, ◌^◌, ◌≤◌, ◌<◌}
 use native.Mathlib.Nat.{zero-mul, suc-mul}
 use native.Mathlib.Omega.{arith}
 use lib.ListN.{length, get_or, take, drop, length-append}
 use lib.Seq.{length-take-le, get_or-append-add, drop-drop, take_at, drop_at}
-use lib.IntN.{ℤ, pos}
+use lib.IntN.{ℤ, pos, negsuc, nat_abs}
+use mir.Syntax.{w64}
+use mir.Val.{SFits}
 use Rattle.lists.specs.Lent.{overwrite}
 use Rattle.lists.specs.Lists.{list_to}
 use Rattle.lists.proofs.Lists.{length-list_to, get_d_list_to, list_to-cong, map-list_to, flat_map_last, flat_map_more}
@@ -16,6 +18,11 @@ use Rattle.migration_rules.specs.Transfers.{MigrationRow, net}
 use Rattle.migration_transfers.specs.Squares.{no_transfer, cell_in_of, Nets}
 use Rattle.migration_square.specs.NetTransfers.{square_cells}
 use Rattle.migration_square.specs.Inner.{row_cells, rows_cells, overwrite_at}
+
+-- a net of this size fits a cell
+pub fits_cell : (x : ℤ) → nat_abs x < 2 ^ 63 → SFits w64 x
+fits_cell (pos a) h = record { sfits = omega (arith, h) }
+fits_cell (negsuc a) h = record { sfits = omega (arith, h) }
 
 -- ---- one row, from place at on
 

@@ -3,7 +3,7 @@ use mathlib.Core.Path.{◌≡◌}
 use Prim.Native.Nat.{◌*◌, ◌≤◌}
 use borrow.Author.Tests.{ltb-false}
 use lib.ListN.{length}
-use Rattle.tariff.specs.declared.refusals.Checked.TheVariants.{Passed}
+use Rattle.tariff.specs.Refusals.{passed}
 use Rattle.tariff.specs.Units.{max_entities}
 use Rattle.tariff.proofs.Checks.{passed_cons, passed_append}
 use Rattle.migration_rules.specs.Transfers.{migration_row_checks}
@@ -16,7 +16,7 @@ pub record Ready (q : NetTransfersCall) : Type 0 where
   pub rows : RowsIn q.lists.customers q.lists.rates q.lists.olds q.lists.news
   pub room : q.entities * q.entities ≤ length q.place
 
-pub ready : (q : NetTransfersCall) → net_transfers_checked q ≡ Passed → Ready q
+pub ready : (q : NetTransfersCall) → net_transfers_checked q ≡ passed → Ready q
 unfolding net_transfers_checks
 ready q e =
     let p = passed_append (migration_row_checks q.entities q.lists) _ e in

@@ -1,14 +1,13 @@
 -- Netting transfers: the square of document 02, paper 5, cell by cell, for those who want to see what a migration follows. It goes beyond the papers, which ask
 -- for the square and for no operation that gives it.
-use Rattle.std.specs.Prelude.{◌≡◌, ℕ, suc, ◌*◌, length, ℤ}
+use Rattle.std.specs.Prelude.{◌≡◌, ℕ, suc, ◌*◌, length, ℤ, Ok, Err, Result, ⊤}
 use mathlib.Core.List.{List, [], ◌∷◌, ◌++◌, map, flat_map}
 use Rattle.lists.specs.Lists.{list_to}
-use Rattle.tariff.specs.declared.refusals.Checked.{Checked}
+use Rattle.tariff.specs.Refusals.{Checked}
 use Rattle.tariff.specs.Refusals.{Check, first, Outcome, given, refused_by, answered, cells_after, ForC}
 use Rattle.tariff.specs.Checks.{short_table}
 use Rattle.migration_rules.specs.Transfers.{MigrationRow, RowLists, migration_rows_in, net, migration_row_checks}
-use Rattle.migration_square.specs.declared.NetsAnswer.{NetsAnswer}
-use Rattle.migration_square.specs.declared.NetsAnswer.TheVariants.{Netted, Refused}
+use Rattle.tariff.specs.declared.refusals.Refusal.{Refusal}
 
 -- how many LSEs there are, the rows' lists, and the place for the square as it is at entry
 pub record NetTransfersCall : Type 0 where
@@ -19,10 +18,14 @@ pub record NetTransfersCall : Type 0 where
 abbrev pub net_transfers_call : ℕ → RowLists → List ℤ → NetTransfersCall
 net_transfers_call n lists place = record { entities = n; lists = lists; place = place }
 
+-- what netting answers beside the cells: nothing, or the refusal
+abbrev pub NetsAnswer : Type 0
+NetsAnswer = Result ⊤ Refusal
+
 -- cells alone are given
 abbrev pub nets_outcome : NetsAnswer → Outcome
-nets_outcome Netted = given []
-nets_outcome (Refused r) = refused_by r
+nets_outcome (Ok _) = given []
+nets_outcome (Err r) = refused_by r
 
 -- "a square of up to 16 by 16 net amounts", row by row: what LSE 1 loses to each of the n LSEs, then what LSE 2 does, and so on; losses are above 0
 abbrev pub square_cells : ℕ → List MigrationRow → List ℤ

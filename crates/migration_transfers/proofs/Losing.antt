@@ -1,10 +1,12 @@
 -- 23 for one LSE.
-use mathlib.Core.Path.{◌≡◌}
-use mathlib.Core.Bool.{Bool}
+use mathlib.Core.Path.{◌≡◌, refl}
+use mathlib.Core.Bool.{Bool, true, false, cond}
+use Rattle.std.proofs.Common.{Less, Equal, Greater}
+use Rattle.std.specs.Ordering.{is_lt, nat_cmp}
 use mathlib.Core.List.{List}
 use Prim.Native.Nat.{ℕ, suc, ◌-◌, ◌<◌}
 use native.Mathlib.Omega.{arith}
-use lib.Dec.{ltb}
+use lib.Dec.{ltb, eqb}
 use lib.ListN.{length, get_or}
 use Rattle.lists.specs.Lists.{list_to}
 use Rattle.lists.proofs.Lists.{get_d_list_to}
@@ -15,6 +17,15 @@ use Rattle.migration_transfers.specs.Squares.{lost_in}
 
 abbrev pub loser_bad : List (List Transfer) → List ℕ → ℕ → Bool
 loser_bad square loads i = exceeded (losses_to (lost_in square) i (length loads)) (load loads i)
+
+-- the comparison of two figures, as the derived order tells it
+pub less-told : (a b : ℕ) → is_lt (nat_cmp a b) ≡ ltb a b
+less-told a b = by (ltb a b) (eqb a b)
+  where
+    by : (less same : Bool) → is_lt (cond less Less (cond same Equal Greater)) ≡ less
+    by true same = refl
+    by false true = refl
+    by false false = refl
 
 -- of the LSE at place i, whose losses were found to be lost
 pub loser_told : (square : List (List Transfer)) (loads : List ℕ) (i lost : ℕ) → i < length loads → lost ≡ losses_to (lost_in square) (suc i) (length loads)

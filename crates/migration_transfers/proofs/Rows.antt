@@ -1,18 +1,19 @@
 -- Rows by index, and what is known of rows that 22 does not turn down.
-use mathlib.Core.Path.{◌≡◌}
-use mathlib.Core.Bool.{false, not}
-use mathlib.Core.List.{List}
-use Prim.Native.Nat.{ℕ, ◌≤◌, ◌<◌}
+use mathlib.Core.Path.{◌≡◌, refl, ap, ◌∙◌}
+use mathlib.Core.Bool.{Bool, false, not}
+use mathlib.Core.List.{List, [], ◌∷◌}
+use Prim.Native.Nat.{ℕ, suc, ◌+◌, ◌≤◌, ◌<◌}
 use native.Mathlib.Nat.{le_trans}
 use native.Mathlib.Omega.{arith}
 use borrow.Author.Tests.{ltb-false, eqb-false}
 use lib.Dec.{ltb, eqb}
 use lib.ListN.{length}
-use Rattle.lists.specs.Lists.{above}
+use Rattle.std.specs.List.{list_any, range_with_len}
+use Rattle.lists.specs.Lists.{any_of, above}
 use Rattle.lists.proofs.Lists.{length-list_to, get_d_list_to}
 use lib.ListN.{get_or}
 use Rattle.lists.proofs.Search.{neither, none-bad}
-use Rattle.tariff.specs.declared.refusals.Checked.TheVariants.{Passed}
+use Rattle.tariff.specs.Refusals.{passed}
 use Rattle.tariff.specs.Refusals.{first}
 use Rattle.tariff.specs.Units.{max_entities, max_rows, max_customers, max_rate}
 use Rattle.tariff.proofs.Checks.{passed_cons, same_of}
@@ -27,6 +28,17 @@ module _ (customers rates olds news : List ℕ) where
   pub rows_at : (i : ℕ) (d : MigrationRow) → i < length customers → get_or (rows_of customers rates olds news) i d ≡ migration_row_at customers rates olds news i
   unfolding rows_of
   rows_at i d h = get_d_list_to (length customers) (migration_row_at customers rates olds news) i d h
+
+-- a search by the elements' numbers, from number k on, is one of the list
+pub search_list : {A : Type 0} (bad : A → Bool) (f : ℕ → A) (xs : List A) (d : A) (k : ℕ) → ((j : ℕ) → j < length xs → get_or xs j d ≡ f (k + j))
+    → list_any (λ i. bad (f i)) (range_with_len k (length xs)) ≡ any_of bad xs
+unfolding any_of
+search_list bad f [] d k at = refl
+search_list bad f (x ∷ xs) d k at =
+    let here : k + 0 ≡ k = omega arith in
+    let first : x ≡ f k = at 0 (omega arith) ∙ ap f here in
+    let rest = search_list bad f xs d (k + 1) (λ j h. let next : k + suc j ≡ k + 1 + j = omega arith in at (suc j) (omega arith) ∙ ap f next) in
+    rw (first, rest) refl
 
 -- an LSE's number
 entity_in : (n i : ℕ) → entity_bad_of n i ≡ false → (0 < i) × (i ≤ n)
@@ -58,7 +70,7 @@ pub record Rowed (n : ℕ) (lists : RowLists) : Type 0 where
   pub rows : RowsIn lists.customers lists.rates lists.olds lists.news
 
 module _ (n : ℕ) (lists : RowLists) where
-  pub rowed : first (migration_row_checks n lists) ≡ Passed → Rowed n lists
+  pub rowed : first (migration_row_checks n lists) ≡ passed → Rowed n lists
   unfolding migration_row_checks
   rowed e =
       let m = length lists.customers in

@@ -1,9 +1,11 @@
 -- What inner functions say of squares and rows.
-use Rattle.std.specs.Prelude.{◌≡◌, ◌≢◌, List, [], ℕ, ◌*◌, ◌≤◌, ◌<◌, length, get_or, set, ℤ, neg_ℤ, nat_abs, ◌+ℤ◌}
+use Rattle.std.specs.Prelude.{Bool, ◌≡◌, ◌≢◌, List, [], ℕ, ◌*◌, ◌≤◌, ◌<◌, length, get_or, set, ℤ, neg_ℤ, nat_abs, ◌+ℤ◌}
 use Rattle.lists.specs.Lists.{list_to}
 use Rattle.tariff.specs.declared.units.Transfer.{Transfer}
 use Rattle.tariff.specs.Units.{max_entities, max_rows, max_customers, max_rate}
-use Rattle.migration_rules.specs.Transfers.{MigrationRow, row}
+use Rattle.migration_rules.specs.Transfers.{MigrationRow, RowLists, row, row_lists, unequal_row_lists}
+use Rattle.migration_transfers.specs.declared.MovedRow.{MovedRow}
+use Rattle.migration_transfers.specs.declared.RowLists.{RowLists as Lists}
 use Rattle.migration_transfers.specs.Squares.{no_transfer, cell_in_of, Nets}
 
 -- the loads of 1,000 rows, there and back
@@ -46,6 +48,20 @@ pub record RowIn (r : MigrationRow) : Type 0 where
   pub new-some : 0 < r.new
   pub new-most : r.new ≤ max_entities
   pub apart : r.old ≢ r.new
+
+-- the five lists, and a row, in the words of the rules
+abbrev pub lists_of : Lists → RowLists
+lists_of lists = row_lists lists.classes.now lists.customers.now lists.rates.now lists.olds.now lists.news.now
+
+abbrev pub row_says : MovedRow → MigrationRow
+row_says r = row r.customers r.rate r.old r.new
+
+abbrev pub unequal_lists : RowLists → Bool
+unequal_lists lists = (unequal_row_lists (length lists.customers) (length lists.classes) (length lists.rates) (length lists.olds) (length lists.news)).fails
+
+-- as many rates and LSEs as customers' figures
+abbrev pub EqualLists : List ℕ → List ℕ → List ℕ → List ℕ → Type 0
+EqualLists customers rates olds news = (length rates ≡ length customers) × (length olds ≡ length customers) × (length news ≡ length customers)
 
 -- row i of the lists
 abbrev pub migration_row_at : List ℕ → List ℕ → List ℕ → List ℕ → ℕ → MigrationRow

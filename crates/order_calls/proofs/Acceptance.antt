@@ -10,8 +10,8 @@ use lib.ListN.{length}
 use Rattle.lists.specs.Lists.{Each}
 use Rattle.lists.proofs.Lists.{each-list_to}
 use Rattle.tariff.specs.declared.contracts.Contract.{Contract}
-use Rattle.tariff.specs.declared.refusals.Checked.{Checked}
-use Rattle.tariff.specs.declared.refusals.Checked.TheVariants.{Passed, Refused}
+use Rattle.tariff.specs.Refusals.{Checked, passed}
+use Rattle.std.specs.Prelude.{Ok, Err}
 use Rattle.tariff.specs.Units.{max_contracts}
 use Rattle.tariff.specs.Refusals.{first, decided}
 use Rattle.layouts.specs.declared.forms.Form.{Form}
@@ -47,25 +47,25 @@ fits-prop w c u v =
 refuses : Checked → Bool
 refuses c = decided c (λ r. true) false
 
-refuses_none : (c : Checked) → refuses c ≡ false → c ≡ Passed
+refuses_none : (c : Checked) → refuses c ≡ false → c ≡ passed
 unfolding refuses
-refuses_none Passed e = refl
-refuses_none (Refused r) e = cc
+refuses_none (Ok _) e = refl
+refuses_none (Err r) e = cc
 
 module _ (n : ℕ) where
   Good : Contract → Type 0
   Good c = refuses (first (contract_checks n c)) ≡ false
 
-  good-in : (s : List ℕ) → first (book_checks n s) ≡ Passed → Each Good (book_in s)
+  good-in : (s : List ℕ) → first (book_checks n s) ≡ passed → Each Good (book_in s)
   unfolding Good refuses
   good-in s ok = each-list_to Good (contract_count_in s) (contract_at s) (λ i l. rw (contracts-pass n s ok i l))
 
-  good-pass : (cs : List Contract) → Each Good cs → Each (λ c. first (contract_checks n c) ≡ Passed) cs
+  good-pass : (cs : List Contract) → Each Good cs → Each (λ c. first (contract_checks n c) ≡ passed) cs
   unfolding Good
   good-pass [] h = tt
   good-pass (c ∷ cs) h = (refuses_none (first (contract_checks n c)) h.0, good-pass cs h.1)
 
-  module _ (s : List ℕ) (ds : List Contract) (ok : first (book_checks n s) ≡ Passed) (p : Reordered (book_in s) ds) where
+  module _ (s : List ℕ) (ds : List Contract) (ok : first (book_checks n s) ≡ passed) (p : Reordered (book_in s) ds) where
     good-there : Each Good ds
     unfolding Good
     good-there = each-perm Good (λ c. Bool-set (refuses (first (contract_checks n c))) false) (book_in s) ds p (good-in s ok)

@@ -10,8 +10,8 @@ use Rattle.lists.specs.Lists.{list_to}
 use Rattle.lists.specs.Lent.{Lent, before, after, overwrite}
 use Rattle.lists.proofs.Lists.{length-list_to, get_d_list_to, map-list_to}
 use Rattle.tariff.specs.declared.contracts.Contract.{Contract}
-use Rattle.tariff.specs.declared.refusals.Checked.{Checked}
-use Rattle.tariff.specs.declared.refusals.Checked.TheVariants.{Passed}
+use Rattle.tariff.specs.Refusals.{Checked, passed}
+use Rattle.std.specs.Prelude.{Ok}
 use Rattle.tariff.specs.Units.{Factors, limit, factors_of}
 use Rattle.tariff.specs.ContractRules.{period_of}
 use Rattle.tariff.specs.Refusals.{given, answered, cells_after}
@@ -20,14 +20,13 @@ use Rattle.tariff.specs.Settlement.{whole_cents, parts}
 use Rattle.tariff.proofs.Theorems.{pass_is_worst_zero}
 use Rattle.layouts.specs.BookFile.{contract_count_in, contract_at, book_in}
 use Rattle.test_rules.specs.declared.Flows.{Flows}
-use Rattle.test_rules.specs.declared.TestAnswer.{TestAnswer}
-use Rattle.test_rules.specs.declared.TestAnswer.TheVariants.{Pass}
+use Rattle.test_rules.specs.TestBook.{TestAnswer, pass}
 use Rattle.test_rules.specs.TestBook.{TestCall, test_outcome, tested_grid, tested_process, tested_contracts, test_values}
 use Rattle.test_rules.specs.Carried.{Carries}
-use Rattle.test_loading.specs.declared.FlowsAnswer.{FlowsAnswer}
+use Rattle.test_loading.specs.FindFlows.{FlowsAnswer}
 use Rattle.test_loading.specs.FindFlows.{FlowsCall, flows_outcome, counted_contracts}
 use Rattle.test_loading.proofs.Passing.{flow-is}
-use Rattle.hour_rules.specs.declared.SettleAnswer.{SettleAnswer}
+use Rattle.hour_rules.specs.SettleHour.{SettleAnswer}
 use Rattle.hour_rules.specs.SettleHour.{HourCall, settle_outcome, settle_checked, hour_factors, hour_prices, hour_period, cents_of, priced_of, cents_cells, priced_cells, sum_given, exact_given}
 use Rattle.order_rules.specs.Reordering.{Reordered}
 use Rattle.order_rules.specs.Relief.{Raised, OptionMore}
@@ -51,7 +50,7 @@ module _ (q : TestCall) (a : TestAnswer) (h : Tested q a) where
   outcome-is = h.promised.figures ∙ ap (λ (c : Checked). answered c (test_values (tested_grid q) (tested_process q) (tested_contracts q))) h.accepted
 
   -- Pass is answered exactly where the rules pass
-  pass_is : (a ≡ Pass) ↔ Passes (tested_grid q) (tested_process q) (tested_contracts q)
+  pass_is : (a ≡ pass) ↔ Passes (tested_grid q) (tested_process q) (tested_contracts q)
   pass_is =
       let d = (h.promised.demand3 h.accepted).pass_is_worst_zero in
       let w = pass_is_worst_zero (tested_grid q) (tested_process q) (period_of q.period) (book_in q.book) in
@@ -63,13 +62,13 @@ module _ (q : TestCall) (s : List ℕ) (a b : TestAnswer) (h : Tested q a) (l : 
       outcome-is q a h ∙ ap given (verdict_kept (tested_grid q) (tested_process q) (period_of q.period) (book_in q.book) (book_in s) p)
       ∙ sym (outcome-is (test_on q s) b l)
 
-  pub test-option : OptionMore (book_in q.book) (book_in s) → (a ≡ Pass → ⊥) → b ≡ Pass → ⊥
+  pub test-option : OptionMore (book_in q.book) (book_in s) → (a ≡ pass → ⊥) → b ≡ pass → ⊥
   test-option o fails e =
       fails ((pass_is q a h).1
       (relief.passed_before_option (tested_grid q) (tested_process q) (period_of q.period) (book_in q.book) (book_in s) o ((pass_is (test_on q s) b l).0 e)))
 
 pub test-raised : (q : TestCall) (limits : List ℕ) (a b : TestAnswer) → Tested q a → Tested (test_under q limits) b
-    → ((k : ℕ) → k < q.constraints → limit q.limits k ≤ limit limits k) → a ≡ Pass → b ≡ Pass
+    → ((k : ℕ) → k < q.constraints → limit q.limits k ≤ limit limits k) → a ≡ pass → b ≡ pass
 test-raised q limits a b h l up e = (pass_is (test_under q limits) b l).1 (still_passes q limits up ((pass_is q a h).0 e))
 
 -- ---- flows
@@ -111,7 +110,7 @@ module _ (q : HourCall) (a : SettleAnswer) (cents : Lent (List ℤ)) (sets : Len
   hour_is = h.promised.totals ∙ ap (λ (c : Checked). answered c (sum_given q ∷ whole_cents (exact_given q) ∷ pos (parts (exact_given q)) ∷ [])) h.accepted
 
 -- the cells of two accepted calls, by what each promises of them
-module _ (q : HourCall) (cents : Lent (List ℤ)) (sets : Lent (List ℕ)) (ok : settle_checked q cents sets ≡ Passed) where
+module _ (q : HourCall) (cents : Lent (List ℤ)) (sets : Lent (List ℕ)) (ok : settle_checked q cents sets ≡ passed) where
   pub cents-is : after cents ≡ cells_after (settle_checked q cents sets) (cents_cells q) (before cents)
       → (i : ℕ) → i < contract_count_in q.book → get_or (after cents) i (pos 0) ≡ cents_of (hour_factors q) (hour_prices q) (hour_period q) (contract_at q.book i)
   cents-is is =
@@ -126,7 +125,7 @@ module _ (q : HourCall) (cents : Lent (List ℤ)) (sets : Lent (List ℕ)) (ok :
 
 -- what a call promises of its cells
 pub record CellsGiven (q : HourCall) (cents : Lent (List ℤ)) (sets : Lent (List ℕ)) : Type 0 where
-  pub passed : settle_checked q cents sets ≡ Passed
+  pub passed : settle_checked q cents sets ≡ passed
   pub cents-given : after cents ≡ cells_after (settle_checked q cents sets) (cents_cells q) (before cents)
   pub sets-given : after sets ≡ cells_after (settle_checked q cents sets) (priced_cells q) (before sets)
 

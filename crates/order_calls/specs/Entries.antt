@@ -1,10 +1,10 @@
 -- Document 02, paper 14, over what the entries promise: "For accepted inputs and one process", for books of any bytes, of either width and of different widths.
 -- Statements only.
-use Rattle.std.specs.Prelude.{◌≡◌, List, ℕ, ◌≤◌, ◌<◌, get_or, ℤ, pos}
+use Rattle.std.specs.Prelude.{◌≡◌, List, ℕ, ◌≤◌, ◌<◌, get_or, ℤ, pos, Ok}
 use Rattle.lists.specs.Lists.{Each}
 use Rattle.lists.specs.Lent.{Lent, after}
 use Rattle.tariff.specs.declared.contracts.Contract.{Contract}
-use Rattle.tariff.specs.declared.refusals.Checked.TheVariants.{Passed}
+use Rattle.tariff.specs.Refusals.{passed}
 use Rattle.tariff.specs.Units.{Factors, limit}
 use Rattle.tariff.specs.Refusals.{first}
 use Rattle.layouts.specs.declared.forms.Form.{Form}
@@ -13,13 +13,12 @@ use Rattle.layouts.specs.BookFile.{book_file, contract_count_in, book_form_in, c
 use Rattle.layouts.specs.BookTable.{ContractFits}
 use Rattle.book_rules.specs.BookChecks.{book_checks}
 use Rattle.test_rules.specs.declared.Flows.{Flows}
-use Rattle.test_rules.specs.declared.TestAnswer.{TestAnswer}
-use Rattle.test_rules.specs.declared.TestAnswer.TheVariants.{Pass}
+use Rattle.test_rules.specs.TestBook.{TestAnswer, pass}
 use Rattle.test_rules.specs.TestBook.{TestCall, test_call, test_outcome, test_checked, TestsBook}
 use Rattle.test_rules.specs.Carried.{Carries}
-use Rattle.test_loading.specs.declared.FlowsAnswer.{FlowsAnswer}
+use Rattle.test_loading.specs.FindFlows.{FlowsAnswer}
 use Rattle.test_loading.specs.FindFlows.{FlowsCall, flows_call, flows_outcome, find_flows_checked, FindsFlows}
-use Rattle.hour_rules.specs.declared.SettleAnswer.{SettleAnswer}
+use Rattle.hour_rules.specs.SettleHour.{SettleAnswer}
 use Rattle.hour_rules.specs.SettleHour.{HourCall, hour_call, settle_outcome, settle_checked, SettlesHour}
 use Rattle.order_rules.specs.Reordering.{Reordered}
 use Rattle.order_rules.specs.Relief.{OptionMore}
@@ -42,20 +41,20 @@ flows_on q s place = flows_call q.nodes q.constraints q.period q.limits q.factor
 -- ---- "accepted": no check refuses the call, and the answer is what the entry promises
 
 pub record Tested (q : TestCall) (answer : TestAnswer) : Type 0 where
-  pub accepted : test_checked q ≡ Passed
+  pub accepted : test_checked q ≡ passed
   pub promised : TestsBook q answer
 
 pub record Found (q : FlowsCall) (answer : FlowsAnswer) (exit : List ℤ) : Type 0 where
-  pub accepted : find_flows_checked q ≡ Passed
+  pub accepted : find_flows_checked q ≡ passed
   pub promised : FindsFlows q answer exit
 
 pub record HourSettled (q : HourCall) (answer : SettleAnswer) (cents : Lent (List ℤ)) (sets : Lent (List ℕ)) : Type 0 where
-  pub accepted : settle_checked q cents sets ≡ Passed
+  pub accepted : settle_checked q cents sets ≡ passed
   pub promised : SettlesHour q answer cents sets
 
 -- a file that is accepted for n nodes, and read as the contracts that it was made of
 pub record IsBook (n : ℕ) (f : Form) (cs : List Contract) : Type 0 where
-  pub accepted : first (book_checks n (book_file f cs)) ≡ Passed
+  pub accepted : first (book_checks n (book_file f cs)) ≡ passed
   pub contracts : book_in (book_file f cs) ≡ cs
 
 -- what two calls of settle_hour leave in their cells for contract i of the one book and contract j of the other
@@ -84,11 +83,11 @@ pub record Entries : Type 0 where
       → (i j : ℕ) → i < contract_count_in q.book → j < contract_count_in s → contract_at q.book i ≡ contract_at s j → SameHourCells i j cents cents₂ sets sets₂
   -- "Raising any limit never turns a pass into a failure."
   pub test-limits_raised : (q : TestCall) (limits : List ℕ) (a b : TestAnswer) → Tested q a → Tested (test_under q limits) b
-      → ((k : ℕ) → k < q.constraints → limit q.limits k ≤ limit limits k) → a ≡ Pass → b ≡ Pass
+      → ((k : ℕ) → k < q.constraints → limit q.limits k ≤ limit limits k) → a ≡ pass → b ≡ pass
   -- "Adding an option never turns a failure into a pass."
   pub test-option_added : (q : TestCall) (s : List ℕ) (a b : TestAnswer) → Tested q a → Tested (test_on q s) b → OptionMore (book_in q.book) (book_in s)
-      → (a ≡ Pass → ⊥) → b ≡ Pass → ⊥
+      → (a ≡ pass → ⊥) → b ≡ pass → ⊥
   -- an accepted book's contracts in any order, in its own width, are an accepted book; so they are in either width that can hold them
-  pub reordered_is_accepted : (n : ℕ) (s : List ℕ) (ds : List Contract) → first (book_checks n s) ≡ Passed → Reordered (book_in s) ds → IsBook n (book_form_in s) ds
-  pub reordered_in_either_width : (n : ℕ) (s : List ℕ) (ds : List Contract) (f : Form) → first (book_checks n s) ≡ Passed → Reordered (book_in s) ds
+  pub reordered_is_accepted : (n : ℕ) (s : List ℕ) (ds : List Contract) → first (book_checks n s) ≡ passed → Reordered (book_in s) ds → IsBook n (book_form_in s) ds
+  pub reordered_in_either_width : (n : ℕ) (s : List ℕ) (ds : List Contract) (f : Form) → first (book_checks n s) ≡ passed → Reordered (book_in s) ds
       → Each (ContractFits (end_width f)) (book_in s) → IsBook n f ds

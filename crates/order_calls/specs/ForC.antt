@@ -1,7 +1,7 @@
 -- Document 02, paper 14, over what the C functions promise: the same of the figures that they are lent. Statements only.
-use Rattle.std.specs.Prelude.{◌≡◌, List, ℕ, ◌≤◌, ◌<◌, get_or, ℤ, pos}
+use Rattle.std.specs.Prelude.{◌≡◌, List, ℕ, ◌≤◌, ◌<◌, get_or, ℤ, pos, Ok}
 use Rattle.lists.specs.Lent.{Lent, after}
-use Rattle.tariff.specs.declared.refusals.Checked.TheVariants.{Passed}
+use Rattle.tariff.specs.Refusals.{passed}
 use Rattle.tariff.specs.Units.{limit}
 use Rattle.layouts.specs.BookFile.{contract_count_in, contract_at, book_in}
 use Rattle.test_rules.specs.TestBook.{TestCall, test_checked, TestsBookForC}
@@ -40,15 +40,15 @@ pub record SameTotalsGiven (c d : HourFigures) : Type 0 where
 -- ---- no check refuses the call, and the figures are what the function promises
 
 pub record TestedForC (q : TestCall) (number : ℕ) (c : TestFigures) : Type 0 where
-  pub accepted : test_checked q ≡ Passed
+  pub accepted : test_checked q ≡ passed
   pub promised : TestsBookForC q number c.set c.count c.lowest c.excess
 
 pub record FoundForC (q : FlowsCall) (number : ℕ) (exit : List ℤ) (counted : Lent ℕ) : Type 0 where
-  pub accepted : find_flows_checked q ≡ Passed
+  pub accepted : find_flows_checked q ≡ passed
   pub promised : FindsFlowsForC q number exit counted
 
 pub record SettledForC (q : HourCall) (number : ℕ) (c : HourFigures) : Type 0 where
-  pub accepted : settle_checked q c.cents c.sets ≡ Passed
+  pub accepted : settle_checked q c.cents c.sets ≡ passed
   pub promised : SettlesForC q number c.cents c.sets c.sum c.whole c.part
 
 -- THE STATEMENTS. An empty set is a pass.

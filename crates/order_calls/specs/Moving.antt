@@ -6,7 +6,7 @@ use Rattle.lists.specs.Lists.{list_to}
 use Rattle.lists.specs.Lent.{Lent, after}
 use Rattle.tariff.specs.declared.contracts.Contract.{Contract}
 use Rattle.layouts.specs.BookFile.{contract_count_in, contract_at, book_in}
-use Rattle.hour_rules.specs.declared.SettleAnswer.{SettleAnswer}
+use Rattle.hour_rules.specs.SettleHour.{SettleAnswer}
 use Rattle.hour_rules.specs.SettleHour.{HourCall}
 use Rattle.order_rules.specs.Reordering.{Reordered}
 use Rattle.order_calls.specs.Entries.{hour_on, HourSettled}

@@ -1,8 +1,8 @@
 -- What holds where no check of the price file's reader or writer refuses, and what the writer has written at the end.
-use mathlib.Core.Path.{◌≡◌, ◌∙◌}
+use mathlib.Core.Path.{◌≡◌, refl, ◌∙◌}
 use mathlib.Core.Bool.{false}
 use mathlib.Core.List.{List, [], ◌∷◌, ◌++◌, map}
-use Prim.Native.Nat.{ℕ, ◌≤◌}
+use Prim.Native.Nat.{ℕ, zero, suc, ◌≤◌, ◌<◌}
 use native.Mathlib.Omega.{arith}
 use borrow.Author.Tests.{ltb-false, le-ltb}
 use lib.ListN.{length, take}
@@ -10,7 +10,10 @@ use Rattle.bits.specs.Fields.{bits}
 use Rattle.bits.specs.declared.BitWriter.{BitWriter}
 use Rattle.bits.proofs.Numbers.{Below}
 use Rattle.bits.proofs.Files.{total-append, total-run, length-file}
-use Rattle.tariff.specs.declared.refusals.Checked.TheVariants.{Passed}
+use Rattle.tariff.specs.declared.contracts.Period.{Period}
+use Rattle.tariff.specs.declared.contracts.Period.TheVariants.{OffPeak, OnPeak}
+use Rattle.tariff.specs.ContractRules.{period_of}
+use Rattle.tariff.specs.Refusals.{passed}
 use Rattle.tariff.specs.Units.{max_constraints, max_price}
 use Rattle.tariff.specs.Refusals.{first}
 use Rattle.lists.specs.Lent.{overwrite}
@@ -23,8 +26,21 @@ use Rattle.runs.proofs.Written.{written-end}
 use Rattle.grid_tables.specs.Inner.{GoodCells}
 use Rattle.grid_tables.proofs.Cells.{good-cells}
 use Rattle.grid_tables.proofs.Passing.{passed_all}
-use Rattle.price_rules.specs.ReadPrices.{read_prices_call, price_file_checks, read_prices_checks, read_prices_checked}
+use Rattle.price_rules.specs.ReadPrices.{read_prices_call, price_file_checks, read_prices_checks, read_prices_checked, period_number}
 use Rattle.price_rules.specs.WritePrices.{write_prices_call, write_prices_checks, write_prices_checked}
+
+-- ---- a period and its number
+
+pub number-of_period : (n : ℕ) → n < 2 → period_number (period_of n) ≡ n
+number-of_period zero b = refl
+number-of_period (suc zero) b = refl
+number-of_period (suc (suc n)) b = absurd (omega arith)
+
+pub period-of_number : (t : Period) → period_of (period_number t) ≡ t
+period-of_number OffPeak = refl
+period-of_number OnPeak = refl
+
+-- ---- files and tables that are not refused
 
 -- a file that is read
 pub record Readable (k : ℕ) (s table : List ℕ) : Type 0 where
@@ -34,7 +50,7 @@ pub record Readable (k : ℕ) (s table : List ℕ) : Type 0 where
   pub pad : price_pad_in k s ≡ 0
   pub room : k ≤ length table
 
-pub readable : (k : ℕ) (s table : List ℕ) → read_prices_checked (read_prices_call k s table) ≡ Passed → Readable k s table
+pub readable : (k : ℕ) (s table : List ℕ) → read_prices_checked (read_prices_call k s table) ≡ passed → Readable k s table
 unfolding price_file_checks read_prices_checks
 readable k s table e =
     let three = passed_all _ e in
@@ -49,7 +65,7 @@ pub record Writable (t k : ℕ) (table place : List ℕ) : Type 0 where
   pub good : GoodCells max_price k table
   pub room : price_bytes k ≤ length place
 
-pub writable : (t k : ℕ) (table place : List ℕ) → write_prices_checked (write_prices_call t k table place) ≡ Passed → Writable t k table place
+pub writable : (t k : ℕ) (table place : List ℕ) → write_prices_checked (write_prices_call t k table place) ≡ passed → Writable t k table place
 unfolding write_prices_checks
 writable t k table place e =
     let all = passed_all _ e in

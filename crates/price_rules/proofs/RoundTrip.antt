@@ -10,7 +10,7 @@ use lib.ListN.{length, take}
 use lib.Seq.{length-take-le}
 use Rattle.lists.proofs.Lists.{every_cell}
 use Rattle.bits.proofs.Numbers.{Below}
-use Rattle.tariff.specs.declared.refusals.Checked.TheVariants.{Passed}
+use Rattle.tariff.specs.Refusals.{passed}
 use Rattle.tariff.proofs.Checks.{first_passes, passed_cons, same, last-passes}
 use Rattle.tariff.specs.Units.{max_price}
 use Rattle.grid_tables.proofs.Cells.{cut-sized}
@@ -22,18 +22,18 @@ use Rattle.price_rules.proofs.PriceLaws.{readable, Writable, writable}
 
 -- ---- read, then written
 
-pub read_then_written : (k : ℕ) (s table : List ℕ) → Below 8 s → read_prices_checked (read_prices_call k s table) ≡ Passed → price_file (period_in s) k (prices_in k s) ≡ s
+pub read_then_written : (k : ℕ) (s table : List ℕ) → Below 8 s → read_prices_checked (read_prices_call k s table) ≡ passed → price_file (period_in s) k (prices_in k s) ≡ s
 read_then_written k s table b e = let ok = readable k s table e in prices-read k s b ok.size ok.count ok.pad
 
 -- ---- written, then read
 
 -- what the reader finds in a file: it is not refused where the table is long enough
 pub record ReadBack (t k : ℕ) (prices s : List ℕ) : Type 0 where
-  pub passes : (table : List ℕ) → k ≤ length table → read_prices_checked (read_prices_call k s table) ≡ Passed
+  pub passes : (table : List ℕ) → k ≤ length table → read_prices_checked (read_prices_call k s table) ≡ passed
   pub period : period_in s ≡ t
   pub prices-are : prices_in k s ≡ take k prices
 
-module _ (t k : ℕ) (prices place : List ℕ) (e : write_prices_checked (write_prices_call t k prices place) ≡ Passed) where
+module _ (t k : ℕ) (prices place : List ℕ) (e : write_prices_checked (write_prices_call t k prices place) ≡ passed) where
   ok : Writable t k prices place
   ok = writable t k prices place e
 
@@ -48,7 +48,7 @@ module _ (t k : ℕ) (prices place : List ℕ) (e : write_prices_checked (write_
       (record { period-fits = omega (arith, ok.period); count_fits = omega (arith, ok.few); one_price_each = length-take-le k prices ok.good.long; prices-fit = prices-fit })
 
   -- each check of the reader is one that the writer made, or is settled by the file
-  not_refused : (table : List ℕ) → k ≤ length table → read_prices_checked (read_prices_call k (price_file t k (take k prices)) table) ≡ Passed
+  not_refused : (table : List ℕ) → k ≤ length table → read_prices_checked (read_prices_call k (price_file t k (take k prices)) table) ≡ passed
   unfolding price_file_checks read_prices_checks write_prices_checks
   not_refused table h =
       let s = price_file t k (take k prices) in

@@ -10,7 +10,9 @@ use mathlib.Core.Bool.{false}
 use Rattle.lists.specs.Lists.{any_of, above}
 use Rattle.lists.specs.Lent.{overwrite}
 use Rattle.lists.proofs.Fronts.{front-is, front-room}
-use Rattle.tariff.specs.declared.refusals.Checked.TheVariants.{Passed}
+use Rattle.std.specs.Prelude.{Ok}
+use Rattle.tariff.specs.declared.contracts.Period.{Period}
+use Rattle.tariff.specs.Refusals.{passed}
 use Rattle.tariff.specs.Units.{max_constraints, max_price}
 use Rattle.tariff.specs.Refusals.{first}
 use Rattle.tariff.specs.Checks.{short_table}
@@ -20,13 +22,12 @@ use Rattle.layouts.specs.PriceFile.{period_in, prices_in}
 use Rattle.layouts.proofs.PriceFile.{length-prices_in}
 use Rattle.grid_tables.specs.Inner.{GoodCells}
 use Rattle.grid_tables.proofs.Cells.{good-cells}
-use Rattle.price_rules.specs.declared.PriceAnswer.TheVariants.{Read}
-use Rattle.price_rules.specs.ReadPrices.{read_prices_call, price_file_checks, read_prices_checks, read_prices_checked, ReadsPrices}
+use Rattle.price_rules.specs.ReadPrices.{read_prices_call, price_file_checks, read_prices_checks, read_prices_checked, period_number, ReadsPrices}
 
 -- ---- read
 
 pub record PricesTaken (k : ℕ) (file : List ℕ) (t : ℕ) (table : List ℕ) : Type 0 where
-  pub passes : first (price_file_checks k file) ≡ Passed
+  pub passes : first (price_file_checks k file) ≡ passed
   pub period-is : period_in file ≡ t
   pub prices-are : prices_in k file ≡ take k table
   pub good-prices : GoodCells max_price k table
@@ -35,15 +36,15 @@ module _ (k : ℕ) (s table₀ : List ℕ) where
   front-prices : take k (overwrite (prices_in k s) table₀) ≡ prices_in k s
   front-prices = front-is (prices_in k s) table₀ k (length-prices_in k s)
 
-  fifteen : first (price_file_checks k s) ≡ Passed → any_of (above max_price) (prices_in k s) ≡ false
+  fifteen : first (price_file_checks k s) ≡ passed → any_of (above max_price) (prices_in k s) ≡ false
   unfolding price_file_checks
   fifteen e = (passed_cons _ _ (passed_cons _ _ (passed_cons _ _ (passed_cons _ _ (passed_cons _ _ e).1).1).1).1).0
 
-  pub prices-taken : (t : ℕ) (table : List ℕ) → ReadsPrices (read_prices_call k s table₀) (Read t) table → PricesTaken k s t table
+  pub prices-taken : (t : Period) (table : List ℕ) → ReadsPrices (read_prices_call k s table₀) (Ok t) table → PricesTaken k s (period_number t) table
   unfolding read_prices_checks
   prices-taken t table h =
-      let told = given-told (read_prices_checked (read_prices_call k s table₀)) (pos (period_in s) ∷ []) (pos t ∷ []) h.period-given in
-      let same : pos t ∷ [] ≡ pos (period_in s) ∷ [] = told.1 in
+      let told = given-told (read_prices_checked (read_prices_call k s table₀)) (pos (period_in s) ∷ []) (pos (period_number t) ∷ []) h.period-given in
+      let same : pos (period_number t) ∷ [] ≡ pos (period_in s) ∷ [] = told.1 in
       let left : table ≡ overwrite (prices_in k s) table₀ = rw told.0 at h.prices-read in
       let own = (passed_append (price_file_checks k s) _ told.0).0 in
       record {

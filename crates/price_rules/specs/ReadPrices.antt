@@ -1,13 +1,14 @@
 -- Reading prices for a stated constraint count (document 01, "When input is turned down" and "The three files").
-use Rattle.std.specs.Prelude.{◌≡◌, List, [], ◌∷◌, ◌++◌, ℕ, length, pos}
+use Rattle.std.specs.Prelude.{◌≡◌, List, [], ◌∷◌, ◌++◌, ℕ, length, pos, Ok, Err, Result}
 use Rattle.lists.specs.Lent.{Lent, before, after}
-use Rattle.tariff.specs.declared.refusals.Checked.{Checked}
+use Rattle.tariff.specs.declared.contracts.Period.{Period}
+use Rattle.tariff.specs.declared.contracts.Period.TheVariants.{OffPeak, OnPeak}
+use Rattle.tariff.specs.Refusals.{Checked}
 use Rattle.tariff.specs.Refusals.{Check, first, Outcome, given, refused_by, answered, cells_after, cell_after, number_after}
 use Rattle.tariff.specs.Checks.{constraint_count, price_range, short_table}
 use Rattle.layouts.specs.Files.{short_file, file_length, padding}
 use Rattle.layouts.specs.PriceFile.{price_bytes, period_in, prices_in, price_pad_in, price_count}
-use Rattle.price_rules.specs.declared.PriceAnswer.{PriceAnswer}
-use Rattle.price_rules.specs.declared.PriceAnswer.TheVariants.{Read, Refused}
+use Rattle.tariff.specs.declared.refusals.Refusal.{Refusal}
 
 -- the constraint count, the file, and the lent table as it is at entry
 pub record ReadPricesCall : Type 0 where
@@ -18,10 +19,19 @@ pub record ReadPricesCall : Type 0 where
 abbrev pub read_prices_call : ℕ → List ℕ → List ℕ → ReadPricesCall
 read_prices_call k file table = record { constraints = k; file = file; table = table }
 
--- the period, or the refusal's number
+-- what reading a price file answers: the period, or the refusal
+abbrev pub PriceAnswer : Type 0
+PriceAnswer = Result Period Refusal
+
+-- "period 1 bit" (document 01)
+abbrev pub period_number : Period → ℕ
+period_number OffPeak = 0
+period_number OnPeak = 1
+
+-- the period's number, or the refusal's number
 abbrev pub price_outcome : PriceAnswer → Outcome
-price_outcome (Read period) = given (pos period ∷ [])
-price_outcome (Refused r) = refused_by r
+price_outcome (Ok period) = given (pos (period_number period) ∷ [])
+price_outcome (Err r) = refused_by r
 
 -- the file's own: "3 for that count. 1: no byte. 14: the file's count differs. 5. 15: a price too large. 8"
 unfoldable pub price_file_checks : ℕ → List ℕ → List Check

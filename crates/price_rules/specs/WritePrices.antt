@@ -1,10 +1,10 @@
 -- Writing prices (document 01, "When input is turned down" and "The three files").
 use Rattle.std.specs.Prelude.{List, [], ◌∷◌, ℕ, length, take}
 use Rattle.lists.specs.Lent.{Lent, before, after}
-use Rattle.tariff.specs.declared.refusals.Checked.{Checked}
+use Rattle.tariff.specs.Refusals.{Checked}
 use Rattle.tariff.specs.Refusals.{Check, first}
 use Rattle.tariff.specs.Checks.{constraint_count, period_number, price_range, short_table}
-use Rattle.layouts.specs.declared.WriteAnswer.{WriteAnswer}
+use Rattle.layouts.specs.Writing.{WriteAnswer}
 use Rattle.layouts.specs.PriceFile.{price_bytes, price_file}
 use Rattle.layouts.specs.Writing.{Writes, WritesForC}
 

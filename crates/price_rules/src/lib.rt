@@ -6,16 +6,8 @@ ghost use Rattle.tariff.specs.Units.{max_constraints};
 ghost use Rattle.layouts.specs.PriceFile.{price_bytes};
 
 use layouts::{PRICE_HEADER_BITS, PRICE_WIDTH};
-use tariff::Refusal;
 
-// What reading a price file gives: the period, or the refusal.
-#[derive(Clone, Copy)]
-pub enum PriceAnswer {
-    Read { period: u64 },
-    Refused(Refusal),
-}
-
-// The bytes of a file.
+// The bytes of a file. Of a bare count, as C hands it in: its one check stands in each caller, and a type for it would be made there for this call alone.
 pub fn file_bytes(constraints: usize) -> usize
     requires { constraints ≤ max_constraints }
     ensures { result ≡ price_bytes constraints }

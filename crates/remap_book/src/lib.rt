@@ -1,17 +1,15 @@
 // Remapping a book (document 02, paper 6): a list of old and new node numbers, applied to both ends of each contract, one pair after another.
 #![tactic(auto)]
 
-ghost use Rattle.std.specs.Prelude.{◌≡◌, ℕ, ◌+◌, ◌≤◌, ◌<◌, length, get_or};
+ghost use Rattle.std.specs.Prelude.{◌≡◌, ℕ, ◌≤◌, ◌<◌, length, get_or};
 ghost use Rattle.lists.specs.Lists.{list_to};
 ghost use Rattle.lists.specs.Lent.{before, after, overwrite};
-ghost use Rattle.tariff.specs.Units.{max_contracts};
-ghost use Rattle.layouts.specs.Forms.{record_bytes};
 ghost use Rattle.layouts.specs.BookFile.{book_bytes_of, book_file, contract_in};
 ghost use Rattle.remap_rules.specs.RemapBook.{remap_book_call, RemapsBook};
 ghost use Rattle.remap_rules.specs.Inner.{moved_by, Movable};
 
-use layouts::{Form, WriteAnswer};
-use tariff::{Checked, Contract};
+use book_bits::Contracts;
+use tariff::{Contract, Refusal};
 
 // Where a node goes.
 fn end_at(ends: &[u16], node: usize) -> usize
@@ -21,39 +19,31 @@ fn end_at(ends: &[u16], node: usize) -> usize
     ends[node] as usize
 }
 
-// Contract i of a book, with both ends moved.
-fn moved_contract(book: &[u8], form: Form, i: usize, ends: &[u16]) -> Contract
-    requires i_bound { (i < 1024) × (book_bytes_of form i + record_bytes form ≤ length book.now) }
-    requires movable { Movable form ends.now (contract_in form book.now i) }
-    ensures { result ≡ moved_by ends.now (contract_in form book.now i) }
+// Contract i, with both ends moved.
+fn moved_contract(contracts: Contracts, i: usize, ends: &[u16]) -> Contract
+    requires i_bound { i < contracts.count }
+    requires movable { Movable contracts.form ends.now (contract_in contracts.form contracts.file.now i) }
+    ensures { result ≡ moved_by ends.now (contract_in contracts.entry.form contracts.entry.file.now i) }
 {
-    let c = book_bits::contract_at(book, form, i);
-    let kind = c.kind;
-    let period = c.period;
-    let from = end_at(ends, c.source);
-    let to = end_at(ends, c.sink);
-    let quantity = c.quantity;
+    let c = contracts.at(i);
     Contract {
-        kind,
-        period,
-        holder: c.holder,
-        source: from,
-        sink: to,
-        quantity,
+        source: end_at(ends, c.source),
+        sink: end_at(ends, c.sink),
+        ..c
     }
 }
 
-// Writes the book of the first `count` contracts in its form, with their ends moved.
-fn write_moved(book: &[u8], form: Form, count: usize, ends: &[u16], file: &mut [u8])
-    requires count_le_max_contracts { (count ≤ max_contracts) × (book_bytes_of form count ≤ length book.now) × (book_bytes_of form count ≤ length file.old) }
-    requires by_index { (i : ℕ) → i < count → Movable form ends.now (contract_in form book.now i) }
-    ensures { after file ≡ overwrite (book_file form (list_to count (λ i. moved_by ends.now (contract_in form book.now i)))) (before file) }
+// Writes the book of the contracts in their form, with their ends moved: a loop like that of `view_market::write_anonymous`, which says why it is not one with it.
+fn write_moved(contracts: Contracts, ends: &[u16], file: &mut [u8])
+    requires count_in_bounds { book_bytes_of contracts.form contracts.count ≤ length file.old }
+    requires by_index { (i : ℕ) → i < contracts.count → Movable contracts.form ends.now (contract_in contracts.form contracts.file.now i) }
+    ensures { after file ≡ overwrite (book_file contracts.entry.form
+        (list_to contracts.entry.count (λ i. moved_by ends.now (contract_in contracts.entry.form contracts.entry.file.now i)))) (before file) }
 {
-    book_bits::store_header(file, form, count);
-    let mut i = 0;
-    while i < count {
-        book_bits::store_contract(file, form, i, moved_contract(book, form, i, ends));
-        i += 1;
+    let form = contracts.form;
+    book_bits::store_header(file, form, contracts.len());
+    for i in 0..contracts.len() {
+        book_bits::store_contract(file, form, i, moved_contract(contracts, i, ends));
     }
 }
 
@@ -64,16 +54,11 @@ pub fn remap_book(
     old: &[u64],
     new: &[u64],
     file: &mut [u8],
-) -> WriteAnswer
+) -> Result<usize, Refusal>
     ensures { RemapsBook (remap_book_call nodes book.now old.now new.now (before file)) result (after file) }
 {
-    match remap_checks::check_remap(nodes, book, old, new, file.len()) {
-        Checked::Refused(refusal) => WriteAnswer::Refused(refusal),
-        Checked::Passed => {
-            let ends = remap_ends::moved_ends(nodes, old, new);
-            let form = book_bits::book_form(book);
-            write_moved(book, form, book_bits::contract_count(book), &ends, file);
-            WriteAnswer::Written { bytes: book.len() }
-        }
-    }
+    remap_checks::check_remap(nodes, book, old, new, file.len())?;
+    let ends = remap_ends::moved_ends(nodes, old, new);
+    write_moved(Contracts::of(book), &ends, file);
+    Ok(book.len())
 }

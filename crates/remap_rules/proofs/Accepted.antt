@@ -11,7 +11,7 @@ use Rattle.lists.specs.Lists.{any_of, list_to}
 use Rattle.lists.proofs.Lists.{length-list_to, list_to-cong, map-list_to, each-list_to}
 use Rattle.lists.proofs.Search.{all-below}
 use Rattle.tariff.specs.declared.contracts.Contract.{Contract}
-use Rattle.tariff.specs.declared.refusals.Checked.TheVariants.{Passed}
+use Rattle.tariff.specs.Refusals.{passed}
 use Rattle.tariff.specs.Refusals.{first}
 use Rattle.tariff.specs.Checks.{node_number, short_table, listed_nodes}
 use Rattle.tariff.proofs.Checks.{first_passes, passed_cons, passed_append, nodes-few_of, same_of}
@@ -28,12 +28,12 @@ use Rattle.remap_rules.specs.Inner.{moved_by, Moves, Listed, Movable}
 use Rattle.remap_rules.proofs.Moving.{moved-below}
 
 pub record Remappable (q : RemapBookCall) : Type 0 where
-  pub accepted : first (book_checks q.nodes q.book) ≡ Passed
+  pub accepted : first (book_checks q.nodes q.book) ≡ passed
   pub listed : Listed q.nodes q.olds q.news
   pub new-good : any_of (leb (ends_below_of (book_form_in q.book) q.nodes)) q.news ≡ false
   pub room : book_bytes_of (book_form_in q.book) (contract_count_in q.book) ≤ length q.place
 
-pub remappable : (q : RemapBookCall) → remap_book_checked q ≡ Passed → Remappable q
+pub remappable : (q : RemapBookCall) → remap_book_checked q ≡ passed → Remappable q
 unfolding remap_book_checks
 remappable q e =
     let form = book_form_in q.book in
@@ -83,7 +83,7 @@ module _ (q : RemapBookCall) (ok : Remappable q) where
         quantity-fits = f.quantity-fits;
       }
 
-  moved_passes : (i : ℕ) → i < contract_count_in q.book → first (contract_checks q.nodes (moved_at i)) ≡ Passed
+  moved_passes : (i : ℕ) → i < contract_count_in q.book → first (contract_checks q.nodes (moved_at i)) ≡ passed
   unfolding remapped contract_checks
   moved_passes i h =
       let r = own.each i h in
@@ -105,7 +105,7 @@ module _ (q : RemapBookCall) (ok : Remappable q) where
   book-remade =
       book-made form q.nodes _ (omega (arith, moved-many, own.few))
       (rw moved-list (each-list_to (ContractFits (end_width form)) (contract_count_in q.book) moved_at moved-fits))
-      (rw moved-list (each-list_to (λ c. first (contract_checks q.nodes c) ≡ Passed) (contract_count_in q.book) moved_at moved_passes))
+      (rw moved-list (each-list_to (λ c. first (contract_checks q.nodes c) ≡ passed) (contract_count_in q.book) moved_at moved_passes))
 
   pub length-remade : length (book_remapped q) ≡ length q.book
   length-remade = book-remade.size ∙ ap (book_bytes_of form) moved-many ∙ sym own.size

@@ -6,7 +6,7 @@ use lib.ListN.{length}
 use Rattle.bits.proofs.Bytes.{bytes_below}
 use Rattle.bits.specs.Bits.{Bytes}
 use Rattle.tariff.specs.declared.contracts.Contract.{Contract}
-use Rattle.tariff.specs.declared.refusals.Checked.TheVariants.{Passed}
+use Rattle.tariff.specs.Refusals.{passed}
 use Rattle.tariff.specs.Refusals.{first}
 use Rattle.layouts.specs.declared.forms.Form.{Form}
 use Rattle.layouts.specs.BookFile.{book_file, book_form_in, book_in}
@@ -22,9 +22,9 @@ pub remap_keeps : (olds news : List ℕ) (c : Contract) → RemapKept c (remappe
 unfolding remapped
 remap_keeps olds news c = record { kind = refl; period = refl; holder = refl; quantity = refl }
 
-module _ (q : RemapBookCall) (pass : remap_book_checked q ≡ Passed) where
+module _ (q : RemapBookCall) (pass : remap_book_checked q ≡ passed) where
   -- the new book is accepted for the same node count, and is as long
-  pub remap_is_accepted : first (book_checks q.nodes (book_remapped q)) ≡ Passed
+  pub remap_is_accepted : first (book_checks q.nodes (book_remapped q)) ≡ passed
   remap_is_accepted = (book-remade q (remappable q pass)).accepted
 
   pub remap_keeps_length : length (book_remapped q) ≡ length q.book
@@ -39,7 +39,7 @@ module _ (q : RemapBookCall) (pass : remap_book_checked q ≡ Passed) where
   remap_contracts = (book-remade q (remappable q pass)).contracts
 
 -- no pairs change nothing: the book's own bytes
-pub remap_none : (n : ℕ) (s place : List ℕ) → Bytes s → remap_book_checked (remap_book_call n s [] [] place) ≡ Passed → book_remapped (remap_book_call n s [] [] place) ≡ s
+pub remap_none : (n : ℕ) (s place : List ℕ) → Bytes s → remap_book_checked (remap_book_call n s [] [] place) ≡ passed → book_remapped (remap_book_call n s [] [] place) ≡ s
 unfolding moved_end remapped
 remap_none n s place b pass =
     let own = book-accepted n s (remappable (remap_book_call n s [] [] place) pass).accepted in
@@ -58,7 +58,7 @@ two_lists xs us ys vs same =
       quantity = c.quantity;
     }
 
-pub remap_append : (n : ℕ) (s xs us ys vs place : List ℕ) → remap_book_checked (remap_book_call n s xs us place) ≡ Passed
+pub remap_append : (n : ℕ) (s xs us ys vs place : List ℕ) → remap_book_checked (remap_book_call n s xs us place) ≡ passed
     → book_remapped (remap_book_call n s (xs ++ ys) (us ++ vs) place) ≡ book_remapped (remap_book_call n (book_remapped (remap_book_call n s xs us place)) ys vs place)
 remap_append n s xs us ys vs place pass =
     let q = remap_book_call n s xs us place in

@@ -2,11 +2,11 @@
 use Rattle.std.specs.Prelude.{not, cond, List, [], ◌∷◌, ◌++◌, map, ℕ, eqb, length}
 use Rattle.lists.specs.Lent.{Lent, before, after}
 use Rattle.tariff.specs.declared.contracts.Contract.{Contract}
-use Rattle.tariff.specs.declared.refusals.Checked.{Checked}
+use Rattle.tariff.specs.Refusals.{Checked}
 use Rattle.tariff.specs.declared.refusals.Refusal.TheVariants.{ShortTable}
 use Rattle.tariff.specs.Refusals.{Check, first}
 use Rattle.tariff.specs.Checks.{node_count, short_table, listed_nodes}
-use Rattle.layouts.specs.declared.WriteAnswer.{WriteAnswer}
+use Rattle.layouts.specs.Writing.{WriteAnswer}
 use Rattle.layouts.specs.Forms.{ends_below_of}
 use Rattle.layouts.specs.BookFile.{book_bytes_of, book_file, contract_count_in, book_form_in, book_in}
 use Rattle.layouts.specs.Writing.{Writes, WritesForC}

@@ -6,18 +6,17 @@ use lib.ListN.{length, take}
 use lib.IntN.{pos}
 use Rattle.bits.proofs.Bytes.{bytes_below}
 use Rattle.lists.specs.Lent.{overwrite}
-use Rattle.tariff.specs.declared.refusals.Checked.TheVariants.{Passed}
+use Rattle.std.specs.Prelude.{Ok, Err}
+use Rattle.tariff.specs.Refusals.{passed}
 use Rattle.tariff.proofs.Answers.{never_given, given-told}
-use Rattle.layouts.specs.declared.WriteAnswer.{WriteAnswer}
-use Rattle.layouts.specs.declared.WriteAnswer.TheVariants.{Written}
+use Rattle.layouts.specs.Writing.{WriteAnswer}
 use Rattle.layouts.specs.declared.forms.Form.{Form}
 use Rattle.layouts.specs.Forms.{form_number}
 use Rattle.layouts.specs.BookFile.{contract_count_in, book_form_in, book_in, book_file}
 use Rattle.layouts.specs.BookTable.{contract_cells, cells_of, rows_in}
 use Rattle.layouts.specs.Writing.{IsWritten}
 use Rattle.layouts.proofs.Writing.{writes_passed, writes_told}
-use Rattle.book_rules.specs.declared.BookAnswer.{BookAnswer}
-use Rattle.book_rules.specs.declared.BookAnswer.TheVariants.{Read, Refused}
+use Rattle.book_rules.specs.ReadBook.{BookAnswer, book_read}
 use Rattle.book_rules.specs.ReadBook.{read_book_call, read_book_checked, book_values, book_outcome, ReadsBook}
 use Rattle.book_rules.specs.WriteBook.{write_book_call, write_book_checked, book_written, WritesBook}
 use Rattle.book_rules.proofs.RoundTrip.{ReadBack, read_then_written, written-then_read}
@@ -28,9 +27,10 @@ use Rattle.round_trips.proofs.Grids.{same_form}
 
 -- ---- read, then written
 
-module _ (n : ℕ) (s entry : List ℕ) (bytes : Bytes s) (m : ℕ) (f : Form) (table : List ℕ) (h : ReadsBook (read_book_call n s entry) (Read m f) table) (place : List ℕ)
+module _ (n : ℕ) (s entry : List ℕ) (bytes : Bytes s) (m : ℕ) (f : Form) (table : List ℕ) (h : ReadsBook (read_book_call n s entry) (book_read m f) table)
+    (place : List ℕ)
     (room : length s ≤ length place) where
-  told : (read_book_checked (read_book_call n s entry) ≡ Passed) × (pos m ∷ pos (form_number f) ∷ [] ≡ book_values (read_book_call n s entry))
+  told : (read_book_checked (read_book_call n s entry) ≡ passed) × (pos m ∷ pos (form_number f) ∷ [] ≡ book_values (read_book_call n s entry))
   told = given-told (read_book_checked (read_book_call n s entry)) (book_values (read_book_call n s entry)) (pos m ∷ pos (form_number f) ∷ []) h.values-given
 
   count : m ≡ contract_count_in s
@@ -48,7 +48,7 @@ module _ (n : ℕ) (s entry : List ℕ) (bytes : Bytes s) (m : ℕ) (f : Form) (
   rows : rows_in m table ≡ book_in s
   rows = rw (count, left) (rows_left n s entry told.0)
 
-  accepted : write_book_checked (write_book_call f n m table place) ≡ Passed
+  accepted : write_book_checked (write_book_call f n m table place) ≡ passed
   accepted = rw (form, count, left) (rows-accepted n s entry told.0 place room)
 
   same_file : book_written (write_book_call f n m table place) ≡ s
@@ -58,32 +58,33 @@ module _ (n : ℕ) (s entry : List ℕ) (bytes : Bytes s) (m : ℕ) (f : Form) (
   book-rewritten a exit w =
       let r = writes_passed _ (book_written (write_book_call f n m table place)) place a exit accepted w in
       record {
-        length-is = r.length-is ∙ ap (λ (l : List ℕ). Written (length l)) same_file;
+        length-is = r.length-is ∙ ap (λ (l : List ℕ). Ok (length l)) same_file;
         bytes-are = r.bytes-are ∙ ap
             (λ (l : List ℕ). overwrite l place) same_file;
       }
 
 -- ---- written, then read
 
-module _ (f : Form) (n m : ℕ) (rows place : List ℕ) (size : ℕ) (exit : List ℕ) (w : WritesBook (write_book_call f n m rows place) (Written size) exit) (entry : List ℕ)
+module _ (f : Form) (n m : ℕ) (rows place : List ℕ) (size : ℕ) (exit : List ℕ) (w : WritesBook (write_book_call f n m rows place) (Ok size) exit) (entry : List ℕ)
     (room : contract_cells * m ≤ length entry) where
-  written : (write_book_checked (write_book_call f n m rows place) ≡ Passed) × (take size exit ≡ book_written (write_book_call f n m rows place))
+  written : (write_book_checked (write_book_call f n m rows place) ≡ passed) × (take size exit ≡ book_written (write_book_call f n m rows place))
   written = writes_told _ _ place size exit w
 
   back : ReadBack (write_book_call f n m rows place)
   back = written-then_read (write_book_call f n m rows place) written.0
 
-  read_back : read_book_checked (read_book_call n (take size exit) entry) ≡ Passed
+  read_back : read_book_checked (read_book_call n (take size exit) entry) ≡ passed
   read_back = rw written.1 (back.passes entry room)
 
-  count-told : (a : BookAnswer) (x : ℕ) (g : Form) → book_outcome a ≡ record { number = 0; values = pos x ∷ pos (form_number g) ∷ [] } → a ≡ Read x g
-  count-told (Read y i) x g e =
-      let q : pos y ∷ pos (form_number i) ∷ [] ≡ pos x ∷ pos (form_number g) ∷ [] = (given-told Passed (pos x ∷ pos (form_number g) ∷ [])
-      (pos y ∷ pos (form_number i) ∷ []) e).1 in
-      let contracts : y ≡ x = cc in
-      let number : form_number i ≡ form_number g = cc in
-      ap₂ Read contracts (same_form i g number)
-  count-told (Refused r) x g e = absurd (never_given r (pos x ∷ pos (form_number g) ∷ []) e)
+  count-told : (a : BookAnswer) (x : ℕ) (g : Form) → book_outcome a ≡ record { number = 0; values = pos x ∷ pos (form_number g) ∷ [] } → a ≡ book_read x g
+  count-told (Ok found) x g e =
+      let q : pos found.contracts ∷ pos (form_number found.form) ∷ [] ≡ pos x ∷ pos (form_number g) ∷ [] = (given-told passed (pos x ∷ pos (form_number g) ∷ [])
+      (pos found.contracts ∷ pos (form_number found.form) ∷ []) e).1 in
+      let contracts : found.contracts ≡ x = cc in
+      let number : form_number found.form ≡ form_number g = cc in
+      let form = same_form found.form g number in
+      λ i. book_read (contracts i) (form i)
+  count-told (Err r) x g e = absurd (never_given r (pos x ∷ pos (form_number g) ∷ []) e)
 
   pub book-reread : (a : BookAnswer) (table : List ℕ) → ReadsBook (read_book_call n (take size exit) entry) a table → BookIs f m rows entry a table
   book-reread a table h =

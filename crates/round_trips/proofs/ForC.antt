@@ -1,5 +1,5 @@
 -- The round trips for C, from the entries': what a C function leaves is what its entry leaves with some answer.
-use mathlib.Core.Path.{◌≡◌, refl, sym, ap, ◌∙◌}
+use mathlib.Core.Path.{◌≡◌, refl, sym, ap, subst, ◌∙◌}
 use mathlib.Core.List.{List, [], ◌∷◌}
 use Prim.Native.Nat.{ℕ}
 use native.Mathlib.Omega.{arith}
@@ -7,28 +7,30 @@ use lib.ListN.{length}
 use lib.IntN.{ℤ, pos}
 use Rattle.lists.specs.Lent.{Lent, before, after}
 use Rattle.tariff.specs.declared.refusals.Refusal.{Refusal}
-use Rattle.tariff.specs.declared.refusals.Checked.{Checked}
-use Rattle.tariff.specs.declared.refusals.Checked.TheVariants.{Passed, Refused}
+use Rattle.tariff.specs.Refusals.{Checked}
+use Rattle.std.specs.Prelude.{Ok, Err}
 use Rattle.tariff.specs.Refusals.{given, answered, number_after}
-use Rattle.tariff.proofs.Answers.{none-refused, figure-is}
-use Rattle.layouts.specs.declared.WriteAnswer.{WriteAnswer}
-use Rattle.layouts.specs.declared.WriteAnswer.TheVariants as is
+use Rattle.tariff.specs.ContractRules.{period_of}
+use Rattle.tariff.proofs.Answers.{never_given, none-refused, figure-is}
+use Rattle.layouts.specs.Writing.{WriteAnswer}
 use Rattle.layouts.specs.Forms.{form_number, form_of}
 use Rattle.layouts.specs.BookFile.{contract_count_in, book_form_in}
 use Rattle.layouts.specs.GridFile.{grid_form_in, nodes_in, constraints_in_of}
 use Rattle.layouts.specs.PriceFile.{period_in}
 use Rattle.layouts.specs.Writing.{Writes, WritesForC, IsWritten}
 use Rattle.layouts.proofs.FormLaws.{form-of_number}
-use Rattle.layouts.proofs.Writing.{written-by}
-use Rattle.grid_rules.specs.declared.GridAnswer.{GridAnswer}
-use Rattle.grid_rules.specs.declared.GridAnswer.TheVariants as grid
+use Rattle.layouts.proofs.Writing.{one_given, written-by}
+use Rattle.grid_rules.specs.declared.GridRead.{GridRead}
+use Rattle.book_rules.specs.declared.BookRead.{BookRead}
+use Rattle.grid_rules.specs.ReadGrid.{GridAnswer, grid_read}
 use Rattle.grid_rules.specs.ReadGrid.{ReadGridCall, read_grid_checked, grid_values, ReadsGrid, ReadsGridForC}
-use Rattle.book_rules.specs.declared.BookAnswer.{BookAnswer}
-use Rattle.book_rules.specs.declared.BookAnswer.TheVariants as book
+use Rattle.book_rules.specs.ReadBook.{BookAnswer, book_read}
 use Rattle.book_rules.specs.ReadBook.{ReadBookCall, read_book_checked, book_values, ReadsBook, ReadsBookForC}
-use Rattle.price_rules.specs.declared.PriceAnswer.{PriceAnswer}
-use Rattle.price_rules.specs.declared.PriceAnswer.TheVariants as prices
-use Rattle.price_rules.specs.ReadPrices.{ReadPricesCall, read_prices_checked, ReadsPrices, ReadsPricesForC}
+use Rattle.price_rules.specs.ReadPrices.{PriceAnswer}
+use Rattle.price_rules.specs.ReadPrices.{ReadPricesCall, read_prices_checked, period_number, ReadsPrices, ReadsPricesForC}
+use Rattle.price_rules.specs.WritePrices.{write_prices_call, WritesPrices}
+use Rattle.price_rules.proofs.PriceLaws.{number-of_period}
+use Rattle.bits.proofs.Fields.{field_lt}
 use Rattle.round_trips.specs.Trips.{GridIs, BookIs, PricesAre}
 use Rattle.round_trips.specs.ForC.{WrittenForC, GridForC, BookForC, PricesForC, RoundTripsForC}
 use Rattle.round_trips.proofs.Grids.{grid-rewritten, grid-reread}
@@ -39,22 +41,22 @@ use Rattle.round_trips.proofs.Prices.{prices-rewritten, prices-reread}
 written-for_c : (c : Checked) (file place s : List ℕ) (number : ℕ) (exit : List ℕ) (bytes : Lent ℕ) → WritesForC c file place (before bytes) number exit
     (after bytes)
     → ((a : WriteAnswer) → Writes c file place a exit → IsWritten s place a exit) → WrittenForC s place number exit bytes
-written-for_c Passed file place s number exit bytes w h =
-    let r = h (is.Written (length file)) (record { length-given = refl; bytes-written = w.bytes-written }) in
-    let told : is.Written (length file) ≡ is.Written (length s) = r.length-is in
+written-for_c (Ok _) file place s number exit bytes w h =
+    let r = h (Ok (length file)) (record { length-given = refl; bytes-written = w.bytes-written }) in
+    let told : Ok (length file) ≡ Ok (length s) = r.length-is in
     let size : length file ≡ length s = cc in
     record { number-0 = w.refusal-number; length-is = w.length-given ∙ size; bytes-are = r.bytes-are }
-written-for_c (Refused q) file place s number exit bytes w h =
-    let told : is.Refused q ≡ is.Written (length s) = (h (is.Refused q) (record { length-given = refl; bytes-written = w.bytes-written })).length-is in
+written-for_c (Err q) file place s number exit bytes w h =
+    let told : Err q ≡ Ok (length s) = (h (Err q) (record { length-given = refl; bytes-written = w.bytes-written })).length-is in
     absurd (never told)
   where
-    never : {r : Refusal} {n : ℕ} → is.Refused r ≡ is.Written n → ⊥
+    never : {r : Refusal} {n : ℕ} → Err r ≡ Ok n → ⊥
     never e = let z : ◌≡◌ {A = ℕ} 0 1 = cc in omega arith
 
 -- ---- the readers that answered 0, as their entries
 
 grid-by : (q : ReadGridCall) (ls : List ℕ) (fs : List ℤ) (nodes constraints form : Lent ℕ) → ReadsGridForC q 0 ls fs nodes constraints form
-    → ReadsGrid q (grid.Read (after nodes) (after constraints) (form_of (after form))) ls fs
+    → ReadsGrid q (grid_read (after nodes) (after constraints) (form_of (after form))) ls fs
 grid-by q ls fs nodes constraints form h =
     let ok = none-refused (read_grid_checked q) h.refusal-number in
     let n = figure-is (read_grid_checked q) ok _ _ _ h.nodes-given in
@@ -67,7 +69,7 @@ grid-by q ls fs nodes constraints form h =
     }
 
 book-by : (q : ReadBookCall) (table : List ℕ) (contracts form : Lent ℕ) → ReadsBookForC q 0 table contracts form
-    → ReadsBook q (book.Read (after contracts) (form_of (after form))) table
+    → ReadsBook q (book_read (after contracts) (form_of (after form))) table
 book-by q table contracts form h =
     let ok = none-refused (read_book_checked q) h.refusal-number in
     let m = figure-is (read_book_checked q) ok _ _ _ h.count-given in
@@ -77,10 +79,19 @@ book-by q table contracts form h =
       contracts-read = h.contracts-read;
     }
 
-prices-by : (q : ReadPricesCall) (table : List ℕ) (period : Lent ℕ) → ReadsPricesForC q 0 table period → ReadsPrices q (prices.Read (after period)) table
+-- a file's period is the number of one
+period_is : (q : ReadPricesCall) → period_number (period_of (period_in q.file)) ≡ period_in q.file
+period_is q = number-of_period (period_in q.file) (field_lt q.file 0 1)
+
+told-period : (q : ReadPricesCall) (table : List ℕ) (period : Lent ℕ) → ReadsPricesForC q 0 table period → period_number (period_of (after period)) ≡ after period
+told-period q table period h =
+    let t = figure-is (read_prices_checked q) (none-refused (read_prices_checked q) h.refusal-number) _ _ _ h.period-given in
+    rw t (period_is q)
+
+prices-by : (q : ReadPricesCall) (table : List ℕ) (period : Lent ℕ) → ReadsPricesForC q 0 table period → ReadsPrices q (Ok (period_of (after period))) table
 prices-by q table period h =
     let ok = none-refused (read_prices_checked q) h.refusal-number in
-    let t = figure-is (read_prices_checked q) ok _ _ _ h.period-given in
+    let t = told-period q table period h ∙ figure-is (read_prices_checked q) ok _ _ _ h.period-given in
     record {
       period-given = (λ i. given (pos (t i) ∷ [])) ∙ sym (ap (λ (c : Checked). answered c (pos (period_in q.file) ∷ [])) ok);
       prices-read = h.prices-read;
@@ -88,76 +99,80 @@ prices-by q table period h =
 
 -- ---- whatever the entry answers, it gives what was written: so for C
 
+-- equal answers have equal figures
+same_grid : (x y : GridRead) → ◌≡◌ {A = GridAnswer} (Ok x) (Ok y) → (x.nodes ≡ y.nodes) × (x.constraints ≡ y.constraints) × (x.form ≡ y.form)
+same_grid x y e = let same : x ≡ y = cc in (λ i. (same i).nodes, λ i. (same i).constraints, λ i. (same i).form)
+
+same_book : (x y : BookRead) → ◌≡◌ {A = BookAnswer} (Ok x) (Ok y) → (x.contracts ≡ y.contracts) × (x.form ≡ y.form)
+same_book x y e = let same : x ≡ y = cc in (λ i. (same i).contracts, λ i. (same i).form)
+
 module _ (q : ReadGridCall) (number : ℕ) (ls : List ℕ) (fs : List ℤ) (nodes constraints told : Lent ℕ) (r : ReadsGridForC q number ls fs nodes constraints told)
     (form n k : ℕ) (limits : List ℕ) (factors : List ℤ) (ls₀ : List ℕ) (fs₀ : List ℤ)
     (h : (a : GridAnswer) → ReadsGrid q a ls fs → GridIs (form_of form) n k limits factors ls₀ fs₀ a ls fs) where
   grid-for_c : (c : Checked) → read_grid_checked q ≡ c → GridForC form n k limits factors ls₀ fs₀ number ls fs nodes constraints told
-  grid-for_c Passed e =
-      let g = h (grid.Read (nodes_in q.file) (constraints_in_of q.file) (grid_form_in q.file))
+  grid-for_c (Ok _) e =
+      let g = h (grid_read (nodes_in q.file) (constraints_in_of q.file) (grid_form_in q.file))
       (record { values-given = sym (ap (λ (c : Checked). answered c (grid_values q)) e); limits-read = r.limits-read; factors-read = r.factors-read }) in
-      let are : grid.Read (nodes_in q.file) (constraints_in_of q.file) (grid_form_in q.file) ≡ grid.Read n k (form_of form) = g.counts-are in
-      let as-form : grid_form_in q.file ≡ form_of form = cc in
+      let are = same_grid _ _ g.counts-are in
       record {
         number-0 = r.refusal-number ∙ ap number_after e;
-        nodes-are = figure-is (read_grid_checked q) e _ _ _ r.nodes-given ∙ cc;
-        constraints-are = figure-is (read_grid_checked q) e _ _ _ r.constraints-given ∙ cc;
-        form-is = figure-is (read_grid_checked q) e _ _ _ r.form-given ∙ ap form_number as-form;
+        nodes-are = figure-is (read_grid_checked q) e _ _ _ r.nodes-given ∙ are.0;
+        constraints-are = figure-is (read_grid_checked q) e _ _ _ r.constraints-given ∙ are.1;
+        form-is = figure-is (read_grid_checked q) e _ _ _ r.form-given ∙ ap form_number are.2;
         limits-are = g.limits-are;
         factors-are = g.factors-are;
       }
-  grid-for_c (Refused x) e =
-      let g = h (grid.Refused x) (record {
+  grid-for_c (Err x) e =
+      let g = h (Err x) (record {
         values-given = sym
             (ap (λ (c : Checked). answered c (grid_values q)) e);
         limits-read = r.limits-read;
         factors-read = r.factors-read;
       }) in
-      let are : grid.Refused x ≡ grid.Read n k (form_of form) = g.counts-are in
+      let are : Err x ≡ grid_read n k (form_of form) = g.counts-are in
       let z : ◌≡◌ {A = ℕ} 0 1 = cc in
       absurd (omega arith)
 
 module _ (q : ReadBookCall) (number : ℕ) (table : List ℕ) (contracts told : Lent ℕ) (r : ReadsBookForC q number table contracts told)
     (form m : ℕ) (rows entry : List ℕ) (h : (a : BookAnswer) → ReadsBook q a table → BookIs (form_of form) m rows entry a table) where
   book-for_c : (c : Checked) → read_book_checked q ≡ c → BookForC form m rows entry number table contracts told
-  book-for_c Passed e =
-      let b = h (book.Read (contract_count_in q.file) (book_form_in q.file))
+  book-for_c (Ok _) e =
+      let b = h (book_read (contract_count_in q.file) (book_form_in q.file))
       (record { values-given = sym (ap (λ (c : Checked). answered c (book_values q)) e); contracts-read = r.contracts-read }) in
-      let are : book.Read (contract_count_in q.file) (book_form_in q.file) ≡ book.Read m (form_of form) = b.count-is in
-      let as-form : book_form_in q.file ≡ form_of form = cc in
+      let are = same_book _ _ b.count-is in
       record {
         number-0 = r.refusal-number ∙ ap number_after e;
-        count-is = figure-is (read_book_checked q) e _ _ _ r.count-given ∙ cc;
-        form-is = figure-is (read_book_checked q) e _ _ _ r.form-given ∙ ap form_number as-form;
+        count-is = figure-is (read_book_checked q) e _ _ _ r.count-given ∙ are.0;
+        form-is = figure-is (read_book_checked q) e _ _ _ r.form-given ∙ ap form_number are.1;
         rows_are = b.rows_are;
       }
-  book-for_c (Refused x) e =
-      let are : book.Refused x ≡ book.Read m (form_of form)
-      = (h (book.Refused x) (record { values-given = sym (ap (λ (c : Checked). answered c (book_values q)) e); contracts-read = r.contracts-read })).count-is in
+  book-for_c (Err x) e =
+      let are : Err x ≡ book_read m (form_of form)
+      = (h (Err x) (record { values-given = sym (ap (λ (c : Checked). answered c (book_values q)) e); contracts-read = r.contracts-read })).count-is in
       let z : ◌≡◌ {A = ℕ} 0 1 = cc in
       absurd (omega arith)
 
 module _ (q : ReadPricesCall) (number : ℕ) (table : List ℕ) (period : Lent ℕ) (r : ReadsPricesForC q number table period) (t k : ℕ) (list entry : List ℕ)
     (h : (a : PriceAnswer) → ReadsPrices q a table → PricesAre t k list entry a table) where
   prices-for_c : (c : Checked) → read_prices_checked q ≡ c → PricesForC t k list entry number table period
-  prices-for_c Passed e =
-      let p = h (prices.Read (period_in q.file))
-      (record { period-given = sym (ap (λ (c : Checked). answered c (pos (period_in q.file) ∷ [])) e); prices-read = r.prices-read }) in
-      let are : prices.Read (period_in q.file) ≡ prices.Read t = p.period-is in
+  prices-for_c (Ok _) e =
+      let is = period_is q in
+      let p = h (Ok (period_of (period_in q.file)))
+      (record {
+        period-given = (λ i. given (pos (is i) ∷ [])) ∙ sym (ap (λ (c : Checked). answered c (pos (period_in q.file) ∷ [])) e);
+        prices-read = r.prices-read;
+      }) in
       record {
         number-0 = r.refusal-number ∙ ap number_after e;
-        period-is = figure-is (read_prices_checked q) e _ _ _ r.period-given
-            ∙ cc;
+        period-is = figure-is (read_prices_checked q) e _ _ _ r.period-given ∙ sym is ∙ one_given _ t p.period-is;
         prices-are = p.prices-are;
       }
-  prices-for_c (Refused x) e =
-      let are : prices.Refused x ≡ prices.Read t
-      = (h (prices.Refused x) (record {
+  prices-for_c (Err x) e =
+      absurd (never_given x (pos t ∷ []) (h (Err x) (record {
         period-given = sym
             (ap (λ (c : Checked). answered c (pos (period_in q.file) ∷ [])) e);
         prices-read = r.prices-read;
-      })).period-is in
-      let z : ◌≡◌ {A = ℕ} 0 1 = cc in
-      absurd (omega arith)
+      })).period-is)
 
 pub round_trips_for_c : RoundTripsForC
 round_trips_for_c =
@@ -168,7 +183,9 @@ round_trips_for_c =
       crr_book_read_then_written = λ n s entry bytes table contracts form h place room number exit length-cell w.
           written-for_c _ _ place s number exit length-cell w (λ a. book-rewritten n s entry bytes _ _ table (book-by _ table contracts form h) place room a exit);
       crr_prices_read_then_written = λ k s entry bytes table period h place room number exit length-cell w.
-          written-for_c _ _ place s number exit length-cell w (λ a. prices-rewritten k s entry bytes _ table (prices-by _ table period h) place room a exit);
+          written-for_c _ _ place s number exit length-cell w
+          (λ a v. prices-rewritten k s entry bytes _ table (prices-by _ table period h) place room a exit
+          (subst (λ t. WritesPrices (write_prices_call t k table place) a exit) (sym (told-period _ table period h)) v));
       crr_grid_written_then_read = λ form n k limits factors place exit bytes w ls₀ fs₀ cells places number ls fs nodes constraints told r.
           grid-for_c _ number ls fs nodes constraints told r form n k limits factors ls₀ fs₀
           (λ a. grid-reread (form_of form) n k limits factors place (after bytes) exit

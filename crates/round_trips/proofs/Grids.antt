@@ -1,5 +1,5 @@
 -- The grid's file there and back.
-use mathlib.Core.Path.{◌≡◌, sym, ap, ap₂, ◌∙◌}
+use mathlib.Core.Path.{◌≡◌, sym, ap, ◌∙◌}
 use mathlib.Core.List.{List, [], ◌∷◌}
 use Prim.Native.Nat.{ℕ, ◌*◌, ◌≤◌}
 use native.Mathlib.Omega.{arith}
@@ -9,11 +9,11 @@ use lib.IntN.{ℤ, pos}
 use Rattle.bits.proofs.Bytes.{bytes_below}
 use Rattle.lists.specs.Lent.{overwrite}
 use Rattle.lists.proofs.Fronts.{front-is, front-room}
-use Rattle.tariff.specs.declared.refusals.Checked.TheVariants.{Passed}
+use Rattle.std.specs.Prelude.{Ok, Err}
+use Rattle.tariff.specs.Refusals.{passed}
 use Rattle.tariff.proofs.Checks.{first_passes, last-passes, passed_cons}
 use Rattle.tariff.proofs.Answers.{never_given, given-told}
-use Rattle.layouts.specs.declared.WriteAnswer.{WriteAnswer}
-use Rattle.layouts.specs.declared.WriteAnswer.TheVariants.{Written}
+use Rattle.layouts.specs.Writing.{WriteAnswer}
 use Rattle.layouts.specs.declared.forms.Form.{Form}
 use Rattle.layouts.specs.Forms.{form_number, form_of}
 use Rattle.layouts.specs.GridFile.{grid_bytes, grid_file, grid_form_in, header_in, nodes_in, constraints_in_of, limits_in, factors_in, grid_in}
@@ -21,9 +21,9 @@ use Rattle.layouts.specs.Writing.{IsWritten}
 use Rattle.layouts.proofs.FormLaws.{form-of_number}
 use Rattle.layouts.proofs.GridFile.{length-limits, length-factors}
 use Rattle.layouts.proofs.Writing.{writes_passed, writes_told}
-use Rattle.grid_rules.specs.declared.GridAnswer.{GridAnswer}
-use Rattle.grid_rules.specs.declared.GridAnswer.TheVariants.{Read, Refused}
-use Rattle.grid_rules.specs.ReadGrid.{read_grid_call, grid_size_checks, grid_figure_checks, grid_file_checks, read_grid_checks, read_grid_checked, grid_outcome, grid_values, ReadsGrid}
+use Rattle.grid_rules.specs.ReadGrid.{GridAnswer, grid_read}
+use Rattle.grid_rules.specs.ReadGrid.{grid_size_checks, grid_figure_checks, grid_file_checks, read_grid_checks, read_grid_checked}
+use Rattle.grid_rules.specs.ReadGrid.{read_grid_call, grid_outcome, grid_values, ReadsGrid}
 use Rattle.grid_rules.specs.WriteGrid.{write_grid_call, write_grid_checks, write_grid_checked, grid_written, WritesGrid}
 use Rattle.grid_rules.proofs.Passing.{readable}
 use Rattle.grid_rules.proofs.Taken.{grid-taken}
@@ -37,7 +37,7 @@ same_form f g e = sym (form-of_number f) ∙ ap form_of e ∙ form-of_number g
 
 -- ---- read, then written
 
-module _ (s : List ℕ) (ls₀ : List ℕ) (fs₀ : List ℤ) (bytes : Bytes s) (passed : read_grid_checked (read_grid_call s ls₀ fs₀) ≡ Passed) (place : List ℕ)
+module _ (s : List ℕ) (ls₀ : List ℕ) (fs₀ : List ℤ) (bytes : Bytes s) (accepts : read_grid_checked (read_grid_call s ls₀ fs₀) ≡ passed) (place : List ℕ)
     (room : length s ≤ length place) where
   abbrev F : Form
   F = grid_form_in s
@@ -49,11 +49,11 @@ module _ (s : List ℕ) (ls₀ : List ℕ) (fs₀ : List ℤ) (bytes : Bytes s) 
   K = constraints_in_of s
 
   -- each check of the writer is one that the reader made, or is settled by what was read
-  accepted : write_grid_checked (write_grid_call F N K (overwrite (limits_in s) ls₀) (overwrite (factors_in s) fs₀) place) ≡ Passed
+  accepted : write_grid_checked (write_grid_call F N K (overwrite (limits_in s) ls₀) (overwrite (factors_in s) fs₀) place) ≡ passed
   unfolding grid_size_checks grid_figure_checks grid_file_checks read_grid_checks write_grid_checks
   accepted =
-      let size = (readable (read_grid_call s ls₀ fs₀) passed).file-sized.counted.size in
-      let two = passed_cons _ _ (passed_cons _ _ passed).1 in
+      let size = (readable (read_grid_call s ls₀ fs₀) accepts).file-sized.counted.size in
+      let two = passed_cons _ _ (passed_cons _ _ accepts).1 in
       let three = passed_cons _ _ two.1 in
       let six = passed_cons _ _ (passed_cons _ _ (passed_cons _ _ three.1).1).1 in
       let seven = passed_cons _ _ six.1 in
@@ -66,9 +66,9 @@ module _ (s : List ℕ) (ls₀ : List ℕ) (fs₀ : List ℤ) (bytes : Bytes s) 
       ∙ last-passes _ (le-ltb (length place) (grid_bytes F N K) (omega (arith, size)))
 
 module _ (s : List ℕ) (ls₀ : List ℕ) (fs₀ : List ℤ) (bytes : Bytes s) (n k : ℕ) (f : Form) (ls : List ℕ) (fs : List ℤ)
-    (h : ReadsGrid (read_grid_call s ls₀ fs₀) (Read n k f) ls fs)
+    (h : ReadsGrid (read_grid_call s ls₀ fs₀) (grid_read n k f) ls fs)
     (place : List ℕ) (room : length s ≤ length place) where
-  told : (read_grid_checked (read_grid_call s ls₀ fs₀) ≡ Passed) × (pos n ∷ pos k ∷ pos (form_number f) ∷ [] ≡ grid_values (read_grid_call s ls₀ fs₀))
+  told : (read_grid_checked (read_grid_call s ls₀ fs₀) ≡ passed) × (pos n ∷ pos k ∷ pos (form_number f) ∷ [] ≡ grid_values (read_grid_call s ls₀ fs₀))
   told = given-told (read_grid_checked (read_grid_call s ls₀ fs₀)) (grid_values (read_grid_call s ls₀ fs₀)) (pos n ∷ pos k ∷ pos (form_number f) ∷ []) h.values-given
 
   counts : (n ≡ nodes_in s) × (k ≡ constraints_in_of s) × (f ≡ grid_form_in s)
@@ -77,7 +77,7 @@ module _ (s : List ℕ) (ls₀ : List ℕ) (fs₀ : List ℤ) (bytes : Bytes s) 
       let number : form_number f ≡ form_number (grid_form_in s) = cc in
       (cc, cc, same_form f (grid_form_in s) number)
 
-  passes : write_grid_checked (write_grid_call f n k ls fs place) ≡ Passed
+  passes : write_grid_checked (write_grid_call f n k ls fs place) ≡ passed
   passes =
       let limits : ls ≡ overwrite (limits_in s) ls₀ = rw told.0 at h.limits-read in
       let factors : fs ≡ overwrite (factors_in s) fs₀ = rw told.0 at h.factors-read in
@@ -93,7 +93,7 @@ module _ (s : List ℕ) (ls₀ : List ℕ) (fs₀ : List ℤ) (bytes : Bytes s) 
   grid-rewritten a exit w =
       let r = writes_passed _ (grid_written (write_grid_call f n k ls fs place)) place a exit passes w in
       record {
-        length-is = r.length-is ∙ ap (λ (x : List ℕ). Written (length x)) same_file;
+        length-is = r.length-is ∙ ap (λ (x : List ℕ). Ok (length x)) same_file;
         bytes-are = r.bytes-are ∙ ap
             (λ (x : List ℕ). overwrite x place) same_file;
       }
@@ -101,26 +101,28 @@ module _ (s : List ℕ) (ls₀ : List ℕ) (fs₀ : List ℤ) (bytes : Bytes s) 
 -- ---- written, then read
 
 module _ (f : Form) (n k : ℕ) (limits : List ℕ) (factors : List ℤ) (place : List ℕ) (size : ℕ) (exit : List ℕ)
-    (w : WritesGrid (write_grid_call f n k limits factors place) (Written size) exit)
+    (w : WritesGrid (write_grid_call f n k limits factors place) (Ok size) exit)
     (ls₀ : List ℕ) (fs₀ : List ℤ) (cells : k ≤ length ls₀) (places : n * k ≤ length fs₀) where
-  written : (write_grid_checked (write_grid_call f n k limits factors place) ≡ Passed) × (take size exit ≡ grid_written (write_grid_call f n k limits factors place))
+  written : (write_grid_checked (write_grid_call f n k limits factors place) ≡ passed) × (take size exit ≡ grid_written (write_grid_call f n k limits factors place))
   written = writes_told _ _ place size exit w
 
   back : ReadBack f n k limits factors (grid_written (write_grid_call f n k limits factors place))
   back = written-then_read (write_grid_call f n k limits factors place) written.0
 
-  read_back : read_grid_checked (read_grid_call (take size exit) ls₀ fs₀) ≡ Passed
+  read_back : read_grid_checked (read_grid_call (take size exit) ls₀ fs₀) ≡ passed
   read_back = rw written.1 (back.passes ls₀ fs₀ cells places)
 
-  counts-told : (a : GridAnswer) (x y : ℕ) (g : Form) → grid_outcome a ≡ record { number = 0; values = pos x ∷ pos y ∷ pos (form_number g) ∷ [] } → a ≡ Read x y g
-  counts-told (Read m j i) x y g e =
-      let q : pos m ∷ pos j ∷ pos (form_number i) ∷ [] ≡ pos x ∷ pos y ∷ pos (form_number g) ∷ [] =
-      (given-told Passed (pos x ∷ pos y ∷ pos (form_number g) ∷ []) (pos m ∷ pos j ∷ pos (form_number i) ∷ []) e).1 in
-      let nodes : m ≡ x = cc in
-      let constraints : j ≡ y = cc in
-      let number : form_number i ≡ form_number g = cc in
-      ap₂ (λ (a b : ℕ). Read a b i) nodes constraints ∙ ap (Read x y) (same_form i g number)
-  counts-told (Refused r) x y g e = absurd (never_given r (pos x ∷ pos y ∷ pos (form_number g) ∷ []) e)
+  counts-told : (a : GridAnswer) (x y : ℕ) (g : Form) → grid_outcome a ≡ record { number = 0; values = pos x ∷ pos y ∷ pos (form_number g) ∷ [] }
+      → a ≡ grid_read x y g
+  counts-told (Ok found) x y g e =
+      let q : pos found.nodes ∷ pos found.constraints ∷ pos (form_number found.form) ∷ [] ≡ pos x ∷ pos y ∷ pos (form_number g) ∷ [] =
+      (given-told passed (pos x ∷ pos y ∷ pos (form_number g) ∷ []) (pos found.nodes ∷ pos found.constraints ∷ pos (form_number found.form) ∷ []) e).1 in
+      let nodes : found.nodes ≡ x = cc in
+      let constraints : found.constraints ≡ y = cc in
+      let number : form_number found.form ≡ form_number g = cc in
+      let form = same_form found.form g number in
+      λ i. grid_read (nodes i) (constraints i) (form i)
+  counts-told (Err r) x y g e = absurd (never_given r (pos x ∷ pos y ∷ pos (form_number g) ∷ []) e)
 
   pub grid-reread : (a : GridAnswer) (ls : List ℕ) (fs : List ℤ) → ReadsGrid (read_grid_call (take size exit) ls₀ fs₀) a ls fs
       → GridIs f n k limits factors ls₀ fs₀ a ls fs

@@ -3,26 +3,12 @@
 
 ghost use Rattle.std.specs.Prelude.{◌≡◌, ◌≤◌, ◌<◌, length, nat_abs};
 ghost use Rattle.lists.specs.Lent.{before, after, overwrite};
-ghost use Rattle.tariff.specs.Units.{max_balance};
 ghost use Rattle.largest_remainders.specs.Ranks.{add_to};
 ghost use Rattle.largest_remainders.specs.Shares.{whole};
 ghost use Rattle.share_rules.specs.ShareBalance.{share_call, demand_of, signed_like_of, balance_share, shares_of, SharesBalance};
 ghost use Rattle.share_rules.specs.Inner.{max_demand_total, Weighed, RoundedCents, Cut};
 
-use share_rules::ShareAnswer;
-use tariff::Checked;
-
-// The size of a balance, whatever its sign.
-fn size_of(balance: i64) -> u64
-    requires { nat_abs balance ≤ max_balance }
-    ensures { result ≡ nat_abs balance }
-{
-    if balance < 0 {
-        (-balance) as u64
-    } else {
-        balance as u64
-    }
-}
+use tariff::Refusal;
 
 // So many cents with the balance's sign.
 fn signed_like(balance: i64, cents: u64) -> i64
@@ -37,6 +23,7 @@ fn signed_like(balance: i64, cents: u64) -> i64
 }
 
 // Notes each coordinator's whole cents, and its remainder and number as one, and gives the sum of the whole cents.
+// Wholes and keys are two arrays, not one of pairs: `threshold` takes the keys as a slice.
 fn fill_wholes(size: u64, sum: u64, demands: &[u64], wholes: &mut [u64], keys: &mut [u64]) -> u64
     requires weighed { Weighed size sum demands.now }
     requires demands_in_bounds { (length demands.now ≤ length wholes.old) × (length demands.now ≤ length keys.old) }
@@ -44,14 +31,12 @@ fn fill_wholes(size: u64, sum: u64, demands: &[u64], wholes: &mut [u64], keys: &
     ensures rounded_cents { RoundedCents size demands.now (after wholes) (after keys) }
 {
     let mut given = 0;
-    let mut i = 0;
-    while i < demands.len() {
-        let product = size * demands[i];
+    for (i, demand) in demands.iter().enumerate() {
+        let product = size * demand;
         let cents = product / sum;
         given += cents;
         wholes[i] = cents;
         keys[i] = product % sum * 256 + (255 - i) as u64;
-        i += 1;
     }
     given
 }
@@ -75,7 +60,7 @@ fn share_at(
     }
 }
 
-// Each share, into the first cells of `shares`.
+// Each share, into the first cells of `shares`. By index: four slices are read at it.
 fn fill_shares(
     balance: i64,
     least: u64,
@@ -87,27 +72,22 @@ fn fill_shares(
     requires { Cut balance least demands.now wholes.now keys.now × (length demands.now ≤ length shares.old) }
     ensures { after shares ≡ overwrite (shares_of balance demands.now) (before shares) }
 {
-    let mut i = 0;
-    while i < demands.len() {
+    for i in 0..demands.len() {
         shares[i] = share_at(balance, least, demands, wholes, keys, i);
-        i += 1;
     }
 }
 
 // Shares the balance among the coordinators by their demands, one cell each.
-pub fn share_balance(balance: i64, demands: &[u64], shares: &mut [i64]) -> ShareAnswer
+pub fn share_balance(balance: i64, demands: &[u64], shares: &mut [i64]) -> Result<(), Refusal>
     ensures { SharesBalance (share_call balance demands.now (before shares)) result (after shares) }
 {
-    let checked = share_checks::check_share(balance, demands, shares);
-    if let Checked::Refused(refusal) = checked {
-        return ShareAnswer::Refused(refusal);
-    }
-    let size = size_of(balance);
+    share_checks::check_share(balance, demands, shares)?;
+    let size = balance.unsigned_abs();
     let sum = share_checks::total_of(demands);
     let mut wholes = [0u64; 256];
     let mut keys = [0u64; 256];
     let given = fill_wholes(size, sum, demands, &mut wholes, &mut keys);
-    let least = largest_remainders::threshold(&keys, demands.len(), sum * 256, size - given);
+    let least = largest_remainders::threshold(&keys[..demands.len()], sum * 256, size - given);
     fill_shares(balance, least, demands, &wholes, &keys, shares);
-    ShareAnswer::Shared
+    Ok(())
 }

@@ -3,3 +3,4 @@ pub mod Passing
 pub mod Sharing
 pub mod Fairness
 pub mod Theorems
+pub mod Totals

@@ -1,6 +1,6 @@
 -- The checks of sharing: what each test says of them, and what holds where none refuses.
-use mathlib.Core.Path.{◌≡◌, sym, ap, ◌∙◌}
-use mathlib.Core.Bool.{Bool, true, false}
+use mathlib.Core.Path.{◌≡◌, sym, ◌∙◌}
+use mathlib.Core.Bool.{true, false}
 use mathlib.Core.List.{List}
 use Prim.Native.Nat.{ℕ, ◌≤◌, ◌<◌}
 use native.Mathlib.Nat.{eq-zero-or-pos}
@@ -8,26 +8,22 @@ use native.Mathlib.Omega.{arith}
 use mathlib.Core.Logic.{⊎_elim}
 use borrow.Author.Tests.{ltb-false, eqb-false, lt-ltb, le-ltb}
 use lib.Dec.{ltb, eqb}
-use lib.ListN.{length, take}
+use lib.ListN.{length}
 use lib.IntN.{nat_abs}
-use lib.Seq.{take-length}
 use Rattle.lists.specs.Lists.{any_of, above}
 use Rattle.lists.proofs.Search.{neither, none-bad}
 use Rattle.tariff.specs.declared.refusals.Refusal.{Refusal}
 use Rattle.tariff.specs.declared.refusals.Refusal.TheVariants.{ShareRange, NoDemand, ShortTable}
-use Rattle.tariff.specs.declared.refusals.Checked.TheVariants.{Passed, Refused}
+use Rattle.std.specs.Prelude.{Err}
+use Rattle.tariff.specs.Refusals.{passed}
 use Rattle.tariff.specs.Units.{max_coordinators, max_balance, max_demand}
 use Rattle.tariff.specs.Checks.{coordinator_count, balance_range, demand_range}
 use Rattle.tariff.proofs.Checks.{first_passes, first-refuses, last-passes, passed_cons}
 use Rattle.share_rules.specs.ShareBalance.{ShareCall, share_checks, share_checked, demand_of, total_demand}
 use Rattle.share_rules.specs.Inner.{DemandsIn}
 
-pub refused_not : (r : Refusal) → Refused r ≡ Passed → ⊥
+pub refused_not : (r : Refusal) → Err r ≡ passed → ⊥
 refused_not r e = let z : ◌≡◌ {A = ℕ} 0 1 = cc in omega arith
-
--- all of a list was searched
-pub all-cells : (ds : List ℕ) (r : Bool) → r ≡ any_of (above max_demand) (take (length ds) ds) → r ≡ any_of (above max_demand) ds
-all-cells ds r e = e ∙ ap (any_of (above max_demand)) (take-length ds)
 
 pub demands-in : (ds : List ℕ) → (coordinator_count (length ds)).fails ≡ false → any_of (above max_demand) ds ≡ false → DemandsIn ds
 demands-in ds one three = record {
@@ -36,31 +32,31 @@ demands-in ds one three = record {
 }
 
 module _ (q : ShareCall) where
-  pub count-refuses : (coordinator_count (length q.demands)).fails ≡ true → Refused ShareRange ≡ share_checked q
+  pub count-refuses : (coordinator_count (length q.demands)).fails ≡ true → Err ShareRange ≡ share_checked q
   unfolding share_checks
   count-refuses e = sym (first-refuses _ _ e)
 
   module _ (one : (coordinator_count (length q.demands)).fails ≡ false) where
-    pub balance-refuses : (balance_range q.balance).fails ≡ true → Refused ShareRange ≡ share_checked q
+    pub balance-refuses : (balance_range q.balance).fails ≡ true → Err ShareRange ≡ share_checked q
     unfolding share_checks
     balance-refuses e = sym (first_passes _ _ one ∙ first-refuses _ _ e)
 
     module _ (two : (balance_range q.balance).fails ≡ false) where
-      pub demand_refuses : (demand_range q.demands).fails ≡ true → Refused ShareRange ≡ share_checked q
+      pub demand_refuses : (demand_range q.demands).fails ≡ true → Err ShareRange ≡ share_checked q
       unfolding share_checks
       demand_refuses e = sym (first_passes _ _ one ∙ first_passes _ _ two ∙ first-refuses _ _ e)
 
       module _ (three : (demand_range q.demands).fails ≡ false) where
-        pub none-refuses : eqb (total_demand q.demands) 0 ≡ true → Refused NoDemand ≡ share_checked q
+        pub none-refuses : eqb (total_demand q.demands) 0 ≡ true → Err NoDemand ≡ share_checked q
         unfolding share_checks
         none-refuses e = sym (first_passes _ _ one ∙ first_passes _ _ two ∙ first_passes _ _ three ∙ first-refuses _ _ e)
 
         module _ (four : eqb (total_demand q.demands) 0 ≡ false) where
-          pub room-refuses : length q.place < length q.demands → Refused ShortTable ≡ share_checked q
+          pub room-refuses : length q.place < length q.demands → Err ShortTable ≡ share_checked q
           unfolding share_checks
           room-refuses h = sym (first_passes _ _ one ∙ first_passes _ _ two ∙ first_passes _ _ three ∙ first_passes _ _ four ∙ first-refuses _ _ (lt-ltb _ _ h))
 
-          pub all_pass : length q.demands ≤ length q.place → Passed ≡ share_checked q
+          pub all_pass : length q.demands ≤ length q.place → passed ≡ share_checked q
           unfolding share_checks
           all_pass h = sym (first_passes _ _ one ∙ first_passes _ _ two ∙ first_passes _ _ three ∙ first_passes _ _ four ∙ last-passes _ (le-ltb _ _ h))
 
@@ -71,7 +67,7 @@ module _ (q : ShareCall) where
     pub positive : 0 < total_demand q.demands
     pub room : length q.demands ≤ length q.place
 
-  pub share-ready : share_checked q ≡ Passed → Ready
+  pub share-ready : share_checked q ≡ passed → Ready
   unfolding share_checks
   share-ready e =
       let one = passed_cons _ _ e in

@@ -6,12 +6,11 @@ use Prim.Native.Nat.{ℕ, ◌<◌}
 use lib.ListN.{length}
 use lib.IntN.{ℤ, neg_ℤ, nat_abs}
 use Rattle.lists.specs.Lent.{overwrite}
-use Rattle.tariff.specs.declared.refusals.Checked.{Checked}
-use Rattle.tariff.specs.declared.refusals.Checked.TheVariants.{Passed}
+use Rattle.tariff.specs.Refusals.{Checked, passed}
 use Rattle.tariff.specs.Refusals.{cells_after}
 use Rattle.largest_remainders.specs.Shares.{leftover, positives}
 use Rattle.largest_remainders.proofs.Theorems.{few}
-use Rattle.share_rules.specs.declared.ShareAnswer.{ShareAnswer}
+use Rattle.share_rules.specs.ShareBalance.{ShareAnswer}
 use Rattle.share_rules.specs.ShareBalance.{share_call, share_checked, demand_of, total_demand, shares_of, cell_of, Fair, SharesBalance}
 use Rattle.share_rules.proofs.Passing.{share-ready}
 use Rattle.share_rules.proofs.Fairness.{cell_is, all-together, each-near, none-without, first-largest, opposite}
@@ -34,13 +33,13 @@ few-left_over balance demands some = few (length demands) (demand_of demands) (n
 -- a balance and the opposite one, neither of them refused: whatever the places held, the shares are the opposite ones
 module _ (balance : ℤ) (demands : List ℕ) (place place' : List ℤ) (answer answer' : ShareAnswer) (exit exit' : List ℤ)
     (shares : SharesBalance (share_call balance demands place) answer exit) (shares' : SharesBalance (share_call (neg_ℤ balance) demands place') answer' exit')
-    (passed : share_checked (share_call balance demands place) ≡ Passed) (passed' : share_checked (share_call (neg_ℤ balance) demands place') ≡ Passed) where
+    (none-refuses : share_checked (share_call balance demands place) ≡ passed) (none-refuses' : share_checked (share_call (neg_ℤ balance) demands place') ≡ passed) where
   some : 0 < total_demand demands
-  some = (share-ready (share_call balance demands place) passed).positive
+  some = (share-ready (share_call balance demands place) none-refuses).positive
 
   pub opposite_shares : (i : ℕ) → i < length demands → cell_of exit' i ≡ neg_ℤ (cell_of exit i)
   opposite_shares i b =
-      ap (λ (cells : List ℤ). cell_of cells i) (shares'.shares_given ∙ ap (λ (x : Checked). cells_after x (shares_of (neg_ℤ balance) demands) place') passed')
+      ap (λ (cells : List ℤ). cell_of cells i) (shares'.shares_given ∙ ap (λ (x : Checked). cells_after x (shares_of (neg_ℤ balance) demands) place') none-refuses')
       ∙ cell_is (neg_ℤ balance) demands place' i b
       ∙ opposite balance demands some i
-      ∙ ap neg_ℤ (sym (ap (λ (cells : List ℤ). cell_of cells i) (shares.shares_given ∙ ap (λ (x : Checked). cells_after x (shares_of balance demands) place) passed) ∙ cell_is balance demands place i b))
+      ∙ ap neg_ℤ (sym (ap (λ (cells : List ℤ). cell_of cells i) (shares.shares_given ∙ ap (λ (x : Checked). cells_after x (shares_of balance demands) place) none-refuses) ∙ cell_is balance demands place i b))

@@ -1,15 +1,13 @@
 -- Sharing the Balancing Account's balance (document 02, paper 13): "At month end the account's balance, in cents and of either sign, is shared by Measured
 -- Demand among 1 to 256 Scheduling Coordinators."
-use Rattle.std.specs.Prelude.{◌≡◌, List, [], ◌∷◌, ℕ, ◌≤◌, ◌<◌, T, length, get_or, ℤ, pos, negsuc, neg_ℤ, nat_abs, ◌-ℤ◌, ◌*ℤ◌}
+use Rattle.std.specs.Prelude.{◌≡◌, List, [], ◌∷◌, ℕ, ◌≤◌, ◌<◌, T, length, get_or, ℤ, pos, negsuc, neg_ℤ, nat_abs, ◌-ℤ◌, ◌*ℤ◌, Ok, Err, Result, ⊤}
 use Rattle.lists.specs.Lists.{list_to}
 use Rattle.integers.specs.Sums.{sum_to}
-use Rattle.tariff.specs.declared.refusals.Checked.{Checked}
-use Rattle.tariff.specs.declared.refusals.Checked.TheVariants.{Passed}
-use Rattle.tariff.specs.Refusals.{Check, first, Outcome, given, refused_by, answered, cells_after, ForC}
+use Rattle.tariff.specs.Refusals.{Checked, passed}
+use Rattle.tariff.specs.Refusals.{Check, first, Outcome, given, refused_by, answered, cells_after, ForC, passed}
 use Rattle.tariff.specs.Checks.{coordinator_count, balance_range, demand_range, no_demand, short_table}
 use Rattle.largest_remainders.specs.Shares.{before_by, total_weight, whole, rest, share}
-use Rattle.share_rules.specs.declared.ShareAnswer.{ShareAnswer}
-use Rattle.share_rules.specs.declared.ShareAnswer.TheVariants.{Shared, Refused}
+use Rattle.tariff.specs.declared.refusals.Refusal.{Refusal}
 
 -- the balance, a demand for each coordinator, numbered by its place, and the place for the shares as it is at entry
 pub record ShareCall : Type 0 where
@@ -20,10 +18,14 @@ pub record ShareCall : Type 0 where
 abbrev pub share_call : ℤ → List ℕ → List ℤ → ShareCall
 share_call balance demands place = record { balance = balance; demands = demands; place = place }
 
+-- what sharing answers beside the cells: nothing, or the refusal
+abbrev pub ShareAnswer : Type 0
+ShareAnswer = Result ⊤ Refusal
+
 -- nothing is given beside the cells
 abbrev pub share_outcome : ShareAnswer → Outcome
-share_outcome Shared = given []
-share_outcome (Refused r) = refused_by r
+share_outcome (Ok _) = given []
+share_outcome (Err r) = refused_by r
 
 -- of coordinator i, and of all
 abbrev pub demand_of : List ℕ → ℕ → ℕ
@@ -85,7 +87,7 @@ pub record Fair (balance : ℤ) (demands : List ℕ) (cells : List ℤ) : Type 0
 pub record SharesBalance (q : ShareCall) (answer : ShareAnswer) (exit : List ℤ) : Type 0 where
   pub answer-given : share_outcome answer ≡ answered (share_checked q) []
   pub shares_given : exit ≡ cells_after (share_checked q) (shares_of q.balance q.demands) q.place
-  pub fair : share_checked q ≡ Passed → Fair q.balance q.demands exit
+  pub fair : share_checked q ≡ passed → Fair q.balance q.demands exit
 
 -- the same for C
 abbrev pub SharesBalanceForC : ShareCall → ℕ → List ℤ → Type 0

@@ -11,8 +11,8 @@ use Rattle.integers.specs.Sums.{sum_over_of}
 use Rattle.integers.proofs.Sums.{sum_over-cong, sum_over-append}
 use Rattle.tariff.specs.declared.contracts.Contract.{Contract}
 use Rattle.tariff.specs.declared.contracts.Period.{Period}
-use Rattle.tariff.specs.declared.refusals.Checked.{Checked}
-use Rattle.tariff.specs.declared.refusals.Checked.TheVariants.{Passed}
+use Rattle.tariff.specs.Refusals.{Checked, passed}
+use Rattle.std.specs.Prelude.{Ok}
 use Rattle.tariff.specs.Units.{Factors, per_cent}
 use Rattle.tariff.specs.ContractRules.{same_period, of_period}
 use Rattle.tariff.specs.Refusals.{cells_after}
@@ -88,12 +88,12 @@ given_by q (HourGiven.by_entry cents sets sum whole part s) =
       total-is = s.exact told.0 sum whole part refl;
     }
 given_by q (HourGiven.by_crr cents sets sum whole part s) =
-    let passed = none-refused (settle_checked q cents sets) s.refusal-number in
+    let told = none-refused (settle_checked q cents sets) s.refusal-number in
     record {
       entry = before cents;
-      cents-are = s.cents-settled ∙ ap (λ (x : Checked). cells_after x (cents_cells q) (before cents)) passed;
-      sum_is = figure-is (settle_checked q cents sets) passed (sum_given q) (before sum) (after sum) s.sum-given;
-      total-is = s.exact passed;
+      cents-are = s.cents-settled ∙ ap (λ (x : Checked). cells_after x (cents_cells q) (before cents)) told;
+      sum_is = figure-is (settle_checked q cents sets) told (sum_given q) (before sum) (after sum) s.sum-given;
+      total-is = s.exact told;
     }
 
 taken_front : (n : ℕ) (values entry : List ℤ) → length values ≡ n → take n (overwrite values entry) ≡ values

@@ -18,15 +18,14 @@ use Rattle.lists.proofs.Sets.{set-lowest, set-empty}
 use Rattle.tariff.specs.declared.contracts.Contract.{Contract}
 use Rattle.tariff.specs.declared.processes.Process.{Process}
 use Rattle.tariff.specs.declared.units.Flow.{Flow}
-use Rattle.tariff.specs.declared.refusals.Checked.{Checked}
-use Rattle.tariff.specs.declared.refusals.Checked.TheVariants.{Passed}
+use Rattle.tariff.specs.Refusals.{Checked, passed}
+use Rattle.std.specs.Prelude.{Ok, Err}
 use Rattle.tariff.specs.Units.{Grid, limit}
 use Rattle.tariff.specs.Processes.{percent, process_of}
 use Rattle.tariff.specs.Refusals.{given, answered}
 use Rattle.tariff.specs.Feasibility.{released, excess}
 use Rattle.tariff.proofs.Answers.{figure-is}
-use Rattle.test_rules.specs.declared.TestAnswer.{TestAnswer}
-use Rattle.test_rules.specs.declared.TestAnswer.TheVariants as is
+use Rattle.test_rules.specs.TestBook.{TestAnswer, pass}
 use Rattle.test_rules.specs.TestBook.{test_outcome, TestCells, pass_cells_of}
 use Rattle.test_rules.proofs.Judging.{passed_told}
 use Rattle.test_verdict.specs.Judged.{over_at, excess_at, over_cells, judged_values, judged_cells}
@@ -111,7 +110,7 @@ module _ (g : Grid) (b : Block) (limits : List ℕ) (own : (j : ℕ) → j < b.s
 
   -- ---- the entry's answer
   module _ (answer : TestAnswer) (figures : test_outcome answer ≡ given (judged_values limits process flows k)) where
-    pass_empty : (answer ≡ is.Pass) ↔ (set_of k f ≡ 0)
+    pass_empty : (answer ≡ pass) ↔ (set_of k f ≡ 0)
     pass_empty = (
       λ e.
           elim (ℕ_discrete (set_of k f) 0) [
@@ -128,8 +127,8 @@ module _ (g : Grid) (b : Block) (limits : List ℕ) (own : (j : ℕ) → j < b.s
         let same = same_four n.set n.count at n.excess.0 _ _ _ _ (told ∙ ap given (values-full k limits process flows some)) in
         (some, same.lowest-same, sym n.excess-is ∙ same.over-same)
 
-    pub answer-said : BlockSaid g process cs b (answer ≡ is.Pass) (Names answer)
-    answer-said = said (answer ≡ is.Pass) (Names answer) pass_empty fail_named
+    pub answer-said : BlockSaid g process cs b (answer ≡ pass) (Names answer)
+    answer-said = said (answer ≡ pass) (Names answer) pass_empty fail_named
 
   -- ---- the C function's figures
   module _ (set lowest : ℕ) (over : ℤ) (sets : set ≡ (judged_cells limits process flows k).set) (lows : lowest ≡ (judged_cells limits process flows k).lowest)
@@ -160,15 +159,15 @@ module _ (g : Grid) (b : Block) (limits : List ℕ) (own : (j : ℕ) → j < b.s
 -- what was answered, by either
 pub judged_said : (g : Grid) (b : Block) (limits : List ℕ) → ((j : ℕ) → j < b.size → limit limits j ≡ limit g.limits (b.number j))
     → (process : ℕ) (cs : List Contract) (flows : List ℤ) (count : ℕ) → Totals g.factors b cs flows count
-    → judge_checked (judge_call b.size process limits flows count) ≡ Passed
+    → judge_checked (judge_call b.size process limits flows count) ≡ passed
     → (j : Judged (judge_call b.size process limits flows count)) → BlockSaid g (process_of process) cs b (IsPass j) (IsFail j)
-judged_said g b limits own process cs flows count totals passed (Judged.by_entry answer judges) =
+judged_said g b limits own process cs flows count totals told (Judged.by_entry answer judges) =
     let by = process_of process in
-    answer-said g b limits own by cs flows count totals answer (judges.figures ∙ ap (λ (x : Checked). answered x (judged_values limits by flows b.size)) passed)
-judged_said g b limits own process cs flows count totals passed (Judged.by_crr number set many lowest excess judges) =
+    answer-said g b limits own by cs flows count totals answer (judges.figures ∙ ap (λ (x : Checked). answered x (judged_values limits by flows b.size)) told)
+judged_said g b limits own process cs flows count totals told (Judged.by_crr number set many lowest excess judges) =
     let q = judge_call b.size process limits flows count in
     let is = judged_figures q in
     cells-said g b limits own (process_of process) cs flows count totals (after set) (after lowest) (after excess)
-    (figure-is (judge_checked q) passed is.set (before set) (after set) judges.set_given)
-    (figure-is (judge_checked q) passed is.lowest (before lowest) (after lowest) judges.lowest-given)
-    (figure-is (judge_checked q) passed is.over (before excess) (after excess) judges.excess-given)
+    (figure-is (judge_checked q) told is.set (before set) (after set) judges.set_given)
+    (figure-is (judge_checked q) told is.lowest (before lowest) (after lowest) judges.lowest-given)
+    (figure-is (judge_checked q) told is.over (before excess) (after excess) judges.excess-given)

@@ -11,8 +11,8 @@ use Rattle.integers.specs.Sums.{sum_over_of}
 use Rattle.integers.proofs.Sums.{sum_over-append}
 use Rattle.tariff.specs.declared.contracts.Contract.{Contract}
 use Rattle.tariff.specs.declared.contracts.Period.{Period}
-use Rattle.tariff.specs.declared.refusals.Checked.{Checked}
-use Rattle.tariff.specs.declared.refusals.Checked.TheVariants.{Passed}
+use Rattle.tariff.specs.Refusals.{Checked, passed}
+use Rattle.std.specs.Prelude.{Ok}
 use Rattle.tariff.specs.Units.{Factors}
 use Rattle.tariff.specs.ContractRules.{period_of, of_period}
 use Rattle.tariff.specs.Refusals.{cells_after}
@@ -31,9 +31,9 @@ left_by : (q : AddFlowsCall) (flows : List ℤ) (count : ℕ) → Added q flows 
 left_by q flows count (Added.by_entry answer adds) = adds.totals
 left_by q flows count (Added.by_crr number counted adds) = adds.totals
 
-module _ (q : AddFlowsCall) (flows : List ℤ) (count : ℕ) (left : TotalsLeft q flows count) (passed : add_flows_checked q ≡ Passed) where
+module _ (q : AddFlowsCall) (flows : List ℤ) (count : ℕ) (left : TotalsLeft q flows count) (told : add_flows_checked q ≡ passed) where
   pub flows-left : flows ≡ overwrite (flows_summed q) q.asked.place
-  flows-left = left.flows-added ∙ ap (λ (x : Checked). cells_after x (flows_summed q) q.asked.place) passed
+  flows-left = left.flows-added ∙ ap (λ (x : Checked). cells_after x (flows_summed q) q.asked.place) told
 
   cell_is : (j : ℕ) → j < q.asked.constraints
       → get_or flows j (pos 0) ≡ get_or q.asked.place j (pos 0) +ℤ total_flow (added_factors q) (counted_contracts q.asked) j
@@ -56,7 +56,7 @@ module _ (q : AddFlowsCall) (flows : List ℤ) (count : ℕ) (left : TotalsLeft 
             ∙ ap₂ ◌+ℤ◌ (totals.flows-are j l) (stands-total whole b (added_factors q) (of_period t more) (counted_contracts q.asked) own j l)
             ∙ sym (sum_over-append cs (of_period t more) (λ (c : Contract). flow whole c (b.number j)));
         count-is =
-            figure-is (add_flows_checked q) passed (summed q) q.count count left.count-added
+            figure-is (add_flows_checked q) told (summed q) q.count count left.count-added
             ∙ ap₂ ◌+◌ totals.count-is (stands-length whole b (added_factors q) (of_period t more) (counted_contracts q.asked) own)
             ∙ sym (length-append cs (of_period t more));
       }

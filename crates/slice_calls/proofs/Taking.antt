@@ -15,7 +15,8 @@ use Rattle.lists.specs.Lent.{Lent, before}
 use Rattle.lists.proofs.Lists.{length-list_to, get_d_list_to, each_at}
 use Rattle.tariff.specs.declared.contracts.Contract.{Contract}
 use Rattle.tariff.specs.declared.contracts.Period.{Period}
-use Rattle.tariff.specs.declared.refusals.Checked.TheVariants.{Passed}
+use Rattle.std.specs.Prelude.{Ok}
+use Rattle.tariff.specs.Refusals.{passed}
 use Rattle.tariff.specs.Units.{Factors, factor, max_factor, max_limit, max_price, max_quantity, max_nodes, max_constraints, max_flow}
 use Rattle.tariff.specs.ContractRules.{period_of, same_period, of_period, InRange}
 use Rattle.tariff.specs.Checks.{limit_bad, factor_bad_of, node_count, quantity_range, node_number, period_number, short_table}
@@ -77,7 +78,7 @@ module _ (whole : Factors) (b : Block) (ok : BlockInRange whole b) where
         le-ltb (max_flow * count) (nat_abs (get_or flows j (pos 0)))
         (rw (t.totals.flows-are j l, t.totals.count-is) (total_flow-sized whole in_range t.contracts (b.number j) t.contracts-in_range (ok.inside j l)))))
 
-    pub judged : (process : ℕ) (limits : List ℕ) → BlockLimits b limits → process ≤ 2 → judge_checked (judge_call b.size process limits flows count) ≡ Passed
+    pub judged : (process : ℕ) (limits : List ℕ) → BlockLimits b limits → process ≤ 2 → judge_checked (judge_call b.size process limits flows count) ≡ passed
     unfolding judge_checks
     judged process limits own h =
         first_passes _ _ (le-ltb max_constraints b.size ok.few)
@@ -130,7 +131,7 @@ held_fit n w (d ∷ ds) l h = (
   held_fit n w ds l h.1,
 )
 
-held_pass : (n : ℕ) (ds : List Contract) → Each (Held n) ds → Each (λ d. first (contract_checks n d) ≡ Passed) ds
+held_pass : (n : ℕ) (ds : List Contract) → Each (Held n) ds → Each (λ d. first (contract_checks n d) ≡ passed) ds
 unfolding contract_checks
 held_pass n [] h = tt
 held_pass n (d ∷ ds) h = (
@@ -185,7 +186,7 @@ module _ (whole : Factors) (b : Block) (form : Form) (nodes : List ℕ) (ds : Li
       abbrev q : AddFlowsCall
       q = slice_call whole b period limits form nodes ds flows count
 
-      tables-pass : first (grid_table_checks n b.size 0 period limits table) ≡ Passed
+      tables-pass : first (grid_table_checks n b.size 0 period limits table) ≡ passed
       unfolding grid_table_checks
       tables-pass =
           first_passes (node_count n) _ nodes-good
@@ -197,14 +198,14 @@ module _ (whole : Factors) (b : Block) (form : Form) (nodes : List ℕ) (ds : Li
           ∙ first_passes _ _ (limits-good b limits l)
           ∙ last-passes _ (factors-good whole b ok nodes own.nodes-of_whole)
 
-      test-passes : test_checked (test_as 0 q.asked) ≡ Passed
+      test-passes : test_checked (test_as 0 q.asked) ≡ passed
       unfolding test_checks
       test-passes = append_passes (grid_table_checks n b.size 0 period limits table) (book_checks n file) tables-pass ∙ made.accepted
 
-      pub taken : TotalsInRange whole b flows count → count + length ds ≤ max_summed → add_flows_checked q ≡ Passed
+      pub taken : TotalsInRange whole b flows count → count + length ds ≤ max_summed → add_flows_checked q ≡ passed
       unfolding add_flows_checks
       taken t few =
-          let flows-pass : find_flows_checked q.asked ≡ Passed = sym (all-fits q.asked (test_checked (test_as 0 q.asked)) refl test-passes t.flows_long) in
+          let flows-pass : find_flows_checked q.asked ≡ passed = sym (all-fits q.asked (test_checked (test_as 0 q.asked)) refl test-passes t.flows_long) in
           let fewer : summed q ≤ max_summed = omega (arith, period-shorter (period_of period) (book_in file), ap length made.contracts) in
           append_passes (find_flows_checks q.asked) (totals_range b.size count flows ∷ summed_count (summed q) ∷ []) flows-pass
           ∙ first_passes (totals_range b.size count flows) _ (are_totals whole b ok flows count t (omega arith))
@@ -218,7 +219,7 @@ module _ (whole : Factors) (b : Block) (form : Form) (nodes : List ℕ) (ds : Li
       abbrev rooms : List Check
       rooms = short_table (length (before cents)) (contract_count_in file) ∷ short_table (length (before sets)) (contract_count_in file) ∷ []
 
-      hour_tables_pass : first tables ≡ Passed
+      hour_tables_pass : first tables ≡ passed
       hour_tables_pass =
           first_passes (node_count n) _ nodes-good
           ∙ first_passes _ _ (le-ltb max_constraints b.size ok.few)
@@ -229,7 +230,7 @@ module _ (whole : Factors) (b : Block) (form : Form) (nodes : List ℕ) (ds : Li
           ∙ last-passes _ (none-bad (above max_price) b.size prices 0 (λ j h. le-ltb max_price _ (p.prices-sized j h)))
 
       hour_taken : length ds ≤ length (before cents) → length ds ≤ length (before sets)
-          → settle_checked (hour_slice_call whole b period prices form nodes ds) cents sets ≡ Passed
+          → settle_checked (hour_slice_call whole b period prices form nodes ds) cents sets ≡ passed
       unfolding settle_checks
       hour_taken room-cents room-sets =
           append_passes tables (book_checks n file ++ rooms) hour_tables_pass

@@ -16,18 +16,17 @@ use Rattle.lists.proofs.Lists.{length-list_to, get_d_list_to, each_append}
 use Rattle.tariff.specs.declared.contracts.Contract.{Contract}
 use Rattle.tariff.specs.declared.contracts.Period.{Period}
 use Rattle.tariff.specs.declared.processes.Process.{Process}
-use Rattle.tariff.specs.declared.refusals.Checked.TheVariants.{Passed}
+use Rattle.std.specs.Prelude.{Ok, Err}
+use Rattle.tariff.specs.Refusals.{passed}
 use Rattle.tariff.specs.Units.{Factors, Grid, limit, max_contracts}
 use Rattle.tariff.specs.ContractRules.{same_period, period_of, of_period, InRange}
 use Rattle.tariff.specs.Processes.{process_of}
 use Rattle.tariff.specs.Refusals.{given, cells_after, cell_after}
 use Rattle.tariff.proofs.Answers.{answer-passed}
 use Rattle.layouts.specs.declared.forms.Form.TheVariants.{Wide}
-use Rattle.test_rules.specs.declared.TestAnswer.{TestAnswer}
-use Rattle.test_rules.specs.declared.TestAnswer.TheVariants as is
+use Rattle.test_rules.specs.TestBook.{TestAnswer, pass, fail}
 use Rattle.test_verdict.specs.Judged.{over_at, excess_at}
 use Rattle.test_verdict.proofs.Judging.{values-empty, values-full}
-use Rattle.test_loading.specs.declared.FlowsAnswer.TheVariants as found
 use Rattle.test_loading.specs.FindFlows.{counted_contracts}
 use Rattle.test_totals.specs.Totals.{max_summed}
 use Rattle.test_totals.specs.AddFlows.{AddFlowsCall, add_flows_checked, summed, flows_summed}
@@ -138,8 +137,8 @@ module _ (whole : Factors) (b : Block) (limits : List ℕ) (ok : BlockInRange wh
     own : SliceInRange whole Wide nodes ds
     own = slice_in_range whole ms held some few
 
-    passed : add_flows_checked q ≡ Passed
-    passed =
+    accepted : add_flows_checked q ≡ passed
+    accepted =
         let totals = totals-of whole b t r.steps in
         taken whole b Wide nodes ds ok own period h limits l r.flows r.count
         (record { contracts = of_period t cs; contracts-in_range = period-in_range whole.nodes t cs earlier; totals = totals; flows_long = r.long })
@@ -157,17 +156,17 @@ module _ (whole : Factors) (b : Block) (limits : List ℕ) (ok : BlockInRange wh
           size_is = refl;
           period-is = refl;
           stands = stands whole b Wide nodes ds ok own ms (all-numbered whole ms);
-          none-refused = passed;
-          added = Added.by_entry (found.Found (length (counted_contracts q.asked)))
+          none-refused = accepted;
+          added = Added.by_entry (Ok (length (counted_contracts q.asked)))
               (record {
-                counted-given = answer-passed Passed (add_flows_checked q) (sym passed) refl (pos (length (counted_contracts q.asked)) ∷ []);
+                counted-given = answer-passed passed (add_flows_checked q) (sym accepted) refl (pos (length (counted_contracts q.asked)) ∷ []);
                 totals = record { flows-added = refl; count-added = refl };
               });
         }
 
     long-still : b.size ≤ length F
     long-still =
-        let left = flows-left q F N (record { flows-added = refl; count-added = refl }) passed in
+        let left = flows-left q F N (record { flows-added = refl; count-added = refl }) accepted in
         omega (
           arith,
           ap length left,
@@ -210,7 +209,7 @@ module _ (whole : Factors) (b : Block) (limits : List ℕ) (ok : BlockInRange wh
 
 -- ---- what judging answers
 
-module _ (k process : ℕ) (limits : List ℕ) (flows : List ℤ) (count : ℕ) (passed : judge_checked (judge_call k process limits flows count) ≡ Passed) where
+module _ (k process : ℕ) (limits : List ℕ) (flows : List ℤ) (count : ℕ) (accepted : judge_checked (judge_call k process limits flows count) ≡ passed) where
   abbrev by : Process
   by = process_of process
 
@@ -222,11 +221,11 @@ module _ (k process : ℕ) (limits : List ℕ) (flows : List ℤ) (count : ℕ) 
       let q = judge_call k process limits flows count in
       elim (ℕ_discrete (set_of k f) 0) [
         | yes z ↦
-            Judged.by_entry is.Pass
-            (record { figures = ap given (sym (values-empty k limits by flows z)) ∙ answer-passed Passed (judge_checked q) (sym passed) refl _ })
+            Judged.by_entry pass
+            (record { figures = ap given (sym (values-empty k limits by flows z)) ∙ answer-passed passed (judge_checked q) (sym accepted) refl _ })
         | no ne ↦
-            Judged.by_entry (is.Fail (set_of k f) (count_of k f) (lowest_of k f) (record { 0 = excess_at limits by flows (lowest_of k f) }))
-            (record { figures = ap given (sym (values-full k limits by flows ne)) ∙ answer-passed Passed (judge_checked q) (sym passed) refl _ })
+            Judged.by_entry (fail (set_of k f) (count_of k f) (lowest_of k f) (record { 0 = excess_at limits by flows (lowest_of k f) }))
+            (record { figures = ap given (sym (values-full k limits by flows ne)) ∙ answer-passed passed (judge_checked q) (sym accepted) refl _ })
       ]
 
 -- ---- a whole test
@@ -259,7 +258,7 @@ module _ (g : Grid) (process period : ℕ) (book : List Contract) (ok : TestInRa
       run_all g.factors (block_at i) (limits_at i) (block-ok i) (limits-ok i) period ok.period-number ((length book + 999) / 1000) [] book tt
       ok.contracts-held (omega arith) (omega (arith, ok.contracts-few)) start-here
 
-  judge_passed : (i : ℕ) → judge_checked (judge_call (block_at i).size process (limits_at i) (run i).flows (run i).count) ≡ Passed
+  judge_passed : (i : ℕ) → judge_checked (judge_call (block_at i).size process (limits_at i) (run i).flows (run i).count) ≡ passed
   judge_passed i =
       let r = run i in
       let totals = totals-of g.factors (block_at i) (period_of period) r.steps in

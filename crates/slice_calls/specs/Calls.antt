@@ -1,16 +1,15 @@
 -- A test of any size as calls of add_flows and judge_flows, or of their C functions, block by block. Beyond the papers. Definitions only.
-use Rattle.std.specs.Prelude.{◌≡◌, List, [], ◌++◌, ℕ, ◌<◌, get_or, ℤ, pos}
+use Rattle.std.specs.Prelude.{◌≡◌, List, [], ◌++◌, ℕ, ◌<◌, get_or, ℤ, pos, Ok, Err}
 use Rattle.lists.specs.Lent.{Lent, after}
 use Rattle.tariff.specs.declared.contracts.Contract.{Contract}
 use Rattle.tariff.specs.declared.contracts.Period.{Period}
 use Rattle.tariff.specs.declared.units.Flow.{Flow}
-use Rattle.tariff.specs.declared.refusals.Checked.TheVariants.{Passed}
+use Rattle.tariff.specs.Refusals.{passed}
 use Rattle.tariff.specs.Units.{Factors, Grid, limit}
 use Rattle.tariff.specs.ContractRules.{period_of}
 use Rattle.layouts.specs.BookFile.{book_in}
-use Rattle.test_rules.specs.declared.TestAnswer.{TestAnswer}
-use Rattle.test_rules.specs.declared.TestAnswer.TheVariants as is
-use Rattle.test_loading.specs.declared.FlowsAnswer.{FlowsAnswer}
+use Rattle.test_rules.specs.TestBook.{TestAnswer, pass, fail}
+use Rattle.test_loading.specs.FindFlows.{FlowsAnswer}
 use Rattle.test_totals.specs.AddFlows.{AddFlowsCall, added_factors, add_flows_checked, AddsFlows, AddsFlowsForC}
 use Rattle.test_totals.specs.JudgeFlows.{JudgeCall, judge_call, judge_checked, JudgesFlows, JudgesFlowsForC}
 use Rattle.order_rules.specs.Reordering.{Reordered}
@@ -32,7 +31,7 @@ pub record Step (whole : Factors) (b : Block) (t : Period) (flows : List ℤ) (c
   pub size_is : b.size ≡ call.asked.constraints
   pub period-is : period_of call.asked.period ≡ t
   pub stands : AllStandFor whole b (added_factors call) contracts (book_in call.asked.book)
-  pub none-refused : add_flows_checked call ≡ Passed
+  pub none-refused : add_flows_checked call ≡ passed
   pub added : Added call flows-left count_left
 
 -- totals that steps made, one behind the other, from cells of 0: of the contracts of all of them
@@ -48,7 +47,7 @@ pub data Judged (q : JudgeCall) : Type 0 where
 
 -- a pass: the answer is that, or the set is 0
 abbrev pub IsPass : {q : JudgeCall} → Judged q → Type 0
-IsPass (Judged.by_entry answer judges) = answer ≡ is.Pass
+IsPass (Judged.by_entry answer judges) = answer ≡ pass
 IsPass (Judged.by_crr number set count lowest excess judges) = after set ≡ 0
 
 -- a fail that names this constraint of the block with this excess
@@ -56,7 +55,7 @@ pub record Names (answer : TestAnswer) (lowest : ℕ) (over : ℤ) : Type 0 wher
   pub set : ℕ
   pub count : ℕ
   pub excess : Flow
-  pub is-fail : answer ≡ is.Fail set count lowest excess
+  pub is-fail : answer ≡ fail set count lowest excess
   pub excess-is : excess.0 ≡ over
 
 abbrev pub IsFail : {q : JudgeCall} → Judged q → ℕ → ℤ → Type 0
@@ -74,5 +73,5 @@ pub record TestedInSlices (g : Grid) (process : ℕ) (t : Period) (book : List C
   pub flows : ℕ → List ℤ
   pub count : ℕ → ℕ
   pub summed : (i : ℕ) → i < cut.blocks → Summed g.factors (cut.block i) t (contracts i) (flows i) (count i)
-  pub none-refused : (i : ℕ) → i < cut.blocks → judge_checked (judge_call (cut.block i).size process (limits i) (flows i) (count i)) ≡ Passed
+  pub none-refused : (i : ℕ) → i < cut.blocks → judge_checked (judge_call (cut.block i).size process (limits i) (flows i) (count i)) ≡ passed
   pub answer : (i : ℕ) → Judged (judge_call (cut.block i).size process (limits i) (flows i) (count i))

@@ -1,6 +1,6 @@
 -- An hour of any size as calls of settle_hour, or of crr_settle_hour, slice by slice: each contract's cents, the sum and the exact total are the whole's. Beyond
 -- the papers. Statements only.
-use Rattle.std.specs.Prelude.{◌≡◌, ℕ, length, take, ℤ, pos, ◌+ℤ◌, ◌*ℤ◌}
+use Rattle.std.specs.Prelude.{◌≡◌, ℕ, length, take, ℤ, pos, ◌+ℤ◌, ◌*ℤ◌, Ok}
 use mathlib.Core.List.{List, map, flat_map}
 use Rattle.lists.specs.Lent.{Lent, after}
 use Rattle.integers.specs.Sums.{sum_over_of}
@@ -8,15 +8,14 @@ use Rattle.tariff.specs.declared.contracts.Contract.{Contract}
 use Rattle.tariff.specs.declared.contracts.Period.{Period}
 use Rattle.tariff.specs.Units.{Factors, per_cent}
 use Rattle.layouts.specs.BookFile.{book_in}
-use Rattle.hour_rules.specs.declared.SettleAnswer.TheVariants.{Settled}
-use Rattle.hour_rules.specs.SettleHour.{HourCall, hour_factors, hour_prices, hour_period, cents_of, cents_sum, hour_total, SettlesHour, SettlesForC}
+use Rattle.hour_rules.specs.SettleHour.{HourCall, hour_factors, hour_prices, hour_period, cents_of, cents_sum, hour_total, SettlesHour, SettlesForC, settled}
 use Rattle.order_rules.specs.Reordering.{Reordered}
 use Rattle.slice_rules.specs.Slices.{Block, AllStandFor}
 use Rattle.slice_rules.specs.Hours.{PricedBlock}
 
 -- what a call gave, where it refused nothing: the cents' place at exit, their sum, and the exact total
 pub data HourGiven (q : HourCall) : List ℤ → ℤ → ℤ → Type 0 where
-  by_entry : (cents : Lent (List ℤ)) (sets : Lent (List ℕ)) (sum whole : ℤ) (part : ℕ) → SettlesHour q (Settled sum whole part) cents sets
+  by_entry : (cents : Lent (List ℤ)) (sets : Lent (List ℕ)) (sum whole : ℤ) (part : ℕ) → SettlesHour q (settled sum whole part) cents sets
       → HourGiven q (after cents) sum (whole *ℤ pos per_cent +ℤ pos part)
   by_crr : (cents : Lent (List ℤ)) (sets : Lent (List ℕ)) (sum whole : Lent ℤ) (part : Lent ℕ) → SettlesForC q 0 cents sets sum whole part
       → HourGiven q (after cents) (after sum) (after whole *ℤ pos per_cent +ℤ pos (after part))

@@ -1,10 +1,10 @@
 -- Slices whose figures are in range are taken: the calls for a slice and for a block's totals, what they ask, and a whole test by them. Beyond the papers.
 -- Statements only.
-use Rattle.std.specs.Prelude.{◌≡◌, List, ℕ, ◌+◌, ◌^◌, ◌≤◌, ◌<◌, length, ℤ, nat_abs}
+use Rattle.std.specs.Prelude.{◌≡◌, List, ℕ, ◌+◌, ◌^◌, ◌≤◌, ◌<◌, length, ℤ, nat_abs, Ok}
 use Rattle.lists.specs.Lists.{Each}
 use Rattle.lists.specs.Lent.{Lent, before}
 use Rattle.tariff.specs.declared.contracts.Contract.{Contract}
-use Rattle.tariff.specs.declared.refusals.Checked.TheVariants.{Passed}
+use Rattle.tariff.specs.Refusals.{passed}
 use Rattle.tariff.specs.Units.{Factors, factors_of, factor, Grid, limit, price}
 use Rattle.tariff.specs.Units.{max_nodes, max_constraints, max_contracts, max_factor, max_limit, max_price, max_holder}
 use Rattle.tariff.specs.ContractRules.{period_of, InRange}
@@ -82,16 +82,16 @@ pub record SlicesAreTaken : Type 0 where
   -- on totals in range, of 20,000,000 contracts at most with these, nothing is refused
   pub slice_is_taken : (whole : Factors) (b : Block) (period : ℕ) (limits : List ℕ) (form : Form) (nodes : List ℕ) (ds : List Contract) (flows : List ℤ) (count : ℕ)
       → BlockInRange whole b → BlockLimits b limits → SliceInRange whole form nodes ds → period ≤ 1 → TotalsInRange whole b flows count
-      → count + length ds ≤ max_summed → add_flows_checked (slice_call whole b period limits form nodes ds flows count) ≡ Passed
+      → count + length ds ≤ max_summed → add_flows_checked (slice_call whole b period limits form nodes ds flows count) ≡ passed
   -- nor when they are judged
   pub totals-are_judged : (whole : Factors) (b : Block) (process : ℕ) (limits : List ℕ) (flows : List ℤ) (count : ℕ)
       → BlockInRange whole b → BlockLimits b limits → process ≤ 2 → TotalsInRange whole b flows count → count ≤ max_summed
-      → judge_checked (judge_call b.size process limits flows count) ≡ Passed
+      → judge_checked (judge_call b.size process limits flows count) ≡ passed
   -- nor when a slice of an hour is settled, with room for its cents and sets
   pub hour_is_taken : (whole : Factors) (b : Block) (period : ℕ) (prices : List ℕ) (form : Form) (nodes : List ℕ) (ds : List Contract)
       (cents : Lent (List ℤ)) (sets : Lent (List ℕ)) → BlockInRange whole b → BlockPrices b prices → SliceInRange whole form nodes ds → period ≤ 1
       → length ds ≤ length (before cents) → length ds ≤ length (before sets)
-      → settle_checked (hour_slice_call whole b period prices form nodes ds) cents sets ≡ Passed
+      → settle_checked (hour_slice_call whole b period prices form nodes ds) cents sets ≡ passed
 
 -- a grid of any number of nodes and constraints and a book of at most 20,000,000 contracts, all figures in range
 pub record TestInRange (g : Grid) (process period : ℕ) (book : List Contract) : Type 0 where

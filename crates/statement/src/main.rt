@@ -2,7 +2,7 @@
 // A file is looked at only when those before it were taken. Where it is there and can't be read, nothing is printed: `files` has told it on standard error.
 #![tactic(auto)]
 
-use layouts::{MAX_BOOK_BYTES, MAX_PRICE_BYTES, PROGRAM_GRID_BYTES, WriteAnswer};
+use layouts::{MAX_BOOK_BYTES, MAX_PRICE_BYTES, PROGRAM_GRID_BYTES};
 use text_statement_lines::LONGEST_STATEMENT;
 
 // The buffers hold one byte more than the longest file taken, so that the length of a longer one is refused.
@@ -11,23 +11,24 @@ fn main(rt: HostRuntime) {
     let mut book = [0u8; MAX_BOOK_BYTES + 1];
     let mut prices = [0u8; MAX_PRICE_BYTES + 1];
     let mut text = [0u8; LONGEST_STATEMENT];
-    let grid_file = files::read_file(&rt, b"grid.bin", &mut grid);
-    let grid_bytes = grid_file.bytes;
+    let Some(grid_bytes) = files::read_file(&rt, b"grid.bin", &mut grid) else {
+        return;
+    };
     let nodes = taken_files::nodes_taken(&grid[..grid_bytes]);
-    let book_file = files::read_behind(&rt, 0 < nodes, b"book.bin", &mut book);
-    let book_bytes = book_file.bytes;
+    let Some(book_bytes) = files::read_behind(&rt, 0 < nodes, b"book.bin", &mut book) else {
+        return;
+    };
     let taken = taken_files::book_taken(nodes, &book[..book_bytes]);
-    let price_file = files::read_behind(&rt, taken, b"prices.bin", &mut prices);
-    let price_bytes = price_file.bytes;
-    if grid_file.readable && book_file.readable && price_file.readable {
-        let answer = text_statement::write_statement(
-            &grid[..grid_bytes],
-            &book[..book_bytes],
-            &prices[..price_bytes],
-            &mut text,
-        );
-        if let WriteAnswer::Written { bytes } = answer {
-            files::print(&rt, &text[..bytes]);
-        }
+    let Some(price_bytes) = files::read_behind(&rt, taken, b"prices.bin", &mut prices) else {
+        return;
+    };
+    let answer = text_statement::write_statement(
+        &grid[..grid_bytes],
+        &book[..book_bytes],
+        &prices[..price_bytes],
+        &mut text,
+    );
+    if let Ok(bytes) = answer {
+        files::print(&rt, &text[..bytes]);
     }
 }

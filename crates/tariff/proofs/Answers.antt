@@ -10,8 +10,8 @@ use Rattle.tariff.specs.declared.refusals.Refusal.{Refusal}
 use Rattle.tariff.specs.declared.refusals.Refusal.TheVariants.{ShortFile, NodeCount, ConstraintCount, SpareBits, FileLength, LimitRange, FactorRange, Padding, ShortTable}
 use Rattle.tariff.specs.declared.refusals.Refusal.TheVariants.{ContractCount, NodeNumber, QuantityRange, PriceCount, PriceRange, ProcessNumber, PeriodOrKind, HolderRange, NoSuchDate}
 use Rattle.tariff.specs.declared.refusals.Refusal.TheVariants.{TierMark, AwardOverload, MigrationRange, LoadExceeded, HubShape, HubNodeTwice, ShareRange, NoDemand}
-use Rattle.tariff.specs.declared.refusals.Checked.{Checked}
-use Rattle.tariff.specs.declared.refusals.Checked.TheVariants.{Passed, Refused}
+use Rattle.tariff.specs.Refusals.{Checked, passed}
+use Rattle.std.specs.Prelude.{Ok, Err}
 use Rattle.lists.specs.Lent.{overwrite}
 use Rattle.tariff.specs.Refusals.{Outcome, number_of, given, refused_by, decided, answered, cells_after, cell_after, number_after}
 
@@ -61,48 +61,48 @@ pub never_given : (r : Refusal) (vs : List ℤ) → refused_by r ≡ given vs �
 never_given r vs e = numbered r (ap (λ (o : Outcome). o.number) e)
 
 -- values were given: no check refuses, and they are the operation's
-pub given-told : (checked : Checked) (vs ws : List ℤ) → given ws ≡ answered checked vs → (checked ≡ Passed) × (ws ≡ vs)
-given-told Passed vs ws e = (refl, ap (λ (o : Outcome). o.values) e)
-given-told (Refused q) vs ws e = absurd (never_given q ws (sym e))
+pub given-told : (checked : Checked) (vs ws : List ℤ) → given ws ≡ answered checked vs → (checked ≡ passed) × (ws ≡ vs)
+given-told (Ok _) vs ws e = (refl, ap (λ (o : Outcome). o.values) e)
+given-told (Err q) vs ws e = absurd (never_given q ws (sym e))
 
 -- the number alone is the checks', and 0 says that none refused
 pub number-of : (checked : Checked) (vs : List ℤ) → (answered checked vs).number ≡ number_after checked
-number-of Passed vs = refl
-number-of (Refused r) vs = refl
+number-of (Ok _) vs = refl
+number-of (Err r) vs = refl
 
 pub number-told : (checked : Checked) (vs : List ℤ) (o : Outcome) → o ≡ answered checked vs → (n : ℕ) → n ≡ o.number → n ≡ number_after checked
 number-told checked vs o told n e = e ∙ ap (λ (x : Outcome). x.number) told ∙ number-of checked vs
 
-pub none-refused : (checked : Checked) → 0 ≡ number_after checked → checked ≡ Passed
-none-refused Passed e = refl
-none-refused (Refused r) e = absurd (numbered r (sym e))
+pub none-refused : (checked : Checked) → 0 ≡ number_after checked → checked ≡ passed
+none-refused (Ok _) e = refl
+none-refused (Err r) e = absurd (numbered r (sym e))
 
 -- a lent figure after a call that no check refuses
-pub figure-is : {A : Type 0} (checked : Checked) → checked ≡ Passed → (value entry exit : A) → exit ≡ cell_after checked value entry → exit ≡ value
+pub figure-is : {A : Type 0} (checked : Checked) → checked ≡ passed → (value entry exit : A) → exit ≡ cell_after checked value entry → exit ≡ value
 figure-is checked ok value entry exit is = is ∙ ap (λ (k : Checked). cell_after k value entry) ok
 
 -- a refusal was given: its number is that of the first check that holds, and what hangs on the checks is the refusal's side
 pub refused_number : (checked : Checked) (vs : List ℤ) (r : Refusal) → refused_by r ≡ answered checked vs → number_of r ≡ decided checked number_of 0
-refused_number Passed vs r e = absurd (never_given r vs e)
-refused_number (Refused q) vs r e = ap (λ (o : Outcome). o.number) e
+refused_number (Ok _) vs r e = absurd (never_given r vs e)
+refused_number (Err q) vs r e = ap (λ (o : Outcome). o.number) e
 
 pub refused_side : {A : Type 0} (checked : Checked) (vs : List ℤ) (r : Refusal) → refused_by r ≡ answered checked vs → (a b : A) → decided checked (λ q. a) b ≡ a
-refused_side Passed vs r e a b = absurd (never_given r vs e)
-refused_side (Refused q) vs r e a b = refl
+refused_side (Ok _) vs r e a b = absurd (never_given r vs e)
+refused_side (Err q) vs r e a b = refl
 
 -- ---- an entry that checks first: x is what the checking function gave
 
 module _ (x checked : Checked) (found : x ≡ checked) where
-  pub answer-refused : (r : Refusal) → x ≡ Refused r → (vs : List ℤ) → refused_by r ≡ answered checked vs
+  pub answer-refused : (r : Refusal) → x ≡ Err r → (vs : List ℤ) → refused_by r ≡ answered checked vs
   answer-refused r told vs = rw (← found, told)
 
-  pub cells-refused : {A : Type 0} (r : Refusal) → x ≡ Refused r → (values entry : List A) → entry ≡ cells_after checked values entry
+  pub cells-refused : {A : Type 0} (r : Refusal) → x ≡ Err r → (values entry : List A) → entry ≡ cells_after checked values entry
   cells-refused r told values entry = rw (← found, told)
 
-  pub answer-passed : x ≡ Passed → (vs : List ℤ) → given vs ≡ answered checked vs
+  pub answer-passed : x ≡ passed → (vs : List ℤ) → given vs ≡ answered checked vs
   answer-passed told vs = rw (← found, told)
 
-  pub cells-passed : {A : Type 0} → x ≡ Passed → (values entry last : List A) → last ≡ overwrite values entry → last ≡ cells_after checked values entry
+  pub cells-passed : {A : Type 0} → x ≡ passed → (values entry last : List A) → last ≡ overwrite values entry → last ≡ cells_after checked values entry
   cells-passed told values entry last e = rw (← found, told) e
 
 -- ---- as a C caller gets it: the number, and each lent figure
@@ -115,12 +115,12 @@ module _ (checked : Checked) (vs : List ℤ) (r : Refusal) (told : refused_by r 
   pub refused_keeps : {A : Type 0} (value entry : A) → entry ≡ cell_after checked value entry
   refused_keeps value entry = sym (refused_side checked vs r told entry value)
 
-  pub some_refuses : checked ≡ Passed → ⊥
+  pub some_refuses : checked ≡ passed → ⊥
   some_refuses h = never_given r vs (told ∙ ap (λ (k : Checked). answered k vs) h)
 
 -- given: the number is 0, and a figure has its new value
 module _ (checked : Checked) (vs ws : List ℤ) (told : given ws ≡ answered checked vs) where
-  pub none-refuses : checked ≡ Passed
+  pub none-refuses : checked ≡ passed
   none-refuses = (given-told checked vs ws told).0
 
   pub given-answers : 0 ≡ number_after checked

@@ -6,7 +6,7 @@ use mathlib.Core.List.{List, [], ◌∷◌, ◌++◌, map}
 use Prim.Native.Nat.{ℕ}
 use borrow.Author.Tests.{eqb-true}
 use lib.Dec.{eqb}
-use Rattle.tariff.specs.declared.refusals.Checked.TheVariants.{Refused}
+use Rattle.std.specs.Prelude.{Err}
 use Rattle.tariff.specs.Refusals.{Check, first, number_of, number_after}
 use Rattle.tariff.specs.Former.{FormerCheck, former_first, by_number, without}
 
@@ -27,7 +27,7 @@ first-number [] = refl
 first-number (c ∷ cs) = by c.fails (first-number cs)
   where
     by : (b : Bool) → number_after (first cs) ≡ former_first (map by_number cs)
-        → number_after (cond b (Refused c.refusal) (first cs)) ≡ cond b (number_of c.refusal) (former_first (map by_number cs))
+        → number_after (cond b (Err c.refusal) (first cs)) ≡ cond b (number_of c.refusal) (former_first (map by_number cs))
     by true e = refl
     by false e = e
 

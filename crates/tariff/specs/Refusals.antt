@@ -1,5 +1,5 @@
 -- Document 01, "When input is turned down": the refusals' numbers, the first check that holds, and what becomes of lent cells.
-use Rattle.std.specs.Prelude.{◌≡◌, Bool, cond, List, [], ◌∷◌, ℕ, ℤ}
+use Rattle.std.specs.Prelude.{◌≡◌, Bool, cond, List, [], ◌∷◌, ℕ, ℤ, Result, ⊤, Ok, Err}
 use Rattle.lists.specs.Lent.{overwrite}
 use Rattle.tariff.specs.declared.refusals.Refusal.{Refusal}
 use Rattle.tariff.specs.declared.refusals.Refusal.TheVariants.{ShortFile, NodeCount, ConstraintCount, SpareBits, FileLength, LimitRange, FactorRange}
@@ -7,8 +7,6 @@ use Rattle.tariff.specs.declared.refusals.Refusal.TheVariants.{Padding, ShortTab
 use Rattle.tariff.specs.declared.refusals.Refusal.TheVariants.{PriceCount, PriceRange, ProcessNumber, PeriodOrKind, HolderRange}
 use Rattle.tariff.specs.declared.refusals.Refusal.TheVariants.{NoSuchDate, TierMark, AwardOverload, MigrationRange, LoadExceeded}
 use Rattle.tariff.specs.declared.refusals.Refusal.TheVariants.{HubShape, HubNodeTwice, ShareRange, NoDemand}
-use Rattle.tariff.specs.declared.refusals.Checked.{Checked}
-use Rattle.tariff.specs.declared.refusals.Checked.TheVariants.{Passed, Refused}
 
 -- the papers' number of each refusal; "12 no longer occurs" (document 02, paper 6)
 abbrev pub number_of : Refusal → ℕ
@@ -39,6 +37,22 @@ number_of HubNodeTwice = 25
 number_of ShareRange = 26
 number_of NoDemand = 27
 
+-- an answer's number: the refusal's, 0 where there is none; and what it found, or what stood there before
+abbrev pub number_in : {A : Type 0} → Result A Refusal → ℕ
+number_in (Ok a) = 0
+number_in (Err r) = number_of r
+
+abbrev pub found_or : {A : Type 0} → Result A Refusal → A → A
+found_or (Ok a) entry = a
+found_or (Err r) entry = entry
+
+-- what an operation's checks find: none refuses, or the first that does
+abbrev pub Checked : Type 0
+Checked = Result ⊤ Refusal
+
+abbrev pub passed : Checked
+passed = Ok tt
+
 -- one condition and the refusal that comes for it alone
 pub record Check : Type 0 where
   pub fails : Bool
@@ -46,13 +60,13 @@ pub record Check : Type 0 where
 
 -- "checks run in the order written": the first that holds
 unfoldable pub first : List Check → Checked
-first [] = Passed
-first (c ∷ cs) = cond c.fails (Refused c.refusal) (first cs)
+first [] = passed
+first (c ∷ cs) = cond c.fails (Err c.refusal) (first cs)
 
 -- an answer by what the checks found: one for a refusal, another where there is none
 abbrev pub decided : {A : Type 0} → Checked → (Refusal → A) → A → A
-decided Passed f a = a
-decided (Refused r) f a = f r
+decided (Ok _) f a = a
+decided (Err r) f a = f r
 
 -- An answer by the paper's figures: the refusal's number (0 where there is none) and the values given. "A refusal gives its number alone."
 pub record Outcome : Type 0 where

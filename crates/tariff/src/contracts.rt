@@ -1,58 +1,43 @@
 // Contracts: their kinds and periods (003, 36.2.1 and 36.2.2).
 ghost use Rattle.std.specs.Prelude.{◌≡◌};
-ghost use Rattle.tariff.specs.ContractRules.{kind_of, period_of, same_period};
+ghost use Rattle.tariff.specs.ContractRules.{kind_of, period_of};
 
 use crate::units::Quantity;
 
 // What a contract obliges to.
-#[derive(Clone, Copy)]
+#[derive(Clone, Copy, Debug, PartialEq, Eq)]
 pub enum Kind {
-    Obligation,
-    Option,
+    Obligation = 0,
+    Option = 1,
 }
 
-impl Kind {
-    pub fn from_number(number: u64) -> Kind
-        ensures { result ≡ kind_of number }
-    {
-        if number == 0 {
-            Kind::Obligation
-        } else {
-            Kind::Option
+// By the number that a table or a book has for it. This, `Period`'s below and `Form`'s (layouts) are written out: `rt ci` refuses an impl that a macro
+// of the repository's own writes.
+impl From<u64> for Kind {
+    ghost from_gives = { λ number kind. kind ≡ kind_of number };
+
+    fn from(number: u64) -> Kind {
+        match number {
+            0 => Kind::Obligation,
+            _ => Kind::Option,
         }
     }
 }
 
 // Time-of-use period.
-#[derive(Clone, Copy)]
+#[derive(Clone, Copy, Debug, PartialEq, Eq)]
 pub enum Period {
-    OffPeak,
-    OnPeak,
+    OffPeak = 0,
+    OnPeak = 1,
 }
 
-impl Period {
-    pub fn from_number(number: u64) -> Period
-        ensures { result ≡ period_of number }
-    {
-        if number == 0 {
-            Period::OffPeak
-        } else {
-            Period::OnPeak
-        }
-    }
+impl From<u64> for Period {
+    ghost from_gives = { λ number period. period ≡ period_of number };
 
-    pub fn same(self, other: Period) -> bool
-        ensures { result ≡ same_period self other }
-    {
-        match self {
-            Period::OffPeak => match other {
-                Period::OffPeak => true,
-                Period::OnPeak => false,
-            },
-            Period::OnPeak => match other {
-                Period::OffPeak => false,
-                Period::OnPeak => true,
-            },
+    fn from(number: u64) -> Period {
+        match number {
+            0 => Period::OffPeak,
+            _ => Period::OnPeak,
         }
     }
 }

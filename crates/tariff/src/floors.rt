@@ -1,9 +1,10 @@
 // Division of a figure of either sign, rounded down. Below zero it goes by -1 - z, which is not negative.
-ghost use Rattle.std.specs.Prelude.{◌≡◌, ◌^◌, ◌<◌, nat_abs};
+// Not by `div_euclid`: it divides by an `i64`, and d is a `u64`.
+ghost use Rattle.std.specs.Prelude.{◌≡◌, ◌<◌};
 ghost use Rattle.integers.specs.Division.{floor_div, floor_mod};
 
 pub fn floor_quotient(z: i64, d: u64) -> i64
-    requires { (nat_abs z < 2 ^ 63) × (0 < d) }
+    requires { 0 < d }
     ensures { result ≡ floor_div z d }
 {
     if z < 0 {
@@ -16,7 +17,7 @@ pub fn floor_quotient(z: i64, d: u64) -> i64
 
 // What is left above it.
 pub fn floor_remainder(z: i64, d: u64) -> u64
-    requires { (nat_abs z < 2 ^ 63) × (0 < d) }
+    requires { 0 < d }
     ensures { (result ≡ floor_mod z d) × (result < d) }
 {
     if z < 0 {

@@ -7,11 +7,11 @@ mod processes;
 mod refusals;
 mod units;
 
-ghost use Rattle.std.specs.Prelude.{◌≡◌, ◌<◌};
-
 pub use contracts::{Contract, Kind, Period};
 pub use processes::Process;
-pub use refusals::{Checked, Refusal, nodes_bad, nodes_outside, quantity_bad, zero_or_above};
+pub use refusals::{
+    Refusal, answer_cell, answer_number, nodes_bad, nodes_outside, quantity_bad, zero_or_above,
+};
 pub use units::{Amount, Flow, Mcc, Price, Quantity, Transfer, WeightedMcc};
 
 // Counts: 1 to 4,000 nodes, 200 in a narrow file, 0 to 64 constraints, 0 to 1,000 contracts.
@@ -59,10 +59,3 @@ pub const HUB_WEIGHT: u64 = 100000;
 
 // Parts of a cent: 10^-8.
 pub const PER_CENT: u64 = 100000000;
-
-// A cell of a table of 16-bit numbers.
-pub fn wide(x: u16) -> u64
-    ensures { (result ≡ x) × (result < 65536) }
-{
-    x as u64
-}

@@ -6,11 +6,24 @@ ghost use Rattle.tariff.specs.Processes.{percent as percentOf, process_of};
 use crate::units::Flow;
 
 // The process that awards CRRs, which fixes the share of each limit that is released.
-#[derive(Clone, Copy)]
+#[derive(Clone, Copy, Debug, PartialEq, Eq)]
 pub enum Process {
     Annual,
     TierLt,
     Monthly,
+}
+
+// By the number that a caller gives. Any number above 1 is the monthly process's: 16 refuses those above 2.
+impl From<u64> for Process {
+    ghost from_gives = { λ number process. process ≡ process_of number };
+
+    fn from(number: u64) -> Process {
+        match number {
+            0 => Process::Annual,
+            1 => Process::TierLt,
+            _ => Process::Monthly,
+        }
+    }
 }
 
 impl Process {
@@ -21,19 +34,6 @@ impl Process {
     pub const TIER_LT_PERCENT: u64 = 60;
 
     pub const MONTHLY_PERCENT: u64 = 100;
-
-    pub fn from_number(number: u64) -> Process
-        requires { number ≤ 2 }
-        ensures { result ≡ process_of number }
-    {
-        if number == 0 {
-            Process::Annual
-        } else if number == 1 {
-            Process::TierLt
-        } else {
-            Process::Monthly
-        }
-    }
 
     pub fn percent(self) -> u64
         ensures { result ≡ percentOf self }

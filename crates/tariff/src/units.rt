@@ -1,7 +1,9 @@
 // Units as tuple structs. Sums and comparisons keep their unit. A quantity, a price or an MCC is opened only here: in the product rules, in the sums and
 // comparisons of its own unit, and to go into a cell.
-ghost use Rattle.std.specs.Prelude.{◌≡◌, ◌+◌, ◌-◌, ◌*◌, ◌/◌, ◌%◌, ◌^◌, ◌≤◌, ◌<◌, eqb, ltb, pos, nat_abs, neg_ℤ, ◌+ℤ◌, ◌-ℤ◌, ◌*ℤ◌};
-ghost use Rattle.std.specs.Int.Signed.{lt_z};
+// `Add`, `Sub`, `Neg` and `From` are written out for each unit: `rt ci` refuses an impl that a macro of the repository's own writes.
+// A figure's range stands in the clauses of the rules that need it, and not in its type: a unit has also what no range bounds, a sum, or a field of a file
+// before its check. Factors and weights are cells that C lends, plain numbers, and one is bounded where a rule takes it.
+ghost use Rattle.std.specs.Prelude.{◌≡◌, ◌+◌, ◌-◌, ◌*◌, ◌/◌, ◌%◌, ◌^◌, ◌≤◌, ◌<◌, pos, nat_abs, neg_ℤ, ◌+ℤ◌, ◌-ℤ◌, ◌*ℤ◌};
 ghost use Rattle.integers.specs.Sums.{max0};
 ghost use Rattle.integers.specs.Division.{floor_div, floor_mod};
 ghost use Rattle.tariff.specs.Units.{max_factor, max_quantity, max_price, max_customers, max_rate, max_load, hub_weight};
@@ -10,45 +12,46 @@ ghost use Rattle.tariff.specs.Inner.{max_mcc, max_spread, max_weighted};
 
 use crate::contracts::Kind;
 use crate::{HUB_WEIGHT, floors};
+use std::ops::{Add, Neg, Sub};
 
-// Thousandths of a MW.
-#[derive(Clone, Copy)]
+// Thousandths of a MW. Any number: loads are quantities too, and so is what a row or a record has before check 13 looks at it.
+#[derive(Clone, Copy, Debug, PartialEq, Eq, PartialOrd, Ord)]
 pub struct Quantity(pub u64);
 
-impl Quantity {
-    pub fn plus(self, other: Quantity) -> Quantity
-        requires { self.0 + other.0 < 2 ^ 64 }
-        ensures { result.0 ≡ self.0 + other.0 }
-    {
+impl Add for Quantity {
+    type Output = Quantity;
+
+    ghost can_add = { λ a b. a.0 + b.0 < 2 ^ 64 };
+
+    ghost add_gives = { λ a b sum. sum.0 ≡ a.0 + b.0 };
+
+    fn add(self, other: Quantity) -> Quantity {
         Quantity(self.0 + other.0)
     }
+}
 
-    pub fn minus(self, other: Quantity) -> Quantity
-        requires { other.0 ≤ self.0 }
-        ensures { result.0 ≡ self.0 - other.0 }
-    {
+impl Sub for Quantity {
+    type Output = Quantity;
+
+    ghost can_sub = { λ a b. b.0 ≤ a.0 };
+
+    ghost sub_gives = { λ a b rest. rest.0 ≡ a.0 - b.0 };
+
+    fn sub(self, other: Quantity) -> Quantity {
         Quantity(self.0 - other.0)
     }
+}
 
-    pub fn exceeds(self, other: Quantity) -> bool
-        ensures { result ≡ ltb other.0 self.0 }
-    {
-        other.0 < self.0
+// As a cell of a table or a field of a file.
+impl From<Quantity> for u64 {
+    ghost from_gives = { λ quantity cell. cell ≡ quantity.0 };
+
+    fn from(quantity: Quantity) -> u64 {
+        quantity.0
     }
+}
 
-    pub fn is_zero(self) -> bool
-        ensures { result ≡ eqb self.0 0 }
-    {
-        self.0 == 0
-    }
-
-    // As a cell of a table or a field of a file.
-    pub fn cell(self) -> u64
-        ensures { result ≡ self.0 }
-    {
-        self.0
-    }
-
+impl Quantity {
     // The product rule of flows: this quantity from source to sink, by their shift factors on one constraint.
     pub fn flow(self, source: i64, sink: i64) -> Flow
         requires { (nat_abs source ≤ max_factor) × (nat_abs sink ≤ max_factor) × (self.0 ≤ max_quantity) }
@@ -116,16 +119,10 @@ impl Quantity {
 }
 
 // Cents per MWh.
-#[derive(Clone, Copy)]
+#[derive(Clone, Copy, Debug, PartialEq, Eq, PartialOrd, Ord)]
 pub struct Price(pub u64);
 
 impl Price {
-    pub fn exceeds(self, other: Price) -> bool
-        ensures { result ≡ ltb other.0 self.0 }
-    {
-        other.0 < self.0
-    }
-
     // The product rule of congestion (002 part C): shift factor × shadow price.
     pub fn times(self, factor: i64) -> Mcc
         requires { (nat_abs factor ≤ max_factor) × (self.0 ≤ max_price) }
@@ -138,39 +135,55 @@ impl Price {
 }
 
 // The marginal cost of congestion: 10^-5 cents per MWh.
-#[derive(Clone, Copy)]
+#[derive(Clone, Copy, Debug, PartialEq, Eq, PartialOrd, Ord)]
 pub struct Mcc(pub i64);
 
-impl Mcc {
-    pub fn plus(self, other: Mcc) -> Mcc
-        requires { nat_abs self.0 + nat_abs other.0 < 2 ^ 63 }
-        ensures { result.0 ≡ self.0 +ℤ other.0 }
-    {
+impl Add for Mcc {
+    type Output = Mcc;
+
+    ghost can_add = { λ a b. nat_abs a.0 + nat_abs b.0 < 2 ^ 63 };
+
+    ghost add_gives = { λ a b sum. sum.0 ≡ a.0 +ℤ b.0 };
+
+    fn add(self, other: Mcc) -> Mcc {
         Mcc(self.0 + other.0)
     }
+}
 
-    pub fn minus(self, other: Mcc) -> Mcc
-        requires { nat_abs self.0 + nat_abs other.0 < 2 ^ 63 }
-        ensures { result.0 ≡ self.0 -ℤ other.0 }
-    {
+impl Sub for Mcc {
+    type Output = Mcc;
+
+    ghost can_sub = { λ a b. nat_abs a.0 + nat_abs b.0 < 2 ^ 63 };
+
+    ghost sub_gives = { λ a b rest. rest.0 ≡ a.0 -ℤ b.0 };
+
+    fn sub(self, other: Mcc) -> Mcc {
         Mcc(self.0 - other.0)
     }
+}
 
-    pub fn negated(self) -> Mcc
-        requires { nat_abs self.0 < 2 ^ 63 }
-        ensures { result.0 ≡ neg_ℤ self.0 }
-    {
+impl Neg for Mcc {
+    type Output = Mcc;
+
+    ghost can_neg = { λ a. nat_abs a.0 < 2 ^ 63 };
+
+    ghost neg_gives = { λ a back. back.0 ≡ neg_ℤ a.0 };
+
+    fn neg(self) -> Mcc {
         Mcc(-self.0)
     }
+}
 
-    // As a cell of a table.
-    pub fn cell(self) -> i64
-        requires { nat_abs self.0 < 2 ^ 63 }
-        ensures { result ≡ self.0 }
-    {
-        self.0
+// As a cell of a table.
+impl From<Mcc> for i64 {
+    ghost from_gives = { λ mcc cell. cell ≡ mcc.0 };
+
+    fn from(mcc: Mcc) -> i64 {
+        mcc.0
     }
+}
 
+impl Mcc {
     // The product rule of amounts (003, 36.2.1): a difference of two MCCs × quantity.
     pub fn times(self, quantity: Quantity) -> Amount
         requires { (nat_abs self.0 ≤ max_spread) × (quantity.0 ≤ max_quantity) }
@@ -191,17 +204,22 @@ impl Mcc {
 }
 
 // MCCs times hub weights: 10^-10 cents per MWh.
-#[derive(Clone, Copy)]
+#[derive(Clone, Copy, Debug, PartialEq, Eq, PartialOrd, Ord)]
 pub struct WeightedMcc(pub i64);
 
-impl WeightedMcc {
-    pub fn plus(self, other: WeightedMcc) -> WeightedMcc
-        requires { nat_abs self.0 + nat_abs other.0 < 2 ^ 63 }
-        ensures { result.0 ≡ self.0 +ℤ other.0 }
-    {
+impl Add for WeightedMcc {
+    type Output = WeightedMcc;
+
+    ghost can_add = { λ a b. nat_abs a.0 + nat_abs b.0 < 2 ^ 63 };
+
+    ghost add_gives = { λ a b sum. sum.0 ≡ a.0 +ℤ b.0 };
+
+    fn add(self, other: WeightedMcc) -> WeightedMcc {
         WeightedMcc(self.0 + other.0)
     }
+}
 
+impl WeightedMcc {
     // Over the whole hub's weight, rounded down.
     pub fn quotient(self) -> Mcc
         requires { nat_abs self.0 ≤ max_weighted }
@@ -220,8 +238,32 @@ impl WeightedMcc {
 }
 
 // Load that went from one LSE to another, less what came back (02, paper 5): thousandths of a MW.
-#[derive(Clone, Copy)]
+#[derive(Clone, Copy, Debug, PartialEq, Eq, PartialOrd, Ord)]
 pub struct Transfer(pub i64);
+
+impl Add for Transfer {
+    type Output = Transfer;
+
+    ghost can_add = { λ a b. nat_abs a.0 + nat_abs b.0 < 2 ^ 63 };
+
+    ghost add_gives = { λ a b sum. sum.0 ≡ a.0 +ℤ b.0 };
+
+    fn add(self, other: Transfer) -> Transfer {
+        Transfer(self.0 + other.0)
+    }
+}
+
+impl Neg for Transfer {
+    type Output = Transfer;
+
+    ghost can_neg = { λ a. nat_abs a.0 < 2 ^ 63 };
+
+    ghost neg_gives = { λ a back. back.0 ≡ neg_ℤ a.0 };
+
+    fn neg(self) -> Transfer {
+        Transfer(-self.0)
+    }
+}
 
 impl Transfer {
     // The product rule of a row: customers moved × thousandths of a MW per customer.
@@ -232,24 +274,8 @@ impl Transfer {
         Transfer((customers * rate) as i64)
     }
 
-    pub fn plus(self, other: Transfer) -> Transfer
-        requires { nat_abs self.0 + nat_abs other.0 < 2 ^ 63 }
-        ensures { result.0 ≡ self.0 +ℤ other.0 }
-    {
-        Transfer(self.0 + other.0)
-    }
-
-    // The same the other way.
-    pub fn negated(self) -> Transfer
-        requires { nat_abs self.0 < 2 ^ 63 }
-        ensures { result.0 ≡ neg_ℤ self.0 }
-    {
-        Transfer(-self.0)
-    }
-
     // What is lost: nothing where the transfer is not above 0.
     pub fn lost(self) -> Quantity
-        requires { nat_abs self.0 < 2 ^ 63 }
         ensures { result.0 ≡ nat_abs (max0 self.0) }
     {
         if self.0 < 0 {
@@ -259,41 +285,41 @@ impl Transfer {
     }
 }
 
-// 10^-8 MW.
-#[derive(Clone, Copy)]
+// 10^-8 MW. Its cells are written by `.0`, in three places: a `From` would be no plainer.
+#[derive(Clone, Copy, Debug, PartialEq, Eq, PartialOrd, Ord)]
 pub struct Flow(pub i64);
 
-impl Flow {
-    pub fn plus(self, other: Flow) -> Flow
-        requires { nat_abs self.0 + nat_abs other.0 < 2 ^ 63 }
-        ensures { result.0 ≡ self.0 +ℤ other.0 }
-    {
+impl Add for Flow {
+    type Output = Flow;
+
+    ghost can_add = { λ a b. nat_abs a.0 + nat_abs b.0 < 2 ^ 63 };
+
+    ghost add_gives = { λ a b sum. sum.0 ≡ a.0 +ℤ b.0 };
+
+    fn add(self, other: Flow) -> Flow {
         Flow(self.0 + other.0)
     }
+}
 
-    pub fn minus(self, other: Flow) -> Flow
-        requires { nat_abs self.0 + nat_abs other.0 < 2 ^ 63 }
-        ensures { result.0 ≡ self.0 -ℤ other.0 }
-    {
+impl Sub for Flow {
+    type Output = Flow;
+
+    ghost can_sub = { λ a b. nat_abs a.0 + nat_abs b.0 < 2 ^ 63 };
+
+    ghost sub_gives = { λ a b rest. rest.0 ≡ a.0 -ℤ b.0 };
+
+    fn sub(self, other: Flow) -> Flow {
         Flow(self.0 - other.0)
-    }
-
-    pub fn exceeds(self, other: Flow) -> bool
-        requires { (nat_abs self.0 < 2 ^ 63) × (nat_abs other.0 < 2 ^ 63) }
-        ensures { result ≡ lt_z other.0 self.0 }
-    {
-        other.0 < self.0
     }
 }
 
 // 10^-8 cents for one hour.
-#[derive(Clone, Copy)]
+#[derive(Clone, Copy, Debug, PartialEq, Eq, PartialOrd, Ord)]
 pub struct Amount(pub i64);
 
 impl Amount {
     // This amount as it counts: an option is never charged.
     pub fn counted(self, kind: Kind) -> Amount
-        requires { nat_abs self.0 < 2 ^ 63 }
         ensures { result.0 ≡ countedAs kind self.0 }
     {
         match kind {

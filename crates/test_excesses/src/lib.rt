@@ -1,58 +1,21 @@
-// The excess at each constraint: what a book's flow there has beyond the released limit. And the terms of a test, for what is found beside its verdict.
+// The excess at each constraint: what a book's flow there has beyond the released limit.
 #![tactic(auto)]
 
 ghost use Rattle.std.specs.Prelude.{◌≡◌, ◌≤◌, length};
 ghost use Rattle.lists.specs.Lists.{list_to};
 ghost use Rattle.lists.specs.Lent.{before, after, overwrite};
-ghost use Rattle.test_rules.specs.Inner.{Judgeable};
-ghost use Rattle.test_excesses.specs.Inner.{excess_in, terms_of};
+ghost use Rattle.test_excesses.specs.Inner.{excess_in};
 
-use tariff::{Flow, Period, Process};
-use test_rules::Flows;
-use test_terms::Asked;
+use tariff::{Flow, Process};
+use test_verdict::Loading;
 
-// The terms of a test, checked: how many nodes and constraints its tables have, the process and the period.
-#[derive(Clone, Copy)]
-pub struct Terms {
-    pub nodes: usize,
-    pub constraints: usize,
-    pub process: Process,
-    pub period: Period,
-}
-
-impl Terms {
-    pub fn from_asked(asked: Asked) -> Terms
-        requires { asked.process ≤ 2 }
-        ensures { result ≡ terms_of asked }
-    {
-        Terms {
-            nodes: asked.nodes,
-            constraints: asked.constraints,
-            process: Process::from_number(asked.process),
-            period: Period::from_number(asked.period),
-        }
-    }
-}
-
-// The excesses of all constraints, into the first cells of `out`.
-pub fn fill_excess(
-    constraints: usize,
-    process: Process,
-    limits: &[u64],
-    carried: Flows,
-    out: &mut [i64],
-)
-    requires { Judgeable constraints limits.now carried × (constraints ≤ length out.old) }
-    ensures { after out ≡ overwrite (list_to constraints (excess_in limits.now process carried.flows)) (before out) }
+// The excesses of all constraints, into the first cells of `out`. By index: flows, limits and the cell at one number; zips would be nested.
+pub fn fill_excess(loading: Loading, process: Process, out: &mut [i64])
+    requires { loading.constraints ≤ length out.old }
+    ensures { after out ≡ overwrite (list_to loading.entry.constraints (excess_in loading.entry.limits.now process loading.entry.flows.flows)) (before out) }
 {
-    let flows = carried.flows;
-    let mut k = 0;
-    while k < constraints {
-        let flow = Flow(flows[k]);
-        let released = process.released(limits[k]);
-        let excess = flow.minus(released);
-        let cell = excess.0;
-        out[k] = cell;
-        k += 1;
+    for k in 0..loading.constraints {
+        let excess = Flow(loading.flows.flows[k]) - process.released(loading.limits[k]);
+        out[k] = excess.0;
     }
 }

@@ -10,8 +10,8 @@ use Rattle.lists.proofs.Lists.{length-list_to, get_d_list_to, list_to-cong}
 use Rattle.lists.proofs.Fronts.{front_at}
 use Rattle.tariff.specs.declared.refusals.Refusal.{Refusal}
 use Rattle.tariff.specs.declared.refusals.Refusal.TheVariants.{ShortTable}
-use Rattle.tariff.specs.declared.refusals.Checked.{Checked}
-use Rattle.tariff.specs.declared.refusals.Checked.TheVariants.{Passed, Refused}
+use Rattle.tariff.specs.Refusals.{Checked, passed}
+use Rattle.std.specs.Prelude.{Err}
 use Rattle.tariff.specs.declared.contracts.Contract.{Contract}
 use Rattle.tariff.specs.Units.{Factors, factors_of}
 use Rattle.tariff.specs.Refusals.{Check, first, cells_after}
@@ -36,17 +36,17 @@ module _ (q : FlowsCall) where
 
   -- x is what the test's checks found
   module _ (x : Checked) (found : x ≡ test_checked (test_as 0 q)) where
-    pub test-refuses : (r : Refusal) → x ≡ Refused r → Refused r ≡ find_flows_checked q
+    pub test-refuses : (r : Refusal) → x ≡ Err r → Err r ≡ find_flows_checked q
     test-refuses r told = sym (in_parts ∙ append_refuses (test_checks (test_as 0 q)) room r (sym found ∙ told))
 
-    then_room : x ≡ Passed → find_flows_checked q ≡ first room
+    then_room : x ≡ passed → find_flows_checked q ≡ first room
     then_room told = in_parts ∙ append_passes (test_checks (test_as 0 q)) room (sym found ∙ told)
 
-    pub no_room : x ≡ Passed → length q.place < q.constraints → Refused ShortTable ≡ find_flows_checked q
+    pub no_room : x ≡ passed → length q.place < q.constraints → Err ShortTable ≡ find_flows_checked q
     unfolding first
     no_room told h = sym (then_room told ∙ rw (lt-ltb (length q.place) q.constraints h))
 
-    pub all-fits : x ≡ Passed → q.constraints ≤ length q.place → Passed ≡ find_flows_checked q
+    pub all-fits : x ≡ passed → q.constraints ≤ length q.place → passed ≡ find_flows_checked q
     unfolding first
     all-fits told h = sym (then_room told ∙ rw (le-ltb (length q.place) q.constraints h))
 
@@ -55,7 +55,7 @@ module _ (q : FlowsCall) where
     pub as_tested : Tested (test_as 0 q)
     pub room-enough : q.constraints ≤ length q.place
 
-  pub ready : find_flows_checked q ≡ Passed → Ready
+  pub ready : find_flows_checked q ≡ passed → Ready
   ready e =
       let both = passed_append (test_checks (test_as 0 q)) room (sym in_parts ∙ e) in
       record { as_tested = tested (test_as 0 q) both.0; room-enough = ltb-false (length q.place) q.constraints (passed_cons _ _ both.1).0 }
@@ -66,7 +66,7 @@ pub cells_are : (f : Factors) (cs : List Contract) (carried : Flows) → Carries
 cells_are f cs carried h = list_to-cong f.constraints (λ (k : ℕ). get_or carried.flows k (pos 0)) (total_flow f cs) h.flows-are
 
 -- cell k of a place that took the flows
-pub flow-is : (q : FlowsCall) (x : List ℤ) → find_flows_checked q ≡ Passed → x ≡ cells_after (find_flows_checked q) (flow_cells q) q.place
+pub flow-is : (q : FlowsCall) (x : List ℤ) → find_flows_checked q ≡ passed → x ≡ cells_after (find_flows_checked q) (flow_cells q) q.place
     → (k : ℕ) → k < q.constraints → get_or x k (pos 0) ≡ total_flow (factors_of q.nodes q.constraints q.factors) (counted_contracts q) k
 flow-is q x ok is k l =
     let f = total_flow (factors_of q.nodes q.constraints q.factors) (counted_contracts q) in

@@ -7,24 +7,24 @@ use lib.IntN.{ℤ, pos, ◌-ℤ◌}
 use lib.Signed.{lt_z}
 use Rattle.lists.specs.Sets.{set_of}
 use Rattle.lists.proofs.Sets.{set-cong}
-use Rattle.tariff.specs.declared.refusals.Checked.TheVariants.{Passed}
+use Rattle.tariff.specs.Refusals.{passed}
 use Rattle.tariff.specs.Checks.{process_number}
 use Rattle.tariff.specs.Feasibility.{total_flow, excess, overloaded, overload_set}
 use Rattle.tariff.proofs.Checks.{first_passes, passed_cons}
 use Rattle.grid_tables.specs.TableChecks.{grid_table_checks}
 use Rattle.test_rules.specs.TestBook.{TestCall, test_checks, test_checked, tested_grid, tested_process, tested_contracts}
-use Rattle.test_loading.specs.declared.FlowsAnswer.{FlowsAnswer}
+use Rattle.test_loading.specs.FindFlows.{FlowsAnswer}
 use Rattle.test_loading.specs.FindFlows.{FlowsCall, FindsFlows}
 use Rattle.test_loading.specs.Theorems.{test_as, released_at}
 use Rattle.test_loading.proofs.Passing.{all-fits, flow-is}
 
 module _ (q : FlowsCall) (answer : FlowsAnswer) (exit : List ℤ) (finds : FindsFlows q answer exit) (enough : q.constraints ≤ length q.place)
-    (process : ℕ) (accepted : test_checked (test_as process q) ≡ Passed) where
+    (process : ℕ) (accepted : test_checked (test_as process q) ≡ passed) where
   abbrev test : TestCall
   test = test_as process q
 
   -- the same tables and book pass the checks with any process
-  without-process : test_checked (test_as 0 q) ≡ Passed
+  without-process : test_checked (test_as 0 q) ≡ passed
   unfolding test_checks grid_table_checks
   without-process =
       let two = passed_cons _ _ accepted in

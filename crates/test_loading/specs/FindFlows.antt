@@ -1,9 +1,9 @@
 -- Finding the flow on each constraint: the left side of the test of document 01, "The rules", for those who want to see how full a constraint is.
-use Rattle.std.specs.Prelude.{◌≡◌, List, [], ◌∷◌, ◌++◌, ℕ, ◌*◌, length, take, ℤ, pos}
+use Rattle.std.specs.Prelude.{◌≡◌, List, [], ◌∷◌, ◌++◌, ℕ, ◌*◌, length, take, ℤ, pos, Ok, Err, Result}
 use Rattle.lists.specs.Lists.{list_to}
 use Rattle.lists.specs.Lent.{Lent, before, after}
 use Rattle.tariff.specs.declared.contracts.Contract.{Contract}
-use Rattle.tariff.specs.declared.refusals.Checked.{Checked}
+use Rattle.tariff.specs.Refusals.{Checked}
 use Rattle.tariff.specs.Units.{factors_of}
 use Rattle.tariff.specs.ContractRules.{period_of, of_period}
 use Rattle.tariff.specs.Refusals.{Check, first, Outcome, given, refused_by, answered, cells_after, cell_after, number_after}
@@ -12,8 +12,7 @@ use Rattle.tariff.specs.Feasibility.{total_flow}
 use Rattle.layouts.specs.BookFile.{book_in}
 use Rattle.book_rules.specs.BookChecks.{book_checks}
 use Rattle.test_terms.specs.declared.AskedFlows.{AskedFlows}
-use Rattle.test_loading.specs.declared.FlowsAnswer.{FlowsAnswer}
-use Rattle.test_loading.specs.declared.FlowsAnswer.TheVariants.{Found, Refused}
+use Rattle.tariff.specs.declared.refusals.Refusal.{Refusal}
 
 -- the counts, the period by number, the grid's tables, the book's bytes, and the place for the answer as it is at entry
 pub record FlowsCall : Type 0 where
@@ -33,10 +32,14 @@ flows_call n k period limits factors book place =
 abbrev pub asked_flows : AskedFlows → List ℕ → List ℤ → List ℕ → List ℤ → FlowsCall
 asked_flows a = flows_call a.nodes a.constraints a.period
 
+-- what finding flows answers beside the cells: how many contracts were counted, or the refusal
+abbrev pub FlowsAnswer : Type 0
+FlowsAnswer = Result ℕ Refusal
+
 -- beside the cells, how many contracts were counted
 abbrev pub flows_outcome : FlowsAnswer → Outcome
-flows_outcome (Found counted) = given (pos counted ∷ [])
-flows_outcome (Refused r) = refused_by r
+flows_outcome (Ok counted) = given (pos counted ∷ [])
+flows_outcome (Err r) = refused_by r
 
 module _ (q : FlowsCall) where
   -- as testing a book, the process apart: "2, 3. .. 17: period not 0 or 1. 9, 6, 7, then the book's own from 1 to 13"; then 9 for fewer cells than constraints

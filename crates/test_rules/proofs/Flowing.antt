@@ -6,10 +6,10 @@ use mathlib.Core.List.{List, [], ◌∷◌, ◌++◌}
 use Prim.Native.Nat.{ℕ, suc, ◌+◌, ◌*◌, ◌^◌, ◌≤◌, ◌<◌}
 use native.Mathlib.Nat.{eq-or-lt_of_le}
 use native.Mathlib.Omega.{arith}
-use lib.Dec.{lit<}
 use lib.ListN.{length, get_or, set, replicate, length-append, get_or-replicate}
 use lib.Seq.{get_or-set_same, get_or-set_other, get_or-take}
 use lib.IntN.{ℤ, pos, nat_abs, ◌+ℤ◌, ◌-ℤ◌, ◌*ℤ◌}
+use denote.Enum.Bare.{sameb}
 use mir.Syntax.{w64}
 use mir.Val.{to_z, of_z}
 use Rattle.integers.proofs.Sizes.{nat_abs_add}
@@ -20,7 +20,9 @@ use Rattle.tariff.proofs.Kept.{spread-small}
 use Rattle.tariff.specs.declared.contracts.Kind.{Kind}
 use Rattle.tariff.specs.declared.units.Quantity.{Quantity}
 use Rattle.tariff.specs.declared.contracts.Contract.{Contract}
+use Rattle.tariff.specs.contracts.contracts.Period.{the_type}
 use Rattle.tariff.specs.declared.contracts.Period.{Period}
+use Rattle.tariff.specs.declared.contracts.Period.TheVariants.{OffPeak, OnPeak}
 use Rattle.tariff.specs.Units.{Factors, factors_of, factor, max_constraints, max_contracts, max_factor, max_quantity, max_limit, max_flow}
 use Rattle.tariff.specs.Inner.{FactorsInRange}
 use Rattle.tariff.specs.ContractRules.{InRange, counted, same_period, of_period}
@@ -29,15 +31,22 @@ use Rattle.tariff.proofs.Periods.{sum_over-more, of_period-same, of_period-other
 use Rattle.integers.specs.Sums.{sum_over_of}
 use Rattle.layouts.specs.BookFile.{book_in, contract_count_in, contract_at}
 use Rattle.lists.proofs.Lists.{list_to-more, length-list_to, each-list_to}
-use Rattle.tariff.specs.declared.refusals.Checked.TheVariants.{Passed}
+use Rattle.tariff.specs.Refusals.{passed}
 use Rattle.tariff.specs.Refusals.{first}
 use Rattle.grid_tables.specs.Inner.{GoodFactors, GoodCells}
 use Rattle.grid_tables.proofs.Factors.{place-in}
 use Rattle.book_rules.specs.BookChecks.{book_checks}
 use Rattle.book_rules.proofs.Accepted.{book-accepted}
 use Rattle.test_rules.specs.declared.Flows.{Flows}
-use Rattle.test_rules.specs.Inner.{Adds, Ends, Judgeable}
+use Rattle.test_rules.specs.Inner.{Adds, Judgeable}
 use Rattle.test_rules.specs.Carried.{Carries}
+
+-- the comparison that the code makes
+pub same_period-is : (a b : Period) → sameb the_type a b ≡ same_period a b
+same_period-is OffPeak OffPeak = refl
+same_period-is OffPeak OnPeak = refl
+same_period-is OnPeak OffPeak = refl
+same_period-is OnPeak OnPeak = refl
 
 -- the flow on constraint j of a contract whose rows of factors begin at source and sink, as it counts
 unfoldable pub part : List ℤ → ℕ → ℕ → Quantity → Kind → ℕ → ℤ
@@ -65,24 +74,9 @@ module _ (before cells : List ℤ) (f : ℕ → ℤ) (k : ℕ) (done : (j : ℕ)
 pub kept-sized : (x : ℤ) (B : ℕ) → B < 2 ^ 63 → nat_abs x ≤ B → nat_abs (to_z w64 (of_z w64 x)) ≤ B
 kept-sized x B b h = rw (back x (omega arith)) h
 
--- the cells of a contract's two rows, each within its range
-pub rows-kept : (k : ℕ) (fs : List ℤ) (c : Contract) → Ends k fs c → (j : ℕ) → j < k
-    → (nat_abs (to_z w64 (of_z w64 (get_or fs (c.source * k + j) (pos 0)))) ≤ max_factor) × (nat_abs (to_z w64 (of_z w64 (get_or fs (c.sink * k + j) (pos 0)))) ≤ max_factor)
-rows-kept k fs c h j b = (
-  kept-sized (get_or fs (c.source * k + j) (pos 0)) max_factor (lit< tt) (h.source-sized j b),
-  kept-sized (get_or fs (c.sink * k + j) (pos 0)) max_factor (lit< tt) (h.sink-sized j b),
-)
-
 -- y is what the machine gives
 pub part_small : (y a b : ℤ) (d : Kind) (q : ℕ) → y ≡ counted d ((a -ℤ b) *ℤ pos q) → nat_abs a ≤ max_factor → nat_abs b ≤ max_factor → q ≤ max_quantity → nat_abs y ≤ max_flow
 part_small y a b d q e ha hb hq = rw e (counted-times d (a -ℤ b) q (spread-small a b ha hb) hq)
-
-pub part-is : (k : ℕ) (fs : List ℤ) (c : Contract) → Ends k fs c → (j : ℕ) → j < k → (y : ℤ)
-    → y ≡ counted c.kind ((to_z w64 (of_z w64 (get_or fs (c.source * k + j) (pos 0))) -ℤ to_z w64 (of_z w64 (get_or fs (c.sink * k + j) (pos 0)))) *ℤ pos c.quantity.0)
-    → y ≡ part fs (c.source * k) (c.sink * k) c.quantity c.kind j
-unfolding part
-part-is k fs c h j b y e =
-    e ∙ rw (back (get_or fs (c.source * k + j) (pos 0)) (omega (arith, h.source-sized j b)), back (get_or fs (c.sink * k + j) (pos 0)) (omega (arith, h.sink-sized j b)))
 
 -- v is the sum that the machine gives
 pub sum_is : (x y v p : ℤ) → nat_abs x ≤ max_flow * max_contracts → nat_abs y ≤ max_flow → v ≡ to_z w64 (of_z w64 x) +ℤ y → y ≡ p → to_z w64 (of_z w64 v) ≡ x +ℤ p
@@ -152,7 +146,7 @@ module _ (n k : ℕ) (fs : List ℤ) (i : ℕ) (t : Period) (at : ℕ → Contra
 
 -- ---- a book that the checks accept: a thousand flows at most
 
-pub carried_judgeable : (n k : ℕ) (ls : List ℕ) (fs : List ℤ) (t : Period) (book : List ℕ) → GoodCells max_limit k ls → GoodFactors n k fs → first (book_checks n book) ≡ Passed
+pub carried_judgeable : (n k : ℕ) (ls : List ℕ) (fs : List ℤ) (t : Period) (book : List ℕ) → GoodCells max_limit k ls → GoodFactors n k fs → first (book_checks n book) ≡ passed
     → (carried : Flows) → Carries (factors_of n k fs) (of_period t (book_in book)) carried → Judgeable k ls carried
 carried_judgeable n k ls fs t book gl gf own carried h =
     let b = book-accepted n book own in

@@ -1,6 +1,6 @@
 -- Laws of the test's answer: the overload set bit by bit, and what its figures are.
 use mathlib.Core.Path.{◌≡◌, refl, sym, ap, ap₂, ◌∙◌}
-use mathlib.Core.Bool.{Bool}
+use mathlib.Core.Bool.{Bool, true, false, cond}
 use mathlib.Core.List.{List, [], ◌∷◌}
 use Prim.Native.Nat.{ℕ, ◌*◌, ◌^◌, ◌≤◌, ◌<◌}
 use native.Mathlib.Omega.{arith}
@@ -31,19 +31,31 @@ use Rattle.tariff.specs.Refusals.{Outcome, given}
 use Rattle.lists.specs.Sets.{set_of}
 use Rattle.tariff.specs.Feasibility.{released, Passes, excess, overloaded, overload_set, overload_count, lowest_overload}
 use Rattle.test_rules.specs.declared.Flows.{Flows}
-use Rattle.test_rules.specs.declared.TestAnswer.{TestAnswer}
-use Rattle.test_rules.specs.declared.TestAnswer.TheVariants.{Pass, Fail, Refused}
+use Rattle.test_rules.specs.TestBook.{TestAnswer, pass, fail}
+use Rattle.std.specs.Ordering.{is_lt, int_cmp}
+use Rattle.std.proofs.Common.{Less, Equal, Greater}
+use Rattle.std.specs.Prelude.{Err, Ok}
+use Rattle.test_rules.specs.declared.Verdict.TheVariants.{Pass, Fail}
 use Rattle.test_rules.specs.TestBook.{test_outcome, test_values}
 use Rattle.test_rules.specs.Inner.{Judges}
 use Rattle.test_rules.specs.Carried.{Carries}
 
+-- the comparison that the code makes
+pub less-is : (x y : ℤ) → is_lt (int_cmp x y) ≡ lt_z x y
+less-is x y = by (lt_z x y) (lt_z y x)
+  where
+    by : (a b : Bool) → is_lt (cond a Less (cond b Greater Equal)) ≡ a
+    by true b = refl
+    by false true = refl
+    by false false = refl
+
 -- no figures: a pass
-pub passed_told : (a : TestAnswer) → test_outcome a ≡ given [] → a ≡ Pass
-passed_told Pass e = refl
-passed_told (Fail set count lowest over) e =
+pub passed_told : (a : TestAnswer) → test_outcome a ≡ given [] → a ≡ pass
+passed_told (Ok Pass) e = refl
+passed_told (Ok (Fail set count lowest over)) e =
     let none : pos set ∷ pos count ∷ pos lowest ∷ over.0 ∷ [] ≡ [] = ap (λ (o : Outcome). o.values) e in
     cc
-passed_told (Refused r) e = absurd (never_given r [] e)
+passed_told (Err r) e = absurd (never_given r [] e)
 
 -- whether the flow in cell k exceeds the released limit k
 abbrev pub over : List ℕ → Process → List ℤ → ℕ → Bool
@@ -86,7 +98,7 @@ module _ (n k : ℕ) (ls : List ℕ) (fs : List ℤ) (process : Process) (t : Pe
   unfolding overload_set overloaded released
   set_is = is ∙ set-cong k _ _ (λ j h. rw (get_or-take k ls j 0 h, carried.flows-are j h))
 
-  pub pass_answer : s ≡ 0 → Judges g process tested Pass
+  pub pass_answer : s ≡ 0 → Judges g process tested pass
   unfolding test_values
   pass_answer z =
       let e : overload_set g process tested ≡ 0 = sym set_is ∙ z in
@@ -101,7 +113,7 @@ module _ (n k : ℕ) (ls : List ℕ) (fs : List ℤ) (process : Process) (t : Pe
         };
       }
     where
-      never : {s' c' l' : ℕ} {o' : Flow} → Pass ≡ Fail s' c' l' o' → ⊥
+      never : {s' c' l' : ℕ} {o' : Flow} → pass ≡ fail s' c' l' o' → ⊥
       never q = let z : ◌≡◌ {A = ℕ} 0 1 = cc in omega arith
 
   module _ (few : k ≤ max_constraints) (some-bit : s ≡ 0 → ⊥) (o : Flow)
@@ -128,7 +140,7 @@ module _ (n k : ℕ) (ls : List ℕ) (fs : List ℤ) (process : Process) (t : Pe
     values-are = rw (ne_eqb (overload_set g process tested) 0 (λ e. some-bit (set_is ∙ e)))
         (λ i. pos (set_is i) ∷ pos (count-is i) ∷ pos (lowest-is i) ∷ over-is_excess i ∷ [])
 
-    pub fail_answer : Judges g process tested (Fail s (ones s) (count_trailing_zeros 64 s) o)
+    pub fail_answer : Judges g process tested (fail s (ones s) (count_trailing_zeros 64 s) o)
     fail_answer = record {
       figures = ap given values-are;
       demand3 = record {
@@ -140,11 +152,11 @@ module _ (n k : ℕ) (ls : List ℕ) (fs : List ℤ) (process : Process) (t : Pe
       };
     }
       where
-        never : Fail s (ones s) (count_trailing_zeros 64 s) o ≡ Pass → ⊥
+        never : fail s (ones s) (count_trailing_zeros 64 s) o ≡ pass → ⊥
         never q = let z : ◌≡◌ {A = ℕ} 0 1 = cc in omega arith
 
-        same_lowest : {s' c' l' : ℕ} {o' : Flow} → Fail s (ones s) (count_trailing_zeros 64 s) o ≡ Fail s' c' l' o' → lowest_overload g process tested ≡ l'
+        same_lowest : {s' c' l' : ℕ} {o' : Flow} → fail s (ones s) (count_trailing_zeros 64 s) o ≡ fail s' c' l' o' → lowest_overload g process tested ≡ l'
         same_lowest {s'} {c'} {l'} {o'} q = let e : count_trailing_zeros 64 s ≡ l' = cc in sym lowest-is ∙ e
 
-        same_over : {s' c' l' : ℕ} {o' : Flow} → Fail s (ones s) (count_trailing_zeros 64 s) o ≡ Fail s' c' l' o' → o.0 ≡ o'.0
+        same_over : {s' c' l' : ℕ} {o' : Flow} → fail s (ones s) (count_trailing_zeros 64 s) o ≡ fail s' c' l' o' → o.0 ≡ o'.0
         same_over {s'} {c'} {l'} {o'} q = let e : o ≡ o' = cc in ap (λ (x : Flow). x.0) e

@@ -6,7 +6,7 @@ use lib.ListN.{length}
 use lib.IntN.{ℤ}
 use Rattle.lists.specs.Lists.{Each}
 use Rattle.tariff.specs.declared.contracts.Contract.{Contract}
-use Rattle.tariff.specs.declared.refusals.Checked.TheVariants.{Refused}
+use Rattle.std.specs.Prelude.{Err}
 use Rattle.tariff.specs.Units.{max_contracts}
 use Rattle.tariff.specs.ContractRules.{period_of, of_period}
 use Rattle.tariff.specs.Refusals.{first, decided, answered}
@@ -18,7 +18,7 @@ use Rattle.layouts.specs.BookTable.{ContractFits}
 use Rattle.grid_tables.specs.TableChecks.{grid_table_checks}
 use Rattle.book_rules.specs.BookChecks.{book_checks}
 use Rattle.book_rules.proofs.Theorems.{both-forms_alike, both-forms_checked_alike}
-use Rattle.test_rules.specs.declared.TestAnswer.{TestAnswer}
+use Rattle.test_rules.specs.TestBook.{TestAnswer}
 use Rattle.test_rules.specs.TestBook.{TestCall, test_outcome, test_checks, test_checked, tested_grid, tested_process, test_values, TestsBook}
 use Rattle.test_rules.specs.Theorems.{test_of}
 
@@ -30,7 +30,7 @@ module _ (n k process period : ℕ) (limits : List ℕ) (factors : List ℤ) (cs
   unfolding test_checks
   checked_alike =
       let tables = grid_table_checks n k process period limits factors in
-      first-append tables (book_checks n (book_file Narrow cs)) ∙ ap (decided (first tables) Refused) (both-forms_checked_alike cs few fits n)
+      first-append tables (book_checks n (book_file Narrow cs)) ∙ ap (decided (first tables) Err) (both-forms_checked_alike cs few fits n)
       ∙ sym (first-append tables (book_checks n (book_file Wide cs)))
 
   contracts-alike : book_in (book_file Narrow cs) ≡ book_in (book_file Wide cs)

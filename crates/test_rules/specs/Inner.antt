@@ -1,24 +1,15 @@
 -- What the inner functions of the test say: what is carried, what a step asks, and what a verdict gives.
-use Rattle.std.specs.Prelude.{◌≡◌, List, ℕ, ◌+◌, ◌*◌, ◌^◌, ◌≤◌, ◌<◌, length, get_or, ℤ, pos, nat_abs, ◌+ℤ◌}
+use Rattle.std.specs.Prelude.{◌≡◌, List, ℕ, ◌*◌, ◌^◌, ◌≤◌, ◌<◌, length, get_or, ℤ, pos, nat_abs, ◌+ℤ◌}
 use Rattle.tariff.specs.declared.contracts.Contract.{Contract}
 use Rattle.tariff.specs.declared.processes.Process.{Process}
-use Rattle.tariff.specs.Units.{Grid, factors_of, max_constraints, max_contracts, max_factor, max_quantity, max_limit, max_flow}
+use Rattle.tariff.specs.Units.{Grid, factors_of, max_constraints, max_contracts, max_limit, max_flow}
 use Rattle.tariff.specs.Refusals.{given}
 use Rattle.tariff.specs.Feasibility.{flow}
 use Rattle.tariff.specs.ContractRules.{InRange}
 use Rattle.grid_tables.specs.Inner.{GoodCells}
 use Rattle.test_rules.specs.declared.Flows.{Flows}
-use Rattle.test_rules.specs.declared.TestAnswer.{TestAnswer}
+use Rattle.test_rules.specs.TestBook.{TestAnswer}
 use Rattle.test_rules.specs.TestBook.{test_outcome, test_values, Demand3}
-
--- a contract whose rows of k factors each stand in a table, in range
-pub record Ends (k : ℕ) (table : List ℤ) (c : Contract) : Type 0 where
-  pub few : k ≤ max_constraints
-  pub source_row : c.source * k + k ≤ length table
-  pub sink-row : c.sink * k + k ≤ length table
-  pub source-sized : (j : ℕ) → j < k → nat_abs (get_or table (c.source * k + j) (pos 0)) ≤ max_factor
-  pub sink-sized : (j : ℕ) → j < k → nat_abs (get_or table (c.sink * k + j) (pos 0)) ≤ max_factor
-  pub quantity-sized : c.quantity.0 ≤ max_quantity
 
 -- flows on k constraints to which a contract's can be added
 pub record FlowRoom (k : ℕ) (flows : List ℤ) : Type 0 where

@@ -1,11 +1,10 @@
 -- Testing a book's bytes against grid tables (document 01, "The rules", "Terms of the third demand" and "When input is turned down").
-use Rattle.std.specs.Prelude.{◌≡◌, ◌↔◌, cond, List, [], ◌∷◌, ◌++◌, ℕ, ◌<◌, eqb, ℤ, pos, ◌<ℤ◌}
+use Rattle.std.specs.Prelude.{◌≡◌, ◌↔◌, cond, List, [], ◌∷◌, ◌++◌, ℕ, ◌<◌, eqb, ℤ, pos, ◌<ℤ◌, Ok, Err, Result}
 use Rattle.lists.specs.Lent.{Lent, before, after}
 use Rattle.tariff.specs.declared.contracts.Contract.{Contract}
 use Rattle.tariff.specs.declared.processes.Process.{Process}
 use Rattle.tariff.specs.declared.units.Flow.{Flow}
-use Rattle.tariff.specs.declared.refusals.Checked.{Checked}
-use Rattle.tariff.specs.declared.refusals.Checked.TheVariants.{Passed}
+use Rattle.tariff.specs.Refusals.{Checked, passed}
 use Rattle.tariff.specs.Units.{Grid, grid_of}
 use Rattle.tariff.specs.ContractRules.{period_of, of_period}
 use Rattle.tariff.specs.Processes.{process_of}
@@ -15,8 +14,9 @@ use Rattle.tariff.specs.Shortfall.{PriceList, shortfall, one_cent, IsWorst}
 use Rattle.layouts.specs.BookFile.{book_in}
 use Rattle.grid_tables.specs.TableChecks.{grid_table_checks}
 use Rattle.book_rules.specs.BookChecks.{book_checks}
-use Rattle.test_rules.specs.declared.TestAnswer.{TestAnswer}
-use Rattle.test_rules.specs.declared.TestAnswer.TheVariants as is
+use Rattle.tariff.specs.declared.refusals.Refusal.{Refusal}
+use Rattle.test_rules.specs.declared.Verdict.{Verdict}
+use Rattle.test_rules.specs.declared.Verdict.TheVariants.{Pass, Fail}
 
 -- the counts, process and period by number, the grid's tables, the book's bytes
 pub record TestCall : Type 0 where
@@ -32,11 +32,21 @@ abbrev pub test_call : ℕ → ℕ → ℕ → ℕ → List ℕ → List ℤ →
 test_call n k process period limits factors book =
     record { nodes = n; constraints = k; process = process; period = period; limits = limits; factors = factors; book = book }
 
+-- what the test answers: its verdict, or the refusal
+abbrev pub TestAnswer : Type 0
+TestAnswer = Result Verdict Refusal
+
+abbrev pub pass : TestAnswer
+pass = Ok Pass
+
+abbrev pub fail : ℕ → ℕ → ℕ → Flow → TestAnswer
+fail set count lowest over = Ok (Fail set count lowest over)
+
 -- pass gives no figure; fail gives the set of overloaded constraints, how many, the lowest of them, and the excess there
 abbrev pub test_outcome : TestAnswer → Outcome
-test_outcome is.Pass = given []
-test_outcome (is.Fail set count lowest over) = given (pos set ∷ pos count ∷ pos lowest ∷ over.0 ∷ [])
-test_outcome (is.Refused r) = refused_by r
+test_outcome (Ok Pass) = given []
+test_outcome (Ok (Fail set count lowest over)) = given (pos set ∷ pos count ∷ pos lowest ∷ over.0 ∷ [])
+test_outcome (Err r) = refused_by r
 
 module _ (q : TestCall) where
   -- "2, 3. 16: process not 0 to 2. 17: period not 0 or 1. 9, 6, 7, then the book's own from 1 to 13."
@@ -70,18 +80,18 @@ module _ (g : Grid) (process : Process) (cs : List Contract) where
   -- Demand 3: pass exactly when the worst shortfall is 0; on fail the constraint named is one of the grid's, and the list with one cent there has as its
   -- shortfall the excess given, above 0
   pub record Demand3 (answer : TestAnswer) : Type 0 where
-    pub pass_is_worst_zero : (answer ≡ is.Pass) ↔ IsWorst g process cs (pos 0)
-    pub fail_is_of_the_grid : (set count lowest : ℕ) (over : Flow) → answer ≡ is.Fail set count lowest over → lowest < g.factors.constraints
-    pub fail_is_a_list : (set count lowest : ℕ) (over : Flow) → answer ≡ is.Fail set count lowest over
+    pub pass_is_worst_zero : (answer ≡ pass) ↔ IsWorst g process cs (pos 0)
+    pub fail_is_of_the_grid : (set count lowest : ℕ) (over : Flow) → answer ≡ fail set count lowest over → lowest < g.factors.constraints
+    pub fail_is_a_list : (set count lowest : ℕ) (over : Flow) → answer ≡ fail set count lowest over
         → PriceList g.factors.constraints (one_cent g.factors.constraints lowest)
-    pub fail_is_its_shortfall : (set count lowest : ℕ) (over : Flow) → answer ≡ is.Fail set count lowest over
+    pub fail_is_its_shortfall : (set count lowest : ℕ) (over : Flow) → answer ≡ fail set count lowest over
         → shortfall g process cs (one_cent g.factors.constraints lowest) ≡ over.0
-    pub fail_is_above_zero : (set count lowest : ℕ) (over : Flow) → answer ≡ is.Fail set count lowest over → pos 0 <ℤ over.0
+    pub fail_is_above_zero : (set count lowest : ℕ) (over : Flow) → answer ≡ fail set count lowest over → pos 0 <ℤ over.0
 
 -- the promise
 pub record TestsBook (q : TestCall) (answer : TestAnswer) : Type 0 where
   pub figures : test_outcome answer ≡ answered (test_checked q) (test_values (tested_grid q) (tested_process q) (tested_contracts q))
-  pub demand3 : test_checked q ≡ Passed → Demand3 (tested_grid q) (tested_process q) (tested_contracts q) answer
+  pub demand3 : test_checked q ≡ passed → Demand3 (tested_grid q) (tested_process q) (tested_contracts q) answer
 
 -- ---- for C: the figures in lent cells, all 0 on a pass
 
@@ -124,4 +134,4 @@ pub record TestsBookForC (q : TestCall) (number : ℕ) (set count lowest : Lent 
   pub count-given : after count ≡ cell_after (test_checked q) (tested_cells q).count (before count)
   pub lowest-given : after lowest ≡ cell_after (test_checked q) (tested_cells q).lowest (before lowest)
   pub excess-given : after excess ≡ cell_after (test_checked q) (tested_cells q).over (before excess)
-  pub demand3 : test_checked q ≡ Passed → Demand3OfCells (tested_grid q) (tested_process q) (tested_contracts q) (after set) (after lowest) (after excess)
+  pub demand3 : test_checked q ≡ passed → Demand3OfCells (tested_grid q) (tested_process q) (tested_contracts q) (after set) (after lowest) (after excess)

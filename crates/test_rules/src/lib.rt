@@ -1,7 +1,7 @@
 // What the simultaneous feasibility test promises, what it carries and answers, and the laws of both.
 #![tactic(auto)]
 
-use tariff::{Flow, MAX_CONSTRAINTS, Refusal};
+use tariff::{Flow, MAX_CONSTRAINTS};
 
 // The flow on all constraints, carried together with the number of contracts counted.
 #[derive(Clone, Copy)]
@@ -10,9 +10,9 @@ pub struct Flows {
     pub count: usize,
 }
 
-// What the test answers.
+// What the test finds where no check refuses.
 #[derive(Clone, Copy)]
-pub enum TestAnswer {
+pub enum Verdict {
     Pass,
     Fail {
         set: u64,
@@ -20,5 +20,4 @@ pub enum TestAnswer {
         lowest: usize,
         excess: Flow,
     },
-    Refused(Refusal),
 }

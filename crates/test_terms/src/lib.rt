@@ -1,14 +1,17 @@
-// The terms of a test as they are asked, by number, and the checks of tables by them.
+// The terms of a test as they are asked, by number, the checks of tables by them, and the test that they ask for, checked.
 #![tactic(auto)]
 
 ghost use Rattle.std.specs.Prelude.{◌≡◌};
-ghost use Rattle.lists.specs.Lent.{before};
 ghost use Rattle.tariff.specs.Refusals.{first};
 ghost use Rattle.grid_tables.specs.TableChecks.{grid_table_checks};
 
-use tariff::Checked;
+mod tested;
+
+use tariff::Refusal;
+pub use tested::Tested;
 
 // What a test is asked beside its tables and its book: nothing here is checked yet.
+// Process and period are numbers, as C gives them: 16 and 17 refuse those of none.
 #[derive(Clone, Copy)]
 pub struct Asked {
     pub nodes: usize,
@@ -17,7 +20,7 @@ pub struct Asked {
     pub period: u64,
 }
 
-// What finding flows is asked: a test's terms without the process.
+// What finding flows is asked: a test's terms without the process. A struct of its own: C's entries that find flows are given no process.
 #[derive(Clone, Copy)]
 pub struct AskedFlows {
     pub nodes: usize,
@@ -25,8 +28,8 @@ pub struct AskedFlows {
     pub period: u64,
 }
 
-// The test's checks up to 7, of what is asked and its tables.
-pub fn check_tables(asked: Asked, limits: &[u64], factors: &[i64]) -> Checked
+// The test's checks up to 7, of what is asked and its tables, which are no `GridTable` before them.
+pub fn check_tables(asked: Asked, limits: &[u64], factors: &[i64]) -> Result<(), Refusal>
     ensures { result ≡ first (grid_table_checks asked.nodes asked.constraints asked.process asked.period limits.now factors.now) }
 {
     grid_tables::check_grid_tables(

@@ -11,8 +11,8 @@ use Rattle.lists.specs.Lent.{overwrite}
 use Rattle.lists.proofs.Lists.{list_to-cong}
 use Rattle.tariff.specs.declared.refusals.Refusal.{Refusal}
 use Rattle.tariff.specs.declared.refusals.Refusal.TheVariants.{ContractCount}
-use Rattle.tariff.specs.declared.refusals.Checked.{Checked}
-use Rattle.tariff.specs.declared.refusals.Checked.TheVariants.{Passed, Refused}
+use Rattle.tariff.specs.Refusals.{Checked, passed}
+use Rattle.std.specs.Prelude.{Ok, Err}
 use Rattle.tariff.specs.ContractRules.{period_of}
 use Rattle.tariff.specs.Refusals.{Check, first, given}
 use Rattle.tariff.proofs.Checks.{first_passes, first-refuses, last-passes, append_refuses, append_passes}
@@ -20,7 +20,6 @@ use Rattle.tariff.proofs.Answers.{answer-refused, cells-refused, answer-passed, 
 use Rattle.test_rules.specs.declared.Flows.{Flows}
 use Rattle.test_rules.specs.Carried.{Carries}
 use Rattle.test_rules.proofs.Flowing.{carried_judgeable}
-use Rattle.test_loading.specs.declared.FlowsAnswer.TheVariants as is
 use Rattle.test_loading.specs.FindFlows.{find_flows_checks, find_flows_checked, counted_contracts}
 use Rattle.test_loading.proofs.Passing.{Ready}
 use Rattle.test_totals.specs.Totals.{max_summed, no_totals_of, totals_range, summed_count}
@@ -34,34 +33,34 @@ module _ (q : AddFlowsCall) where
 
   -- x is what the checks of finding the flows found
   module _ (x : Checked) (found : x ≡ find_flows_checked q.asked) where
-    pub early : (r : Refusal) → x ≡ Refused r → add_flows_checked q ≡ Refused r
+    pub early : (r : Refusal) → x ≡ Err r → add_flows_checked q ≡ Err r
     unfolding add_flows_checks
     early r told = append_refuses (find_flows_checks q.asked) ten r (sym found ∙ told)
 
-    module _ (told : x ≡ Passed) where
+    module _ (told : x ≡ passed) where
       then_ten : add_flows_checked q ≡ first ten
       unfolding add_flows_checks
       then_ten = append_passes (find_flows_checks q.asked) ten (sym found ∙ told)
 
-      pub not_totals : no_totals_of q.asked.constraints q.count q.asked.place ≡ true → add_flows_checked q ≡ Refused ContractCount
+      pub not_totals : no_totals_of q.asked.constraints q.count q.asked.place ≡ true → add_flows_checked q ≡ Err ContractCount
       not_totals e = then_ten ∙ first-refuses (totals_range q.asked.constraints q.count q.asked.place) (summed_count (summed q) ∷ []) e
 
       module _ (totals : no_totals_of q.asked.constraints q.count q.asked.place ≡ false) where
         then_count : add_flows_checked q ≡ first (summed_count (summed q) ∷ [])
         then_count = then_ten ∙ first_passes (totals_range q.asked.constraints q.count q.asked.place) (summed_count (summed q) ∷ []) totals
 
-        pub too_many_in_all : max_summed < summed q → add_flows_checked q ≡ Refused ContractCount
+        pub too_many_in_all : max_summed < summed q → add_flows_checked q ≡ Err ContractCount
         too_many_in_all h = then_count ∙ first-refuses (summed_count (summed q)) [] (lt-ltb max_summed (summed q) h)
 
-        pub all_pass : summed q ≤ max_summed → add_flows_checked q ≡ Passed
+        pub all_pass : summed q ≤ max_summed → add_flows_checked q ≡ passed
         all_pass h = then_count ∙ last-passes (summed_count (summed q)) (le-ltb max_summed (summed q) h)
 
   -- a refusal changes nothing
-  pub add_refused : (r : Refusal) → add_flows_checked q ≡ Refused r → AddsFlows q (is.Refused r) q.asked.place q.count
+  pub add_refused : (r : Refusal) → add_flows_checked q ≡ Err r → AddsFlows q (Err r) q.asked.place q.count
   add_refused r e =
       record {
-        counted-given = answer-refused (Refused r) (add_flows_checked q) (sym e) r refl (pos (length (counted_contracts q.asked)) ∷ []);
-        totals = record { flows-added = cells-refused (Refused r) (add_flows_checked q) (sym e) r refl (flows_summed q) q.asked.place; count-added = rw e };
+        counted-given = answer-refused (Err r) (add_flows_checked q) (sym e) r refl (pos (length (counted_contracts q.asked)) ∷ []);
+        totals = record { flows-added = cells-refused (Err r) (add_flows_checked q) (sym e) r refl (flows_summed q) q.asked.place; count-added = rw e };
       }
 
   -- the book's flows can be added to totals
@@ -92,15 +91,15 @@ module _ (q : AddFlowsCall) where
       exit_is : exit ≡ overwrite (flows_summed q) q.asked.place
       exit_is = stored ∙ ap (λ (cells : List ℤ). overwrite cells q.asked.place) sums_are
 
-      pub flows-are_added : (counted count : ℕ) → counted ≡ carried.count → count ≡ q.count + counted → add_flows_checked q ≡ Passed
-          → AddsFlows q (is.Found counted) exit count
-      flows-are_added counted count e f passed =
+      pub flows-are_added : (counted count : ℕ) → counted ≡ carried.count → count ≡ q.count + counted → add_flows_checked q ≡ passed
+          → AddsFlows q (Ok counted) exit count
+      flows-are_added counted count e f told =
           let n : counted ≡ length (counted_contracts q.asked) = e ∙ h.count-is in
           let m : count ≡ summed q = f ∙ ap (λ (x : ℕ). q.count + x) n in
           record {
-            counted-given = ap (λ (x : ℕ). given (pos x ∷ [])) n ∙ answer-passed Passed (add_flows_checked q) (sym passed) refl _;
+            counted-given = ap (λ (x : ℕ). given (pos x ∷ [])) n ∙ answer-passed passed (add_flows_checked q) (sym told) refl _;
             totals = record {
-              flows-added = cells-passed Passed (add_flows_checked q) (sym passed) refl (flows_summed q) q.asked.place exit exit_is;
-              count-added = m ∙ sym (rw passed refl);
+              flows-added = cells-passed passed (add_flows_checked q) (sym told) refl (flows_summed q) q.asked.place exit exit_is;
+              count-added = m ∙ sym (rw told refl);
             };
           }

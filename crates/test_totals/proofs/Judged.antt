@@ -6,7 +6,8 @@ use native.Mathlib.Omega.{arith}
 use borrow.Author.Tests.{ltb-false}
 use lib.ListN.{length}
 use Rattle.tariff.specs.declared.refusals.Refusal.{Refusal}
-use Rattle.tariff.specs.declared.refusals.Checked.TheVariants.{Passed, Refused}
+use Rattle.std.specs.Prelude.{Err}
+use Rattle.tariff.specs.Refusals.{passed}
 use Rattle.tariff.specs.declared.processes.Process.{Process}
 use Rattle.tariff.specs.Units.{max_constraints, max_limit}
 use Rattle.tariff.specs.Processes.{process_of}
@@ -16,8 +17,7 @@ use Rattle.grid_tables.specs.Inner.{GoodCells}
 use Rattle.grid_tables.proofs.Cells.{good-cells}
 use Rattle.grid_tables.proofs.Passing.{passed_all}
 use Rattle.test_rules.specs.declared.Flows.{Flows}
-use Rattle.test_rules.specs.declared.TestAnswer.{TestAnswer}
-use Rattle.test_rules.specs.declared.TestAnswer.TheVariants as is
+use Rattle.test_rules.specs.TestBook.{TestAnswer}
 use Rattle.test_rules.specs.TestBook.{test_outcome}
 use Rattle.test_rules.specs.Inner.{Judgeable}
 use Rattle.test_totals.specs.Totals.{no_totals_of}
@@ -36,7 +36,7 @@ module _ (q : JudgeCall) where
     pub long : q.constraints ≤ length q.flows
     pub totals : no_totals_of q.constraints q.count q.flows ≡ false
 
-  pub judgable : judge_checked q ≡ Passed → Judgable
+  pub judgable : judge_checked q ≡ passed → Judgable
   unfolding judge_checks
   judgable e =
       let all = passed_all _ e in
@@ -64,20 +64,20 @@ module _ (q : JudgeCall) where
             ));
       }
 
-  pub judge_refused : (r : Refusal) → judge_checked q ≡ Refused r → JudgesFlows q (is.Refused r)
+  pub judge_refused : (r : Refusal) → judge_checked q ≡ Err r → JudgesFlows q (Err r)
   judge_refused r e =
       record {
-        figures = answer-refused (Refused r) (judge_checked q) (sym e) r refl _;
+        figures = answer-refused (Err r) (judge_checked q) (sym e) r refl _;
       }
 
-  pub judged : judge_checked q ≡ Passed → (held : Flows) → SameFlows q.constraints q.flows held → (process : Process) → process ≡ process_of q.process
+  pub judged : judge_checked q ≡ passed → (held : Flows) → SameFlows q.constraints q.flows held → (process : Process) → process ≡ process_of q.process
       → (answer : TestAnswer) → test_outcome answer ≡ given (judged_values q.limits process held.flows q.constraints) → JudgesFlows q answer
-  judged passed held same process is-process answer found =
+  judged told held same process is-process answer found =
       let by = process_of q.process in
       let right : test_outcome answer ≡ given (judged_values q.limits by q.flows q.constraints)
       = found
       ∙ ap (λ (p : Process). given (judged_values q.limits p held.flows q.constraints)) is-process
       ∙ ap given (values_same q.constraints q.limits by held.flows q.flows same.flows-are) in
       record {
-        figures = right ∙ answer-passed Passed (judge_checked q) (sym passed) refl (judged_values q.limits by q.flows q.constraints);
+        figures = right ∙ answer-passed passed (judge_checked q) (sym told) refl (judged_values q.limits by q.flows q.constraints);
       }

@@ -1,6 +1,6 @@
 -- Cells that are totals or not, and cells with flows added.
 use mathlib.Core.Path.{◌≡◌, sym, ap, ap₂, ◌∙◌}
-use mathlib.Core.Bool.{true, false}
+use mathlib.Core.Bool.{◌||◌, true, false}
 use mathlib.Core.List.{List}
 use Prim.Native.Nat.{ℕ, ◌+◌, ◌*◌, ◌^◌, ◌≤◌, ◌<◌}
 use native.Mathlib.Nat.{add-zero}
@@ -8,7 +8,7 @@ use native.Mathlib.Omega.{arith}
 use borrow.Author.Tests.{lt-ltb, le-ltb, ltb-false}
 use lib.Dec.{ltb}
 use lib.ListN.{length, get_or, take, drop}
-use lib.Seq.{get_or-take, get_or-drop}
+use lib.Seq.{get_or-take, get_or-drop, take_all}
 use lib.IntN.{ℤ, pos, nat_abs, ◌+ℤ◌}
 use mir.Syntax.{w64}
 use mir.Val.{to_z, of_z}
@@ -21,19 +21,12 @@ use Rattle.test_totals.specs.Totals.{max_summed, beyond, no_totals_of}
 
 -- ---- cells that are totals or not
 
+-- the first k cells by themselves
+pub cut_totals : (k count : ℕ) (flows : List ℤ) → k ≤ length flows → no_totals_of (length (take k flows)) count (take k flows) ≡ no_totals_of k count flows
+unfolding no_totals_of
+cut_totals k count flows long = ap (λ (l : List ℤ). ltb max_summed count || any_of (beyond count) l) (take_all (length (take k flows)) (take k flows) (omega arith))
+
 module _ (k count : ℕ) (flows : List ℤ) where
-  pub too_many : max_summed < count → true ≡ no_totals_of k count flows
-  unfolding no_totals_of
-  too_many h = sym (rw (lt-ltb max_summed count h))
-
-  pub flow-found : count ≤ max_summed → (j : ℕ) → j < length (take k flows) → beyond count (get_or (take k flows) j (pos 0)) ≡ true → true ≡ no_totals_of k count flows
-  unfolding no_totals_of
-  flow-found h j l e = sym (rw (le-ltb max_summed count h) (any_of_bad (beyond count) (take k flows) j (pos 0) l e))
-
-  pub none_found : count ≤ max_summed → any_of (beyond count) (take k flows) ≡ false → false ≡ no_totals_of k count flows
-  unfolding no_totals_of
-  none_found h e = sym (rw (le-ltb max_summed count h) e)
-
   module _ (long : k ≤ length flows) (told : no_totals_of k count flows ≡ false) where
     parts : (ltb max_summed count ≡ false) × (any_of (beyond count) (take k flows) ≡ false)
     unfolding no_totals_of

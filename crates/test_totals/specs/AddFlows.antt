@@ -2,11 +2,11 @@
 use Rattle.std.specs.Prelude.{◌≡◌, List, [], ◌∷◌, ◌++◌, ℕ, ◌+◌, length, get_or, ℤ, pos, ◌+ℤ◌}
 use Rattle.lists.specs.Lists.{list_to}
 use Rattle.lists.specs.Lent.{Lent, before, after}
-use Rattle.tariff.specs.declared.refusals.Checked.{Checked}
+use Rattle.tariff.specs.Refusals.{Checked}
 use Rattle.tariff.specs.Units.{Factors, factors_of}
 use Rattle.tariff.specs.Refusals.{Check, first, answered, cells_after, cell_after, number_after}
 use Rattle.tariff.specs.Feasibility.{total_flow}
-use Rattle.test_loading.specs.declared.FlowsAnswer.{FlowsAnswer}
+use Rattle.test_loading.specs.FindFlows.{FlowsAnswer}
 use Rattle.test_loading.specs.FindFlows.{FlowsCall, flows_call, find_flows_checks, counted_contracts, flows_outcome}
 use Rattle.test_totals.specs.Totals.{totals_range, summed_count}
 

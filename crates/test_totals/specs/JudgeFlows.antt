@@ -1,11 +1,11 @@
 -- Judging running totals of flows by a block's limits, as the test judges (document 01, "The rules"): the last step of a test of any size.
 use Rattle.std.specs.Prelude.{◌≡◌, List, [], ◌∷◌, ℕ, length, take, ℤ}
 use Rattle.lists.specs.Lent.{Lent, before, after}
-use Rattle.tariff.specs.declared.refusals.Checked.{Checked}
+use Rattle.tariff.specs.Refusals.{Checked}
 use Rattle.tariff.specs.Processes.{process_of}
 use Rattle.tariff.specs.Refusals.{Check, first, answered, cell_after, number_after}
 use Rattle.tariff.specs.Checks.{constraint_count, process_number, short_table, limit_range}
-use Rattle.test_rules.specs.declared.TestAnswer.{TestAnswer}
+use Rattle.test_rules.specs.TestBook.{TestAnswer}
 use Rattle.test_rules.specs.TestBook.{test_outcome, TestCells}
 use Rattle.test_verdict.specs.Judged.{judged_values, judged_cells}
 use Rattle.test_totals.specs.Totals.{totals_range}

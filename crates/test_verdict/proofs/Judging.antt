@@ -23,13 +23,14 @@ use Rattle.tariff.specs.Refusals.{Outcome, given}
 use Rattle.tariff.specs.Feasibility.{released}
 use Rattle.tariff.proofs.Answers.{never_given}
 use Rattle.test_rules.specs.declared.Flows.{Flows}
-use Rattle.test_rules.specs.declared.TestAnswer.{TestAnswer}
-use Rattle.test_rules.specs.declared.TestAnswer.TheVariants as is
+use Rattle.test_rules.specs.TestBook.{TestAnswer, pass, fail}
+use Rattle.std.specs.Prelude.{Ok, Err}
 use Rattle.test_rules.specs.TestBook.{test_outcome}
 use Rattle.test_rules.specs.Inner.{Judges}
 use Rattle.test_rules.specs.Carried.{Carries}
 use Rattle.test_rules.proofs.Judging.{over, passed_told, pass_answer, fail_answer}
 use Rattle.test_verdict.specs.Judged.{over_at, excess_at, judged_values}
+use Rattle.test_rules.specs.declared.Verdict.TheVariants.{Pass, Fail}
 
 module _ (k : ℕ) (limits : List ℕ) (process : Process) (flows : List ℤ) where
   abbrev S : ℕ
@@ -55,7 +56,7 @@ module _ (k : ℕ) (limits : List ℕ) (process : Process) (flows : List ℤ) wh
     unfolding over_at released
     set_is = found
 
-    pub empty_outcome : s ≡ 0 → test_outcome is.Pass ≡ given (judged_values limits process flows k)
+    pub empty_outcome : s ≡ 0 → test_outcome pass ≡ given (judged_values limits process flows k)
     empty_outcome z = ap given (sym (values-empty (sym set_is ∙ z)))
 
     module _ (few : k ≤ max_constraints) (ne : s ≡ 0 → ⊥) where
@@ -66,7 +67,7 @@ module _ (k : ℕ) (limits : List ℕ) (process : Process) (flows : List ℤ) wh
       lowest-is = ap (count_trailing_zeros 64) set_is ∙ set-trailing k 64 (over_at limits process flows) few (rw set_is at (pos_of_ne-zero {n = s} ne))
 
       pub full_outcome : (o : Flow) → o.0 ≡ get_or flows (count_trailing_zeros 64 s) (pos 0) -ℤ pos (get_or limits (count_trailing_zeros 64 s) 0 * percent process * 1000)
-          → test_outcome (is.Fail s (ones s) (count_trailing_zeros 64 s) o) ≡ given (judged_values limits process flows k)
+          → test_outcome (fail s (ones s) (count_trailing_zeros 64 s) o) ≡ given (judged_values limits process flows k)
       unfolding excess_at released
       full_outcome o over-is =
           let e : o.0 ≡ excess_at limits process flows L = over-is ∙ ap (excess_at limits process flows) lowest-is in
@@ -122,14 +123,14 @@ module _ (n k : ℕ) (few : k ≤ max_constraints) (limits : List ℕ) (fs : Lis
 
   right-full : (a : TestAnswer) → (s ≡ 0 → ⊥) → test_outcome a ≡ given (full k limits process f.flows) → Right a
   unfolding over_at excess_at released
-  right-full is.Pass ne e = absurd (nil_cons _ _ e)
-  right-full (is.Refused r) ne e = absurd (never_given r _ e)
-  right-full (is.Fail set count lowest o) ne e =
+  right-full (Ok Pass) ne e = absurd (nil_cons _ _ e)
+  right-full (Err r) ne e = absurd (never_given r _ e)
+  right-full (Ok (Fail set count lowest o)) ne e =
       let same = same_four set count lowest o.0 _ _ _ _ e in
       let many = same.count_same ∙ sym (count-is k limits process f.flows s refl few ne) in
       let low = same.lowest-same ∙ sym (lowest-is k limits process f.flows s refl few ne) in
       let there = same.over-same ∙ ap (excess_at limits process f.flows) (sym (lowest-is k limits process f.flows s refl few ne)) in
-      subst Right (λ i. is.Fail (sym same.set_same i) (sym many i) (sym low i) o) (fail_answer n k limits fs process t cs f carried s refl few ne o there)
+      subst Right (λ i. fail (sym same.set_same i) (sym many i) (sym low i) o) (fail_answer n k limits fs process t cs f carried s refl few ne o there)
 
   pub judges : (a : TestAnswer) → test_outcome a ≡ given (judged_values limits process f.flows k) → Right a
   unfolding over_at released

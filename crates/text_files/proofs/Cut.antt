@@ -15,8 +15,8 @@ use Rattle.tariff.specs.declared.contracts.Contract.{Contract}
 use Rattle.tariff.specs.declared.contracts.Period.{Period}
 use Rattle.tariff.specs.declared.refusals.Refusal.{Refusal}
 use Rattle.tariff.specs.declared.refusals.Refusal.TheVariants.{FileLength}
-use Rattle.tariff.specs.declared.refusals.Checked.{Checked}
-use Rattle.tariff.specs.declared.refusals.Checked.TheVariants.{Passed, Refused}
+use Rattle.tariff.specs.Refusals.{Checked, passed}
+use Rattle.std.specs.Prelude.{Ok, Err}
 use Rattle.tariff.specs.Units.{Grid, max_constraints, max_contracts}
 use Rattle.tariff.specs.Refusals.{Check, first, decided}
 use Rattle.tariff.specs.Checks.{nodes_outside_of, constraint_count, contract_count}
@@ -54,15 +54,15 @@ field_cut s m o w b le in-first =
     rw front (sym (rw all at (field-window s o w 0 m (bytes_below s b) (omega arith) (omega arith) (omega arith))))
 
 -- checks that a file and its cut share, behind which the length refuses both
-module _ (head : List Check) (size m : ℕ) (s : List ℕ) (most : first head ≡ Passed → size < m) (long : m ≤ length s) where
+module _ (head : List Check) (size m : ℕ) (s : List ℕ) (most : first head ≡ passed → size < m) (long : m ≤ length s) where
   too_long : {A : Type 0} (xs ys : List Check) (f : Refusal → A) (x y : A)
       → decided (first (head ++ file_length (take m s) size ∷ xs)) f x ≡ decided (first (head ++ file_length s size ∷ ys)) f y
   too_long xs ys f x y = rw (first-append head (file_length (take m s) size ∷ xs), first-append head (file_length s size ∷ ys)) (by (first head) refl)
     where
       by : (c : Checked) → first head ≡ c
-          → decided (decided c Refused (first (file_length (take m s) size ∷ xs))) f x ≡ decided (decided c Refused (first (file_length s size ∷ ys))) f y
-      by (Refused r) e = refl
-      by Passed e =
+          → decided (decided c Err (first (file_length (take m s) size ∷ xs))) f x ≡ decided (decided c Err (first (file_length s size ∷ ys))) f y
+      by (Err r) e = refl
+      by (Ok _) e =
           let less = most e in
           rw (
             first-refuses (file_length (take m s) size) xs (differs (length (take m s)) size (λ q. omega (arith, length-take-le m s long))),
@@ -114,9 +114,9 @@ module _ (s : List ℕ) (m : ℕ) (b : Bytes s) (le : m ≤ length s) (there : 4
       )
 
 -- a file that is too long is refused by its length, right or not
-capped-long : (s : List ℕ) → program_bytes < length s → first (capped_checks program_bytes s) ≡ decided (first (head_checks s)) Refused (Refused FileLength)
+capped-long : (s : List ℕ) → program_bytes < length s → first (capped_checks program_bytes s) ≡ decided (first (head_checks s)) Err (Err FileLength)
 unfolding capped_checks grid_size_checks head_checks
-capped-long s long = first-append (head_checks s) behind ∙ ap (decided (first (head_checks s)) Refused) length-refuses
+capped-long s long = first-append (head_checks s) behind ∙ ap (decided (first (head_checks s)) Err) length-refuses
   where
     own : Check
     own = file_length s (grid_bytes (grid_form_in s) (nodes_in s) (constraints_in_of s))
@@ -124,11 +124,11 @@ capped-long s long = first-append (head_checks s) behind ∙ ap (decided (first 
     behind : List Check
     behind = own ∷ file_too_long s program_bytes ∷ grid_figure_checks s
 
-    by : (b : Bool) → own.fails ≡ b → first behind ≡ Refused FileLength
+    by : (b : Bool) → own.fails ≡ b → first behind ≡ Err FileLength
     by true e = first-refuses own _ e
     by false e = first_passes own _ e ∙ first-refuses (file_too_long s program_bytes) _ (lt-ltb program_bytes (length s) long)
 
-    length-refuses : first behind ≡ Refused FileLength
+    length-refuses : first behind ≡ Err FileLength
     length-refuses = by own.fails refl
 
 -- ---- the three files
@@ -139,9 +139,9 @@ module _ (s : List ℕ) (m : ℕ) (b : Bytes s) where
   cut-grid most text = cut-or_whole s m (λ x. with_grid x text) cut
     where
       refused : (c : Checked) (f : Refusal → List ℕ) (x y : List ℕ)
-          → decided (decided c Refused (Refused FileLength)) f x ≡ decided (decided c Refused (Refused FileLength)) f y
-      refused Passed f x y = refl
-      refused (Refused r) f x y = refl
+          → decided (decided c Err (Err FileLength)) f x ≡ decided (decided c Err (Err FileLength)) f y
+      refused (Ok _) f x y = refl
+      refused (Err r) f x y = refl
 
       cut : m ≤ length s → with_grid (take m s) text ≡ with_grid s text
       cut long =
@@ -155,7 +155,7 @@ module _ (s : List ℕ) (m : ℕ) (b : Bytes s) where
       head : List Check
       head = short_file s 2 ∷ contract_count (contract_count_in s) ∷ spare_other (spare_pattern_of (book_form_in s)) (book_spare_in s) ∷ []
 
-      size : first head ≡ Passed → book_bytes_of (book_form_in s) (contract_count_in s) < m
+      size : first head ≡ passed → book_bytes_of (book_form_in s) (contract_count_in s) < m
       size e =
           let few : contract_count_in s ≤ max_contracts = ltb-false max_contracts (contract_count_in s) (passed_cons _ _ (passed_cons _ _ e).1).0 in
           omega (arith, book-bytes_most (book_form_in s) (contract_count_in s) few)
@@ -172,7 +172,7 @@ module _ (s : List ℕ) (m : ℕ) (b : Bytes s) where
       head : List Check
       head = constraint_count k ∷ short_file s 1 ∷ price_count s k ∷ []
 
-      size : first head ≡ Passed → price_bytes k < m
+      size : first head ≡ passed → price_bytes k < m
       size e = omega (arith, ltb-false max_constraints k (passed_cons _ _ e).0)
 
       cut : m ≤ length s → with_prices k (take m s) text ≡ with_prices k s text

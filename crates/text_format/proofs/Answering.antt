@@ -6,8 +6,8 @@ use native.Mathlib.Omega.{arith}
 use lib.ListN.{length}
 use lib.IntN.{ℤ}
 use Rattle.tariff.specs.declared.refusals.Refusal.{Refusal}
-use Rattle.tariff.specs.declared.refusals.Checked.{Checked}
-use Rattle.tariff.specs.declared.refusals.Checked.TheVariants.{Passed, Refused}
+use Rattle.tariff.specs.Refusals.{Checked}
+use Rattle.std.specs.Prelude.{Ok, Err}
 use Rattle.tariff.specs.Refusals.{Outcome, number_of, refused_by, decided, answered}
 use Rattle.tariff.proofs.Answers.{number_is, never_given}
 use Rattle.text_format.specs.Ascii.{ascii}
@@ -22,5 +22,5 @@ number_short n r e = decimal-below 2 n (omega arith) (rw e (number_is r).two_dig
 -- a refusal was given: the text is its line
 pub refused_line : (checked : Checked) (vs : List ℤ) (r : Refusal) → refused_by r ≡ answered checked vs → (file rest : List ℕ) → decided checked (refused_line_of file) rest ≡ refused_line_of file r
 unfolding refused_line_of
-refused_line Passed vs r e file rest = absurd (never_given r vs e)
-refused_line (Refused q) vs r e file rest = ap (λ (n : ℕ). ascii "refused," ++ file ++ ascii "," ++ decimal n ++ ascii "\n") (sym (ap (λ (o : Outcome). o.number) e))
+refused_line (Ok _) vs r e file rest = absurd (never_given r vs e)
+refused_line (Err q) vs r e file rest = ap (λ (n : ℕ). ascii "refused," ++ file ++ ascii "," ++ decimal n ++ ascii "\n") (sym (ap (λ (o : Outcome). o.number) e))

@@ -95,6 +95,17 @@ length-past (suc k) n f h =
     let less = rw pow-suc at h in
     rw (pow-succ', ← div-div-eq-div-mul n 10 (10 ^ k)) (omega (arith, length-next n f (omega arith), length-past k (n / 10) (omega arith) (omega arith)))
 
+-- ---- stored from the last on
+
+-- what is left to store in the first k places, of a number that fills them
+abbrev pub left : ℕ → ℕ → List ℕ
+left zero n = []
+left (suc k) n = decimal n
+
+pub left_some : (k n : ℕ) → 1 ≤ k → left k n ≡ decimal n
+left_some zero n some = absurd (omega arith)
+left_some (suc k) n some = refl
+
 -- ---- with a sign
 
 pub decimal_z-below : (d : ℕ) (z : ℤ) → 1 ≤ d → nat_abs z < 10 ^ d → length (decimal_z z) ≤ suc d

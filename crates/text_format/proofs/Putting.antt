@@ -5,10 +5,13 @@ use Prim.Native.Nat.{ℕ, suc, ◌+◌, ◌≤◌, ◌<◌}
 use native.Mathlib.Nat.{add-zero, zero-add}
 use native.Mathlib.Numerals.{add-one}
 use native.Mathlib.Omega.{arith}
-use lib.ListN.{length, set, get_or, take, length-append}
+use borrow.Rule.Slice.PartMut.{put_mid}
+use lib.ListN.{length, set, get_or, take, length-append, drop_of_length-le}
 use lib.Seq.{sets, sets-eq, set_comm, length-sets, length-take-le, take-suc}
+use Rattle.std.proofs.Common.{append_assoc, append-nil, drop-drop}
 use Rattle.lists.specs.Lent.{overwrite}
-use Rattle.text_format.specs.Inner.{Put}
+use Rattle.text_format.specs.declared.Text.{Text}
+use Rattle.text_format.specs.Inner.{Put, Puts}
 
 -- ---- cells stored one after the other
 
@@ -26,6 +29,14 @@ sets_behind (y ∷ a) l i j x h =
 -- the last stored first
 pub last-first : (a l : List ℕ) (i j x : ℕ) → j ≡ i + length a → sets (set l j x) i a ≡ sets l i (a ++ x ∷ [])
 last-first a l i j x e = rw e (sets_behind a l i (i + length a) x (omega arith) ∙ sets_more a (x ∷ []) l i)
+
+-- t, which is s, copied into the part of buf from `at` on
+pub copied : (buf s t : List ℕ) (at k : ℕ) → t ≡ s → k ≡ length s → at + length s ≤ length buf → put_mid at k buf t ≡ sets buf at s
+copied buf s t at k e l h = rw (e, l, sets-eq s buf at h) (simp (append_assoc, drop-drop))
+
+-- a place that s fills
+pub filled : (s place : List ℕ) → length place ≡ length s → sets place 0 s ≡ s
+filled s place e = sets-eq s place 0 (omega arith) ∙ rw (drop_of_length-le place {i = 0 + length s} (omega arith)) (simp append-nil)
 
 -- a turn of a loop that copies s
 pub copy_turn : (s buf last : List ℕ) (at i : ℕ) → i < length s → last ≡ sets buf at (take i s) → set last (at + i) (get_or s i 0) ≡ sets buf at (take (i + 1) s)
@@ -50,6 +61,23 @@ pub ◌then◌ : {entry mid exit a b : List ℕ} {at next last : ℕ} → Put en
   place = omega (arith, length-append a b);
   room = omega (arith, ap length p.cells, length-sets entry at a);
 }
+
+-- a part put, where the buffer is the same
+pub puts : {old new : Text} {a : List ℕ} → new.buf.ghost_name ≡ old.buf.ghost_name → Put old.buf.now old.at a new.buf.now new.at → Puts old a new
+puts {old} {new} {a} same p = record { same_buffer = same; same_length = ap length p.cells ∙ length-sets old.buf.now old.at a; put = p }
+
+-- a part more of a text
+infixl 10 ◌and◌
+pub ◌and◌ : {old mid new : Text} {a b : List ℕ} → Puts old a mid → Puts mid b new → Puts old (a ++ b) new
+p and q = record { same_buffer = q.same_buffer ∙ p.same_buffer; same_length = q.same_length ∙ p.same_length; put = p.put then q.put }
+
+-- the same part by another name
+pub puts_same : {old new : Text} {a b : List ℕ} → a ≡ b → Puts old b new → Puts old a new
+puts_same e p = rw e p
+
+-- nothing put
+pub puts_none : {text : Text} → text.at ≤ length text.buf.now → Puts text [] text
+puts_none h = record { same_buffer = refl; same_length = refl; put = put_none h }
 
 -- a text at the front
 pub put_front : {entry text exit : List ℕ} {next : ℕ} → Put entry 0 text exit next → (exit ≡ overwrite text entry) × (next ≡ length text)

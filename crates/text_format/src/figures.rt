@@ -1,10 +1,10 @@
-// Figures in decimal digits.
-ghost use Rattle.std.specs.Prelude.{◌≡◌, ◌+◌, ◌^◌, ◌≤◌, ◌<◌, nat_abs, length};
-ghost use Rattle.lists.specs.Lent.{before, after};
+// Figures in decimal digits. Not by `Display`: only a text in a `String` has promised bytes, and there is no heap.
+ghost use Rattle.std.specs.Prelude.{◌≡◌, ◌+◌, ◌≤◌, length};
+ghost use Rattle.lists.specs.Lent.{after};
 ghost use Rattle.text_format.specs.Decimal.{decimal, decimal_z};
-ghost use Rattle.text_format.specs.Inner.{Put};
+ghost use Rattle.text_format.specs.Inner.{HasRoom, Puts};
 
-use crate::texts::put_char;
+use crate::Text;
 
 // How many decimal digits `n` has, four at a time as far as that goes.
 fn count_digits(n: u64) -> usize
@@ -12,6 +12,7 @@ fn count_digits(n: u64) -> usize
 {
     let mut rest = n;
     let mut count = 1;
+    // No `for`: how often is what is asked.
     while 10000 <= rest {
         rest = rest / 10000;
         count += 4;
@@ -27,40 +28,38 @@ fn count_digits(n: u64) -> usize
     }
 }
 
-// Stores the `count` digits of `n` at place `at`, from the last to the first.
-fn store_digits(buf: &mut [u8], at: usize, count: usize, n: u64)
-    requires { (count ≡ length (decimal n)) × (at + count ≤ length buf.old) }
-    ensures { Put (before buf) at (decimal n) (after buf) (at + count) }
+// Stores the digits of `n` into a place for just so many, from the last to the first. By index: over `iter_mut().rev()`, which was tried, the invariant would
+// speak of cells that are still lent.
+fn store_digits(place: &mut [u8], n: u64)
+    requires { length place.old ≡ length (decimal n) }
+    ensures { after place ≡ decimal n }
 {
     let mut rest = n;
-    let mut place = at + count;
-    while 10 <= rest {
-        place -= 1;
-        buf[place] = (48 + rest % 10) as u8;
+    for k in (0..place.len()).rev() {
+        place[k] = b'0' + (rest % 10) as u8;
         rest = rest / 10;
     }
-    buf[place - 1] = (48 + rest) as u8;
 }
 
-pub fn put_decimal(buf: &mut [u8], at: usize, n: u64) -> usize
-    requires { at + length (decimal n) ≤ length buf.old }
-    ensures put { Put (before buf) at (decimal n) (after buf) result }
-    ensures upper_bound { result ≤ at + 20 }
-{
-    let count = count_digits(n);
-    store_digits(buf, at, count, n);
-    at + count
-}
+impl Text<'_> {
+    pub fn put_decimal(&mut self, n: u64)
+        requires { HasRoom self.old (length (decimal n)) }
+        ensures put { Puts self.old (decimal n) self.new }
+        ensures upper_bound { self.new.at ≤ self.old.at + 20 }
+    {
+        let end = self.at + count_digits(n);
+        store_digits(&mut self.buf[self.at..end], n);
+        self.at = end;
+    }
 
-pub fn put_signed(buf: &mut [u8], at: usize, z: i64) -> usize
-    requires { (at + length (decimal_z z) ≤ length buf.old) × (nat_abs z < 2 ^ 63) }
-    ensures put { Put (before buf) at (decimal_z z) (after buf) result }
-    ensures upper_bound { result ≤ at + 21 }
-{
-    if z < 0 {
-        let next = put_char(buf, at, b'-');
-        put_decimal(buf, next, (-z) as u64)
-    } else {
-        put_decimal(buf, at, z as u64)
+    pub fn put_signed(&mut self, z: i64)
+        requires { HasRoom self.old (length (decimal_z z)) }
+        ensures put { Puts self.old (decimal_z z) self.new }
+        ensures upper_bound { self.new.at ≤ self.old.at + 21 }
+    {
+        if z < 0 {
+            self.put_char(b'-');
+        }
+        self.put_decimal(z.unsigned_abs());
     }
 }

@@ -1,21 +1,21 @@
 // The one line of a refusal.
-ghost use Rattle.std.specs.Prelude.{◌+◌, ◌≤◌, length};
-ghost use Rattle.lists.specs.Lent.{before, after};
+ghost use Rattle.std.specs.Prelude.{◌+◌, length};
 ghost use Rattle.text_format.specs.RefusedLine.{refused_line_of};
-ghost use Rattle.text_format.specs.Inner.{Put};
+ghost use Rattle.text_format.specs.Inner.{HasRoom, Puts};
 
-use crate::figures::put_decimal;
-use crate::texts::{put_char, put_text};
+use crate::Text;
 use tariff::Refusal;
 
-// Puts the line of a refused file at the front.
-pub fn put_refused(buf: &mut [u8], file: &[u8], refusal: Refusal) -> usize
-    requires { 12 + length file.now ≤ length buf.old }
-    ensures { Put (before buf) 0 (refused_line_of file.now refusal) (after buf) result }
-{
-    let first = put_text(buf, 0, b"refused,");
-    let second = put_text(buf, first, file);
-    let third = put_char(buf, second, b',');
-    let fourth = put_decimal(buf, third, refusal.number());
-    put_char(buf, fourth, b'\n')
+impl Text<'_> {
+    // Puts the line of a refused file.
+    pub fn put_refused(&mut self, file: &[u8], refusal: Refusal)
+        requires { HasRoom self.old (12 + length file.now) }
+        ensures { Puts self.old (refused_line_of file.now refusal) self.new }
+    {
+        self.put(b"refused,");
+        self.put(file);
+        self.put_char(b',');
+        self.put_decimal(refusal.number());
+        self.put_char(b'\n');
+    }
 }

@@ -1,24 +1,24 @@
 // Characters that are handed in.
-ghost use Rattle.std.specs.Prelude.{[], ◌∷◌, ◌+◌, ◌≤◌, length};
-ghost use Rattle.lists.specs.Lent.{before, after};
-ghost use Rattle.text_format.specs.Inner.{Put};
+ghost use Rattle.std.specs.Prelude.{[], ◌∷◌, length};
+ghost use Rattle.text_format.specs.Inner.{HasRoom, Puts};
 
-pub fn put_text(buf: &mut [u8], at: usize, s: &[u8]) -> usize
-    requires { at + length s.now ≤ length buf.old }
-    ensures { Put (before buf) at s.now (after buf) result }
-{
-    let mut i = 0;
-    while i < s.len() {
-        buf[at + i] = s[i];
-        i += 1;
+use crate::Text;
+
+impl Text<'_> {
+    pub fn put(&mut self, s: &[u8])
+        requires { HasRoom self.old (length s.now) }
+        ensures { Puts self.old s.now self.new }
+    {
+        let end = self.at + s.len();
+        self.buf[self.at..end].copy_from_slice(s);
+        self.at = end;
     }
-    at + i
-}
 
-pub fn put_char(buf: &mut [u8], at: usize, c: u8) -> usize
-    requires { at + 1 ≤ length buf.old }
-    ensures { Put (before buf) at (c ∷ []) (after buf) result }
-{
-    buf[at] = c;
-    at + 1
+    pub fn put_char(&mut self, c: u8)
+        requires { HasRoom self.old 1 }
+        ensures { Puts self.old (c ∷ []) self.new }
+    {
+        self.buf[self.at] = c;
+        self.at += 1;
+    }
 }

@@ -2,10 +2,10 @@
 -- operation; 9, for a place that is too short, is theirs (document 01, "When input is turned down").
 use Rattle.std.specs.Prelude.{List, [], ◌∷◌, ℕ, length}
 use Rattle.lists.specs.Lent.{Lent, before, after}
-use Rattle.tariff.specs.declared.refusals.Checked.{Checked}
+use Rattle.tariff.specs.Refusals.{Checked}
 use Rattle.tariff.specs.Refusals.{Check, first}
 use Rattle.tariff.specs.Checks.{short_table}
-use Rattle.layouts.specs.declared.WriteAnswer.{WriteAnswer}
+use Rattle.layouts.specs.Writing.{WriteAnswer}
 use Rattle.layouts.specs.Writing.{Writes, WritesForC}
 use Rattle.text_refusals.specs.Sentences.{meaning}
 

@@ -1,26 +1,23 @@
 // The sentences, one behind the other by rising numbers, and where each ends: proved to be those of specs/Sentences.antt.
-ghost use Rattle.std.specs.Prelude.{◌≡◌, ◌-◌, ◌≤◌, ◌<◌, length, get_or};
+ghost use Rattle.std.specs.Prelude.{◌≡◌, ◌-◌, ◌≤◌, length, get_or};
 ghost use Rattle.lists.specs.Lent.{before, after};
 ghost use Rattle.text_format.specs.Inner.{Put};
 ghost use Rattle.text_refusals.specs.Inner.{numbers, ends, part, all_bytes};
+
+use text_format::Text;
 
 const ENDS: [u16; 29] = [
     0, 10, 99, 166, 186, 247, 344, 369, 409, 445, 527, 607, 698, 698, 727, 788, 809, 827, 925, 943,
     1005, 1076, 1146, 1264, 1351, 1449, 1477, 1565, 1603,
 ];
 
-fn wide(x: u16) -> usize
-    ensures { result ≡ x }
-{
-    x as usize
-}
-
-// Where the sentence of number k starts, and that before it ends.
+// Where the sentence of number k starts, and that before it ends. One function with `cell` of date_table would take the table, whose cells the contract would then
+// speak of: it would be the look-up itself, and each table's own promise would stand around it as it does now.
 pub fn end(k: usize) -> usize
     requires { k ≤ numbers }
     ensures { result ≡ get_or ends k 0 }
 {
-    wide(ENDS[k])
+    usize::from(ENDS[k])
 }
 
 // Puts what stands from one place to another at the buffer's front.
@@ -55,5 +52,7 @@ a hub not of 1 to 32 nodes, unequal lists, or weights outside 1 to 100,000 or no
 a node listed twice in a hub\
 sharing a balance: no demands or more than 256, or a balance or demand outside its range\
 sharing a balance: the demands total 0";
-    text_format::put_text(buf, 0, &all[start..end])
+    let mut text = Text { buf, at: 0 };
+    text.put(&all[start..end]);
+    text.at
 }

@@ -1,67 +1,59 @@
-// The feasibility report's text, rendered into a lent buffer. Each inner function puts a part of it at a place and gives the place behind it.
+// The feasibility report's text, rendered into a lent buffer.
 #![tactic(auto)]
 
-ghost use Rattle.std.specs.Prelude.{◌≤◌, length};
 ghost use Rattle.lists.specs.Lent.{before, after};
-ghost use Rattle.text_format.specs.Inner.{Put};
-ghost use Rattle.tariff.specs.Units.{grid_of, max_limit};
-ghost use Rattle.grid_tables.specs.Inner.{GoodFactors, GoodCells};
+ghost use Rattle.text_format.specs.Inner.{HasRoom, Puts};
+ghost use Rattle.grid_tables.specs.Grids.{grid_by};
 ghost use Rattle.text_files.specs.WithFiles.{with_book};
 ghost use Rattle.text_report_rules.specs.Report.{report_lines};
 ghost use Rattle.text_report_rules.specs.WriteReport.{report, report_room, report_call, WritesReport};
 
-use grid_rules::GridAnswer;
-use layouts::{PROGRAM_FACTORS, PROGRAM_GRID_BYTES, WriteAnswer};
-use tariff::{Checked, MAX_CONSTRAINTS, Refusal};
+use grid_tables::GridTable;
+use layouts::{PROGRAM_FACTORS, PROGRAM_GRID_BYTES};
+use tariff::{MAX_CONSTRAINTS, Refusal};
+use text_format::Text;
 use text_report_lines::put_lines;
 
 // Every report fits into so many bytes.
 pub const REPORT_ROOM: usize = 2048;
 
-// The report on a book's file against a grid in tables.
-fn put_tested(
-    buf: &mut [u8],
-    nodes: usize,
-    constraints: usize,
-    limits: &[u64],
-    factors: &[i64],
-    book: &[u8],
-) -> usize
-    requires report_room_in_bounds { report_room ≤ length buf.old }
-    requires good_cells { GoodCells max_limit constraints limits.now × GoodFactors nodes constraints factors.now }
-    ensures { Put (before buf) 0 (with_book nodes book.now (report_lines (grid_of nodes constraints limits.now factors.now))) (after buf) result }
+// The report on a book's file against a grid in tables. All that it shares with `put_booked` of text_statement is how the check's answer is told apart: one
+// function for both would take what is put for an accepted book as a closure.
+fn put_tested(text: &mut Text, grid: GridTable, book: &[u8])
+    requires { HasRoom text.old report_room }
+    ensures { Puts text.old (with_book grid.entry.factors.nodes book.now (report_lines (grid_by grid.entry))) text.new }
 {
-    match book_checks::check_book(nodes, book) {
-        Checked::Refused(refusal) => text_format::put_refused(buf, b"book", refusal),
-        Checked::Passed => put_lines(buf, nodes, constraints, limits, factors, book),
+    match book_checks::check_book(grid.factors.nodes, book) {
+        Err(refusal) => text.put_refused(b"book", refusal),
+        Ok(()) => put_lines(text, grid, book),
     }
 }
 
-// The report on two files.
-fn put_report(grid_file: &[u8], book_file: &[u8], buf: &mut [u8]) -> usize
-    requires { report_room ≤ length buf.old }
-    ensures { Put (before buf) 0 (report grid_file.now book_file.now) (after buf) result }
+// The report on two files. `put_statement` of text_statement reads its grid so too, and has no use for the limits: the tables stand in the frame of whoever
+// reads them, so neither can hand them to the other.
+fn put_report(text: &mut Text, grid_file: &[u8], book_file: &[u8])
+    requires { HasRoom text.old report_room }
+    ensures { Puts text.old (report grid_file.now book_file.now) text.new }
 {
     let mut limits = [0u64; MAX_CONSTRAINTS];
     let mut factors = [0i64; PROGRAM_FACTORS];
     match grid_reading::read_within(PROGRAM_GRID_BYTES, grid_file, &mut limits, &mut factors) {
-        GridAnswer::Refused(refusal) => text_format::put_refused(buf, b"grid", refusal),
-        GridAnswer::Read {
-            nodes,
-            constraints,
-            form: _,
-        } => { put_tested(buf, nodes, constraints, &limits, &factors, book_file) }
+        Err(refusal) => text.put_refused(b"grid", refusal),
+        Ok(read) => {
+            let grid = GridTable::of(read.nodes, read.constraints, &limits, &factors);
+            put_tested(text, grid, book_file);
+        }
     }
 }
 
 // Writes the feasibility report of a grid's file and a book's file into the first bytes of `text`.
-pub fn write_report(grid_file: &[u8], book_file: &[u8], text: &mut [u8]) -> WriteAnswer
+pub fn write_report(grid_file: &[u8], book_file: &[u8], text: &mut [u8]) -> Result<usize, Refusal>
     ensures { WritesReport (report_call grid_file.now book_file.now (before text)) result (after text) }
 {
     if text.len() < REPORT_ROOM {
-        return WriteAnswer::Refused(Refusal::ShortTable);
+        return Err(Refusal::ShortTable);
     }
-    WriteAnswer::Written {
-        bytes: put_report(grid_file, book_file, text),
-    }
+    let mut report = Text { buf: text, at: 0 };
+    put_report(&mut report, grid_file, book_file);
+    Ok(report.at)
 }

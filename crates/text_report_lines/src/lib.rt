@@ -1,125 +1,88 @@
 // The report's lines: one for each period and process, under the heading.
 #![tactic(auto)]
 
-ghost use Rattle.std.specs.Prelude.{◌++◌, ◌+◌, ◌^◌, ◌≤◌, ◌<◌, length, nat_abs};
-ghost use Rattle.lists.specs.Lent.{before, after};
+ghost use Rattle.std.specs.Prelude.{◌≡◌, ◌++◌, ◌+◌, ◌≤◌};
 ghost use Rattle.text_format.specs.Ascii.{ascii};
-ghost use Rattle.text_format.specs.Inner.{Put};
-ghost use Rattle.tariff.specs.Units.{grid_of, max_constraints};
+ghost use Rattle.text_format.specs.Inner.{HasRoom, Puts};
+ghost use Rattle.tariff.specs.Units.{max_constraints};
+ghost use Rattle.tariff.specs.Refusals.{passed, first};
 ghost use Rattle.layouts.specs.BookFile.{book_in};
+ghost use Rattle.grid_tables.specs.Grids.{grid_by};
+ghost use Rattle.book_rules.specs.BookChecks.{book_checks};
 ghost use Rattle.text_report_rules.specs.Report.{period_word, process_word, period_lines, report_lines};
 ghost use Rattle.text_report_rules.specs.WriteReport.{report_room};
-ghost use Rattle.text_report_rules.specs.Inner.{Reportable, answer_line, over_by, period_room, process_room, line_room, period_lines_room};
+ghost use Rattle.text_report_rules.specs.Inner.{answer_line, period_room, process_room, line_room, period_lines_room};
 
+use grid_tables::GridTable;
 use tariff::{Period, Process};
-use test_rules::TestAnswer;
+use test_rules::Verdict;
+use test_verdict::Loading;
+use text_format::Text;
 use text_report_figures::put_figures;
 
-// The period's word and a comma.
-fn put_period(buf: &mut [u8], at: usize, period: Period) -> usize
-    requires { at + period_room ≤ length buf.old }
-    ensures put { Put (before buf) at (period_word period ++ ascii ",") (after buf) result }
-    ensures upper_bound { result ≤ at + period_room }
+// The period's word and a comma. A match for each kind of word, as `kind_field` of text_statement_lines has for its own: one function for both would take the
+// words as parameters, and nothing of it would be left.
+fn put_period(text: &mut Text, period: Period)
+    requires { HasRoom text.old period_room }
+    ensures put { Puts text.old (period_word period ++ ascii ",") text.new }
+    ensures upper_bound { text.new.at ≤ text.old.at + period_room }
 {
     match period {
-        Period::OffPeak => text_format::put_text(buf, at, b"off-peak,"),
-        Period::OnPeak => text_format::put_text(buf, at, b"on-peak,"),
+        Period::OffPeak => text.put(b"off-peak,"),
+        Period::OnPeak => text.put(b"on-peak,"),
     }
 }
 
 // The process's word and a comma.
-fn put_process(buf: &mut [u8], at: usize, process: Process) -> usize
-    requires { at + process_room ≤ length buf.old }
-    ensures put { Put (before buf) at (process_word process ++ ascii ",") (after buf) result }
-    ensures upper_bound { result ≤ at + process_room }
+fn put_process(text: &mut Text, process: Process)
+    requires { HasRoom text.old process_room }
+    ensures put { Puts text.old (process_word process ++ ascii ",") text.new }
+    ensures upper_bound { text.new.at ≤ text.old.at + process_room }
 {
     match process {
-        Process::Annual => text_format::put_text(buf, at, b"annual,"),
-        Process::TierLt => text_format::put_text(buf, at, b"lt,"),
-        Process::Monthly => text_format::put_text(buf, at, b"monthly,"),
+        Process::Annual => text.put(b"annual,"),
+        Process::TierLt => text.put(b"lt,"),
+        Process::Monthly => text.put(b"monthly,"),
     }
 }
 
 // The line of one period and process, from the test's answer.
-fn put_line(
-    buf: &mut [u8],
-    at: usize,
-    constraints: usize,
-    period: Period,
-    process: Process,
-    answer: TestAnswer,
-) -> usize
-    requires { (constraints ≤ max_constraints) × (at + line_room ≤ length buf.old) × (nat_abs (over_by answer) < 2 ^ 63) }
-    ensures put { Put (before buf) at (answer_line constraints period process answer) (after buf) result }
-    ensures upper_bound { result ≤ at + line_room }
+fn put_line(text: &mut Text, constraints: usize, period: Period, process: Process, verdict: Verdict)
+    requires { (constraints ≤ max_constraints) × HasRoom text.old line_room }
+    ensures put { Puts text.old (answer_line constraints period process verdict) text.new }
+    ensures upper_bound { text.new.at ≤ text.old.at + line_room }
 {
-    let first = put_period(buf, at, period);
-    let second = put_process(buf, first, process);
-    let third = put_figures(buf, second, constraints, answer);
-    text_format::put_char(buf, third, b'\n')
+    put_period(text, period);
+    put_process(text, process);
+    put_figures(text, constraints, verdict);
+    text.put_char(b'\n');
 }
 
-// The three lines of one period. Its flows are summed once.
-fn put_period_lines(
-    buf: &mut [u8],
-    at: usize,
-    nodes: usize,
-    constraints: usize,
-    period: Period,
-    limits: &[u64],
-    factors: &[i64],
-    book: &[u8],
-) -> usize
-    requires period_lines_room_in_bounds { at + period_lines_room ≤ length buf.old }
-    requires reportable { Reportable nodes constraints limits.now factors.now book.now }
-    ensures put { Put (before buf) at (period_lines (grid_of nodes constraints limits.now factors.now) (book_in book.now) period) (after buf) result }
-    ensures upper_bound { result ≤ at + period_lines_room }
+// The three lines of one period. Its flows are summed once. The book is accepted for all processes and periods: `test_terms::Tested` is of one of each.
+fn put_period_lines(text: &mut Text, grid: GridTable, period: Period, book: &[u8])
+    requires period_lines_room_in_bounds { HasRoom text.old period_lines_room }
+    requires book_accepted { first (book_checks grid.factors.nodes book.now) ≡ passed }
+    ensures put { Puts text.old (period_lines (grid_by grid.entry) (book_in book.now) period) text.new }
+    ensures upper_bound { text.new.at ≤ text.old.at + period_lines_room }
 {
-    let flows = test_flows::carry(nodes, constraints, factors, period, book);
-    let annual = test_verdict::verdict(constraints, Process::Annual, limits, flows);
-    let lt = test_verdict::verdict(constraints, Process::TierLt, limits, flows);
-    let monthly = test_verdict::verdict(constraints, Process::Monthly, limits, flows);
-    let first = put_line(buf, at, constraints, period, Process::Annual, annual);
-    let second = put_line(buf, first, constraints, period, Process::TierLt, lt);
-    put_line(buf, second, constraints, period, Process::Monthly, monthly)
+    let constraints = grid.factors.constraints;
+    let flows = test_flows::carry(grid.factors, period, book);
+    let loading = Loading::of(constraints, grid.limits, flows);
+    let annual = loading.verdict(Process::Annual);
+    let lt = loading.verdict(Process::TierLt);
+    let monthly = loading.verdict(Process::Monthly);
+    put_line(text, constraints, period, Process::Annual, annual);
+    put_line(text, constraints, period, Process::TierLt, lt);
+    put_line(text, constraints, period, Process::Monthly, monthly);
 }
 
 // The heading and the six lines.
-pub fn put_lines(
-    buf: &mut [u8],
-    nodes: usize,
-    constraints: usize,
-    limits: &[u64],
-    factors: &[i64],
-    book: &[u8],
-) -> usize
-    requires report_room_in_bounds { report_room ≤ length buf.old }
-    requires reportable { Reportable nodes constraints limits.now factors.now book.now }
-    ensures { Put (before buf) 0 (report_lines (grid_of nodes constraints limits.now factors.now) (book_in book.now)) (after buf) result }
+pub fn put_lines(text: &mut Text, grid: GridTable, book: &[u8])
+    requires report_room_in_bounds { HasRoom text.old report_room }
+    requires book_accepted { first (book_checks grid.factors.nodes book.now) ≡ passed }
+    ensures { Puts text.old (report_lines (grid_by grid.entry) (book_in book.now)) text.new }
 {
-    let heading = text_format::put_text(
-        buf,
-        0,
-        b"period,process,verdict,overloaded,lowest,excess,constraints\n",
-    );
-    let middle = put_period_lines(
-        buf,
-        heading,
-        nodes,
-        constraints,
-        Period::OffPeak,
-        limits,
-        factors,
-        book,
-    );
-    put_period_lines(
-        buf,
-        middle,
-        nodes,
-        constraints,
-        Period::OnPeak,
-        limits,
-        factors,
-        book,
-    )
+    text.put(b"period,process,verdict,overloaded,lowest,excess,constraints\n");
+    put_period_lines(text, grid, Period::OffPeak, book);
+    put_period_lines(text, grid, Period::OnPeak, book);
 }

@@ -2,36 +2,27 @@
 use mathlib.Core.Path.{◌≡◌, refl, sym, ap, ◌∙◌}
 use mathlib.Core.Bool.{Bool, true, false, cond}
 use mathlib.Core.List.{List, [], ◌∷◌, ◌++◌, append_assoc}
-use Prim.Native.Nat.{ℕ, ◌^◌, ◌≤◌, ◌<◌}
+use Prim.Native.Nat.{ℕ}
 use native.Mathlib.Omega.{arith}
-use borrow.Author.Tests.{eqb-false}
 use lib.Dec.{eqb}
-use lib.ListN.{length}
-use lib.IntN.{ℤ, pos, nat_abs}
-use Rattle.lists.specs.Lists.{Each}
+use lib.IntN.{ℤ, pos}
 use Rattle.text_format.specs.Ascii.{ascii}
 use Rattle.text_format.specs.Decimal.{decimal, decimal_z}
 use Rattle.tariff.specs.declared.contracts.Contract.{Contract}
 use Rattle.tariff.specs.declared.contracts.Period.{Period}
 use Rattle.tariff.specs.declared.processes.Process.{Process}
 use Rattle.tariff.specs.Refusals.{Outcome, given}
-use Rattle.tariff.specs.Units.{Grid, grid_of, max_limit, max_contracts}
-use Rattle.tariff.specs.ContractRules.{of_period, InRange}
-use Rattle.tariff.specs.Inner.{FactorsInRange, LimitsInRange}
+use Rattle.tariff.specs.Units.{Grid, grid_of}
+use Rattle.tariff.specs.ContractRules.{of_period}
 use Rattle.tariff.specs.Feasibility.{excess, overloaded, overload_set, overload_count, lowest_overload}
-use Rattle.tariff.proofs.Answers.{never_given}
-use Rattle.tariff.proofs.Overloads.{pass_is_empty_set, fails-lowest}
-use Rattle.tariff.proofs.Sizes.{excess-sized, of_period-in_range}
 use Rattle.layouts.specs.BookFile.{book_in}
-use Rattle.layouts.proofs.BookFile.{length-book_in}
-use Rattle.grid_tables.proofs.Cells.{cut-sized}
-use Rattle.book_rules.proofs.Accepted.{book-accepted, all-in_range}
-use Rattle.test_rules.specs.declared.TestAnswer.{TestAnswer}
-use Rattle.test_rules.specs.declared.TestAnswer.TheVariants.{Pass, Fail, Refused as NotTested}
+use Rattle.test_rules.specs.declared.Verdict.{Verdict}
+use Rattle.std.specs.Prelude.{Ok}
+use Rattle.test_rules.specs.declared.Verdict.TheVariants.{Pass, Fail}
 use Rattle.test_rules.specs.TestBook.{test_outcome, test_values}
 use Rattle.test_rules.specs.Inner.{Judges}
 use Rattle.text_report_rules.specs.Report.{period_word, process_word, numbers_to, figures, line}
-use Rattle.text_report_rules.specs.Inner.{Reportable, in_set, failed, answer_figures, answer_line, over_by}
+use Rattle.text_report_rules.specs.Inner.{in_set, failed, answer_figures, answer_line}
 use Rattle.text_report_rules.proofs.Members.{numbers-set}
 
 -- ---- the answer's figures
@@ -69,39 +60,21 @@ module _ (g : Grid) (process : Process) (cs : List Contract) where
   unfolding overload_set
   numbers-are set e = ap (λ (s : ℕ). numbers_to g.factors.constraints (in_set s)) e ∙ numbers-set g.factors.constraints (overloaded g process cs)
 
-  answer-figures : (r : TestAnswer) → test_outcome r ≡ given (test_values g process cs) → answer_figures g.factors.constraints r ≡ figures g process cs
+  answer-figures : (v : Verdict) → test_outcome (Ok v) ≡ given (test_values g process cs) → answer_figures g.factors.constraints v ≡ figures g process cs
   unfolding figures failed
   answer-figures Pass e = rw (pass_told e)
   answer-figures (Fail set count lowest over) e =
       let f = fail_told set count lowest over.0 e in
       rw f.some_set
       (λ t. ascii "fail," ++ decimal (f.count-is t) ++ ascii "," ++ decimal (f.lowest-is t) ++ ascii "," ++ decimal_z (f.over-is t) ++ ascii "," ++ numbers-are set f.set_is t)
-  answer-figures (NotTested r) e = absurd (never_given r _ e)
-
-  -- the excess is small enough for an i64
-  over-small : FactorsInRange g.factors → LimitsInRange g.factors.constraints g.limits → Each (InRange g.factors.nodes) cs → length cs ≤ max_contracts
-      → (r : TestAnswer) → test_outcome r ≡ given (test_values g process cs) → nat_abs (over_by r) < 2 ^ 63
-  over-small fs ls each few Pass e = omega arith
-  over-small fs ls each few (Fail set count lowest over) e =
-      let f = fail_told set count lowest over.0 e in
-      let inside = (fails-lowest g process cs (λ p. eqb-false (overload_set g process cs) 0 f.some_set ((pass_is_empty_set g process cs).0 p))).inside in
-      rw f.over-is (omega (arith, excess-sized g fs ls process cs (lowest_overload g process cs) each inside))
-  over-small fs ls each few (NotTested r) e = absurd (never_given r _ e)
 
 -- ---- one line
 
-module _ (n k : ℕ) (ls : List ℕ) (fs : List ℤ) (book : List ℕ) (process : Process) (period : Period) (r : TestAnswer)
-    (h : Judges (grid_of n k ls fs) process (of_period period (book_in book)) r) where
-  pub over-bound : Reportable n k ls fs book → nat_abs (over_by r) < 2 ^ 63
-  over-bound ok =
-      let a = book-accepted n book ok.good_book in
-      let w = of_period-in_range n period (book_in book) (all-in_range n book a) in
-      over-small (grid_of n k ls fs) process (of_period period (book_in book)) ok.good-factors.in_range (record { limit-sized = cut-sized max_limit k ls ok.good-limits })
-      w.0 (omega (arith, w.1, length-book_in book, a.few)) r h.figures
-
-  pub line-text : line (grid_of n k ls fs) (book_in book) period process ≡ answer_line k period process r
+module _ (n k : ℕ) (ls : List ℕ) (fs : List ℤ) (book : List ℕ) (process : Process) (period : Period) (v : Verdict)
+    (h : Judges (grid_of n k ls fs) process (of_period period (book_in book)) (Ok v)) where
+  pub line-text : line (grid_of n k ls fs) (book_in book) period process ≡ answer_line k period process v
   unfolding line
   line-text i =
       append_assoc (period_word period ++ ascii ",") (process_word process) (ascii ",") i
-      ++ sym (answer-figures (grid_of n k ls fs) process (of_period period (book_in book)) r h.figures) i
+      ++ sym (answer-figures (grid_of n k ls fs) process (of_period period (book_in book)) v h.figures) i
       ++ ascii "\n"

@@ -1,23 +1,13 @@
--- What inner functions and proofs say of the report: its parts as they are put one behind the other and their longest texts, and what is reported on.
-use Rattle.std.specs.Prelude.{◌≡◌, Bool, cond, List, [], ◌++◌, ℕ, ◌+◌, ◌*◌, ◌/◌, ◌%◌, ◌^◌, eqb, length, ℤ, pos}
+-- What inner functions and proofs say of the report: its parts as they are put one behind the other, and their longest texts.
+use Rattle.std.specs.Prelude.{Bool, cond, List, [], ◌++◌, ℕ, ◌+◌, ◌*◌, ◌/◌, ◌%◌, ◌^◌, eqb, length, ℤ}
 use Rattle.text_format.specs.Ascii.{ascii}
 use Rattle.text_format.specs.Decimal.{decimal, decimal_z}
 use Rattle.tariff.specs.declared.contracts.Period.{Period}
 use Rattle.tariff.specs.declared.processes.Process.{Process}
-use Rattle.tariff.specs.declared.refusals.Checked.TheVariants.{Passed}
-use Rattle.tariff.specs.Units.{max_constraints, max_limit}
-use Rattle.tariff.specs.Refusals.{first}
-use Rattle.grid_tables.specs.Inner.{GoodFactors, GoodCells}
-use Rattle.book_rules.specs.BookChecks.{book_checks}
-use Rattle.test_rules.specs.declared.TestAnswer.{TestAnswer}
-use Rattle.test_rules.specs.declared.TestAnswer.TheVariants.{Pass, Fail, Refused}
+use Rattle.tariff.specs.Units.{max_constraints}
+use Rattle.test_rules.specs.declared.Verdict.{Verdict}
+use Rattle.test_rules.specs.declared.Verdict.TheVariants.{Pass, Fail}
 use Rattle.text_report_rules.specs.Report.{period_word, process_word, numbers_to}
-
--- tables and a book that the test accepts in every process and period
-pub record Reportable (n k : ℕ) (limits : List ℕ) (factors : List ℤ) (book : List ℕ) : Type 0 where
-  pub good-limits : GoodCells max_limit k limits
-  pub good-factors : GoodFactors n k factors
-  pub good_book : first (book_checks n book) ≡ Passed
 
 -- bit k of a set
 abbrev pub in_set : ℕ → ℕ → Bool
@@ -31,21 +21,15 @@ unfoldable pub failed : ℕ → ℕ → ℕ → ℕ → ℤ → List ℕ
 failed constraints set count lowest over =
     ascii "fail," ++ decimal count ++ ascii "," ++ decimal lowest ++ ascii "," ++ decimal_z over ++ ascii "," ++ numbers_to constraints (in_set set)
 
--- the figures of an answer; a refusal has none
-abbrev pub answer_figures : ℕ → TestAnswer → List ℕ
+-- the figures of a verdict
+abbrev pub answer_figures : ℕ → Verdict → List ℕ
 answer_figures constraints Pass = ascii "pass,0,,,"
 answer_figures constraints (Fail set count lowest over) = failed constraints set count lowest over.0
-answer_figures constraints (Refused r) = []
 
 -- its line
-abbrev pub answer_line : ℕ → Period → Process → TestAnswer → List ℕ
-answer_line constraints period process answer =
-    period_word period ++ ascii "," ++ (process_word process ++ ascii ",") ++ answer_figures constraints answer ++ ascii "\n"
-
-abbrev pub over_by : TestAnswer → ℤ
-over_by Pass = pos 0
-over_by (Fail set count lowest over) = over.0
-over_by (Refused r) = pos 0
+abbrev pub answer_line : ℕ → Period → Process → Verdict → List ℕ
+answer_line constraints period process verdict =
+    period_word period ++ ascii "," ++ (process_word process ++ ascii ",") ++ answer_figures constraints verdict ++ ascii "\n"
 
 -- ---- the most characters of each part, where a figure is any of 64 bits
 
@@ -62,11 +46,8 @@ member_room = length (ascii " 63")
 abbrev pub numbers_room : ℕ
 numbers_room = max_constraints * member_room
 
-abbrev pub counts_room : ℕ
-counts_room = length (ascii "fail,18446744073709551615,18446744073709551615,")
-
 abbrev pub figures_room : ℕ
-figures_room = counts_room + length (ascii "-18446744073709551615,") + numbers_room
+figures_room = length (ascii "fail,18446744073709551615,18446744073709551615,-18446744073709551615,") + numbers_room
 
 abbrev pub line_room : ℕ
 line_room = period_room + process_room + figures_room + length (ascii "\n")

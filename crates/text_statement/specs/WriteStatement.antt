@@ -1,10 +1,10 @@
 -- Writing the hour statement of a grid's, a book's and a price file into lent bytes (document 01, "The hour statement").
 use Rattle.std.specs.Prelude.{List, [], ◌∷◌, ℕ, length}
 use Rattle.lists.specs.Lent.{Lent, before, after}
-use Rattle.tariff.specs.declared.refusals.Checked.{Checked}
+use Rattle.tariff.specs.Refusals.{Checked}
 use Rattle.tariff.specs.Refusals.{Check, first}
 use Rattle.tariff.specs.Checks.{short_table}
-use Rattle.layouts.specs.declared.WriteAnswer.{WriteAnswer}
+use Rattle.layouts.specs.Writing.{WriteAnswer}
 use Rattle.layouts.specs.Writing.{Writes, WritesForC}
 use Rattle.text_files.specs.WithFiles.{with_grid, with_book, with_prices}
 use Rattle.text_statement_lines.specs.Lines.{lines, longest_statement}

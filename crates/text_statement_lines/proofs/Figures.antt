@@ -1,5 +1,5 @@
 -- How long figures are, and a contract's line as it is put.
-use mathlib.Core.Path.{◌≡◌, sym, ap, ◌∙◌}
+use mathlib.Core.Path.{◌≡◌, refl, sym, ap, ◌∙◌}
 use mathlib.Core.Bool.{Bool, true, false}
 use mathlib.Core.List.{List, [], ◌++◌, append_assoc}
 use Prim.Native.Nat.{ℕ, ◌+◌, ◌^◌, ◌≤◌, ◌<◌}
@@ -14,6 +14,8 @@ use Rattle.integers.proofs.Machine.{back}
 use Rattle.text_format.specs.Ascii.{ascii}
 use Rattle.text_format.specs.Decimal.{decimal, decimal_z}
 use Rattle.text_format.proofs.Digits.{decimal-below, decimal_z-below}
+use Rattle.tariff.specs.declared.contracts.Kind.{Kind}
+use Rattle.tariff.specs.declared.contracts.Kind.TheVariants.{Obligation, Option}
 use Rattle.tariff.specs.declared.contracts.Period.{Period}
 use Rattle.tariff.specs.declared.contracts.Contract.{Contract}
 use Rattle.tariff.specs.Units.{max_constraints, max_contracts, max_holder, per_cent}
@@ -35,6 +37,10 @@ parts-long n h = decimal-below 8 n (omega arith) (omega arith)
 
 pub size-long : (n : ℕ) → n ≤ max_constraints → length (decimal n) ≤ 2
 size-long n h = decimal-below 2 n (omega arith) (omega arith)
+
+pub kind-long : (k : Kind) → length (kind_word k ++ ascii ",") ≡ 4
+kind-long Obligation = refl
+kind-long Option = refl
 
 -- a signed figure that is kept in an i64
 module _ (z : ℤ) (h : nat_abs z ≤ max_line_total) where
@@ -60,14 +66,18 @@ module _ (z : ℤ) (h : nat_abs z ≤ max_cents) where
 -- ---- a contract's line
 
 pub contract-text : (i : ℕ) (c : Contract) (z : ℤ) (n : ℕ)
-    → contract_line i c z n ≡ decimal i ++ ascii "," ++ decimal c.holder ++ ascii "," ++ (kind_word c.kind ++ ascii ",") ++ (decimal_z z ++ ascii "," ++ decimal n ++ ascii "\n")
+    → contract_line i c z n
+    ≡ decimal i ++ ascii "," ++ (decimal c.holder ++ ascii ",") ++ (kind_word c.kind ++ ascii ",") ++ decimal_z z ++ ascii "," ++ (decimal n ++ ascii "\n")
 unfolding contract_line
 contract-text i c z n =
-    ap (λ (l : List ℕ). l ++ decimal_z z ++ ascii "," ++ decimal n ++ ascii "\n") (append_assoc (decimal i ++ ascii "," ++ decimal c.holder ++ ascii ",") (kind_word c.kind) (ascii ","))
-    ∙ behind (decimal i ++ ascii "," ++ decimal c.holder ++ ascii "," ++ (kind_word c.kind ++ ascii ",")) (decimal_z z) (ascii ",") (decimal n) (ascii "\n")
-  where
-    behind : (a b c d e : List ℕ) → a ++ b ++ c ++ d ++ e ≡ a ++ (b ++ c ++ d ++ e)
-    behind a b c d e = ap (λ (l : List ℕ). l ++ d ++ e) (append_assoc a b c) ∙ ap (λ (l : List ℕ). l ++ e) (append_assoc a (b ++ c) d) ∙ append_assoc a (b ++ c ++ d) e
+    let comma = ascii "," in
+    let end = ascii "\n" in
+    let number = decimal i ++ comma in
+    let holder = decimal c.holder in
+    let kind = kind_word c.kind in
+    ap (λ (l : List ℕ). l ++ kind ++ comma ++ decimal_z z ++ comma ++ decimal n ++ end) (append_assoc number holder comma)
+    ∙ ap (λ (l : List ℕ). l ++ decimal_z z ++ comma ++ decimal n ++ end) (append_assoc (number ++ (holder ++ comma)) kind comma)
+    ∙ append_assoc (number ++ (holder ++ comma) ++ (kind ++ comma) ++ decimal_z z ++ comma) (decimal n) end
 
 module _ (t : Period) (i : ℕ) (c : Contract) (z : ℤ) (n : ℕ) (b : Bool) (e : b ≡ same_period c.period t) where
   pub own_line : b ≡ true → line_of t i c z n ≡ contract_line i c z n

@@ -2,7 +2,7 @@
 use mathlib.Core.Path.{◌≡◌, refl, sym, ap, ap₂, ◌∙◌}
 use mathlib.Core.Bool.{Bool, true, false, cond}
 use mathlib.Core.List.{List, [], ◌∷◌, ◌++◌, map, append_assoc, append-nil}
-use Prim.Native.Nat.{ℕ, zero, suc, ◌+◌, ◌<◌}
+use Prim.Native.Nat.{ℕ, zero, suc, ◌+◌, ◌≤◌, ◌<◌}
 use native.Mathlib.Omega.{arith}
 use lib.Count.{ones}
 use lib.ListN.{length, get_or, take, get_or-append}
@@ -10,7 +10,7 @@ use lib.IntN.{ℤ, pos}
 use Rattle.lists.specs.Lists.{list_to}
 use Rattle.tariff.specs.declared.contracts.Contract.{Contract}
 use Rattle.tariff.specs.declared.contracts.Period.{Period}
-use Rattle.tariff.specs.Units.{Factors, factors_of}
+use Rattle.tariff.specs.Units.{Factors, factors_of, max_contracts}
 use Rattle.tariff.specs.ContractRules.{same_period}
 use Rattle.tariff.specs.Settlement.{amount, priced_set_of, priced_count, cents, whole_cents, parts}
 use Rattle.tariff.proofs.Theorems.{priced-size_is_ones}
@@ -21,7 +21,8 @@ use Rattle.hour_rules.specs.SettleHour.{cents_of, priced_of, cents_sum, hour_tot
 use Rattle.hour_rules.specs.Inner.{Settles}
 use Rattle.hour_rules.proofs.HourSums.{values-are}
 use Rattle.text_statement_lines.specs.Lines.{heading, contract_line, line_of, sum_line, exact_line, contract_lines, lines}
-use Rattle.text_statement_lines.specs.Inner.{lines_to, settled_lines_of, SizedFigures}
+use Rattle.text_statement_lines.specs.Sized.{SizedCells}
+use Rattle.text_statement_lines.specs.Inner.{lines_to}
 
 -- ---- one contract more at the end
 
@@ -65,13 +66,14 @@ cell_is g at cells rest m d e i b =
 
 -- ---- a book as it was settled
 
-module _ {n k : ℕ} {t : Period} {fs : List ℤ} {ps book : List ℕ} {entry exit : List ℤ} {sets handed : List ℕ} {r : Totals} (s : Settles n k t fs ps book entry exit sets handed r)
-    {m : ℕ} (count : m ≡ contract_count_in book) where
-  pub settled_sized : SizedFigures m exit handed r
-  settled_sized = rw count (record { cells-sized = s.cells-sized; sets-sized = s.priced-sized; bounded = s.bounded })
+module _ {n k : ℕ} {t : Period} {fs : List ℤ} {ps book : List ℕ} {entry exit : List ℤ} {sets handed : List ℕ} {r : Totals} (s : Settles n k t fs ps book entry exit sets handed r) where
+  pub settled_sized : contract_count_in book ≤ max_contracts → contract_count_in book ≤ length exit → contract_count_in book ≤ length handed
+      → SizedCells (contract_count_in book) exit handed
+  settled_sized few cells sets = record { few = few; cells-long = cells; sets-long = sets; cells-sized = s.cells-sized; sets-sized = s.priced-sized }
 
-  pub settled_lines : lines (factors_of n k fs) (take k ps) t (book_in book) ≡ settled_lines_of t (contract_at book) exit handed m r
-  unfolding lines settled_lines_of
+  pub settled_lines : lines (factors_of n k fs) (take k ps) t (book_in book)
+      ≡ heading ++ lines_to t (contract_at book) exit handed (contract_count_in book) ++ sum_line r.sum ++ exact_line r.whole r.parts
+  unfolding lines
   settled_lines =
       let f = factors_of n k fs in
       let p = take k ps in
@@ -83,4 +85,4 @@ module _ {n k : ℕ} {t : Period} {fs : List ℤ} {ps book : List ℕ} {entry ex
       let cents-are = cell_is (cents_of f p t) (contract_at book) exit _ (contract_count_in book) (pos 0) s.cells in
       let sets-are = cell_is (priced_of f p t) (contract_at book) handed _ (contract_count_in book) 0 s.priced in
       let each = lines-by_cells f p t (contract_at book) exit handed (contract_count_in book) cents-are sets-are in
-      rw count (sym (λ j. heading ++ each j ++ sum_line (sum j) ++ exact_line (whole j) (part j)))
+      sym (λ j. heading ++ each j ++ sum_line (sum j) ++ exact_line (whole j) (part j))

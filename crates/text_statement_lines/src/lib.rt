@@ -1,21 +1,21 @@
-// The hour statement's lines, put into a lent buffer. Each function puts a part of them at a place and gives the place behind it.
+// The hour statement's lines, put into a lent buffer.
 #![tactic(auto)]
 
-ghost use Rattle.std.specs.Prelude.{◌≡◌, ◌++◌, ℕ, ◌+◌, ◌*◌, ◌≤◌, ◌<◌, length, get_or, pos, nat_abs};
-ghost use Rattle.std.specs.Int.Count.{ones};
-ghost use Rattle.lists.specs.Lent.{before, after};
+ghost use Rattle.std.specs.Prelude.{◌≡◌, [], ◌∷◌, ◌++◌, ◌+◌, ◌*◌, ◌≤◌, ◌<◌, length, nat_abs};
 ghost use Rattle.text_format.specs.Ascii.{ascii};
-ghost use Rattle.text_format.specs.Decimal.{decimal, decimal_z};
-ghost use Rattle.text_format.specs.Inner.{Put};
-ghost use Rattle.tariff.specs.Units.{max_constraints, max_contracts, max_holder, per_cent};
-ghost use Rattle.tariff.specs.Inner.{max_cents};
-ghost use Rattle.layouts.specs.BookFile.{book_bytes_of, book_form_in, contract_in, contract_at};
+ghost use Rattle.text_format.specs.Decimal.{decimal};
+ghost use Rattle.text_format.specs.Inner.{HasRoom, Puts};
+ghost use Rattle.tariff.specs.Units.{per_cent};
+ghost use Rattle.hour_rules.specs.Inner.{Bounded};
 ghost use Rattle.text_statement_lines.specs.Lines.{heading, kind_word, contract_line, line_of, sum_line, exact_line, longest_line, longest_sum, longest_exact};
-ghost use Rattle.text_statement_lines.specs.Inner.{max_line_total, lines_to, settled_lines_of, SizedFigures};
+ghost use Rattle.text_statement_lines.specs.Inner.{max_line_total, lines_by, settled_lines_of};
 
+mod book;
+
+pub use book::{Line, SettledBook};
 use hour_rules::Totals;
-use layouts::Form;
-use tariff::{Contract, Kind, MAX_CONTRACTS, Period};
+use tariff::{Kind, MAX_CONTRACTS, Period};
+use text_format::Text;
 
 // The first line.
 const HEADING: [u8; 34] = *b"contract,holder,kind,cents,priced\n";
@@ -32,162 +32,95 @@ pub const LONGEST_STATEMENT: usize = HEADING.len()
     + LONGEST_SUM
     + LONGEST_EXACT;
 
-// A contract's number and its holder, each with a comma.
-fn put_numbers(buf: &mut [u8], at: usize, number: u64, holder: u64) -> usize
-    requires { at + length (decimal number) + length (decimal holder) + 2 ≤ length buf.old }
-    ensures put { Put (before buf) at (decimal number ++ ascii "," ++ decimal holder ++ ascii ",") (after buf) result }
-    ensures value { result ≡ at + length (decimal number) + length (decimal holder) + 2 }
+// A number and the character behind it.
+fn put_number(text: &mut Text, number: u64, behind: u8)
+    requires { HasRoom text.old (length (decimal number) + 1) }
+    ensures put { Puts text.old (decimal number ++ behind ∷ []) text.new }
+    ensures value { text.new.at ≡ text.old.at + length (decimal number) + 1 }
 {
-    let first = text_format::put_decimal(buf, at, number);
-    let comma = text_format::put_char(buf, first, b',');
-    let second = text_format::put_decimal(buf, comma, holder);
-    text_format::put_char(buf, second, b',')
+    text.put_decimal(number);
+    text.put_char(behind);
 }
 
 // The kind's word and a comma.
-fn put_kind(buf: &mut [u8], at: usize, kind: Kind) -> usize
-    requires { at + 4 ≤ length buf.old }
-    ensures put { Put (before buf) at (kind_word kind ++ ascii ",") (after buf) result }
-    ensures value { result ≡ at + 4 }
+fn kind_field(kind: Kind) -> &'static [u8; 4]
+    ensures { result.now ≡ kind_word kind ++ ascii "," }
 {
     match kind {
-        Kind::Obligation => text_format::put_text(buf, at, b"OBL,"),
-        Kind::Option => text_format::put_text(buf, at, b"OPT,"),
+        Kind::Obligation => b"OBL,",
+        Kind::Option => b"OPT,",
     }
-}
-
-// A contract's cents and how many constraints priced it, at the line's end.
-fn put_figures(buf: &mut [u8], at: usize, cents: i64, priced: u64) -> usize
-    requires { (nat_abs cents ≤ max_cents) × (priced ≤ max_constraints) × (at + 16 ≤ length buf.old) }
-    ensures put { Put (before buf) at (decimal_z cents ++ ascii "," ++ decimal priced ++ ascii "\n") (after buf) result }
-    ensures upper_bound { result ≤ at + 16 }
-{
-    let figure = text_format::put_signed(buf, at, cents);
-    let comma = text_format::put_char(buf, figure, b',');
-    let size = text_format::put_decimal(buf, comma, priced);
-    text_format::put_char(buf, size, b'\n')
 }
 
 // The line of one contract.
-fn put_contract(
-    buf: &mut [u8],
-    at: usize,
-    number: u64,
-    c: Contract,
-    cents: i64,
-    priced: u64,
-) -> usize
-    requires number_lt_max_contracts { (number < max_contracts) × (c.holder ≤ max_holder) × (nat_abs cents ≤ max_cents) × (priced ≤ max_constraints) }
-    requires longest_line_in_bounds { at + longest_line ≤ length buf.old }
-    ensures put { Put (before buf) at (contract_line number c cents priced) (after buf) result }
-    ensures upper_bound { result ≤ at + longest_line }
+fn put_contract(text: &mut Text, line: Line)
+    requires { HasRoom text.old longest_line }
+    ensures put { Puts text.old (contract_line line.number line.contract line.cents line.priced) text.new }
+    ensures upper_bound { text.new.at ≤ text.old.at + longest_line }
 {
-    let holder = c.holder;
-    let kind = c.kind;
-    let numbers = put_numbers(buf, at, number, holder);
-    let word = put_kind(buf, numbers, kind);
-    put_figures(buf, word, cents, priced)
+    put_number(text, line.number, b',');
+    put_number(text, line.contract.holder, b',');
+    text.put(kind_field(line.contract.kind));
+    text.put_signed(line.cents);
+    text.put_char(b',');
+    put_number(text, line.priced, b'\n');
 }
 
 // The line of a contract of the period; nothing for the other period's.
-fn put_own(
-    buf: &mut [u8],
-    at: usize,
-    period: Period,
-    number: u64,
-    c: Contract,
-    cents: i64,
-    priced: u64,
-) -> usize
-    requires number_lt_max_contracts { (number < max_contracts) × (c.holder ≤ max_holder) × (nat_abs cents ≤ max_cents) × (priced ≤ max_constraints) }
-    requires longest_line_in_bounds { at + longest_line ≤ length buf.old }
-    ensures put { Put (before buf) at (line_of period number c cents priced) (after buf) result }
-    ensures upper_bound { result ≤ at + longest_line }
+fn put_own(text: &mut Text, period: Period, line: Line)
+    requires { HasRoom text.old longest_line }
+    ensures put { Puts text.old (line_of period line.number line.contract line.cents line.priced) text.new }
+    ensures upper_bound { text.new.at ≤ text.old.at + longest_line }
 {
-    let own = c.period;
-    if own.same(period) {
-        put_contract(buf, at, number, c, cents, priced)
-    } else {
-        at
+    if line.contract.period == period {
+        put_contract(text, line);
     }
 }
 
-// The lines of the first `count` contracts of a book.
-fn put_contracts(
-    buf: &mut [u8],
-    at: usize,
-    period: Period,
-    book: &[u8],
-    form: Form,
-    count: usize,
-    cents: &[i64],
-    priced: &[u64],
-) -> usize
-    requires count_le_max_contracts { (count ≤ max_contracts) × (book_bytes_of form count ≤ length book.now)
-        × (count ≤ length cents.now) × (count ≤ length priced.now) }
-    requires by_index { ((i : ℕ) → i < count → nat_abs (get_or cents.now i (pos 0)) ≤ max_cents)
-        × ((i : ℕ) → i < count → ones (get_or priced.now i 0) ≤ max_constraints) }
-    requires count_in_bounds { at + longest_line * count ≤ length buf.old }
-    ensures put { Put (before buf) at (lines_to period (contract_in form book.now) cents.now priced.now count) (after buf) result }
-    ensures upper_bound { result ≤ at + longest_line * count }
+// The lines of a book's contracts.
+fn put_contracts(text: &mut Text, period: Period, book: SettledBook)
+    requires { HasRoom text.old (longest_line * book.contracts.count) }
+    ensures put { Puts text.old (lines_by period book.entry) text.new }
+    ensures upper_bound { text.new.at ≤ text.old.at + longest_line * book.entry.contracts.count }
 {
-    let mut next = at;
-    let mut i = 0;
-    while i < count {
-        let c = book_bits::contract_at(book, form, i);
-        let set = priced[i];
-        let size = u64::count_ones(set) as u64;
-        next = put_own(buf, next, period, i as u64, c, cents[i], size);
-        i += 1;
+    for i in 0..book.contracts.len() {
+        put_own(text, period, book.line(i));
     }
-    next
 }
 
 // The sum of the rounded cents.
-fn put_sum(buf: &mut [u8], at: usize, sum: i64) -> usize
-    requires { (nat_abs sum ≤ max_line_total) × (at + longest_sum ≤ length buf.old) }
-    ensures put { Put (before buf) at (sum_line sum) (after buf) result }
-    ensures upper_bound { result ≤ at + longest_sum }
+fn put_sum(text: &mut Text, sum: i64)
+    requires { (nat_abs sum ≤ max_line_total) × HasRoom text.old longest_sum }
+    ensures put { Puts text.old (sum_line sum) text.new }
+    ensures upper_bound { text.new.at ≤ text.old.at + longest_sum }
 {
-    let word = text_format::put_text(buf, at, b"sum,");
-    let figure = text_format::put_signed(buf, word, sum);
-    text_format::put_char(buf, figure, b'\n')
+    text.put(b"sum,");
+    text.put_signed(sum);
+    text.put_char(b'\n');
 }
 
 // The exact total: whole cents and parts.
-fn put_exact(buf: &mut [u8], at: usize, whole: i64, parts: u64) -> usize
-    requires { (nat_abs whole ≤ max_line_total) × (parts < per_cent) × (at + longest_exact ≤ length buf.old) }
-    ensures put { Put (before buf) at (exact_line whole parts) (after buf) result }
-    ensures upper_bound { result ≤ at + longest_exact }
+fn put_exact(text: &mut Text, whole: i64, parts: u64)
+    requires { (nat_abs whole ≤ max_line_total) × (parts < per_cent) × HasRoom text.old longest_exact }
+    ensures put { Puts text.old (exact_line whole parts) text.new }
+    ensures upper_bound { text.new.at ≤ text.old.at + longest_exact }
 {
-    let word = text_format::put_text(buf, at, b"exact,");
-    let cents = text_format::put_signed(buf, word, whole);
-    let comma = text_format::put_char(buf, cents, b',');
-    let rest = text_format::put_decimal(buf, comma, parts);
-    text_format::put_char(buf, rest, b'\n')
+    text.put(b"exact,");
+    text.put_signed(whole);
+    text.put_char(b',');
+    put_number(text, parts, b'\n');
 }
 
-// All lines, at the front: the heading, the contracts of the period, the sum and the exact total. In a frame of its own: where LLVM takes it into its
-// caller's, this keeps the nodes' congestion components twice, 32,000 bytes more than CRR_TEXT_STACK_BYTES leaves.
+// All lines: the heading, the contracts of the period, the sum and the exact total. In a frame of its own: where LLVM takes it into its caller's, this keeps the
+// nodes' congestion components twice, 32,000 bytes more than CRR_TEXT_STACK_BYTES leaves.
 #[inline(never)]
-pub fn put_lines(
-    buf: &mut [u8],
-    period: Period,
-    book: &[u8],
-    count: usize,
-    cents: &[i64],
-    priced: &[u64],
-    totals: Totals,
-) -> usize
-    requires count_le_max_contracts { (count ≤ max_contracts) × (book_bytes_of (book_form_in book.now) count ≤ length book.now)
-        × (count ≤ length cents.now) × (count ≤ length priced.now) }
-    requires sized_figures { SizedFigures count cents.now priced.now totals
-        × (length heading + longest_line * count + longest_sum + longest_exact ≤ length buf.old) }
-    ensures { Put (before buf) 0 (settled_lines_of period (contract_at book.now) cents.now priced.now count totals) (after buf) result }
+pub fn put_lines(text: &mut Text, period: Period, book: SettledBook, totals: Totals)
+    requires bounded { Bounded book.contracts.count totals }
+    requires in_bounds { HasRoom text.old (length heading + longest_line * book.contracts.count + longest_sum + longest_exact) }
+    ensures { Puts text.old (settled_lines_of period book.entry totals) text.new }
 {
-    let form = book_bits::book_form(book);
-    let first = text_format::put_text(buf, 0, &HEADING);
-    let second = put_contracts(buf, first, period, book, form, count, cents, priced);
-    let third = put_sum(buf, second, totals.sum);
-    put_exact(buf, third, totals.whole, totals.parts)
+    text.put(&HEADING);
+    put_contracts(text, period, book);
+    put_sum(text, totals.sum);
+    put_exact(text, totals.whole, totals.parts);
 }

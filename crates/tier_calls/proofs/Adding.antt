@@ -9,8 +9,8 @@ use borrow.Author.Tests.{le-ltb}
 use lib.ListN.{length, get_or, take}
 use lib.Seq.{get_or-take}
 use Rattle.tariff.specs.declared.refusals.Refusal.TheVariants.{ShortTable, AwardOverload}
-use Rattle.tariff.specs.declared.refusals.Checked.{Checked}
-use Rattle.tariff.specs.declared.refusals.Checked.TheVariants.{Passed, Refused}
+use Rattle.tariff.specs.Refusals.{Checked, passed}
+use Rattle.std.specs.Prelude.{Ok, Err}
 use Rattle.tariff.specs.Units.{Grid, grid_of, max_contracts}
 use Rattle.tariff.specs.ContractRules.{period_of}
 use Rattle.tariff.specs.Refusals.{Check, Outcome, first, decided, number_after}
@@ -22,7 +22,7 @@ use Rattle.book_rules.specs.BookChecks.{contract_checks}
 use Rattle.book_rules.specs.WriteBook.{row_checks}
 use Rattle.order_rules.specs.Reordering.{Reordered}
 use Rattle.order_rules.specs.Relief.{Raised, OptionMore}
-use Rattle.tier_rules.specs.declared.RunningAnswer.{RunningAnswer}
+use Rattle.tier_rules.specs.Cells.{RunningAnswer}
 use Rattle.tier_rules.specs.Tiers.{Tiers, with_award}
 use Rattle.tier_rules.specs.Checks.{running_checks, award_checks, award_over, add_checks}
 use Rattle.tier_rules.specs.Cells.{awards_cells, state_numbers, state_flows, StateCells, state_cells, state_buffers, running_outcome, MarkIs}
@@ -47,7 +47,7 @@ tables_of q =
 abbrev award_of : AddAwardCall → Tiers → List Check
 award_of q s = add_checks (add_grid q) (add_process q) (add_period q) s q.award
 
-parts : (q : AddAwardCall) (s : Tiers) → first (add_award_checks q s) ≡ decided (first (tables_of q)) Refused (first (award_of q s))
+parts : (q : AddAwardCall) (s : Tiers) → first (add_award_checks q s) ≡ decided (first (tables_of q)) Err (first (award_of q s))
 unfolding add_listed
 parts q s = first-append (tables_of q) (award_of q s)
 
@@ -67,20 +67,20 @@ module _ (q : AddAwardCall) (other : StateCells) (s r : Tiers) (h : StateIn q s)
       (short_table (length q.award) contract_cells ∷ short (room.awards-alike i) ∷ short (room.numbers-alike i) ∷ short (room.flows-alike i) ∷ []))
 
   module _ (x y : StateCells) (u : AddGoesOn q x) (v : AddGoesOn p y) where
-    checks_q : add_award_checked q ≡ decided (first (tables_of q)) Refused (first (award_of q s))
+    checks_q : add_award_checked q ≡ decided (first (tables_of q)) Err (first (award_of q s))
     checks_q = u.checks_are s h.reached h.holds ∙ parts q s
 
-    checks_p : add_award_checked p ≡ decided (first (tables_of p)) Refused (first (award_of p r))
+    checks_p : add_award_checked p ≡ decided (first (tables_of p)) Err (first (award_of p r))
     checks_p = v.checks_are r l.reached l.holds ∙ parts p r
 
     module _ (same : Reordered s.awards r.awards) where
       same_checks : add_award_checked q ≡ add_award_checked p
       same_checks =
-          checks_q ∙ (λ i. decided (same_tables i) Refused (awards-held.adding-alike (add_grid q) (add_process q) (add_period q) s r q.award same i)) ∙ sym checks_p
+          checks_q ∙ (λ i. decided (same_tables i) Err (awards-held.adding-alike (add_grid q) (add_process q) (add_period q) s r q.award same i)) ∙ sym checks_p
 
       reordered_after : (c : Checked) → Reordered (decided c (λ z. s) (with_award (awarded q) s)).awards (decided c (λ z. r) (with_award (awarded q) r)).awards
-      reordered_after Passed = Perm.append_right (awarded q ∷ []) same
-      reordered_after (Refused z) = same
+      reordered_after (Ok _) = Perm.append_right (awarded q ∷ []) same
+      reordered_after (Err z) = same
 
       still : Reordered (state_after q s).awards (state_after p r).awards
       still = rw same_checks (reordered_after (add_award_checked p))
@@ -98,10 +98,10 @@ module _ (q : AddAwardCall) (other : StateCells) (s r : Tiers) (h : StateIn q s)
     -- ---- an option more
 
     module _ (more : OptionMore s.awards r.awards) (few : length r.awards < max_contracts) where
-      draws : (c d : Checked) → c ≡ d → decided c Refused (first (award_of q s)) ≡ Refused AwardOverload → decided d Refused (first (award_of p r)) ≡ Refused AwardOverload
-      draws c Passed e z =
-          awards-held.option_held_adding_draws_21 (add_grid q) (add_process q) (add_period q) s r q.award more few (sym (ap (λ (k : Checked). decided k Refused (first (award_of q s))) e) ∙ z)
-      draws c (Refused w) e z = sym (ap (λ (k : Checked). decided k Refused (first (award_of q s))) e) ∙ z
+      draws : (c d : Checked) → c ≡ d → decided c Err (first (award_of q s)) ≡ Err AwardOverload → decided d Err (first (award_of p r)) ≡ Err AwardOverload
+      draws c (Ok _) e z =
+          awards-held.option_held_adding_draws_21 (add_grid q) (add_process q) (add_period q) s r q.award more few (sym (ap (λ (k : Checked). decided k Err (first (award_of q s))) e) ∙ z)
+      draws c (Err w) e z = sym (ap (λ (k : Checked). decided k Err (first (award_of q s))) e) ∙ z
 
       still_21 : (a b : ℕ) → a ≡ number_after (add_award_checked q) → b ≡ number_after (add_award_checked p) → a ≡ 21 → b ≡ 21
       still_21 a b m n z =
@@ -134,7 +134,7 @@ listed-under q limits held c = refl
 
 module _ (q : AddAwardCall) (limits : List ℕ) (held : ℕ) (c d : Check) where
   relieved : q.constraints ≤ length limits → (limit_range (take q.constraints limits)).fails ≡ false → (c.fails ≡ false → d.fails ≡ false)
-      → first (listed q held q.limits c) ≡ Passed → first (listed q held limits d) ≡ Passed
+      → first (listed q held q.limits c) ≡ passed → first (listed q held limits d) ≡ passed
   unfolding listed
   relieved long range eased ok =
       let n = q.nodes in
@@ -198,7 +198,7 @@ module _ (q : AddAwardCall) (limits : List ℕ) (s : Tiers) (up : LimitsRaised q
   still_added : (x y : StateCells) → AddGoesOn q x → AddGoesOn high y → (a b : ℕ) → a ≡ number_after (add_award_checked q) → b ≡ number_after (add_award_checked high)
       → a ≡ 0 → b ≡ 0
   still_added x y u v a b m n z =
-      let low : first (listed q (length s.awards) q.limits (over (add_grid q))) ≡ Passed
+      let low : first (listed q (length s.awards) q.limits (over (add_grid q))) ≡ passed
       = sym (u.checks_are s h.reached h.holds ∙ ap first (is-listed q s)) ∙ none-refused (add_award_checked q) (sym z ∙ m) in
       let found = relieved q limits (length s.awards) (over (add_grid q)) (over (add_grid high)) up.long up.in_range eased low in
       n ∙ ap number_after (v.checks_are s state.reached state.holds ∙ ap first (is-listed high s ∙ listed-under q limits (length s.awards) (over (add_grid high))) ∙ found)

@@ -12,7 +12,8 @@ use Rattle.lists.specs.Lists.{Each}
 use Rattle.lists.specs.Lent.{Lent, before, after}
 use Rattle.tariff.specs.declared.contracts.Contract.{Contract}
 use Rattle.tariff.specs.declared.processes.Process.{Process}
-use Rattle.tariff.specs.declared.refusals.Checked.TheVariants.{Passed}
+use Rattle.std.specs.Prelude.{Ok}
+use Rattle.tariff.specs.Refusals.{passed}
 use Rattle.tariff.specs.Units.{Grid, factors_of}
 use Rattle.tariff.specs.ContractRules.{period_of, of_period}
 use Rattle.tariff.specs.Refusals.{first, answered, cells_after, number_after}
@@ -20,7 +21,6 @@ use Rattle.tariff.specs.Checks.{node_count, constraint_count, process_number, pe
 use Rattle.tariff.specs.Feasibility.{total_flow, overload_set}
 use Rattle.tariff.proofs.Answers.{figure-is}
 use Rattle.tariff.proofs.Checks.{passed_cons, passed_append, append_passes, last-passes}
-use Rattle.layouts.specs.declared.WriteAnswer.TheVariants.{Written}
 use Rattle.layouts.specs.declared.forms.Form.{Form}
 use Rattle.layouts.specs.Forms.{form_of}
 use Rattle.layouts.specs.BookFile.{book_bytes_of, book_in}
@@ -29,8 +29,7 @@ use Rattle.grid_tables.specs.TableChecks.{grid_table_checks}
 use Rattle.book_rules.specs.BookChecks.{book_checks}
 use Rattle.book_rules.specs.WriteBook.{WriteBookCall, write_book_call, write_book_checked, book_written, WritesBook, WritesBookForC}
 use Rattle.book_rules.proofs.Passing.{writable, rows_made, length-written}
-use Rattle.test_rules.specs.declared.TestAnswer.{TestAnswer}
-use Rattle.test_rules.specs.declared.TestAnswer.TheVariants.{Pass}
+use Rattle.test_rules.specs.TestBook.{TestAnswer, pass}
 use Rattle.test_rules.specs.TestBook.{test_checks, test_checked, tested_grid, tested_process, tested_contracts, test_values}
 use Rattle.test_rules.specs.TestBook.{TestCells, pass_cells_of, fail_cells_of, test_cells, TestsBook, TestsBookForC}
 use Rattle.test_rules.proofs.Judging.{passed_told}
@@ -49,14 +48,14 @@ use Rattle.tier_calls.proofs.Runs.{every_run}
 use Rattle.tier_calls.proofs.Rows.{rows-held, rows_taken}
 
 -- an opening's checks are the test's of the tables, with the buffers'
-tables-pass : (q : OpenRunningCall) → open_running_checked q ≡ Passed
-    → first (grid_table_checks q.nodes q.constraints q.process q.period q.limits q.factors) ≡ Passed
+tables-pass : (q : OpenRunningCall) → open_running_checked q ≡ passed
+    → first (grid_table_checks q.nodes q.constraints q.process q.period q.limits q.factors) ≡ passed
 unfolding grid_table_checks
 tables-pass q ok =
     let p = opening_parts q ok in
     append_passes (counts_asked q) (ranges_kept q) p.0 ∙ p.2
 
-nodes-pass : (q : OpenRunningCall) → open_running_checked q ≡ Passed → (node_count q.nodes).fails ≡ false
+nodes-pass : (q : OpenRunningCall) → open_running_checked q ≡ passed → (node_count q.nodes).fails ≡ false
 unfolding open_running_checks running_checks
 nodes-pass q ok = (passed_cons _ _ ok).0
 
@@ -74,7 +73,7 @@ module _ (q : OpenRunningCall) (s : Tiers) (cells : StateCells) (h : RunningIn q
   wq = write_held q cells f place
 
   module _ (ends : Each (EndsFit f q.nodes) s.awards) (room : book_bytes_of f (held_in cells.numbers) ≤ length place) where
-    taken : write_book_checked wq ≡ Passed
+    taken : write_book_checked wq ≡ passed
     taken =
         let r = h.running in
         ap (λ (m : ℕ). write_book_checked (write_book_call f q.nodes m cells.awards place)) r.holds.held_is
@@ -84,8 +83,8 @@ module _ (q : OpenRunningCall) (s : Tiers) (cells : StateCells) (h : RunningIn q
     size : length (book_written wq) ≡ book_bytes_of f (held_in cells.numbers)
     size = length-written wq (writable wq taken)
 
-  module _ (m : ℕ) (x : List ℕ) (w : WritesBook wq (Written m) x) where
-    told : (write_book_checked wq ≡ Passed) × (take m x ≡ book_written wq)
+  module _ (m : ℕ) (x : List ℕ) (w : WritesBook wq (Ok m) x) where
+    told : (write_book_checked wq ≡ passed) × (take m x ≡ book_written wq)
     told = writes_told (write_book_checked wq) (book_written wq) place m x w
 
     reads : book_in (take m x) ≡ s.awards
@@ -93,10 +92,10 @@ module _ (q : OpenRunningCall) (s : Tiers) (cells : StateCells) (h : RunningIn q
         let r = h.running in
         ap book_in told.1 ∙ (rows_made wq (writable wq told.0)).contracts ∙ rw r.holds.held_is (rows-held s.awards cells.awards r.holds.rows)
 
-    own_accepted : first (book_checks q.nodes (take m x)) ≡ Passed
+    own_accepted : first (book_checks q.nodes (take m x)) ≡ passed
     own_accepted = rw told.1 (rows_made wq (writable wq told.0)).accepted
 
-    accepted : test_checked (test_by_opening q (take m x)) ≡ Passed
+    accepted : test_checked (test_by_opening q (take m x)) ≡ passed
     unfolding test_checks
     accepted =
         append_passes (grid_table_checks q.nodes q.constraints q.process q.period q.limits q.factors) (book_checks q.nodes (take m x))
@@ -110,8 +109,8 @@ module _ (q : OpenRunningCall) (s : Tiers) (cells : StateCells) (h : RunningIn q
         (of_period (period_of q.period) cs)) reads
         ∙ h.running.passes
 
-    pass : (b : TestAnswer) → TestsBook (test_by_opening q (take m x)) b → b ≡ Pass
-    pass b t = passed_told b (t.figures ∙ (λ i. answered (accepted i) (no_figures i)))
+    test_passes : (b : TestAnswer) → TestsBook (test_by_opening q (take m x)) b → b ≡ pass
+    test_passes b t = passed_told b (t.figures ∙ (λ i. answered (accepted i) (no_figures i)))
 
     pass_for_c : (number : ℕ) (set count lowest : Lent ℕ) (excess : Lent ℤ) → TestsBookForC (test_by_opening q (take m x)) number set count lowest excess
         → (number ≡ 0) × (after set ≡ 0)
@@ -125,7 +124,7 @@ module _ (q : OpenRunningCall) (s : Tiers) (cells : StateCells) (h : RunningIn q
       abbrev fq : FlowsCall
       fq = flows_by_opening q (take m x) place₂
 
-      flows-accepted : find_flows_checked fq ≡ Passed
+      flows-accepted : find_flows_checked fq ≡ passed
       unfolding find_flows_checks grid_table_checks
       flows-accepted =
           let n = q.nodes in
@@ -155,7 +154,7 @@ module _ (q : OpenRunningCall) (s : Tiers) (cells : StateCells) (h : RunningIn q
 -- 0 answered: a length was given
 given-c : (q : OpenRunningCall) (cells : StateCells) (form : ℕ) (place x : List ℕ) (bytes : Lent ℕ)
     → WritesBookForC (write_held q cells (form_of form) place) 0 x bytes
-    → WritesBook (write_held q cells (form_of form) place) (Written (after bytes)) x
+    → WritesBook (write_held q cells (form_of form) place) (Ok (after bytes)) x
 given-c q cells form place x bytes w =
     written-by (write_book_checked (write_held q cells (form_of form) place)) (book_written (write_held q cells (form_of form) place)) place (before bytes) x
     (after bytes) w
@@ -167,9 +166,9 @@ held_books =
           let h = every_run.every_run_runs q s cells r in
           (writes_passed (write_book_checked (write_held q cells f place)) (book_written (write_held q cells f place)) place a x
           (taken q s cells h f place ends room) w).length-is
-          ∙ ap Written (size q s cells h f place ends room);
+          ∙ ap Ok (size q s cells h f place ends room);
       wide-ends_fit = λ q s cells r. wide-ends q.nodes s.awards (every_run.every_run_runs q s cells r).running.reached.each;
-      held_passes = λ q s cells r f place. pass q s cells (every_run.every_run_runs q s cells r) f place;
+      held_passes = λ q s cells r f place. test_passes q s cells (every_run.every_run_runs q s cells r) f place;
       held_flows = λ q s cells r f place m x w room wide b y t.
           let h = every_run.every_run_runs q s cells r in (
             t.counted-given ∙ (λ i. answered (flows-accepted q s cells h f place m x w room wide i) (pos (counted q s cells h f place m x w room wide i) ∷ [])),

@@ -7,18 +7,18 @@ use Rattle.tariff.specs.declared.refusals.Refusal.{Refusal}
 use Rattle.tariff.specs.declared.refusals.Refusal.TheVariants.{ShortFile, NodeCount, ConstraintCount, SpareBits, FileLength, LimitRange, FactorRange, Padding, ShortTable}
 use Rattle.tariff.specs.declared.refusals.Refusal.TheVariants.{ContractCount, NodeNumber, QuantityRange, PriceCount, PriceRange, ProcessNumber, PeriodOrKind, HolderRange, NoSuchDate}
 use Rattle.tariff.specs.declared.refusals.Refusal.TheVariants.{TierMark, AwardOverload, MigrationRange, LoadExceeded, HubShape, HubNodeTwice, ShareRange, NoDemand}
-use Rattle.tariff.specs.declared.refusals.Checked.{Checked}
-use Rattle.tariff.specs.declared.refusals.Checked.TheVariants.{Passed, Refused}
+use Rattle.tariff.specs.Refusals.{Checked, passed}
+use Rattle.std.specs.Prelude.{Ok, Err}
 use Rattle.tariff.specs.Refusals.{Check, first, number_of, number_after}
 use Rattle.tariff.proofs.Checks.{passed_append, passed_cons, append_passes, first_passes}
 
-pub exchanged : (xs : List Check) (c d : Check) (ys : List Check) → d.fails ≡ false → first (xs ++ c ∷ ys) ≡ Passed → first (xs ++ d ∷ ys) ≡ Passed
+pub exchanged : (xs : List Check) (c d : Check) (ys : List Check) → d.fails ≡ false → first (xs ++ c ∷ ys) ≡ passed → first (xs ++ d ∷ ys) ≡ passed
 exchanged xs c d ys e h =
     let p = passed_append xs (c ∷ ys) h in
     append_passes xs (d ∷ ys) p.0 ∙ first_passes d ys e ∙ (passed_cons c ys p.1).1
 
 -- what another check found there
-pub found_there : (xs : List Check) (c : Check) (ys : List Check) → first (xs ++ c ∷ ys) ≡ Passed → c.fails ≡ false
+pub found_there : (xs : List Check) (c : Check) (ys : List Check) → first (xs ++ c ∷ ys) ≡ passed → c.fails ≡ false
 found_there xs c ys h = (passed_cons c ys (passed_append xs (c ∷ ys) h).1).0
 
 is-21 : (r : Refusal) → number_of r ≡ 21 → r ≡ AwardOverload
@@ -49,6 +49,6 @@ is-21 HubNodeTwice e = absurd (omega arith)
 is-21 ShareRange e = absurd (omega arith)
 is-21 NoDemand e = absurd (omega arith)
 
-pub drew_21 : (c : Checked) → number_after c ≡ 21 → c ≡ Refused AwardOverload
-drew_21 Passed e = absurd (omega arith)
-drew_21 (Refused r) e = ap Refused (is-21 r e)
+pub drew_21 : (c : Checked) → number_after c ≡ 21 → c ≡ Err AwardOverload
+drew_21 (Ok _) e = absurd (omega arith)
+drew_21 (Err r) e = ap Err (is-21 r e)

@@ -12,8 +12,8 @@ use Rattle.lists.specs.Lent.{overwrite}
 use Rattle.lists.specs.Lists.{list_to}
 use Rattle.lists.proofs.Search.{neither}
 use Rattle.tariff.specs.declared.contracts.Contract.{Contract}
-use Rattle.tariff.specs.declared.refusals.Checked.{Checked}
-use Rattle.tariff.specs.declared.refusals.Checked.TheVariants.{Passed, Refused}
+use Rattle.tariff.specs.Refusals.{Checked, passed}
+use Rattle.std.specs.Prelude.{Ok, Err}
 use Rattle.tariff.specs.Units.{Factors}
 use Rattle.tariff.specs.Checks.{node_count, constraint_count, process_number, period_number, short_table, limit_range, factor_range}
 use Rattle.tariff.proofs.Checks.{passed_cons, passed_append}
@@ -29,9 +29,9 @@ use Rattle.tier_calls.specs.Runs.{LongEnough}
 
 -- a buffer at exit, refused or not
 pub kept : {A : Type 0} (checked : Checked) (made entry exit : List A) (n : ℕ) → exit ≡ cell_after checked made entry → n ≤ length entry
-    → (checked ≡ Passed → n ≤ length made) → n ≤ length exit
-kept Passed made entry exit n e l m = rw e (m refl)
-kept (Refused r) made entry exit n e l m = rw e l
+    → (checked ≡ passed → n ≤ length made) → n ≤ length exit
+kept (Ok _) made entry exit n e l m = rw e (m refl)
+kept (Err r) made entry exit n e l m = rw e l
 
 -- ---- what each operation makes of a buffer
 
@@ -70,7 +70,7 @@ returned-flows i flows few long = simp (length-append, length-take, length-drop)
 
 -- ---- what the checks tell
 
-pub tier-told : (q : ReturnToTierCall) → return_to_tier_checked q ≡ Passed → q.tier ≤ max_tier
+pub tier-told : (q : ReturnToTierCall) → return_to_tier_checked q ≡ passed → q.tier ≤ max_tier
 unfolding return_listed return_checks_of
 tier-told q ok =
     let tier = (passed_cons _ _ (passed_cons _ _ (passed_cons _ _ ok).1).1).0 in
@@ -89,14 +89,14 @@ module _ (q : OpenRunningCall) where
   abbrev pub ranges_kept : List Check
   ranges_kept = limit_range (take q.constraints q.limits) ∷ factor_range (take (q.nodes * q.constraints) q.factors) ∷ []
 
-  pub opening_parts : open_running_checked q ≡ Passed → (first counts_asked ≡ Passed) × (first buffers_lent ≡ Passed) × (first ranges_kept ≡ Passed)
+  pub opening_parts : open_running_checked q ≡ passed → (first counts_asked ≡ passed) × (first buffers_lent ≡ passed) × (first ranges_kept ≡ passed)
   unfolding open_running_checks running_checks
   opening_parts ok =
       let p = passed_append counts_asked (buffers_lent ++ ranges_kept) ok in
       let b = passed_append buffers_lent ranges_kept p.1 in
       (p.0, b.0, b.1)
 
-pub opening_long : (q : OpenRunningCall) → open_running_checked q ≡ Passed → LongEnough (state_cells q.awards q.numbers q.flows)
+pub opening_long : (q : OpenRunningCall) → open_running_checked q ≡ passed → LongEnough (state_cells q.awards q.numbers q.flows)
 opening_long q ok =
     let one = passed_cons _ _ (opening_parts q ok).1 in
     let two = passed_cons _ _ one.1 in

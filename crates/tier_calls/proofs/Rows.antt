@@ -10,7 +10,8 @@ use lib.Seq.{get_or-take}
 use Rattle.lists.specs.Lists.{Each}
 use Rattle.lists.proofs.Lists.{list_to-cong, each_at}
 use Rattle.tariff.specs.declared.contracts.Contract.{Contract}
-use Rattle.tariff.specs.declared.refusals.Checked.TheVariants.{Passed}
+use Rattle.std.specs.Prelude.{Ok}
+use Rattle.tariff.specs.Refusals.{passed}
 use Rattle.tariff.specs.Units.{max_holder, max_contracts}
 use Rattle.tariff.specs.Refusals.{first}
 use Rattle.tariff.specs.Checks.{node_count, short_table}
@@ -60,7 +61,7 @@ module _ (cs : List Contract) (table : List ℕ) (rows : take (contract_cells * 
   rows-held = list_to-cong m (row_at table) (row_at (flat_map cells_of cs)) row_is ∙ rows-cells cs
 
   module _ (f : Form) (n : ℕ) (each : Each (Award n) cs) (ends : Each (EndsFit f n) cs) where
-    row-passes : (i : ℕ) → i < m → first (row_checks (ends_below_of f n) table i) ≡ Passed
+    row-passes : (i : ℕ) → i < m → first (row_checks (ends_below_of f n) table i) ≡ passed
     unfolding row_checks cells_of
     row-passes i h =
         let c = get_or cs i none in
@@ -73,7 +74,7 @@ module _ (cs : List Contract) (table : List ℕ) (rows : take (contract_cells * 
         ∙ first_passes _ _ (le-ltb max_holder (get_or table (contract_cells * i + 2) 0) holder)
         ∙ rw (row_is i h, row-cells cs i none h) (checks_below n (ends_below_of f n) c end.source_fits end.sink-fits award.checks_pass)
 
-    pub rows_taken : (node_count n).fails ≡ false → m ≤ max_contracts → (place : List ℕ) → book_bytes_of f m ≤ length place → write_book_checked (write_book_call f n m table place) ≡ Passed
+    pub rows_taken : (node_count n).fails ≡ false → m ≤ max_contracts → (place : List ℕ) → book_bytes_of f m ≤ length place → write_book_checked (write_book_call f n m table place) ≡ passed
     unfolding write_book_checks
     rows_taken nodes few place room =
         first_passes _ _ nodes

@@ -8,8 +8,8 @@ use lib.IntN.{ℤ}
 use Rattle.tariff.specs.Units.{Grid, grid_of}
 use Rattle.tariff.specs.declared.processes.Process.{Process}
 use Rattle.tariff.specs.declared.contracts.Period.{Period}
-use Rattle.tariff.specs.declared.refusals.Checked.{Checked}
-use Rattle.tariff.specs.declared.refusals.Checked.TheVariants.{Passed}
+use Rattle.tariff.specs.Refusals.{Checked, passed}
+use Rattle.std.specs.Prelude.{Ok}
 use Rattle.tariff.specs.ContractRules.{period_of}
 use Rattle.tariff.specs.Processes.{process_of}
 use Rattle.tariff.specs.Refusals.{cell_after}
@@ -78,7 +78,7 @@ module _ (c : StateCells) (l : LongEnough c) where
   -- marking and returning leave the awards' buffer as it is
   module _ (checked : Checked) (numbers made : List ℕ) (flows left : List ℤ)
       (a : numbers ≡ cell_after checked made c.numbers) (b : flows ≡ cell_after checked left c.flows) where
-    changed : (checked ≡ Passed → state_numbers ≤ length made) → (checked ≡ Passed → state_flows ≤ length left) → LongEnough (state_cells c.awards numbers flows)
+    changed : (checked ≡ passed → state_numbers ≤ length made) → (checked ≡ passed → state_flows ≤ length left) → LongEnough (state_cells c.awards numbers flows)
     changed n f =
         record {
           awards-long = l.awards-long;
@@ -98,7 +98,7 @@ module _ (c : StateCells) (l : LongEnough c) where
       changed (return_to_tier_checked (return_on tier c)) numbers _ flows _ a b (λ ok. omega (arith, returned-numbers tier c.numbers, l.numbers-long))
       (λ ok. returned-flows tier c.flows (tier-told (return_on tier c) ok) l.flows_long)
 
-opened-long : (q : OpenRunningCall) → open_running_checked q ≡ Passed → (numbers : List ℕ) (flows : List ℤ) → numbers ≡ numbers_opened q → flows ≡ flows_opened q
+opened-long : (q : OpenRunningCall) → open_running_checked q ≡ passed → (numbers : List ℕ) (flows : List ℤ) → numbers ≡ numbers_opened q → flows ≡ flows_opened q
     → LongEnough (state_cells q.awards numbers flows)
 opened-long q ok numbers flows a b =
     let l = opening_long q ok in

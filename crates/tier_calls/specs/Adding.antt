@@ -6,7 +6,7 @@ use Rattle.tariff.specs.Refusals.{decided}
 use Rattle.tariff.specs.Checks.{short_table, limit_range}
 use Rattle.order_rules.specs.Reordering.{Reordered}
 use Rattle.order_rules.specs.Relief.{OptionMore}
-use Rattle.tier_rules.specs.declared.RunningAnswer.{RunningAnswer}
+use Rattle.tier_rules.specs.Cells.{RunningAnswer}
 use Rattle.tier_rules.specs.Tiers.{Tiers, with_award, Reached}
 use Rattle.tier_rules.specs.Cells.{awards_cells, state_numbers, state_flows, StateCells, state_cells, running_outcome, HoldsTiers}
 use Rattle.tier_running_rules.specs.AddAward.{AddAwardCall, add_award_on, add_grid, add_process, add_period, awarded, add_award_checked, AddsAward, AddsAwardForC}

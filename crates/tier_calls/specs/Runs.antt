@@ -1,13 +1,13 @@
 -- Document 02, paper 4: a run of the running test over cells. Each call is known by its promise alone, and takes the buffers that the call before left; the tables
 -- are the opening's. Calls of the entries and of the C functions may be mixed. Statements only.
-use Rattle.std.specs.Prelude.{◌≡◌, List, ℕ, ◌≤◌, length, ℤ}
-use Rattle.tariff.specs.declared.refusals.Checked.TheVariants.{Passed}
+use Rattle.std.specs.Prelude.{◌≡◌, List, ℕ, ◌≤◌, length, ℤ, Ok}
+use Rattle.tariff.specs.Refusals.{passed}
 use Rattle.tariff.specs.Units.{grid_of}
 use Rattle.tariff.specs.ContractRules.{period_of}
 use Rattle.tariff.specs.Processes.{process_of}
 use Rattle.tariff.specs.Refusals.{decided}
 use Rattle.layouts.specs.BookTable.{row_at}
-use Rattle.tier_rules.specs.declared.RunningAnswer.{RunningAnswer}
+use Rattle.tier_rules.specs.Cells.{RunningAnswer}
 use Rattle.tier_rules.specs.Tiers.{Tiers, opened, with_award, marked}
 use Rattle.tier_rules.specs.Runs.{returned_to}
 use Rattle.tier_rules.specs.Cells.{awards_cells, state_numbers, state_flows, StateCells, state_cells, Running}
@@ -40,7 +40,7 @@ state_returned tier c s = decided (return_to_tier_checked (return_on tier c)) (�
 
 -- the state and the cells that a run has come to
 pub data CellRun (q : OpenRunningCall) : Tiers → StateCells → Type 0 where
-  opens : (answer : RunningAnswer) (numbers : List ℕ) (flows : List ℤ) → OpensRunning q answer numbers flows → open_running_checked q ≡ Passed
+  opens : (answer : RunningAnswer) (numbers : List ℕ) (flows : List ℤ) → OpensRunning q answer numbers flows → open_running_checked q ≡ passed
       → CellRun q opened (state_cells q.awards numbers flows)
   adds : (s : Tiers) (c exit : StateCells) → CellRun q s c → (award : List ℕ) (answer : RunningAnswer) → AddsAward (add_on q award c) answer exit
       → CellRun q (state_added q award c s) exit
@@ -58,7 +58,7 @@ pub data CellRun (q : OpenRunningCall) : Tiers → StateCells → Type 0 where
 
 -- the cells c hold the state s, which passes with worst shortfall 0, under the tables of the accepted opening q
 pub record RunningIn (q : OpenRunningCall) (s : Tiers) (c : StateCells) : Type 0 where
-  pub opened : open_running_checked q ≡ Passed
+  pub opened : open_running_checked q ≡ passed
   pub running : Running (grid_of q.nodes q.constraints q.limits q.factors) (process_of q.process) (period_of q.period) s c
 
 -- buffers as long as the opening asks for

@@ -1,13 +1,14 @@
-// The cells of a running test's marks: copied, set and unset.
+// The cells of a running test's marks: copied, set and unset. C lends the numbers as a slice that may be longer than a state's, and promises are of all of it,
+// so that it is long enough is a clause: of an array cut from it each function would need a law that the cells behind it stay.
 #![tactic(auto)]
 
 ghost use Rattle.std.specs.Prelude.{◌≡◌, ◌≤◌, length};
 ghost use Rattle.lists.specs.Lent.{before, after};
 ghost use Rattle.tier_rules.specs.Checks.{max_tier};
-ghost use Rattle.tier_rules.specs.Cells.{state_numbers, copied, marked_numbers, drop_mark_of, drop_marks_of, returned_numbers};
+ghost use Rattle.tier_rules.specs.Cells.{state_numbers, copied, marked_numbers, drop_marks_of, returned_numbers};
 ghost use Rattle.tier_mark_rules.specs.Inner.{Apart};
 
-use tier_rules::BLOCK;
+use tier_rules::{BLOCK, MAX_TIER};
 
 // The numbers of a mark. Tier i's: at MARK * i - 1 whether it is set, behind it the awards held at it, then those counted.
 pub const MARK: usize = 3;
@@ -17,11 +18,9 @@ pub fn copy_block(flows: &mut [i64], from: usize, to: usize)
     requires { Apart from to flows.old }
     ensures { after flows ≡ copied from to (before flows) }
 {
-    let mut k = 0;
-    while k < BLOCK {
-        flows[to + k] = tier_rules::same_flow(flows[from + k]);
-        k += 1;
-    }
+    let mut block = [0; BLOCK];
+    block.copy_from_slice(&flows[from..from + BLOCK]);
+    flows[to..to + BLOCK].copy_from_slice(&block);
 }
 
 // The numbers of a mark: it is set, and how many awards are held and counted now.
@@ -36,25 +35,16 @@ pub fn mark_numbers(numbers: &mut [u64], i: usize)
     numbers[MARK * i + 1] = counted;
 }
 
-// Unsets a tier's mark where more awards were held at it.
-fn drop_mark(numbers: &mut [u64], most: u64, j: usize)
-    requires { (1 ≤ j) × (j ≤ max_tier) × (state_numbers ≤ length numbers.old) }
-    ensures { after numbers ≡ drop_mark_of most j (before numbers) }
-{
-    if most < numbers[MARK * j] {
-        numbers[MARK * j - 1] = 0;
-    }
-}
-
 // Unsets every mark made when more awards were held.
 fn drop_marks(numbers: &mut [u64], most: u64)
     requires { state_numbers ≤ length numbers.old }
     ensures { after numbers ≡ drop_marks_of most max_tier (before numbers) }
 {
-    drop_mark(numbers, most, 1);
-    drop_mark(numbers, most, 2);
-    drop_mark(numbers, most, 3);
-    drop_mark(numbers, most, 4);
+    for j in 1..=MAX_TIER as usize {
+        if most < numbers[MARK * j] {
+            numbers[MARK * j - 1] = 0;
+        }
+    }
 }
 
 // The numbers after returning to the mark of tier i.

@@ -14,16 +14,15 @@ use lib.Seq.{paste, paste-suc, length_paste_head, length-take-le, get_or-take, g
 use lib.IntN.{ℤ, pos}
 use Rattle.tariff.specs.declared.refusals.Refusal.{Refusal}
 use Rattle.tariff.specs.declared.refusals.Refusal.TheVariants.{ShortTable, TierMark}
-use Rattle.tariff.specs.declared.refusals.Checked.{Checked}
-use Rattle.tariff.specs.declared.refusals.Checked.TheVariants.{Passed, Refused}
+use Rattle.tariff.specs.Refusals.{Checked, passed}
+use Rattle.std.specs.Prelude.{Ok, Err}
 use Rattle.tariff.specs.declared.contracts.Period.{Period}
 use Rattle.tariff.specs.Units.{Grid, max_constraints}
 use Rattle.tariff.specs.Refusals.{first, decided, answered, cell_after}
 use Rattle.tariff.proofs.Checks.{first-append, passed_cons, passed_append}
 use Rattle.tier_rules.specs.Checks.{max_tier, mark_checks, return_checks_of, unset_mark, is_unset}
 use Rattle.tier_rules.specs.Runs.{returned_to}
-use Rattle.tier_rules.specs.declared.RunningAnswer.{RunningAnswer}
-use Rattle.tier_rules.specs.declared.RunningAnswer.TheVariants as is
+use Rattle.tier_rules.specs.Cells.{RunningAnswer}
 use Rattle.tier_rules.specs.Cells.{state_numbers, state_flows, flag_cell, held_cell, mark_block, state_cells, running_outcome}
 use Rattle.tier_rules.specs.Cells.{drop_mark_of, marked_numbers, marked_flows, returned_numbers, returned_flows, HoldsTiers}
 use Rattle.tier_rules.specs.Tiers.{Tiers, marked}
@@ -38,25 +37,25 @@ use Rattle.tier_mark_rules.specs.Inner.{Apart}
 -- ---- what the checks of marking find
 
 module _ (q : MarkTierCall) where
-  pub numbers-short : length q.numbers < state_numbers → Refused ShortTable ≡ mark_tier_checked q
+  pub numbers-short : length q.numbers < state_numbers → Err ShortTable ≡ mark_tier_checked q
   unfolding first mark_tier_checks
   numbers-short h = sym (rw (lt-ltb (length q.numbers) state_numbers h))
 
   module _ (n : state_numbers ≤ length q.numbers) where
-    pub flows-short : length q.flows < state_flows → Refused ShortTable ≡ mark_tier_checked q
+    pub flows-short : length q.flows < state_flows → Err ShortTable ≡ mark_tier_checked q
     unfolding first mark_tier_checks
     flows-short h = sym (rw (le-ltb (length q.numbers) state_numbers n, lt-ltb (length q.flows) state_flows h))
 
     module _ (f : state_flows ≤ length q.flows) where
-      pub no_tier : q.tier ≡ 0 → Refused TierMark ≡ mark_tier_checked q
+      pub no_tier : q.tier ≡ 0 → Err TierMark ≡ mark_tier_checked q
       unfolding first mark_tier_checks mark_checks
       no_tier e = sym (rw (le-ltb (length q.numbers) state_numbers n, le-ltb (length q.flows) state_flows f, eq-eqb q.tier 0 e))
 
-      pub past_tiers : (q.tier ≡ 0 → ⊥) → max_tier < q.tier → Refused TierMark ≡ mark_tier_checked q
+      pub past_tiers : (q.tier ≡ 0 → ⊥) → max_tier < q.tier → Err TierMark ≡ mark_tier_checked q
       unfolding first mark_tier_checks mark_checks
       past_tiers z h = sym (rw (le-ltb (length q.numbers) state_numbers n, le-ltb (length q.flows) state_flows f, ne_eqb q.tier 0 z, lt-ltb max_tier q.tier h))
 
-      pub a_tier : (q.tier ≡ 0 → ⊥) → q.tier ≤ max_tier → Passed ≡ mark_tier_checked q
+      pub a_tier : (q.tier ≡ 0 → ⊥) → q.tier ≤ max_tier → passed ≡ mark_tier_checked q
       unfolding first mark_tier_checks mark_checks
       a_tier z h = sym (rw (le-ltb (length q.numbers) state_numbers n, le-ltb (length q.flows) state_flows f, ne_eqb q.tier 0 z, le-ltb max_tier q.tier h))
 
@@ -66,19 +65,19 @@ module _ (q : ReturnToTierCall) (x : Checked) where
   abbrev as_mark : MarkTierCall
   as_mark = mark_tier_call q.tier q.numbers q.flows
 
-  in_parts : (unset : Bool) → first (return_listed q unset) ≡ decided (mark_tier_checked as_mark) Refused (first (unset_mark unset ∷ []))
+  in_parts : (unset : Bool) → first (return_listed q unset) ≡ decided (mark_tier_checked as_mark) Err (first (unset_mark unset ∷ []))
   unfolding return_listed mark_tier_checks return_checks_of mark_checks
   in_parts unset = first-append (mark_tier_checks as_mark) (unset_mark unset ∷ [])
 
   module _ (found : x ≡ mark_tier_checked as_mark) where
-    pub tier-refuses : (r : Refusal) → x ≡ Refused r → Refused r ≡ return_to_tier_checked q
+    pub tier-refuses : (r : Refusal) → x ≡ Err r → Err r ≡ return_to_tier_checked q
     tier-refuses r told = sym (in_parts (eqb (get_or q.numbers (flag_cell q.tier) 0) 0) ∙ rw (← found, told))
 
-    pub unset : x ≡ Passed → get_or q.numbers (flag_cell q.tier) 0 ≡ 0 → Refused TierMark ≡ return_to_tier_checked q
+    pub unset : x ≡ passed → get_or q.numbers (flag_cell q.tier) 0 ≡ 0 → Err TierMark ≡ return_to_tier_checked q
     unfolding first
     unset told e = sym (in_parts (eqb (get_or q.numbers (flag_cell q.tier) 0) 0) ∙ rw (← found, told, eq-eqb (get_or q.numbers (flag_cell q.tier) 0) 0 e))
 
-    pub is_set : x ≡ Passed → (get_or q.numbers (flag_cell q.tier) 0 ≡ 0 → ⊥) → Passed ≡ return_to_tier_checked q
+    pub is_set : x ≡ passed → (get_or q.numbers (flag_cell q.tier) 0 ≡ 0 → ⊥) → passed ≡ return_to_tier_checked q
     unfolding first
     is_set told ne = sym (in_parts (eqb (get_or q.numbers (flag_cell q.tier) 0) 0) ∙ rw (← found, told, ne_eqb (get_or q.numbers (flag_cell q.tier) 0) 0 ne))
 
@@ -131,7 +130,7 @@ pub record AtTier (i : ℕ) (numbers : List ℕ) (flows : List ℤ) : Type 0 whe
   pub some_tier : 1 ≤ i
   pub last-tier : i ≤ max_tier
 
-pub at-tier : (q : MarkTierCall) → mark_tier_checked q ≡ Passed → AtTier q.tier q.numbers q.flows
+pub at-tier : (q : MarkTierCall) → mark_tier_checked q ≡ passed → AtTier q.tier q.numbers q.flows
 unfolding mark_tier_checks mark_checks
 at-tier q e =
     let a = passed_cons _ _ e in
@@ -153,15 +152,15 @@ mark-apart i numbers flows o =
     (record { source_in = held; target_in = marked; apart = inl past }, record { source_in = marked; target_in = held; apart = inr past })
 
 -- of returning: so the first checks pass too, and the mark is set
-pub return_parts : (q : ReturnToTierCall) (unset : Bool) → first (return_listed q unset) ≡ Passed
-    → (mark_tier_checked (mark_tier_call q.tier q.numbers q.flows) ≡ Passed) × (unset ≡ false)
+pub return_parts : (q : ReturnToTierCall) (unset : Bool) → first (return_listed q unset) ≡ passed
+    → (mark_tier_checked (mark_tier_call q.tier q.numbers q.flows) ≡ passed) × (unset ≡ false)
 unfolding return_listed mark_tier_checks return_checks_of mark_checks
 return_parts q unset e =
     let p = passed_append (mark_tier_checks (mark_tier_call q.tier q.numbers q.flows)) (unset_mark unset ∷ []) e in
     (p.0, (passed_cons _ _ p.1).0)
 
 -- and so what holds of marking
-pub at_return : (q : ReturnToTierCall) → return_to_tier_checked q ≡ Passed → AtTier q.tier q.numbers q.flows
+pub at_return : (q : ReturnToTierCall) → return_to_tier_checked q ≡ passed → AtTier q.tier q.numbers q.flows
 at_return q e = at-tier q (return_parts q (eqb (get_or q.numbers (flag_cell q.tier) 0) 0) e).0
 
 -- ---- the promises on running tests
@@ -208,16 +207,16 @@ returns-to_tier q answer numbers flows a n f =
 -- ---- the promises, where x is what the checks found: one refuses, or both buffers were changed
 
 module _ (q : MarkTierCall) (x : Checked) where
-  pub marks-kept : x ≡ mark_tier_checked q → (r : Refusal) → x ≡ Refused r → MarksTier q (is.Refused r) q.numbers q.flows
+  pub marks-kept : x ≡ mark_tier_checked q → (r : Refusal) → x ≡ Err r → MarksTier q (Err r) q.numbers q.flows
   marks-kept = both-kept (mark_tier_checked q) (marked_numbers q.tier q.numbers) q.numbers (marked_flows q.tier q.flows) q.flows (MarksTier q) (marks-tier q) x
 
-  pub marks-made : x ≡ mark_tier_checked q → x ≡ Passed → (numbers : List ℕ) (flows : List ℤ) → numbers ≡ marked_numbers q.tier q.numbers
-      → flows ≡ marked_flows q.tier q.flows → MarksTier q is.Held numbers flows
+  pub marks-made : x ≡ mark_tier_checked q → x ≡ passed → (numbers : List ℕ) (flows : List ℤ) → numbers ≡ marked_numbers q.tier q.numbers
+      → flows ≡ marked_flows q.tier q.flows → MarksTier q passed numbers flows
   marks-made = both-made (mark_tier_checked q) (marked_numbers q.tier q.numbers) q.numbers (marked_flows q.tier q.flows) q.flows (MarksTier q) (marks-tier q) x
 
-  pub return_kept : x ≡ return_to_tier_checked q → (r : Refusal) → x ≡ Refused r → ReturnsToTier q (is.Refused r) q.numbers q.flows
+  pub return_kept : x ≡ return_to_tier_checked q → (r : Refusal) → x ≡ Err r → ReturnsToTier q (Err r) q.numbers q.flows
   return_kept = both-kept (return_to_tier_checked q) (returned_numbers q.tier q.numbers) q.numbers (returned_flows q.tier q.flows) q.flows (ReturnsToTier q) (returns-to_tier q) x
 
-  pub return_made : x ≡ return_to_tier_checked q → x ≡ Passed → (numbers : List ℕ) (flows : List ℤ) → numbers ≡ returned_numbers q.tier q.numbers
-      → flows ≡ returned_flows q.tier q.flows → ReturnsToTier q is.Held numbers flows
+  pub return_made : x ≡ return_to_tier_checked q → x ≡ passed → (numbers : List ℕ) (flows : List ℤ) → numbers ≡ returned_numbers q.tier q.numbers
+      → flows ≡ returned_flows q.tier q.flows → ReturnsToTier q passed numbers flows
   return_made = both-made (return_to_tier_checked q) (returned_numbers q.tier q.numbers) q.numbers (returned_flows q.tier q.flows) q.flows (ReturnsToTier q) (returns-to_tier q) x

@@ -3,10 +3,10 @@ use Rattle.std.specs.Prelude.{◌≡◌, Bool, List, [], ◌++◌, ℕ, eqb, get
 use Rattle.tier_mark_rules.specs.MarkTier.{MarkTierCall, mark_tier_call}
 use Rattle.tariff.specs.declared.contracts.Period.{Period}
 use Rattle.tariff.specs.declared.processes.Process.{Process}
-use Rattle.tariff.specs.declared.refusals.Checked.{Checked}
+use Rattle.tariff.specs.Refusals.{Checked}
 use Rattle.tariff.specs.Units.{Grid}
 use Rattle.tariff.specs.Refusals.{Check, first, answered, cell_after, ForC}
-use Rattle.tier_rules.specs.declared.RunningAnswer.{RunningAnswer}
+use Rattle.tier_rules.specs.Cells.{RunningAnswer}
 use Rattle.tier_rules.specs.Tiers.{Tiers}
 use Rattle.tier_rules.specs.Checks.{return_checks_of, is_unset}
 use Rattle.tier_rules.specs.Runs.{returned_to}

@@ -14,7 +14,8 @@ use Rattle.tariff.specs.declared.contracts.Contract.{Contract}
 use Rattle.tariff.specs.declared.contracts.Period.{Period}
 use Rattle.tariff.specs.declared.processes.Process.{Process}
 use Rattle.tariff.specs.declared.refusals.Refusal.TheVariants.{ContractCount, NodeNumber, QuantityRange, PeriodOrKind, HolderRange, AwardOverload}
-use Rattle.tariff.specs.declared.refusals.Checked.TheVariants.{Passed, Refused}
+use Rattle.std.specs.Prelude.{Ok, Err}
+use Rattle.tariff.specs.Refusals.{passed}
 use Rattle.tariff.specs.Units.{Factors, Grid, max_contracts}
 use Rattle.tariff.specs.Refusals.{first}
 use Rattle.tariff.specs.Checks.{contract_count, node_number, quantity_range, kind_and_period, holder_range}
@@ -95,9 +96,9 @@ adds-alike g process t s r award p =
 
 -- 21 is the last: where it is drawn all before it pass
 last-drawn : (full a b c d over : Bool)
-    → cond full (Refused ContractCount) (cond a (Refused PeriodOrKind) (cond b (Refused HolderRange)
-    (cond c (Refused NodeNumber) (cond d (Refused QuantityRange) (cond over (Refused AwardOverload) Passed)))))
-    ≡ Refused AwardOverload
+    → cond full (Err ContractCount) (cond a (Err PeriodOrKind) (cond b (Err HolderRange)
+    (cond c (Err NodeNumber) (cond d (Err QuantityRange) (cond over (Err AwardOverload) passed)))))
+    ≡ Err AwardOverload
     → (a ≡ false) × (b ≡ false) × (c ≡ false) × (d ≡ false) × (over ≡ true)
 last-drawn true a b c d o e = (cc, cc, cc, cc, cc)
 last-drawn false true b c d o e = (cc, cc, cc, cc, cc)
@@ -108,7 +109,7 @@ last-drawn false false false false false true e = (refl, refl, refl, refl, refl)
 last-drawn false false false false false false e = (refl, refl, refl, refl, cc)
 
 pub still_draws_21 : (g : Grid) (process : Process) (t : Period) (s r : Tiers) (award : List ℕ) → OptionMore s.awards r.awards → length r.awards < max_contracts
-    → first (add_checks g process t s award) ≡ Refused AwardOverload → first (add_checks g process t r award) ≡ Refused AwardOverload
+    → first (add_checks g process t s award) ≡ Err AwardOverload → first (add_checks g process t r award) ≡ Err AwardOverload
 unfolding first award_checks row_checks contract_checks
 still_draws_21 g process t s r award o few e =
     let n = g.factors.nodes in

@@ -1,11 +1,10 @@
 -- Document 02, paper 14: "In the running tiers it is said of the awards held: another order of adding may draw 21 on the way." Nothing is said of the way.
 -- Statements only.
-use Rattle.std.specs.Prelude.{◌≡◌, true, List, ℕ, ◌<◌, length, get_or, pos}
+use Rattle.std.specs.Prelude.{◌≡◌, true, List, ℕ, ◌<◌, length, get_or, pos, Err}
 use Rattle.tariff.specs.declared.contracts.Contract.{Contract}
 use Rattle.tariff.specs.declared.contracts.Period.{Period}
 use Rattle.tariff.specs.declared.processes.Process.{Process}
 use Rattle.tariff.specs.declared.refusals.Refusal.TheVariants.{AwardOverload}
-use Rattle.tariff.specs.declared.refusals.Checked.TheVariants.{Refused}
 use Rattle.tariff.specs.Units.{Grid, max_contracts}
 use Rattle.tariff.specs.Refusals.{first}
 use Rattle.tariff.specs.ContractRules.{of_period}
@@ -43,4 +42,4 @@ pub record AwardsHeld : Type 0 where
       → (award_over g process t held c).fails ≡ true → (award_over g process t more c).fails ≡ true
   pub option_held_adding_draws_21 : (g : Grid) (process : Process) (t : Period) (s r : Tiers) (award : List ℕ) → OptionMore s.awards r.awards
       → length r.awards < max_contracts
-      → first (add_checks g process t s award) ≡ Refused AwardOverload → first (add_checks g process t r award) ≡ Refused AwardOverload
+      → first (add_checks g process t s award) ≡ Err AwardOverload → first (add_checks g process t r award) ≡ Err AwardOverload

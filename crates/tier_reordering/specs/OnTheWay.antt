@@ -1,10 +1,9 @@
 -- Document 02, paper 14: "another order of adding may draw 21 on the way". Case L's factors under limits of 3,000 and 50,000, monthly, on-peak: an award from
 -- node 1 to node 0 of 5,000 makes room for one from node 0 to node 1 of 10,000.
-use Rattle.std.specs.Prelude.{◌≡◌, List, [], ◌∷◌, ℕ, ℤ, pos, neg_ℤ}
+use Rattle.std.specs.Prelude.{◌≡◌, List, [], ◌∷◌, ℕ, ℤ, pos, neg_ℤ, Err}
 use Rattle.tariff.specs.declared.contracts.Period.TheVariants.{OnPeak}
 use Rattle.tariff.specs.declared.processes.Process.TheVariants.{Monthly}
 use Rattle.tariff.specs.declared.refusals.Refusal.TheVariants.{AwardOverload}
-use Rattle.tariff.specs.declared.refusals.Checked.TheVariants.{Refused}
 use Rattle.tariff.specs.Units.{Grid, grid_of}
 use Rattle.tariff.specs.ContractRules.{of_period}
 use Rattle.tariff.specs.Refusals.{first}
@@ -36,6 +35,6 @@ pub record OnTheWay : Type 0 where
   pub both-held : (added relieving loading).awards ≡ row_at relieving 0 ∷ row_at loading 0 ∷ []
   pub both-flows : flows_held (added relieving loading) ≡ pos 300000000 ∷ neg_ℤ (pos 100000000) ∷ []
   -- the other way round the first draws 21, and the second is held alone
-  pub first-draws_21 : first (add_checks narrowed Monthly OnPeak opened loading) ≡ Refused AwardOverload
+  pub first-draws_21 : first (add_checks narrowed Monthly OnPeak opened loading) ≡ Err AwardOverload
   pub one_held : (added loading relieving).awards ≡ row_at relieving 0 ∷ []
   pub one_flows : flows_held (added loading relieving) ≡ neg_ℤ (pos 300000000) ∷ pos 100000000 ∷ []

@@ -5,7 +5,8 @@ use Prim.Native.Nat.{ℕ, ◌≤◌}
 use lib.IntN.{ℤ}
 use Rattle.lists.specs.Lists.{Each}
 use Rattle.tariff.specs.declared.contracts.Contract.{Contract}
-use Rattle.tariff.specs.declared.refusals.Checked.TheVariants.{Passed}
+use Rattle.std.specs.Prelude.{Ok}
+use Rattle.tariff.specs.Refusals.{passed}
 use Rattle.tariff.specs.Units.{grid_of, max_nodes}
 use Rattle.tariff.specs.ContractRules.{period_of, of_period}
 use Rattle.tariff.specs.Processes.{process_of}
@@ -37,7 +38,7 @@ wide-ends n (c ∷ cs) a =
     let i = contract-in_range n c a.0.checks_pass in
     (record { source_fits = i.source-below; sink-fits = i.sink-below }, wide-ends n cs a.1)
 
-module _ (n k process period : ℕ) (limits : List ℕ) (factors : List ℤ) (tables : first (grid_table_checks n k process period limits factors) ≡ Passed) (s : Tiers)
+module _ (n k process period : ℕ) (limits : List ℕ) (factors : List ℤ) (tables : first (grid_table_checks n k process period limits factors) ≡ passed) (s : Tiers)
     (r : Reached (grid_of n k limits factors) (process_of process) (period_of period) s) (f : Form) (ends : Each (EndsFit f n) s.awards) where
   nodes-few : n ≤ max_nodes
   nodes-few = (grid-tables n k process period limits factors tables).good-factors.nodes-few

@@ -14,14 +14,13 @@ use Rattle.lists.proofs.Search.{neither}
 use Rattle.tariff.specs.declared.contracts.Period.{Period}
 use Rattle.tariff.specs.declared.processes.Process.{Process}
 use Rattle.tariff.specs.declared.refusals.Refusal.{Refusal}
-use Rattle.tariff.specs.declared.refusals.Checked.{Checked}
-use Rattle.tariff.specs.declared.refusals.Checked.TheVariants.{Passed, Refused}
+use Rattle.tariff.specs.Refusals.{Checked, passed}
+use Rattle.std.specs.Prelude.{Ok, Err}
 use Rattle.tariff.specs.Units.{Grid}
-use Rattle.tariff.specs.Refusals.{Check, first, decided, answered, cell_after}
+use Rattle.tariff.specs.Refusals.{Check, number_in, first, decided, answered, cell_after}
 use Rattle.tariff.proofs.Checks.{first-append}
 use Rattle.tariff.proofs.Answers.{answer-refused, answer-passed}
-use Rattle.tier_rules.specs.declared.RunningAnswer.{RunningAnswer}
-use Rattle.tier_rules.specs.declared.RunningAnswer.TheVariants as is
+use Rattle.tier_rules.specs.Cells.{RunningAnswer}
 use Rattle.tier_rules.specs.Tiers.{Tiers, Reached}
 use Rattle.tier_rules.specs.Checks.{max_tier, tier_number, is_unset}
 use Rattle.tier_rules.specs.Cells.{flag_cell, StateCells, running_outcome, MarkIs, HoldsTiers, Running, GoesOn}
@@ -32,51 +31,56 @@ module _ (g : Grid) (process : Process) (t : Period) where
   running s cells r h = record { reached = r; holds = h; worst-zero = reached-worst g process t s r; passes = reached-values g process t s r }
 
   -- the cells at exit, by what the checks found: as at entry where one refuses
-  module _ (checked : Checked) (checks : Tiers → List Check) (next : Tiers → Tiers) (entry : StateCells) (exit : Checked → StateCells) (keeps : (q : Refusal) → exit (Refused q) ≡ entry) where
+  module _ (checked : Checked) (checks : Tiers → List Check) (next : Tiers → Tiers) (entry : StateCells) (exit : Checked → StateCells) (keeps : (q : Refusal) → exit (Err q) ≡ entry) where
     pub goes_on : ((s : Tiers) → Reached g process t s → HoldsTiers g t s entry → checked ≡ first (checks s))
-        → ((s : Tiers) → Reached g process t s → HoldsTiers g t s entry → checked ≡ Passed → Reached g process t (next s) × HoldsTiers g t (next s) (exit Passed))
+        → ((s : Tiers) → Reached g process t s → HoldsTiers g t s entry → checked ≡ passed → Reached g process t (next s) × HoldsTiers g t (next s) (exit passed))
         → GoesOn g process t checked checks next entry (exit checked)
     goes_on are then = record { checks_are = are; runs_on = λ s r h. by s r h checked refl }
       where
         by : (s : Tiers) → Reached g process t s → HoldsTiers g t s entry → (x : Checked) → checked ≡ x → Running g process t (decided x (λ q. s) (next s)) (exit x)
-        by s r h Passed e = let n = then s r h e in running (next s) (exit Passed) n.0 n.1
-        by s r h (Refused q) e = rw (keeps q) (running s entry r h)
+        by s r h (Ok _) e = let n = then s r h e in running (next s) (exit passed) n.0 n.1
+        by s r h (Err q) e = rw (keeps q) (running s entry r h)
 
 -- ---- a buffer at exit: x is what the checking function gave
 
 module _ {A : Type 0} (x checked : Checked) (found : x ≡ checked) where
-  pub buffer_refused : (r : Refusal) → x ≡ Refused r → (made entry : List A) → entry ≡ cell_after checked made entry
+  pub buffer_refused : (r : Refusal) → x ≡ Err r → (made entry : List A) → entry ≡ cell_after checked made entry
   buffer_refused r told made entry = rw (← found, told)
 
-  pub buffer_passed : x ≡ Passed → (made entry last : List A) → last ≡ made → last ≡ cell_after checked made entry
+  pub buffer_passed : x ≡ passed → (made entry last : List A) → last ≡ made → last ≡ cell_after checked made entry
   buffer_passed told made entry last e = rw (← found, told) e
 
 -- the promise on both buffers and the answer, from what the checking function gave
+-- an answer's number is its outcome's
+pub number_outcome : (answer : RunningAnswer) → number_in answer ≡ (running_outcome answer).number
+number_outcome (Ok _) = refl
+number_outcome (Err r) = refl
+
 module _ (checked : Checked) (made-numbers numbers₀ : List ℕ) (made-flows flows₀ : List ℤ) (Promise : RunningAnswer → List ℕ → List ℤ → Type 0)
     (promised : (answer : RunningAnswer) (numbers : List ℕ) (flows : List ℤ) → running_outcome answer ≡ answered checked []
     → numbers ≡ cell_after checked made-numbers numbers₀ → flows ≡ cell_after checked made-flows flows₀ → Promise answer numbers flows)
     (x : Checked) (found : x ≡ checked) where
-  pub both-kept : (r : Refusal) → x ≡ Refused r → Promise (is.Refused r) numbers₀ flows₀
+  pub both-kept : (r : Refusal) → x ≡ Err r → Promise (Err r) numbers₀ flows₀
   both-kept r told =
-      promised (is.Refused r) numbers₀ flows₀ (answer-refused x checked found r told [])
+      promised (Err r) numbers₀ flows₀ (answer-refused x checked found r told [])
       (buffer_refused x checked found r told made-numbers numbers₀) (buffer_refused x checked found r told made-flows flows₀)
 
-  pub both-made : x ≡ Passed → (numbers : List ℕ) (flows : List ℤ) → numbers ≡ made-numbers → flows ≡ made-flows → Promise is.Held numbers flows
+  pub both-made : x ≡ passed → (numbers : List ℕ) (flows : List ℤ) → numbers ≡ made-numbers → flows ≡ made-flows → Promise passed numbers flows
   both-made told numbers flows n f =
-      promised is.Held numbers flows (answer-passed x checked found told [])
+      promised passed numbers flows (answer-passed x checked found told [])
       (buffer_passed x checked found told made-numbers numbers₀ numbers n) (buffer_passed x checked found told made-flows flows₀ flows f)
 
 -- ---- checks that find the same
 
 -- two lists that differ in their last condition, and only where all before it pass
-pub last-same : (xs : List Check) (a b : Bool) (r : Refusal) → (first xs ≡ Passed → a ≡ b)
+pub last-same : (xs : List Check) (a b : Bool) (r : Refusal) → (first xs ≡ passed → a ≡ b)
     → first (xs ++ record { fails = a; refusal = r } ∷ []) ≡ first (xs ++ record { fails = b; refusal = r } ∷ [])
 last-same xs a b r e =
     first-append xs (record { fails = a; refusal = r } ∷ []) ∙ by (first xs) refl ∙ sym (first-append xs (record { fails = b; refusal = r } ∷ []))
   where
-    by : (x : Checked) → first xs ≡ x → decided x Refused (first (record { fails = a; refusal = r } ∷ [])) ≡ decided x Refused (first (record { fails = b; refusal = r } ∷ []))
-    by Passed q = ap (λ (f : Bool). first (record { fails = f; refusal = r } ∷ [])) (e q)
-    by (Refused z) q = refl
+    by : (x : Checked) → first xs ≡ x → decided x Err (first (record { fails = a; refusal = r } ∷ [])) ≡ decided x Err (first (record { fails = b; refusal = r } ∷ []))
+    by (Ok _) q = ap (λ (f : Bool). first (record { fails = f; refusal = r } ∷ [])) (e q)
+    by (Err z) q = refl
 
 -- ---- tiers and marks
 

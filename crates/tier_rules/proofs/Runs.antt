@@ -11,8 +11,8 @@ use lib.ListN.{length, get_or}
 use Rattle.lists.specs.Lists.{Each}
 use Rattle.tariff.specs.declared.contracts.Period.{Period}
 use Rattle.tariff.specs.declared.processes.Process.{Process}
-use Rattle.tariff.specs.declared.refusals.Checked.{Checked}
-use Rattle.tariff.specs.declared.refusals.Checked.TheVariants.{Passed, Refused}
+use Rattle.tariff.specs.Refusals.{Checked, passed}
+use Rattle.std.specs.Prelude.{Ok, Err}
 use Rattle.tariff.specs.Units.{Grid, max_holder}
 use Rattle.tariff.specs.ContractRules.{of_period}
 use Rattle.tariff.specs.Feasibility.{overload_set}
@@ -26,19 +26,19 @@ use Rattle.tier_rules.specs.Runs.{Operation, adding, marking, returning, step, s
 use Rattle.tier_rules.proofs.States.{with_reached, marked-reached, returned-reached, marking-sets, returned-all}
 
 -- a row that the book writer's checks accept
-pub row-award : (n : ℕ) (award : List ℕ) → first (row_checks n award 0) ≡ Passed → Award n (row_at award 0)
+pub row-award : (n : ℕ) (award : List ℕ) → first (row_checks n award 0) ≡ passed → Award n (row_at award 0)
 unfolding row_checks row_from
 row-award n award e =
     let p = passed_cons _ _ (passed_cons _ _ e).1 in
     record { checks_pass = p.1; holder-few = ltb-false max_holder (get_or award 2 0) p.0 }
 
 -- either side of a decision
-pub decided-each : {A : Type 0} (P : A → Type 0) (checked : Checked) (a b : A) → P a → (checked ≡ Passed → P b) → P (decided checked (λ r. a) b)
-decided-each P Passed a b x y = y refl
-decided-each P (Refused q) a b x y = x
+pub decided-each : {A : Type 0} (P : A → Type 0) (checked : Checked) (a b : A) → P a → (checked ≡ passed → P b) → P (decided checked (λ r. a) b)
+decided-each P (Ok _) a b x y = y refl
+decided-each P (Err q) a b x y = x
 
 module _ (g : Grid) (process : Process) (t : Period) where
-  pub added-reached : (s : Tiers) → Reached g process t s → (award : List ℕ) → first (add_checks g process t s award) ≡ Passed → Reached g process t (with_award (row_at award 0) s)
+  pub added-reached : (s : Tiers) → Reached g process t s → (award : List ℕ) → first (add_checks g process t s award) ≡ passed → Reached g process t (with_award (row_at award 0) s)
   unfolding award_checks
   added-reached s r award e =
       let p = passed_cons _ _ e in

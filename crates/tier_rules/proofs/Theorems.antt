@@ -12,7 +12,8 @@ use Rattle.lists.specs.Lists.{Each}
 use Rattle.tariff.specs.declared.contracts.Contract.{Contract}
 use Rattle.tariff.specs.declared.contracts.Period.{Period}
 use Rattle.tariff.specs.declared.processes.Process.{Process}
-use Rattle.tariff.specs.declared.refusals.Checked.TheVariants.{Passed}
+use Rattle.std.specs.Prelude.{Ok}
+use Rattle.tariff.specs.Refusals.{passed}
 use Rattle.tariff.specs.Units.{Grid, grid_of}
 use Rattle.tariff.specs.ContractRules.{same_period, period_of, of_period}
 use Rattle.tariff.specs.Processes.{process_of}
@@ -53,7 +54,7 @@ module _ (g : Grid) (process : Process) (t : Period) where
   pub opened-reached : Reached g process t opened
   opened-reached = S.opened-reached g process t
 
-  pub added-reached : (s : Tiers) → Reached g process t s → (award : List ℕ) → first (add_checks g process t s award) ≡ Passed
+  pub added-reached : (s : Tiers) → Reached g process t s → (award : List ℕ) → first (add_checks g process t s award) ≡ passed
       → Reached g process t (with_award (row_at award 0) s)
   added-reached = R.added-reached g process t
 
@@ -86,7 +87,7 @@ module _ (g : Grid) (process : Process) (t : Period) where
 
 -- ---- the awards held are a book: written in either form it is accepted, reads back, and passes
 
-module _ (n k process period : ℕ) (limits : List ℕ) (factors : List ℤ) (tables : first (grid_table_checks n k process period limits factors) ≡ Passed) (s : Tiers)
+module _ (n k process period : ℕ) (limits : List ℕ) (factors : List ℤ) (tables : first (grid_table_checks n k process period limits factors) ≡ passed) (s : Tiers)
     (r : Reached (grid_of n k limits factors) (process_of process) (period_of period) s) where
   pub held_is_a_wide_book : HeldBook (test_call n k process period limits factors (book_file Wide s.awards)) s.awards
   held_is_a_wide_book = B.held_book n k process period limits factors tables s r Wide (B.wide-ends n s.awards r.each)

@@ -1,5 +1,5 @@
 -- Document 02, paper 4: a running test as three lent buffers, what each operation makes of their cells, and what the cells hold of a state.
-use Rattle.std.specs.Prelude.{◌≡◌, Bool, cond, ℕ, zero, suc, ◌+◌, ◌-◌, ◌*◌, ◌≤◌, ◌<◌, ltb, length, get_or, set, take, drop, replicate, ℤ, pos, ◌+ℤ◌}
+use Rattle.std.specs.Prelude.{◌≡◌, Bool, cond, ℕ, zero, suc, ◌+◌, ◌-◌, ◌*◌, ◌≤◌, ◌<◌, ltb, length, get_or, set, take, drop, replicate, ℤ, pos, ◌+ℤ◌, Ok, Err}
 use mathlib.Core.List.{List, [], ◌∷◌, ◌++◌, flat_map}
 use Rattle.std.proofs.Math.Option.{Option, none, some}
 use Rattle.lists.specs.Lists.{list_to}
@@ -7,19 +7,19 @@ use Rattle.lists.specs.Lent.{Lent, after, overwrite}
 use Rattle.tariff.specs.declared.contracts.Contract.{Contract}
 use Rattle.tariff.specs.declared.contracts.Period.{Period}
 use Rattle.tariff.specs.declared.processes.Process.{Process}
-use Rattle.tariff.specs.declared.refusals.Checked.{Checked}
+use Rattle.tariff.specs.Refusals.{Checked}
 use Rattle.tariff.specs.Units.{Factors, Grid, max_constraints, max_contracts}
 use Rattle.tariff.specs.ContractRules.{of_period}
 use Rattle.tariff.specs.Feasibility.{flow, total_flow}
-use Rattle.tariff.specs.Refusals.{Check, first, decided, Outcome, given, refused_by}
+use Rattle.tariff.specs.Refusals.{Check, first, decided, Outcome, given, refused_by, passed}
 use Rattle.tariff.specs.Checks.{short_table}
 use Rattle.tariff.specs.Shortfall.{IsWorst}
 use Rattle.layouts.specs.BookTable.{contract_cells, cells_of}
 use Rattle.test_rules.specs.TestBook.{test_values}
-use Rattle.tier_rules.specs.declared.RunningAnswer.{RunningAnswer}
-use Rattle.tier_rules.specs.declared.RunningAnswer.TheVariants.{Held, Refused}
 use Rattle.tier_rules.specs.Tiers.{Tiers, Reached}
 use Rattle.tier_rules.specs.Checks.{max_tier}
+use Rattle.std.specs.Prelude.{Result, ⊤}
+use Rattle.tariff.specs.declared.refusals.Refusal.{Refusal}
 
 -- ---- the buffers
 
@@ -69,10 +69,14 @@ left_in awards numbers flows = state_cells (after awards) (after numbers) (after
 abbrev pub state_buffers : List ℕ → List ℤ → List Check
 state_buffers numbers flows = short_table (length numbers) state_numbers ∷ short_table (length flows) state_flows ∷ []
 
+-- what an operation on a running test answers: nothing, or the refusal
+abbrev pub RunningAnswer : Type 0
+RunningAnswer = Result ⊤ Refusal
+
 -- success gives no figure: they stand in the buffers
 abbrev pub running_outcome : RunningAnswer → Outcome
-running_outcome Held = given []
-running_outcome (Refused r) = refused_by r
+running_outcome (Ok _) = given []
+running_outcome (Err r) = refused_by r
 
 -- ---- what each operation makes of them
 

@@ -1,7 +1,7 @@
 -- Document 02, paper 4: what the theorems say of the awards held as a book.
-use Rattle.std.specs.Prelude.{◌≡◌, List, [], ℕ, ◌<◌}
+use Rattle.std.specs.Prelude.{◌≡◌, List, [], ℕ, ◌<◌, Ok}
 use Rattle.tariff.specs.declared.contracts.Contract.{Contract}
-use Rattle.tariff.specs.declared.refusals.Checked.TheVariants.{Passed}
+use Rattle.tariff.specs.Refusals.{passed}
 use Rattle.layouts.specs.declared.forms.Form.{Form}
 use Rattle.layouts.specs.Forms.{ends_below_of}
 use Rattle.layouts.specs.BookFile.{book_in}
@@ -14,6 +14,6 @@ pub record EndsFit (f : Form) (n : ℕ) (c : Contract) : Type 0 where
 
 -- a book of awards that the test accepts and passes
 pub record HeldBook (q : TestCall) (awards : List Contract) : Type 0 where
-  pub accepted : test_checked q ≡ Passed
+  pub accepted : test_checked q ≡ passed
   pub reads_back : book_in q.book ≡ awards
   pub passes : test_values (tested_grid q) (tested_process q) (tested_contracts q) ≡ []

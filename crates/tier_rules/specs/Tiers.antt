@@ -1,12 +1,12 @@
 -- Document 02, paper 4, "Tiers to come back to": the awards held and the marks of a running test, what each operation makes of them, and what is known of every
 -- state reached.
-use Rattle.std.specs.Prelude.{◌≡◌, cond, List, [], ◌∷◌, ◌++◌, ℕ, ◌≤◌, leb, eqb, length, take}
+use Rattle.std.specs.Prelude.{◌≡◌, cond, List, [], ◌∷◌, ◌++◌, ℕ, ◌≤◌, leb, eqb, length, take, Ok}
 use Rattle.std.proofs.Math.Option.{Option, none, some}
 use Rattle.lists.specs.Lists.{Each}
 use Rattle.tariff.specs.declared.contracts.Contract.{Contract}
 use Rattle.tariff.specs.declared.contracts.Period.{Period}
 use Rattle.tariff.specs.declared.processes.Process.{Process}
-use Rattle.tariff.specs.declared.refusals.Checked.TheVariants.{Passed}
+use Rattle.tariff.specs.Refusals.{passed}
 use Rattle.tariff.specs.Units.{Grid, max_contracts, max_holder}
 use Rattle.tariff.specs.ContractRules.{of_period}
 use Rattle.tariff.specs.Refusals.{first}
@@ -39,7 +39,7 @@ returned m s = record { awards = take m s.awards; mark = λ j. kept m (s.mark j)
 
 -- an award that a book of n nodes can hold
 pub record Award (n : ℕ) (c : Contract) : Type 0 where
-  pub checks_pass : first (contract_checks n c) ≡ Passed
+  pub checks_pass : first (contract_checks n c) ≡ passed
   pub holder-few : c.holder ≤ max_holder
 
 -- What is known of a state that the operations gave: each award is one that a book can hold, there are at most 1,000, those of the period pass however many of

@@ -1,8 +1,7 @@
 // The checks of opening and adding: as the test does up to 7, with the lent buffers under the 9.
 #![tactic(auto)]
 
-ghost use Rattle.std.specs.Prelude.{◌≡◌, [], ◌∷◌, length};
-ghost use Rattle.lists.specs.Lent.{before};
+ghost use Rattle.std.specs.Prelude.{◌≡◌, [], ◌∷◌};
 ghost use Rattle.tariff.specs.Refusals.{first};
 ghost use Rattle.tier_rules.specs.Checks.{running_checks};
 ghost use Rattle.tier_rules.specs.Cells.{held_in};
@@ -10,7 +9,7 @@ ghost use Rattle.tier_running_rules.specs.AddAward.{add_award_on};
 ghost use Rattle.tier_running_rules.specs.Inner.{counts_bad_of, state_short_of, short_if, up_to13};
 
 use layouts::CONTRACT_CELLS;
-use tariff::{Checked, MAX_CONSTRAINTS, MAX_CONTRACTS, Refusal};
+use tariff::{MAX_CONSTRAINTS, MAX_CONTRACTS, Refusal};
 use test_terms::Asked;
 use tier_rules::{AWARDS_CELLS, FLOWS, NUMBERS};
 
@@ -28,7 +27,7 @@ fn counts_bad(asked: Asked) -> bool
     nodes_bad | (constraints_bad | (process_bad | period_bad))
 }
 
-// 9 for the three buffers, by their lengths.
+// 9 for the three buffers, by their lengths. They stay apart, as C lends them to opening and adding.
 pub fn state_short(awards: usize, numbers: usize, flows: usize) -> bool
     ensures { result ≡ state_short_of awards numbers flows }
 {
@@ -38,8 +37,13 @@ pub fn state_short(awards: usize, numbers: usize, flows: usize) -> bool
     awards_short | (numbers_short | flows_short)
 }
 
-// 2, 3, 16, 17, 9, 6, 7, where `short` says whether some buffer is too short.
-pub fn check_tables(asked: Asked, limits: &[u64], factors: &[i64], short: bool) -> Checked
+// 2, 3, 16, 17, 9, 6, 7, where `short` says whether some buffer is too short. Limits and factors are no `GridTable` yet.
+pub fn check_tables(
+    asked: Asked,
+    limits: &[u64],
+    factors: &[i64],
+    short: bool,
+) -> Result<(), Refusal>
     ensures { result ≡ first (running_checks asked.nodes asked.constraints asked.process asked.period
         (limits.now) (factors.now) (short_if short ∷ [])) }
 {
@@ -47,7 +51,7 @@ pub fn check_tables(asked: Asked, limits: &[u64], factors: &[i64], short: bool) 
         return test_terms::check_tables(asked, limits, factors);
     }
     if short {
-        return Checked::Refused(Refusal::ShortTable);
+        return Err(Refusal::ShortTable);
     }
     test_terms::check_tables(asked, limits, factors)
 }
@@ -61,19 +65,16 @@ pub fn check_award(
     awards: &[u64],
     numbers: &[u64],
     flows: &[i64],
-) -> Checked
+) -> Result<(), Refusal>
     ensures { result ≡ first (up_to13
         (add_award_on asked.nodes asked.constraints asked.process asked.period limits.now factors.now award.now awards.now numbers.now flows.now)
         (held_in numbers.now)) }
 {
     let award_short = award.len() < CONTRACT_CELLS;
     let short = award_short | state_short(awards.len(), numbers.len(), flows.len());
-    let checked = check_tables(asked, limits, factors, short);
-    if let Checked::Refused(refusal) = checked {
-        return Checked::Refused(refusal);
-    }
+    check_tables(asked, limits, factors, short)?;
     if MAX_AWARDS <= numbers[0] {
-        return Checked::Refused(Refusal::ContractCount);
+        return Err(Refusal::ContractCount);
     }
     book_rows::check_row(asked.nodes, award, 0)
 }

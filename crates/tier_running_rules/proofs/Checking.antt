@@ -11,8 +11,8 @@ use lib.IntN.{ℤ}
 use Rattle.lists.proofs.Search.{neither}
 use Rattle.tariff.specs.declared.refusals.Refusal.{Refusal}
 use Rattle.tariff.specs.declared.refusals.Refusal.TheVariants.{ShortTable, ContractCount}
-use Rattle.tariff.specs.declared.refusals.Checked.{Checked}
-use Rattle.tariff.specs.declared.refusals.Checked.TheVariants.{Passed, Refused}
+use Rattle.tariff.specs.Refusals.{Checked, passed}
+use Rattle.std.specs.Prelude.{Ok, Err}
 use Rattle.tariff.specs.Units.{max_contracts}
 use Rattle.tariff.specs.Refusals.{Check, first}
 use Rattle.tariff.specs.Checks.{node_count, constraint_count, process_number, period_number, short_table, limit_range, factor_range, contract_count}
@@ -53,7 +53,7 @@ module _ (n k process period : ℕ) (limits : List ℕ) (factors : List ℤ) whe
   unfolding first grid_table_checks running_checks
   buffers_long = refl
 
-  pub buffers_short : counts_bad_of n k process period ≡ false → Refused ShortTable ≡ first (listed (short_if true ∷ []))
+  pub buffers_short : counts_bad_of n k process period ≡ false → Err ShortTable ≡ first (listed (short_if true ∷ []))
   unfolding first running_checks
   buffers_short e =
       let a = neither (node_count n).fails ((constraint_count k).fails || ((process_number process).fails || (period_number period).fails)) e in
@@ -61,13 +61,13 @@ module _ (n k process period : ℕ) (limits : List ℕ) (factors : List ℤ) whe
       let c = neither (process_number process).fails (period_number period).fails b.1 in
       rw (a.0, b.0, c.0, c.1) (by (ltb (length limits) k) (ltb (length factors) (n * k)))
     where
-      by : (x y : Bool) → Refused ShortTable ≡ cond x (Refused ShortTable) (cond y (Refused ShortTable) (Refused ShortTable))
+      by : (x y : Bool) → ◌≡◌ {A = Checked} (Err ShortTable) (cond x (Err ShortTable) (cond y (Err ShortTable) (Err ShortTable)))
       by true y = refl
       by false true = refl
       by false false = refl
 
   -- where none refuses, the buffers are long and the tables good
-  pub listed-passed : (b : Bool) → first (listed (short_if b ∷ [])) ≡ Passed → (b ≡ false) × GridTables n k process period limits factors
+  pub listed-passed : (b : Bool) → first (listed (short_if b ∷ [])) ≡ passed → (b ≡ false) × GridTables n k process period limits factors
   unfolding running_checks
   listed-passed b e =
       let nine = (passed_cons _ _ (passed_cons _ _ (passed_cons _ _ (passed_cons _ _ e).1).1).1).1 in
@@ -117,7 +117,7 @@ module _ (q : OpenRunningCall) where
     pub numbers-long : state_numbers ≤ length q.numbers
     pub flows_long : state_flows ≤ length q.flows
 
-  pub openable : open_running_checked q ≡ Passed → Openable
+  pub openable : open_running_checked q ≡ passed → Openable
   openable e =
       let p = listed-passed q.nodes q.constraints q.process q.period q.limits q.factors open_short (open_is _ refl ∙ e) in
       let l = long-three (length q.awards) (length q.numbers) (length q.flows) p.0 in
@@ -146,7 +146,7 @@ module _ (q : AddAwardCall) where
     pub numbers-long : state_numbers ≤ length q.numbers
     pub flows_long : state_flows ≤ length q.flows
 
-  pub add_tables : first tables_listed ≡ Passed → AddTables
+  pub add_tables : first tables_listed ≡ passed → AddTables
   add_tables e =
       let p = listed-passed q.nodes q.constraints q.process q.period q.limits q.factors add_short (tables-are ∙ e) in
       let a = neither (ltb (length q.award) contract_cells) (state_short_of (length q.awards) (length q.numbers) (length q.flows)) p.0 in
@@ -155,18 +155,18 @@ module _ (q : AddAwardCall) where
 
   -- x is what the tables' checks found
   module _ (x : Checked) (found : x ≡ first (running_checks q.nodes q.constraints q.process q.period q.limits q.factors (short_if add_short ∷ []))) (held : ℕ) where
-    pub tables-refuse : (r : Refusal) → x ≡ Refused r → Refused r ≡ first (up_to13 q held)
+    pub tables-refuse : (r : Refusal) → x ≡ Err r → Err r ≡ first (up_to13 q held)
     unfolding up_to13
     tables-refuse r told = sym (append_refuses tables_listed _ r (sym (found ∙ tables-are) ∙ told))
 
-    pub tables-pass : x ≡ Passed → AddTables
+    pub tables-pass : x ≡ passed → AddTables
     tables-pass told = add_tables (sym (found ∙ tables-are) ∙ told)
 
-    pub one_too_many : x ≡ Passed → 1000 ≤ held → Refused ContractCount ≡ first (up_to13 q held)
+    pub one_too_many : x ≡ passed → 1000 ≤ held → Err ContractCount ≡ first (up_to13 q held)
     unfolding up_to13
     one_too_many told h = sym (append_passes tables_listed _ (sym (found ∙ tables-are) ∙ told) ∙ first-refuses (contract_count (held + 1)) _ (lt-ltb max_contracts (held + 1) (omega arith)))
 
-    pub then_row : x ≡ Passed → held < 1000 → (y : Checked) → y ≡ first (row_checks q.nodes q.award 0) → y ≡ first (up_to13 q held)
+    pub then_row : x ≡ passed → held < 1000 → (y : Checked) → y ≡ first (row_checks q.nodes q.award 0) → y ≡ first (up_to13 q held)
     unfolding up_to13
     then_row told h y e =
         e ∙ sym (append_passes tables_listed _ (sym (found ∙ tables-are) ∙ told)
@@ -176,9 +176,9 @@ module _ (q : AddAwardCall) where
   pub record Fields (held : ℕ) : Type 0 where
     pub before : AddTables
     pub room : held < max_contracts
-    pub row : first (row_checks q.nodes q.award 0) ≡ Passed
+    pub row : first (row_checks q.nodes q.award 0) ≡ passed
 
-  pub fields : (held : ℕ) → first (up_to13 q held) ≡ Passed → Fields held
+  pub fields : (held : ℕ) → first (up_to13 q held) ≡ passed → Fields held
   unfolding up_to13
   fields held e =
       let p = passed_append tables_listed (contract_count (held + 1) ∷ row_checks q.nodes q.award 0) e in

@@ -33,15 +33,6 @@ abbrev pub beyond : ℕ → ℤ → Bool
 beyond counted z = ltb (max_flow * counted) (nat_abs z)
 
 module _ (k : ℕ) (numbers : List ℕ) (flows : List ℤ) where
-  pub more_counted : held_in numbers < counted_in numbers → true ≡ no_state_of k numbers flows
-  unfolding no_state_of
-  more_counted h = sym (rw (lt-ltb (held_in numbers) (counted_in numbers) h))
-
-  pub flow-found : counted_in numbers ≤ held_in numbers → (j : ℕ) → j < length (take k flows) → beyond (counted_in numbers) (get_or (take k flows) j (pos 0)) ≡ true
-      → true ≡ no_state_of k numbers flows
-  unfolding no_state_of
-  flow-found h j l e = sym (rw (le-ltb (held_in numbers) (counted_in numbers) h) (any_of_bad (beyond (counted_in numbers)) (take k flows) j (pos 0) l e))
-
   pub none_found : counted_in numbers ≤ held_in numbers → any_of (beyond (counted_in numbers)) (take k flows) ≡ false → false ≡ no_state_of k numbers flows
   unfolding no_state_of
   none_found h e = sym (rw (le-ltb (held_in numbers) (counted_in numbers) h) e)

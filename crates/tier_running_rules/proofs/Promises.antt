@@ -8,15 +8,14 @@ use lib.ListN.{length}
 use lib.IntN.{ℤ}
 use Rattle.tariff.specs.declared.refusals.Refusal.{Refusal}
 use Rattle.tariff.specs.declared.refusals.Refusal.TheVariants.{AwardOverload}
-use Rattle.tariff.specs.declared.refusals.Checked.{Checked}
-use Rattle.tariff.specs.declared.refusals.Checked.TheVariants.{Passed, Refused}
+use Rattle.tariff.specs.Refusals.{Checked, passed}
+use Rattle.std.specs.Prelude.{Ok, Err}
 use Rattle.tariff.specs.Units.{grid_of}
 use Rattle.tariff.specs.ContractRules.{period_of}
 use Rattle.tariff.specs.Processes.{process_of}
 use Rattle.tariff.specs.Refusals.{first, answered, cell_after}
 use Rattle.tariff.proofs.Checks.{append_refuses, append_passes, passed_append, first-refuses, last-passes}
-use Rattle.tier_rules.specs.declared.RunningAnswer.{RunningAnswer}
-use Rattle.tier_rules.specs.declared.RunningAnswer.TheVariants as is
+use Rattle.tier_rules.specs.Cells.{RunningAnswer}
 use Rattle.tier_rules.specs.Tiers.{Tiers, opened, with_award, Reached}
 use Rattle.tier_rules.specs.Checks.{overload, award_checks, award_over}
 use Rattle.tier_rules.specs.Cells.{held_in, state_cells, running_outcome, opened_numbers, opened_flows, with_award_row, with_award_numbers, with_award_flows, HoldsTiers}
@@ -60,13 +59,13 @@ module _ (q : AddAwardCall) where
 
   -- x is what the checks before 21 found
   module _ (x : Checked) (found : x ≡ first (up_to13 q held)) where
-    pub field-refuses : (r : Refusal) → x ≡ Refused r → add_award_checked q ≡ Refused r
+    pub field-refuses : (r : Refusal) → x ≡ Err r → add_award_checked q ≡ Err r
     field-refuses r told = in_parts over ∙ append_refuses (up_to13 q held) (overload over ∷ []) r (sym found ∙ told)
 
-    pub over-refuses : x ≡ Passed → over ≡ true → add_award_checked q ≡ Refused AwardOverload
+    pub over-refuses : x ≡ passed → over ≡ true → add_award_checked q ≡ Err AwardOverload
     over-refuses told e = in_parts over ∙ append_passes (up_to13 q held) (overload over ∷ []) (sym found ∙ told) ∙ first-refuses (overload over) [] e
 
-    pub held_passes : x ≡ Passed → over ≡ false → add_award_checked q ≡ Passed
+    pub held_passes : x ≡ passed → over ≡ false → add_award_checked q ≡ passed
     held_passes told e = in_parts over ∙ append_passes (up_to13 q held) (overload over ∷ []) (sym found ∙ told) ∙ last-passes (overload over) e
 
   abbrev state : Tiers → Type 0
@@ -84,12 +83,12 @@ module _ (q : AddAwardCall) where
       ∙ sym (in_parts (award_over (add_grid q) (add_process q) (add_period q) s.awards (awarded q)).fails)
       ∙ ap (λ (m : ℕ). first (add_listed q m (award_over (add_grid q) (add_process q) (add_period q) s.awards (awarded q)))) e
 
-  award-passes : (s : Tiers) → first (add_award_checks q s) ≡ Passed
-      → first (award_checks q.nodes (length s.awards) q.award (award_over (add_grid q) (add_process q) (add_period q) s.awards (awarded q))) ≡ Passed
+  award-passes : (s : Tiers) → first (add_award_checks q s) ≡ passed
+      → first (award_checks q.nodes (length s.awards) q.award (award_over (add_grid q) (add_process q) (add_period q) s.awards (awarded q))) ≡ passed
   unfolding add_listed
   award-passes s e = (passed_append (tables_listed q) _ e).1
 
-  next-state : (s : Tiers) → state s → add_award_checked q ≡ Passed → Reached (add_grid q) (add_process q) (add_period q) (with_award (awarded q) s)
+  next-state : (s : Tiers) → state s → add_award_checked q ≡ passed → Reached (add_grid q) (add_process q) (add_period q) (with_award (awarded q) s)
       × HoldsTiers (add_grid q) (add_period q) (with_award (awarded q) s)
       (state_cells (with_award_row held (awarded q) q.awards) (with_award_numbers (own_period q) q.numbers) (with_award_flows (own_period q) (add_factors q) (awarded q) q.flows))
   next-state s st e =
@@ -111,14 +110,14 @@ module _ (q : AddAwardCall) where
   adds-award answer awards numbers flows a ea en ef =
       record { answer-given = a; awards-added = ea; numbers-added = en; flows-added = ef; running = rw (ea, en, ef) add_goes_on }
 
-  pub adds-refused : (r : Refusal) → add_award_checked q ≡ Refused r → AddsAward q (is.Refused r) (state_cells q.awards q.numbers q.flows)
-  adds-refused r e = adds-award (is.Refused r) q.awards q.numbers q.flows (rw e) (rw e) (rw e) (rw e)
+  pub adds-refused : (r : Refusal) → add_award_checked q ≡ Err r → AddsAward q (Err r) (state_cells q.awards q.numbers q.flows)
+  adds-refused r e = adds-award (Err r) q.awards q.numbers q.flows (rw e) (rw e) (rw e) (rw e)
 
   -- 21, where the buffers that were to be written are as they were
-  pub adds-21 : add_award_checked q ≡ Refused AwardOverload → (numbers : List ℕ) (flows : List ℤ) → numbers ≡ q.numbers → flows ≡ q.flows
-      → AddsAward q (is.Refused AwardOverload) (state_cells q.awards numbers flows)
-  adds-21 e numbers flows en ef = adds-award (is.Refused AwardOverload) q.awards numbers flows (rw e) (rw e) (rw e en) (rw e ef)
+  pub adds-21 : add_award_checked q ≡ Err AwardOverload → (numbers : List ℕ) (flows : List ℤ) → numbers ≡ q.numbers → flows ≡ q.flows
+      → AddsAward q (Err AwardOverload) (state_cells q.awards numbers flows)
+  adds-21 e numbers flows en ef = adds-award (Err AwardOverload) q.awards numbers flows (rw e) (rw e) (rw e en) (rw e ef)
 
-  pub adds-passed : add_award_checked q ≡ Passed → (awards numbers : List ℕ) (flows : List ℤ) → awards ≡ with_award_row held (awarded q) q.awards
-      → numbers ≡ with_award_numbers (own_period q) q.numbers → flows ≡ with_award_flows (own_period q) (add_factors q) (awarded q) q.flows → AddsAward q is.Held (state_cells awards numbers flows)
-  adds-passed e awards numbers flows ea en ef = adds-award is.Held awards numbers flows (rw e) (rw e ea) (rw e en) (rw e ef)
+  pub adds-passed : add_award_checked q ≡ passed → (awards numbers : List ℕ) (flows : List ℤ) → awards ≡ with_award_row held (awarded q) q.awards
+      → numbers ≡ with_award_numbers (own_period q) q.numbers → flows ≡ with_award_flows (own_period q) (add_factors q) (awarded q) q.flows → AddsAward q passed (state_cells awards numbers flows)
+  adds-passed e awards numbers flows ea en ef = adds-award passed awards numbers flows (rw e) (rw e ea) (rw e en) (rw e ef)

@@ -8,7 +8,7 @@ use Rattle.lists.specs.Sets.{set_of}
 use Rattle.tariff.specs.declared.contracts.Contract.{Contract}
 use Rattle.tariff.specs.declared.contracts.Period.{Period}
 use Rattle.tariff.specs.declared.processes.Process.{Process}
-use Rattle.tariff.specs.declared.refusals.Checked.{Checked}
+use Rattle.tariff.specs.Refusals.{Checked}
 use Rattle.tariff.specs.Units.{Factors, Grid, factors_of, grid_of, max_flow}
 use Rattle.tariff.specs.ContractRules.{same_period, period_of}
 use Rattle.tariff.specs.Processes.{process_of}
@@ -16,7 +16,7 @@ use Rattle.tariff.specs.Feasibility.{released}
 use Rattle.tariff.specs.Refusals.{Check, first, answered, cell_after, ForC}
 use Rattle.tariff.specs.Checks.{short_table}
 use Rattle.layouts.specs.BookTable.{contract_cells, row_at}
-use Rattle.tier_rules.specs.declared.RunningAnswer.{RunningAnswer}
+use Rattle.tier_rules.specs.Cells.{RunningAnswer}
 use Rattle.tier_rules.specs.Tiers.{Tiers, with_award}
 use Rattle.tier_rules.specs.Checks.{overload, running_checks, award_checks, award_over}
 use Rattle.tier_rules.specs.Cells.{awards_cells, held_in, counted_in, StateCells, state_cells, state_buffers, running_outcome}

@@ -1,14 +1,13 @@
 -- Opening a running test for one period and process (document 02, paper 4: "Opening and adding check as the test does up to 7").
-use Rattle.std.specs.Prelude.{◌≡◌, List, [], ◌∷◌, ℕ, length, ℤ}
+use Rattle.std.specs.Prelude.{◌≡◌, List, [], ◌∷◌, ℕ, length, ℤ, Ok}
 use Rattle.lists.specs.Lent.{Lent, before}
-use Rattle.tariff.specs.declared.refusals.Checked.{Checked}
-use Rattle.tariff.specs.declared.refusals.Checked.TheVariants.{Passed}
+use Rattle.tariff.specs.Refusals.{Checked, passed}
 use Rattle.tariff.specs.Units.{grid_of}
 use Rattle.tariff.specs.ContractRules.{period_of}
 use Rattle.tariff.specs.Processes.{process_of}
 use Rattle.tariff.specs.Refusals.{Check, first, answered, cell_after, ForC}
 use Rattle.tariff.specs.Checks.{short_table}
-use Rattle.tier_rules.specs.declared.RunningAnswer.{RunningAnswer}
+use Rattle.tier_rules.specs.Cells.{RunningAnswer}
 use Rattle.tier_rules.specs.Tiers.{opened}
 use Rattle.tier_rules.specs.Checks.{running_checks}
 use Rattle.tier_rules.specs.Cells.{awards_cells, state_cells, state_buffers, running_outcome, opened_numbers, opened_flows, Running}
@@ -63,7 +62,7 @@ module _ (q : OpenRunningCall) where
   -- nothing is held and nothing marked: a running test that the other operations take
   abbrev pub OpenedRunning : List ℕ → List ℤ → Type 0
   OpenedRunning numbers flows =
-      open_running_checked ≡ Passed
+      open_running_checked ≡ passed
       → Running (grid_of q.nodes q.constraints q.limits q.factors) (process_of q.process) (period_of q.period) opened
       (state_cells q.awards numbers flows)
 

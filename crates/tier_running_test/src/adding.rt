@@ -8,12 +8,12 @@ ghost use Rattle.tier_rules.specs.Cells.{awards_cells, state_numbers, held_in, l
 ghost use Rattle.tier_running_rules.specs.AddAward.{add_award_on, AddsAward};
 ghost use Rattle.tier_running_rules.specs.Inner.{Addable, AddsFlows};
 
+use grid_tables::GridTable;
 use layouts::CONTRACT_CELLS;
-use tariff::{Checked, Contract, Period, Process, Refusal};
+use tariff::{Contract, Period, Process, Refusal};
 use test_terms::Asked;
-use tier_rules::RunningAnswer;
 
-// Stores an award behind those held.
+// Stores an award behind those held. Awards, numbers and flows stay three buffers, here and below: C lends them so, with more cells behind them.
 fn store_award(c: Contract, awards: &mut [u64], numbers: &mut [u64])
     requires { (awards_cells ≤ length awards.old) × (state_numbers ≤ length numbers.old) × (held_in numbers.old < max_contracts) }
     ensures { (after awards ≡ with_award_row (held_in (before numbers)) c (before awards))
@@ -24,31 +24,22 @@ fn store_award(c: Contract, awards: &mut [u64], numbers: &mut [u64])
 }
 
 // Tries the flows of an award: those of one of the period are added, unless 21 comes instead, which it says.
+// A `bool`, as each check's: 21 is the one refusal, and `AddsFlows` speaks of the buffers by it.
 fn try_flows(
     asked: Asked,
-    limits: &[u64],
-    factors: &[i64],
+    grid: GridTable,
     c: Contract,
     numbers: &mut [u64],
     flows: &mut [i64],
 ) -> bool
-    requires { (asked.process ≤ 2) × Addable asked.nodes asked.constraints limits.now factors.now c numbers.old flows.old }
-    ensures { AddsFlows (same_period c.period (period_of asked.period)) limits.now (process_of asked.process)
-        (factors_of asked.nodes asked.constraints (factors.now)) c (before numbers) (before flows) result (after numbers) (after flows) }
+    requires { Addable grid.factors.nodes grid.factors.constraints grid.limits.now grid.factors.cells.now c numbers.old flows.old }
+    ensures { AddsFlows (same_period c.period (period_of asked.period)) grid.entry.limits.now (process_of asked.process)
+        (factors_of grid.entry.factors.nodes grid.entry.factors.constraints grid.entry.factors.cells.now) c
+        (before numbers) (before flows) result (after numbers) (after flows) }
 {
-    let own = c.period;
-    let is_own = own.same(Period::from_number(asked.period));
-    tier_running_flows::add_flows(
-        is_own,
-        asked.nodes,
-        asked.constraints,
-        Process::from_number(asked.process),
-        limits,
-        factors,
-        c,
-        numbers,
-        flows,
-    )
+    let is_own = c.period == Period::from(asked.period);
+    let process = Process::from(asked.process);
+    tier_running_flows::add_flows(is_own, grid, process, c, numbers, flows)
 }
 
 // Adds an award to a running test, unless some flow would exceed its released limit: its checks before 21, its flows, then its row.
@@ -60,21 +51,17 @@ pub fn add_award(
     awards: &mut [u64],
     numbers: &mut [u64],
     flows: &mut [i64],
-) -> RunningAnswer
+) -> Result<(), Refusal>
     ensures { AddsAward (add_award_on asked.nodes asked.constraints asked.process asked.period limits.now factors.now award.now
         (before awards) (before numbers) (before flows)) result (left_in awards numbers flows) }
 {
-    let checked = tier_running_checks::check_award(
-        asked, limits, factors, award, awards, numbers, flows,
-    );
-    if let Checked::Refused(refusal) = checked {
-        return RunningAnswer::Refused(refusal);
-    }
+    tier_running_checks::check_award(asked, limits, factors, award, awards, numbers, flows)?;
     let c = book_rows::contract_from(award, 0);
-    let over = try_flows(asked, limits, factors, c, numbers, flows);
+    let grid = GridTable::of(asked.nodes, asked.constraints, limits, factors);
+    let over = try_flows(asked, grid, c, numbers, flows);
     if over {
-        return RunningAnswer::Refused(Refusal::AwardOverload);
+        return Err(Refusal::AwardOverload);
     }
     store_award(c, awards, numbers);
-    RunningAnswer::Held
+    Ok(())
 }

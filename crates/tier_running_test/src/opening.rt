@@ -1,38 +1,12 @@
 // Opening a running test: nothing is held and no tier is marked.
-ghost use Rattle.std.specs.Prelude.{◌≡◌, ◌≤◌, length};
 ghost use Rattle.lists.specs.Lent.{before, after};
-ghost use Rattle.tier_rules.specs.Cells.{state_numbers, state_flows, opened_numbers, opened_flows};
 ghost use Rattle.tier_running_rules.specs.OpenRunning.{open_running_on, OpensRunning};
 
-use tariff::Checked;
+use tariff::Refusal;
 use test_terms::Asked;
-use tier_rules::{FLOWS, NUMBERS, RunningAnswer};
+use tier_rules::{FLOWS, NUMBERS};
 
-// No award, and no mark.
-fn clear_numbers(numbers: &mut [u64])
-    requires { state_numbers ≤ length numbers.old }
-    ensures { after numbers ≡ opened_numbers (before numbers) }
-{
-    let mut i = 0;
-    while i < NUMBERS {
-        numbers[i] = 0;
-        i += 1;
-    }
-}
-
-// No flow.
-fn clear_flows(flows: &mut [i64])
-    requires { state_flows ≤ length flows.old }
-    ensures { after flows ≡ opened_flows (before flows) }
-{
-    let mut i = 0;
-    while i < FLOWS {
-        flows[i] = 0;
-        i += 1;
-    }
-}
-
-// Opens a running test of a grid, a process and a period in three lent buffers.
+// Opens a running test of a grid, a process and a period in three lent buffers, which stay apart as C lends them.
 pub fn open_running(
     asked: Asked,
     limits: &[u64],
@@ -40,17 +14,13 @@ pub fn open_running(
     awards: &[u64],
     numbers: &mut [u64],
     flows: &mut [i64],
-) -> RunningAnswer
+) -> Result<(), Refusal>
     ensures { OpensRunning (open_running_on asked.nodes asked.constraints asked.process asked.period limits.now factors.now awards.now (before numbers) (before flows))
         result (after numbers) (after flows) }
 {
     let short = tier_running_checks::state_short(awards.len(), numbers.len(), flows.len());
-    match tier_running_checks::check_tables(asked, limits, factors, short) {
-        Checked::Refused(refusal) => RunningAnswer::Refused(refusal),
-        Checked::Passed => {
-            clear_numbers(numbers);
-            clear_flows(flows);
-            RunningAnswer::Held
-        }
-    }
+    tier_running_checks::check_tables(asked, limits, factors, short)?;
+    numbers[..NUMBERS].fill(0);
+    flows[..FLOWS].fill(0);
+    Ok(())
 }

@@ -3,7 +3,7 @@ use mathlib.Core.Path.{◌≡◌, sym, subst}
 use mathlib.Core.List.{List}
 use Prim.Native.Nat.{ℕ}
 use Rattle.tariff.specs.declared.contracts.Contract.{Contract}
-use Rattle.tariff.specs.declared.refusals.Checked.TheVariants.{Passed}
+use Rattle.tariff.specs.Refusals.{passed}
 use Rattle.tariff.specs.Refusals.{first}
 use Rattle.layouts.specs.BookFile.{book_in}
 use Rattle.book_rules.specs.BookChecks.{own_checks}
@@ -13,5 +13,5 @@ use Rattle.view_figures.specs.Theorems.{SameMarketFigures}
 use Rattle.view_figures.proofs.Figures.{figures-same}
 
 -- every flow, verdict, amount and total of the market's view of an accepted book is the book's
-pub market_figures : (n : ℕ) (s : List ℕ) → first (own_checks n s) ≡ Passed → SameMarketFigures (book_in (market_file s)) (book_in s)
+pub market_figures : (n : ℕ) (s : List ℕ) → first (own_checks n s) ≡ passed → SameMarketFigures (book_in (market_file s)) (book_in s)
 market_figures n s ok = subst (λ (cs : List Contract). SameMarketFigures cs (book_in s)) (sym (market_is_a_book n s ok).contracts) (figures-same (book_in s))

@@ -8,7 +8,8 @@ use lib.Dec.{ltb}
 use lib.ListN.{length}
 use Rattle.tariff.specs.declared.refusals.Refusal.{Refusal}
 use Rattle.tariff.specs.declared.refusals.Refusal.TheVariants.{HolderRange, ShortTable}
-use Rattle.tariff.specs.declared.refusals.Checked.TheVariants.{Passed, Refused}
+use Rattle.std.specs.Prelude.{Err}
+use Rattle.tariff.specs.Refusals.{passed}
 use Rattle.tariff.specs.Units.{max_holder}
 use Rattle.tariff.specs.Refusals.{Check, first}
 use Rattle.tariff.specs.Checks.{holder_range, short_table}
@@ -28,28 +29,28 @@ module _ (q : HolderViewCall) where
   abbrev last : List Check
   last = short_table (length q.place) (length (holder_view q.holder q.book)) ∷ []
 
-  pub book-refuses : (r : Refusal) → first (own_checks q.nodes q.book) ≡ Refused r → holder_view_checked q ≡ Refused r
+  pub book-refuses : (r : Refusal) → first (own_checks q.nodes q.book) ≡ Err r → holder_view_checked q ≡ Err r
   unfolding holder_view_checks
   book-refuses r e = append_refuses (own_checks q.nodes q.book) (holder_range q.holder ∷ last) r e
 
-  module _ (accepted : first (own_checks q.nodes q.book) ≡ Passed) where
+  module _ (accepted : first (own_checks q.nodes q.book) ≡ passed) where
     holder-next : holder_view_checked q ≡ first (holder_range q.holder ∷ last)
     unfolding holder_view_checks
     holder-next = append_passes (own_checks q.nodes q.book) (holder_range q.holder ∷ last) accepted
 
-    pub no_holder : max_holder < q.holder → holder_view_checked q ≡ Refused HolderRange
+    pub no_holder : max_holder < q.holder → holder_view_checked q ≡ Err HolderRange
     no_holder h = holder-next ∙ first-refuses _ _ (lt-ltb max_holder q.holder h)
 
     module _ (few : q.holder ≤ max_holder) where
-      pub no_room : ltb (length q.place) (length (holder_view q.holder q.book)) ≡ true → holder_view_checked q ≡ Refused ShortTable
+      pub no_room : ltb (length q.place) (length (holder_view q.holder q.book)) ≡ true → holder_view_checked q ≡ Err ShortTable
       no_room h = holder-next ∙ first_passes _ _ (le-ltb max_holder q.holder few) ∙ first-refuses _ _ h
 
-      pub room : ltb (length q.place) (length (holder_view q.holder q.book)) ≡ false → holder_view_checked q ≡ Passed
+      pub room : ltb (length q.place) (length (holder_view q.holder q.book)) ≡ false → holder_view_checked q ≡ passed
       room h = holder-next ∙ first_passes _ _ (le-ltb max_holder q.holder few) ∙ last-passes _ h
 
   -- what holds where no check refuses
-  module _ (pass : holder_view_checked q ≡ Passed) where
-    pub accepted-of : first (own_checks q.nodes q.book) ≡ Passed
+  module _ (pass : holder_view_checked q ≡ passed) where
+    pub accepted-of : first (own_checks q.nodes q.book) ≡ passed
     unfolding holder_view_checks
     accepted-of = (passed_append (own_checks q.nodes q.book) (holder_range q.holder ∷ last) pass).0
 

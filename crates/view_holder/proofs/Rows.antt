@@ -21,6 +21,7 @@ use Rattle.layouts.specs.BookFile.{contract_in}
 use Rattle.layouts.specs.Inner.{contract_for}
 use Rattle.layouts.proofs.BookFile.{contract-in_fits}
 use Rattle.book_rules.specs.Inner.{contract_bytes, bits_bytes}
+use mir.Val.{bool_byte}
 use Rattle.view_rules.specs.Views.{numbered, held_at, held_to, view_row}
 use Rattle.view_rules.proofs.Numbers.{bits-bytes}
 use Rattle.view_rules.proofs.Rows.{row-bytes, length-rows, held_there, not_held}
@@ -116,8 +117,16 @@ unfolding held_to
 held_most h g zero = omega arith
 held_most h g (suc m) = omega (arith, length-append (held_to h g m) (held_at h m (g m)), held_most h g m, held_few h m (g m))
 
-pub one_held : (h i : ℕ) (c : Contract) → c.holder ≡ h → 1 ≡ length (held_at h i c)
-one_held h i c e = rw (held_there h i c e)
+-- how many numbered contracts one contract is, by a condition
+module _ (h i : ℕ) (c : Contract) where
+  pub held_long : bool_byte (eqb c.holder h) ≡ length (held_at h i c)
+  unfolding held_at
+  held_long = by (eqb c.holder h)
+    where
+      by : (b : Bool) → bool_byte b ≡ length (cond b (numbered i c ∷ []) [])
+      by true = refl
+      by false = refl
 
-pub none-held : (h i : ℕ) (c : Contract) → (c.holder ≡ h → ⊥) → 0 ≡ length (held_at h i c)
-none-held h i c ne = rw (not_held h i c ne)
+pub bool_most : (b : Bool) → bool_byte b ≤ 1
+bool_most true = omega arith
+bool_most false = omega arith

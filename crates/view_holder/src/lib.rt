@@ -3,19 +3,18 @@
 
 ghost use Rattle.std.specs.Prelude.{◌≡◌, List, ◌++◌, ℕ, ◌+◌, ◌*◌, ◌≤◌, ◌<◌, ltb, length, take, drop};
 ghost use Rattle.lists.specs.Lent.{before, after, overwrite};
-ghost use Rattle.tariff.specs.Units.{max_contracts};
 ghost use Rattle.layouts.specs.Forms.{end_width, record_bytes};
-ghost use Rattle.layouts.specs.BookFile.{book_bytes_of, contract_in};
+ghost use Rattle.layouts.specs.BookFile.{contract_in};
 ghost use Rattle.layouts.specs.Inner.{contract_for};
 ghost use Rattle.view_rules.specs.Views.{held_at as held_at_of, held_to};
 ghost use Rattle.view_rules.specs.HolderView.{holder_view_call, holder_view_checked, WritesHolderView};
 ghost use Rattle.view_holder.specs.Inner.{stored_row, rows_at, rows_to};
 
-use book_bits::{NARROW_END_WIDTH, WIDE_END_WIDTH};
-use layouts::{Form, WriteAnswer};
-use tariff::{Checked, MAX_HOLDER, Refusal};
+use book_bits::{Contracts, NARROW_END_WIDTH, WIDE_END_WIDTH};
+use layouts::Form;
+use tariff::{MAX_HOLDER, Refusal};
 
-// The holder among a contract's bits.
+// The holder among a contract's bits. The form is matched as in `book_bits::bits_at`, but each arm calls its own function with its own width.
 fn holder_of(form: Form, v: u64) -> u64
     ensures { result ≡ (contract_for (end_width form) v).holder }
 {
@@ -36,58 +35,46 @@ fn row_bytes(form: Form) -> usize
 }
 
 // 1 where the holder has contract i, else 0.
-fn held_at(book: &[u8], form: Form, holder: u64, i: usize) -> usize
-    requires { (i < 1024) × (book_bytes_of form i + record_bytes form ≤ length book.now) }
-    ensures { (result ≡ length (held_at_of holder i (contract_in form book.now i))) × (result ≤ 1) }
+// `contracts` and `holder` go together below: a struct of both would have no fact of its own, and put `self.` before each.
+fn held_at(contracts: Contracts, holder: u64, i: usize) -> usize
+    requires { i < contracts.count }
+    ensures { (result ≡ length (held_at_of holder i (contract_in contracts.entry.form contracts.entry.file.now i))) × (result ≤ 1) }
 {
-    if holder_of(form, book_bits::bits_at(book, form, i)) == holder {
-        1
-    } else {
-        0
-    }
+    usize::from(holder_of(contracts.form, contracts.bits_at(i)) == holder)
 }
 
-// How many of the first `count` contracts the holder has.
-fn held_count(book: &[u8], form: Form, count: usize, holder: u64) -> usize
-    requires { (count ≤ max_contracts) × (book_bytes_of form count ≤ length book.now) }
-    ensures { (result ≡ length (held_to holder (contract_in form book.now) count)) × (result ≤ max_contracts) }
+// How many of the contracts the holder has.
+fn held_count(contracts: Contracts, holder: u64) -> usize
+    ensures { (result ≡ length (held_to holder (contract_in contracts.entry.form contracts.entry.file.now) contracts.entry.count))
+        × (result ≤ contracts.entry.count) }
 {
     let mut held = 0;
-    let mut i = 0;
-    while i < count {
-        held += held_at(book, form, holder, i);
-        i += 1;
+    for i in 0..contracts.len() {
+        held += held_at(contracts, holder, i);
     }
     held
 }
 
 // Whether `bytes` bytes are too few for the holder's rows. Where there is room for a row of every contract, none is counted.
-fn room_short(book: &[u8], form: Form, count: usize, holder: u64, bytes: usize) -> bool
-    requires { (count ≤ max_contracts) × (book_bytes_of form count ≤ length book.now) }
-    ensures { result ≡ ltb bytes (length (rows_to form holder book.now count)) }
+fn room_short(contracts: Contracts, holder: u64, bytes: usize) -> bool
+    ensures { result ≡ ltb bytes (length (rows_to contracts.entry.form holder contracts.entry.file.now contracts.entry.count)) }
 {
-    let row = row_bytes(form);
-    if row * count <= bytes {
-        return false;
-    }
-    bytes < row * held_count(book, form, count, holder)
+    let row = row_bytes(contracts.form);
+    bytes < row * contracts.len() && bytes < row * held_count(contracts, holder)
 }
 
 // All checks, with `bytes` lent bytes for the view: the book's own, 18, 9.
-fn check_holder_view(nodes: usize, book: &[u8], holder: u64, bytes: usize) -> Checked
+fn check_holder_view(nodes: usize, book: &[u8], holder: u64, bytes: usize) -> Result<(), Refusal>
     ensures { (place : List ℕ) → length place ≡ bytes → result ≡ holder_view_checked (holder_view_call nodes book.now holder place) }
 {
-    if let Checked::Refused(refusal) = book_checks::check_own(nodes, book) {
-        return Checked::Refused(refusal);
-    }
+    book_checks::check_own(nodes, book)?;
     if MAX_HOLDER < holder {
-        return Checked::Refused(Refusal::HolderRange);
+        return Err(Refusal::HolderRange);
     }
-    let form = book_bits::book_form(book);
-    if room_short(book, form, book_bits::contract_count(book), holder, bytes) {
-        return Checked::Refused(Refusal::ShortTable);
+    if room_short(Contracts::of(book), holder, bytes) {
+        return Err(Refusal::ShortTable);
     }
-    Checked::Passed
+    Ok(())
 }
 
 // Stores a row from place `at` on: a contract's number, then its bits.
@@ -103,13 +90,14 @@ fn store_row(view: &mut [u8], form: Form, at: usize, i: usize, v: u64)
 }
 
 // Stores contract i from place `at` on where the holder has it, and gives the place behind it.
-fn put_held(book: &[u8], form: Form, holder: u64, i: usize, view: &mut [u8], at: usize) -> usize
-    requires i_bound { (i < 1024) × (book_bytes_of form i + record_bytes form ≤ length book.now) }
-    requires i_in_bounds { at + length (rows_at form holder book.now i) ≤ length view.old }
-    ensures view_value { after view ≡ take at (before view) ++ rows_at form holder book.now i ++ drop result (before view) }
-    ensures value { result ≡ at + length (rows_at form holder book.now i) }
+fn put_held(contracts: Contracts, holder: u64, i: usize, view: &mut [u8], at: usize) -> usize
+    requires i_bound { i < contracts.count }
+    requires i_in_bounds { at + length (rows_at contracts.form holder contracts.file.now i) ≤ length view.old }
+    ensures view_value { after view ≡ take at (before view) ++ rows_at contracts.entry.form holder contracts.entry.file.now i ++ drop result (before view) }
+    ensures value { result ≡ at + length (rows_at contracts.entry.form holder contracts.entry.file.now i) }
 {
-    let own = book_bits::bits_at(book, form, i);
+    let form = contracts.form;
+    let own = contracts.bits_at(i);
     if holder_of(form, own) != holder {
         return at;
     }
@@ -117,34 +105,28 @@ fn put_held(book: &[u8], form: Form, holder: u64, i: usize, view: &mut [u8], at:
     at + row_bytes(form)
 }
 
-// Writes the rows of the holder's contracts among the first `count`, and gives their length.
-fn write_held(book: &[u8], form: Form, count: usize, holder: u64, view: &mut [u8]) -> usize
-    requires count_le_max_contracts { (count ≤ max_contracts) × (book_bytes_of form count ≤ length book.now) }
-    requires count_in_bounds { length (rows_to form holder book.now count) ≤ length view.old }
-    ensures view_value { after view ≡ overwrite (rows_to form holder book.now count) (before view) }
-    ensures value { result ≡ length (rows_to form holder book.now count) }
+// Writes the rows of the holder's contracts, and gives their length.
+fn write_held(contracts: Contracts, holder: u64, view: &mut [u8]) -> usize
+    requires { length (rows_to contracts.form holder contracts.file.now contracts.count) ≤ length view.old }
+    ensures view_value { after view ≡ overwrite (rows_to contracts.entry.form holder contracts.entry.file.now contracts.entry.count) (before view) }
+    ensures value { result ≡ length (rows_to contracts.entry.form holder contracts.entry.file.now contracts.entry.count) }
 {
     let mut at = 0;
-    let mut i = 0;
-    while i < count {
-        at = put_held(book, form, holder, i, view, at);
-        i += 1;
+    for i in 0..contracts.len() {
+        at = put_held(contracts, holder, i, view, at);
     }
     at
 }
 
 // Writes a holder's view of a book for a grid of `nodes` nodes.
-pub fn write_holder_view(nodes: usize, book: &[u8], holder: u64, view: &mut [u8]) -> WriteAnswer
+pub fn write_holder_view(
+    nodes: usize,
+    book: &[u8],
+    holder: u64,
+    view: &mut [u8],
+) -> Result<usize, Refusal>
     ensures { WritesHolderView (holder_view_call nodes book.now holder (before view)) result (after view) }
 {
-    match check_holder_view(nodes, book, holder, view.len()) {
-        Checked::Refused(refusal) => WriteAnswer::Refused(refusal),
-        Checked::Passed => {
-            let form = book_bits::book_form(book);
-            let count = book_bits::contract_count(book);
-            WriteAnswer::Written {
-                bytes: write_held(book, form, count, holder, view),
-            }
-        }
-    }
+    check_holder_view(nodes, book, holder, view.len())?;
+    Ok(write_held(Contracts::of(book), holder, view))
 }

@@ -3,11 +3,12 @@ use mathlib.Core.Path.{◌≡◌, sym, ◌∙◌}
 use mathlib.Core.List.{List, [], ◌∷◌, flat_map}
 use Prim.Native.Nat.{ℕ}
 use lib.ListN.{length}
-use Rattle.tariff.specs.declared.refusals.Checked.TheVariants.{Passed, Refused}
+use Rattle.std.specs.Prelude.{Err}
+use Rattle.tariff.specs.Refusals.{passed}
 use Rattle.tariff.specs.Refusals.{first, decided}
 use Rattle.tariff.specs.Checks.{holder_range, short_table}
 use Rattle.tariff.proofs.Checks.{first-append}
-use Rattle.layouts.specs.declared.WriteAnswer.{WriteAnswer}
+use Rattle.layouts.specs.Writing.{WriteAnswer}
 use Rattle.layouts.specs.BookFile.{book_form_in}
 use Rattle.book_rules.specs.BookChecks.{own_checks}
 use Rattle.view_rules.specs.Views.{held_in_book, view_row, market_file, holder_view}
@@ -27,12 +28,12 @@ module _ (n h : ℕ) (s t : List ℕ) (form : book_form_in s ≡ book_form_in t)
   unfolding holder_view
   same_view = λ k. flat_map (view_row (form k)) (held k)
 
-  module _ (accepted-s : first (own_checks n s) ≡ Passed) (accepted-t : first (own_checks n t) ≡ Passed) (e f : List ℕ) (l : length e ≡ length f) where
+  module _ (accepted-s : first (own_checks n s) ≡ passed) (accepted-t : first (own_checks n t) ≡ passed) (e f : List ℕ) (l : length e ≡ length f) where
     same_holder_checks : holder_view_checked (holder_view_call n s h e) ≡ holder_view_checked (holder_view_call n t h f)
     unfolding holder_view_checks
     same_holder_checks =
         first-append (own_checks n s) (holder_range h ∷ short_table (length e) (length (holder_view h s)) ∷ [])
-        ∙ (λ k. decided ((accepted-s ∙ sym accepted-t) k) Refused (first (holder_range h ∷ short_table (l k) (length (same_view k)) ∷ [])))
+        ∙ (λ k. decided ((accepted-s ∙ sym accepted-t) k) Err (first (holder_range h ∷ short_table (l k) (length (same_view k)) ∷ [])))
         ∙ sym (first-append (own_checks n t) (holder_range h ∷ short_table (length f) (length (holder_view h t)) ∷ []))
 
     pub holder-calls : (a b : WriteAnswer) (x y : List ℕ) → WritesHolderView (holder_view_call n s h e) a x → WritesHolderView (holder_view_call n t h f) b y → Alike e f a b x y

@@ -5,11 +5,11 @@ use Prim.Native.Nat.{ℕ}
 use lib.ListN.{length}
 use lib.IntN.{pos}
 use Rattle.lists.specs.Lent.{Lent, before, after}
-use Rattle.tariff.specs.declared.refusals.Checked.{Checked}
-use Rattle.tariff.specs.declared.refusals.Checked.TheVariants.{Passed, Refused}
+use Rattle.tariff.specs.Refusals.{Checked, passed}
+use Rattle.std.specs.Prelude.{Ok, Err}
 use Rattle.tariff.specs.Refusals.{Outcome}
 use Rattle.tariff.proofs.Answers.{numbered, never_given, given-told}
-use Rattle.layouts.specs.declared.WriteAnswer.{WriteAnswer}
+use Rattle.layouts.specs.Writing.{WriteAnswer}
 use Rattle.layouts.specs.Writing.{Writes, WritesForC}
 use Rattle.layouts.proofs.Writing.{answer_by, writes_by}
 use Rattle.view_rules.specs.Theorems.{Alike}
@@ -20,8 +20,8 @@ use Rattle.view_rules.proofs.Theorems.{market_blind, holder-blind}
 module _ (v w e f : List ℕ) (m n : ℕ) (x y : List ℕ) (p q : Lent ℕ) where
   by : (c d : Checked) → WritesForC c v e (before p) m x (after p) → WritesForC d w f (before q) n y (after q)
       → Alike e f (answer_by c (length v)) (answer_by d (length w)) x y → AlikeForC e f m n x y p q
-  by Passed Passed a b h =
-      let size : length v ≡ length w = (let t : pos (length v) ∷ [] ≡ pos (length w) ∷ [] = (given-told Passed _ _ h.same_answer).1 in cc) in
+  by (Ok _) (Ok _) a b h =
+      let size : length v ≡ length w = (let t : pos (length v) ∷ [] ≡ pos (length w) ∷ [] = (given-told passed _ _ h.same_answer).1 in cc) in
       let rest = h.rest-as_it_was (length v) refl in
       record {
         same_number = a.refusal-number ∙ sym b.refusal-number;
@@ -32,9 +32,9 @@ module _ (v w e f : List ℕ) (m n : ℕ) (x y : List ℕ) (p q : Lent ℕ) wher
         refused_length_kept = λ z. absurd (z a.refusal-number);
         same_place = h.same_place;
       }
-  by Passed (Refused r) a b h = absurd (never_given r _ (sym h.same_answer))
-  by (Refused r) Passed a b h = absurd (never_given r _ h.same_answer)
-  by (Refused r) (Refused s) a b h =
+  by (Ok _) (Err r) a b h = absurd (never_given r _ (sym h.same_answer))
+  by (Err r) (Ok _) a b h = absurd (never_given r _ h.same_answer)
+  by (Err r) (Err s) a b h =
       let zero-never : m ≡ 0 → ⊥ = (λ z. numbered r (sym a.refusal-number ∙ z)) in
       record {
         same_number = a.refusal-number ∙ ap (λ (o : Outcome). o.number) h.same_answer ∙ sym b.refusal-number;

@@ -6,7 +6,7 @@ use Prim.Native.Nat.{ℕ, ◌<◌}
 use native.Mathlib.Omega.{arith}
 use lib.Dec.{ltb, eqb}
 use lib.ListN.{length}
-use Rattle.tariff.specs.declared.refusals.Checked.TheVariants.{Refused}
+use Rattle.std.specs.Prelude.{Err}
 use Rattle.tariff.specs.declared.refusals.Refusal.TheVariants.{ShortFile, FileLength}
 use Rattle.tariff.specs.declared.contracts.Contract.{Contract}
 use Rattle.tariff.specs.Refusals.{Check, first}
@@ -28,7 +28,7 @@ first_rest : (c : Check) (xs ys : List Check) → (c.fails ≡ false → first x
 unfolding first
 first_rest c xs ys h = by c.fails h
   where
-    by : (b : Bool) → (b ≡ false → first xs ≡ first ys) → cond b (Refused c.refusal) (first xs) ≡ cond b (Refused c.refusal) (first ys)
+    by : (b : Bool) → (b ≡ false → first xs ≡ first ys) → cond b (Err c.refusal) (first xs) ≡ cond b (Err c.refusal) (first ys)
     by true h = refl
     by false h = h refl
 

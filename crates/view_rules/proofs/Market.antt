@@ -7,7 +7,8 @@ use lib.ListN.{length, get_or}
 use Rattle.lists.specs.Lists.{list_to}
 use Rattle.lists.proofs.Lists.{length-list_to, list_to-cong, map-list_to, get_d_list_to, each-list_to}
 use Rattle.tariff.specs.declared.contracts.Contract.{Contract}
-use Rattle.tariff.specs.declared.refusals.Checked.TheVariants.{Passed, Refused}
+use Rattle.std.specs.Prelude.{Err}
+use Rattle.tariff.specs.Refusals.{passed}
 use Rattle.tariff.specs.Refusals.{first, decided}
 use Rattle.tariff.specs.Checks.{short_table}
 use Rattle.tariff.proofs.Checks.{first-append, passed_append}
@@ -45,10 +46,10 @@ module _ (s t : List ℕ) (d : OnlyHoldersDiffer s t) where
   unfolding market_view_checks
   same_market_checks n e f l =
       first-append (own_checks n s) (short_table (length e) (book_bytes_of (book_form_in s) (contract_count_in s)) ∷ [])
-      ∙ (λ k. decided (own_alike s t d n k) Refused (first (short_table (l k) (book_bytes_of (same_form s t d k) (d.same_count k)) ∷ [])))
+      ∙ (λ k. decided (own_alike s t d n k) Err (first (short_table (l k) (book_bytes_of (same_form s t d k) (d.same_count k)) ∷ [])))
       ∙ sym (first-append (own_checks n t) (short_table (length f) (book_bytes_of (book_form_in t) (contract_count_in t)) ∷ []))
 
-  pub passed_market : (n : ℕ) (e : List ℕ) → market_view_checked (market_view_call n s e) ≡ Passed → market_file s ≡ market_file t
+  pub passed_market : (n : ℕ) (e : List ℕ) → market_view_checked (market_view_call n s e) ≡ passed → market_file s ≡ market_file t
   unfolding market_view_checks
   passed_market n e p =
       same_market (own_accepted n s (passed_append (own_checks n s) (short_table (length e) (book_bytes_of (book_form_in s) (contract_count_in s)) ∷ []) p).0).size
@@ -75,7 +76,7 @@ anonymous-same c d e =
       same_quantity = sym (ap (λ (x : Contract). x.quantity) e);
     }
 
-module _ (n : ℕ) (s : List ℕ) (ok : first (own_checks n s) ≡ Passed) where
+module _ (n : ℕ) (s : List ℕ) (ok : first (own_checks n s) ≡ passed) where
   own : Accepted n s
   own = own_accepted n s ok
 

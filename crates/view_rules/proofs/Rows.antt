@@ -19,7 +19,7 @@ use Rattle.bits.proofs.Numbers.{Below, digits_append, digits-high, below-take, b
 use Rattle.bits.proofs.Fields.{field-window}
 use Rattle.bits.proofs.Files.{packed_lt, length-file, holds-written}
 use Rattle.tariff.specs.declared.contracts.Contract.{Contract}
-use Rattle.tariff.specs.declared.refusals.Checked.TheVariants.{Passed}
+use Rattle.tariff.specs.Refusals.{passed}
 use Rattle.tariff.specs.Refusals.{first}
 use Rattle.layouts.specs.declared.forms.Form.{Form}
 use Rattle.layouts.specs.Forms.{end_width, record_bytes}
@@ -127,6 +127,6 @@ held_own h g (suc m) = each_append (λ (r : Numbered). r.contract.holder ≡ h) 
 
 -- ---- of an accepted book
 
-pub own_row_accepted : (n : ℕ) (s : List ℕ) → Below 8 s → first (own_checks n s) ≡ Passed → (i : ℕ) → i < contract_count_in s
+pub own_row_accepted : (n : ℕ) (s : List ℕ) → Below 8 s → first (own_checks n s) ≡ passed → (i : ℕ) → i < contract_count_in s
     → view_row (book_form_in s) (numbered i (contract_at s i)) ≡ digits 8 2 i ++ take (record_bytes (book_form_in s)) (drop (book_bytes_of (book_form_in s) i) s)
 own_row_accepted n s below ok i h = own_row (book_form_in s) s i below (accepted-room n s (own_accepted n s ok) (book_form_in s) refl i h).1

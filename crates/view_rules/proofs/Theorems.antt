@@ -5,9 +5,9 @@ use Prim.Native.Nat.{ℕ, ◌<◌}
 use lib.ListN.{length, take, drop}
 use Rattle.bits.specs.Bits.{digits, Bytes}
 use Rattle.bits.proofs.Bytes.{bytes_below}
-use Rattle.tariff.specs.declared.refusals.Checked.TheVariants.{Passed}
+use Rattle.tariff.specs.Refusals.{passed}
 use Rattle.tariff.specs.Refusals.{first}
-use Rattle.layouts.specs.declared.WriteAnswer.{WriteAnswer}
+use Rattle.layouts.specs.Writing.{WriteAnswer}
 use Rattle.layouts.specs.Forms.{record_bytes}
 use Rattle.layouts.specs.BookFile.{book_bytes_of, contract_count_in, book_form_in, contract_at}
 use Rattle.book_rules.specs.BookChecks.{own_checks}
@@ -32,7 +32,7 @@ pub market_blind : (n : ℕ) (s t e f : List ℕ) (a b : WriteAnswer) (x y : Lis
     → WritesMarketView (market_view_call n s e) a x → WritesMarketView (market_view_call n t f) b y → Alike e f a b x y
 market_blind = B.market_blind
 
-module _ (n h : ℕ) (s t : List ℕ) (accepted-s : first (own_checks n s) ≡ Passed) (accepted-t : first (own_checks n t) ≡ Passed) where
+module _ (n h : ℕ) (s t : List ℕ) (accepted-s : first (own_checks n s) ≡ passed) (accepted-t : first (own_checks n t) ≡ passed) where
   -- the view depends on the width and on the holder's contracts with their numbers, not on the book's length
   pub holder-blind : book_form_in s ≡ book_form_in t → held_in_book h s ≡ held_in_book h t → (e f : List ℕ) → length e ≡ length f → (a b : WriteAnswer) (x y : List ℕ)
       → WritesHolderView (holder_view_call n s h e) a x → WritesHolderView (holder_view_call n t h f) b y → Alike e f a b x y
@@ -44,7 +44,7 @@ module _ (n h : ℕ) (s t : List ℕ) (accepted-s : first (own_checks n s) ≡ P
   holder-views_agree width held as_long = holder-blind width held
 
 -- the market's view of an accepted book is an accepted book of the same form and length, with no holder and nothing else changed; again it is itself
-pub market_is_a_book : (n : ℕ) (s : List ℕ) → first (own_checks n s) ≡ Passed → MarketBook n s
+pub market_is_a_book : (n : ℕ) (s : List ℕ) → first (own_checks n s) ≡ passed → MarketBook n s
 market_is_a_book = M.market_is_a_book
 
 -- the rows of all holders together are the book's contracts with their numbers, each once, and each holder's are that holder's alone
@@ -52,6 +52,6 @@ pub view_splits : (s : List ℕ) → ViewsSplit s
 view_splits = S.view_splits
 
 -- "and then the contract's own bytes": row i is the two bytes of i and the bytes that contract i has in the book
-pub own_bytes : (n : ℕ) (s : List ℕ) → Bytes s → first (own_checks n s) ≡ Passed → (i : ℕ) → i < contract_count_in s
+pub own_bytes : (n : ℕ) (s : List ℕ) → Bytes s → first (own_checks n s) ≡ passed → (i : ℕ) → i < contract_count_in s
     → view_row (book_form_in s) (numbered i (contract_at s i)) ≡ digits 8 2 i ++ take (record_bytes (book_form_in s)) (drop (book_bytes_of (book_form_in s) i) s)
 own_bytes n s bytes = own_row_accepted n s (bytes_below s bytes)

@@ -1,7 +1,7 @@
 -- Document 02, paper 10, over what the C functions promise: numbers, lengths in lent figures, and places at exit. Statements only.
 use Rattle.std.specs.Prelude.{◌≡◌, List, ℕ, length, take, drop}
 use Rattle.lists.specs.Lent.{Lent, before, after}
-use Rattle.tariff.specs.declared.refusals.Checked.TheVariants.{Passed}
+use Rattle.tariff.specs.Refusals.{passed}
 use Rattle.tariff.specs.Refusals.{first}
 use Rattle.layouts.specs.BookFile.{book_form_in}
 use Rattle.book_rules.specs.BookChecks.{own_checks}
@@ -30,10 +30,10 @@ pub record ViewsForC : Type 0 where
   pub crr_market_blind : (n : ℕ) (s t e f : List ℕ) (a b : ℕ) (x y : List ℕ) (u v : Lent ℕ) → OnlyHoldersDiffer s t → length e ≡ length f
       → WritesMarketViewForC (market_view_call n s e) a x u → WritesMarketViewForC (market_view_call n t f) b y v → AlikeForC e f a b x y u v
   -- the view depends on the width and on the holder's contracts with their numbers, not on the book's length
-  pub crr_holder_blind : (n h : ℕ) (s t : List ℕ) → first (own_checks n s) ≡ Passed → first (own_checks n t) ≡ Passed → book_form_in s ≡ book_form_in t
+  pub crr_holder_blind : (n h : ℕ) (s t : List ℕ) → first (own_checks n s) ≡ passed → first (own_checks n t) ≡ passed → book_form_in s ≡ book_form_in t
       → held_in_book h s ≡ held_in_book h t → (e f : List ℕ) → length e ≡ length f → (a b : ℕ) (x y : List ℕ) (u v : Lent ℕ)
       → WritesHolderViewForC (holder_view_call n s h e) a x u → WritesHolderViewForC (holder_view_call n t h f) b y v → AlikeForC e f a b x y u v
   -- "There too, holder views of two accepted books of one width agree whenever that holder's contracts, their numbers and the book's length agree."
-  pub crr_holder_views_agree : (n h : ℕ) (s t : List ℕ) → first (own_checks n s) ≡ Passed → first (own_checks n t) ≡ Passed → book_form_in s ≡ book_form_in t
+  pub crr_holder_views_agree : (n h : ℕ) (s t : List ℕ) → first (own_checks n s) ≡ passed → first (own_checks n t) ≡ passed → book_form_in s ≡ book_form_in t
       → held_in_book h s ≡ held_in_book h t → length s ≡ length t → (e f : List ℕ) → length e ≡ length f → (a b : ℕ) (x y : List ℕ) (u v : Lent ℕ)
       → WritesHolderViewForC (holder_view_call n s h e) a x u → WritesHolderViewForC (holder_view_call n t h f) b y v → AlikeForC e f a b x y u v

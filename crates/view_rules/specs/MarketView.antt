@@ -1,10 +1,10 @@
 -- Writing the market's view of a book (document 02, paper 10).
 use Rattle.std.specs.Prelude.{List, [], ◌∷◌, ◌++◌, ℕ, length}
 use Rattle.lists.specs.Lent.{Lent, before, after}
-use Rattle.tariff.specs.declared.refusals.Checked.{Checked}
+use Rattle.tariff.specs.Refusals.{Checked}
 use Rattle.tariff.specs.Refusals.{Check, first}
 use Rattle.tariff.specs.Checks.{short_table}
-use Rattle.layouts.specs.declared.WriteAnswer.{WriteAnswer}
+use Rattle.layouts.specs.Writing.{WriteAnswer}
 use Rattle.layouts.specs.BookFile.{book_bytes_of, contract_count_in, book_form_in}
 use Rattle.layouts.specs.Writing.{Writes, WritesForC}
 use Rattle.book_rules.specs.BookChecks.{own_checks}

@@ -1,14 +1,13 @@
 -- What paper 10 says of the views, as predicates: which books differ only in holder numbers, what two calls give alike, and how views make up a book.
-use Rattle.std.specs.Prelude.{◌≡◌, ℕ, suc, ◌+◌, ◌≤◌, ◌<◌, length, take, drop}
+use Rattle.std.specs.Prelude.{◌≡◌, ℕ, suc, ◌+◌, ◌≤◌, ◌<◌, length, take, drop, Ok, Err}
 use mathlib.Core.List.{List, map, flat_map, Perm}
 use Rattle.lists.specs.Lists.{Each, list_to}
 use Rattle.tariff.specs.declared.contracts.Contract.{Contract}
 use Rattle.tariff.specs.declared.refusals.Refusal.{Refusal}
-use Rattle.tariff.specs.declared.refusals.Checked.TheVariants.{Passed}
+use Rattle.tariff.specs.Refusals.{passed}
 use Rattle.tariff.specs.Units.{max_holder}
 use Rattle.tariff.specs.Refusals.{first}
-use Rattle.layouts.specs.declared.WriteAnswer.{WriteAnswer}
-use Rattle.layouts.specs.declared.WriteAnswer.TheVariants.{Written, Refused}
+use Rattle.layouts.specs.Writing.{WriteAnswer}
 use Rattle.layouts.specs.Forms.{record_bytes}
 use Rattle.layouts.specs.BookFile.{book_bytes_of, contract_count_in, book_spare_in, book_form_in, contract_in, contract_at, book_in}
 use Rattle.layouts.specs.Writing.{write_outcome}
@@ -38,17 +37,17 @@ pub record Alike (e f : List ℕ) (a b : WriteAnswer) (x y : List ℕ) : Type 0 
   -- the refusal's number, or the length written
   pub same_answer : write_outcome a ≡ write_outcome b
   -- as many bytes as the length says are equal, whatever the places held, and the rest of each is as it was
-  pub same_bytes : (m : ℕ) → a ≡ Written m → take m x ≡ take m y
-  pub rest-as_it_was : (m : ℕ) → a ≡ Written m → (drop m x ≡ drop m e) × (drop m y ≡ drop m f)
+  pub same_bytes : (m : ℕ) → a ≡ Ok m → take m x ≡ take m y
+  pub rest-as_it_was : (m : ℕ) → a ≡ Ok m → (drop m x ≡ drop m e) × (drop m y ≡ drop m f)
   -- refused, both places are as they were
-  pub refused_as_it_was : (r : Refusal) → a ≡ Refused r → (x ≡ e) × (y ≡ f)
+  pub refused_as_it_was : (r : Refusal) → a ≡ Err r → (x ≡ e) × (y ≡ f)
   -- one place is the same at exit, refused or not
   pub same_place : e ≡ f → x ≡ y
 
 -- ---- the market's view of a book that is accepted for n nodes
 
 pub record MarketBook (n : ℕ) (s : List ℕ) : Type 0 where
-  pub accepted : first (own_checks n (market_file s)) ≡ Passed
+  pub accepted : first (own_checks n (market_file s)) ≡ passed
   pub same_form : book_form_in (market_file s) ≡ book_form_in s
   pub same_size : length (market_file s) ≡ length s
   pub contracts : book_in (market_file s) ≡ map anonymous (book_in s)

@@ -19,7 +19,11 @@ is : (c : goal.After-power-half)
     → to_z w64 ((c.args.v + c.power-half.result) % c.power-whole.result) -ℤ to_z w64 c.power-half.result ≡ to_int c.args.width c.args.v
 is c =
     let s = c in
-    rw (to_z_pos w64 {n = (s.args.v + c.power-half.result) % c.power-whole.result} (omega (arith, below c)), to_z_pos w64 {n = c.power-half.result} (omega arith), c.power-whole.ensures.0)
+    rw (
+      to_z_pos w64 {n = (s.args.v + c.power-half.result) % c.power-whole.result} (omega (arith, below c)),
+      to_z_pos w64 {n = c.power-half.result} (omega arith),
+      c.power-whole.ensures.0,
+    )
     (code_to s.args.width s.args.v _ s.requires.le_width.0 s.requires.v_bound c.power-half.ensures.0)
 
 fits : (c : goal.After-power-half) → SFits w64 (to_int c.args.width c.args.v)

@@ -16,7 +16,8 @@ below c = omega (arith, raised_lt c.args.width c.requires.le_width.0 c.args.z c.
 is : (c : goal.After-power-whole) → to_z w64 (of_z w64 c.args.z) +ℤ to_z w64 c.power-whole.result ≡ pos (raised c.args.width c.args.z)
 is c =
     let s = c in
-    rw (to_z-of_z s.ranges.z, to_z_pos w64 {n = c.power-whole.result} (omega arith), c.power-whole.ensures.0) (raised_is s.args.width s.requires.le_width.0 s.args.z s.requires.z_bound)
+    rw (to_z-of_z s.ranges.z, to_z_pos w64 {n = c.power-whole.result} (omega arith), c.power-whole.ensures.0)
+    (raised_is s.args.width s.requires.le_width.0 s.args.z s.requires.z_bound)
 
 back : (c : goal.After-power-whole) → to_z w64 (of_z w64 (to_z w64 (of_z w64 c.args.z) +ℤ to_z w64 c.power-whole.result)) ≡ pos (raised c.args.width c.args.z)
 back c = ap (λ (z : ℤ). to_z w64 (of_z w64 z)) (is c) ∙ to_z_pos w64 (omega (arith, below c))
@@ -30,4 +31,5 @@ overflow_cast-result-2 c = rw (back c) (tt, record { fits = omega (arith, below 
 pub returns : goal.returns
 returns c =
     let s = c in
-    rw (back c, c.power-whole.ensures.0, raised-code s.args.width s.requires.le_width.0 s.args.z s.requires.z_bound) (refl, of_lt s.args.width s.args.z s.requires.le_width.0 s.requires.z_bound)
+    rw (back c, c.power-whole.ensures.0, raised-code s.args.width s.requires.le_width.0 s.args.z s.requires.z_bound)
+    (refl, of_lt s.args.width s.args.z s.requires.le_width.0 s.requires.z_bound)

@@ -23,7 +23,7 @@ returns-in-Narrow c =
     let e = c in
     let s = e in
     rw e.in-Narrow.is
-    (contract-in_number Narrow s.args.file.now s.args.i (6 * s.args.i) c.window8.result (λ i. (e.shared_slice_known-1.given i).fits) (omega arith)
+    (contract-in_number Narrow s.args.file.now s.args.i (6 * s.args.i) c.window8.result (λ i. (c.type_inv.file i).fits) (omega arith)
     (rw e.in-Narrow.is at s.requires.1) c.window8.ensures)
 
 pub returns-in-Wide : goal.returns-in-Wide
@@ -31,5 +31,5 @@ returns-in-Wide c =
     let e = c in
     let s = e in
     rw e.in-Wide.is
-    (contract-in_number Wide s.args.file.now s.args.i (1 + 7 * s.args.i) c.window8-in-Wide.result (λ i. (e.shared_slice_known-1.given i).fits) (omega arith)
+    (contract-in_number Wide s.args.file.now s.args.i (1 + 7 * s.args.i) c.window8-in-Wide.result (λ i. (c.type_inv.file i).fits) (omega arith)
     (rw e.in-Wide.is at s.requires.1) c.window8-in-Wide.ensures)

@@ -7,5 +7,5 @@ returns c =
     let n = c in
     let t = n in
     let a = t.args in
-    rw (contract-number a.form a.c _ _ n.contract_number-v.result t.terms_number-terms.ensures.0 n.cell.ensures n.contract_number-v.ensures)
+    rw (contract-number a.form a.c _ _ n.contract_number-v.result t.terms_number-terms.ensures.0 c.from.ensures n.contract_number-v.ensures)
     c.store_bits.ensures

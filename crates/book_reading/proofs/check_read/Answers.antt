@@ -1,5 +1,6 @@
 -- `check_read`: the book's own checks, then the room.
 -- the book's own checks, then the room
+use Rattle.std.proofs.lemmas.Result.{err_from_is_err_and}
 use mathlib.Core.Path.{◌≡◌, sym, ◌∙◌}
 use mathlib.Core.List.{List, [], ◌∷◌, ◌++◌}
 use Prim.Native.Nat.{ℕ, ◌*◌, ◌<◌, ◌≤◌}
@@ -22,21 +23,22 @@ behind : (nodes : ℕ) (file table : List ℕ)
     ≡ first (own_checks nodes file ++ short_table (length table) (contract_cells * contract_count_in file) ∷ [])
 behind nodes file table = own_then_room (read_book_call nodes file table)
 
-pub returns-in-Refused : goal.returns-in-Refused
-returns-in-Refused c = λ table e. sym (behind c.args.nodes c.args.file.now table ∙ append_refuses _ _ _ (sym c.check_own.ensures ∙ c.in-Refused.is))
+pub returns-in_err-check_own : goal.returns-in_err-check_own
+returns-in_err-check_own c = λ table e. let p = err_from_is_err_and c.from_residual.result c.from_residual.ensures.1 in
+    rw (p.1, p.2) (sym (behind c.args.nodes c.args.file.now table ∙ append_refuses _ _ _ (sym c.check_own.ensures ∙ c.in_err-check_own.was)))
 
 pub contract_count-requires : goal.contract_count-requires
 contract_count-requires c =
     let a = c.args in
-    let ok = own_accepted a.nodes a.file.now (sym c.check_own.ensures ∙ c.in_default.is) in
+    let ok = own_accepted a.nodes a.file.now (sym c.check_own.ensures ∙ c.in_ok-check_own.was) in
     omega (arith, ok.size)
 
 pub returns-then-cells-contract_count : goal.returns-then-cells-contract_count
 returns-then-cells-contract_count c = λ table e.
     let room : length table < contract_cells * contract_count_in c.args.file.now = omega (arith, c.contract_count.ensures.0) in
-    sym (behind c.args.nodes c.args.file.now table ∙ append_passes _ _ (sym c.check_own.ensures ∙ c.in_default.is) ∙ first-refuses _ _ (lt-ltb _ _ room))
+    sym (behind c.args.nodes c.args.file.now table ∙ append_passes _ _ (sym c.check_own.ensures ∙ c.in_ok-check_own.was) ∙ first-refuses _ _ (lt-ltb _ _ room))
 
 pub returns : goal.returns
 returns c = λ table e.
     let room : contract_cells * contract_count_in c.args.file.now ≤ length table = omega (arith, c.contract_count.ensures.0) in
-    sym (behind c.args.nodes c.args.file.now table ∙ append_passes _ _ (sym c.check_own.ensures ∙ c.in_default.is) ∙ last-passes _ (le-ltb _ _ room))
+    sym (behind c.args.nodes c.args.file.now table ∙ append_passes _ _ (sym c.check_own.ensures ∙ c.in_ok-check_own.was) ∙ last-passes _ (le-ltb _ _ room))

@@ -4,21 +4,15 @@ use mathlib.Core.List.{flat_map}
 use native.Mathlib.Omega.{arith}
 use Rattle.lists.specs.Lists.{list_to}
 use Rattle.layouts.specs.BookFile.{contract_in}
-use Rattle.layouts.proofs.BookFile.{record_room}
 use Rattle.book_rules.proofs.Rows.{rows_more}
 use Rattle.book_reading.proofs.read_contracts.Goals as goal
 
 pub loop-i-init : goal.loop-i-init
 unfolding list_to flat_map
-loop-i-init c = (omega arith, refl, refl)
-
-pub contract_at-requires : goal.contract_at-requires
-contract_at-requires c =
-    let s = c in
-    (omega arith, record_room s.args.form c.loop-i.i s.args.contracts _ (omega arith) s.requires.1)
+loop-i-init c = (refl, refl)
 
 pub store_row-requires : goal.store_row-requires
-store_row-requires c = omega (arith, c.loop-i.invariant.1)
+store_row-requires c = omega (arith, c.loop-i.invariant.0)
 
 pub loop-i-preserved : goal.loop-i-preserved
 loop-i-preserved c =
@@ -26,13 +20,12 @@ loop-i-preserved c =
     let a = s.args in
     let l = s.loop-i in
     let stored = c.store_row in (
-      omega arith,
-      stored.auto.book ∙ l.invariant.1,
-      rows_more (contract_in a.form a.file.now) l.i a.book.now l.book _ l.invariant.2 (rw (← c.contract_at.ensures) stored.ensures),
+      stored.auto.book ∙ l.invariant.0,
+      rows_more (contract_in a.contracts.form a.contracts.file.now) l.i a.book.now l.book _ l.invariant.1 (rw (← c.at-c.ensures) stored.ensures),
     )
 
 pub returns : goal.returns
 returns c =
     let l = c.loop-i in
-    let last : l.i ≡ c.args.contracts = omega arith in
-    rw last at l.invariant.2
+    let last : l.i ≡ c.args.contracts.count = omega arith in
+    rw last at l.invariant.1

@@ -1,7 +1,6 @@
--- The invariants and measures of `book_reading::read_contracts`.
+-- The invariant of `book_reading::read_contracts`.
 use mathlib.Core.Path.{◌≡◌}
 use mathlib.Core.List.{flat_map}
-use Prim.Native.Nat.{◌-◌, ◌≤◌}
 use lib.ListN.{length}
 use Rattle.lists.specs.Lists.{list_to}
 use Rattle.lists.specs.Lent.{overwrite}
@@ -10,7 +9,4 @@ use Rattle.layouts.specs.BookTable.{cells_of}
 use Rattle.book_reading.proofs.read_contracts.Given as goal
 
 abbrev pub invariant-loop-i : goal.invariant-loop-i
-invariant-loop-i l = (l.i ≤ l.contracts) × (length l.book ≡ length l.initial.book) × (l.book ≡ overwrite (flat_map cells_of (list_to l.i (contract_in l.form l.file))) l.initial.book)
-
-abbrev pub decreases-loop-i : goal.decreases-loop-i
-decreases-loop-i l = l.contracts - l.i
+invariant-loop-i l = (length l.book ≡ length l.initial.book) × (l.book ≡ overwrite (flat_map cells_of (list_to l.i (contract_in l.contracts.form l.contracts.file.now))) l.initial.book)

@@ -4,4 +4,4 @@ use Rattle.book_rows.proofs.contract_from.Goals as goal
 
 pub returns : goal.returns
 unfolding row_from
-returns c = rw (c.from_number.ensures, c.from_number-2.ensures)
+returns c = rw (c.from.ensures, c.from-2.ensures)

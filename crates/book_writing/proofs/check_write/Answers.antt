@@ -1,5 +1,6 @@
 -- `check_write`: each return by the tests that led there.
 -- what the row checks come behind
+use Rattle.std.proofs.lemmas.Result.{err_from_is_err_and}
 use mathlib.Core.Path.{◌≡◌, sym, ◌∙◌}
 use Prim.Native.Nat.{◌<◌, ◌≤◌}
 use native.Mathlib.Omega.{arith}
@@ -28,12 +29,13 @@ unfolding write_book_checks
 returns-then-book-contracts c = λ place e.
     sym (first_passes _ _ (sym c.nodes_bad.ensures ∙ c.if-nodes_bad.false) ∙ first_passes _ _ (le-ltb _ _ c.if-contracts-gt-MAX_CONTRACTS.false) ∙ first-refuses _ _ (lt-ltb _ _ c.if-book-contracts.true))
 
-pub returns-in-Refused : goal.returns-in-Refused
-returns-in-Refused c = λ place e.
+pub returns-in_err-check_rows : goal.returns-in_err-check_rows
+returns-in_err-check_rows c = λ place e.
     let a = c.args in
     let rows = then_rows (write_book_call a.form a.nodes a.contracts a.book.now place) (sym c.nodes_bad.ensures ∙ c.if-nodes_bad.false) c.if-contracts-gt-MAX_CONTRACTS.false c.if-book-contracts.false in
     let told : c.check_rows.result ≡ first (checks_to a.contracts (row_checks (ends_below_of a.form a.nodes) a.book.now)) = rw (← c.ends_below.ensures) c.check_rows.ensures in
-    sym (rows ∙ append_refuses _ _ _ (sym told ∙ c.in-Refused.is))
+    let p = err_from_is_err_and c.from_residual.result c.from_residual.ensures.1 in
+    rw (p.1, p.2) (sym (rows ∙ append_refuses _ _ _ (sym told ∙ c.in_err-check_rows.was)))
 
 pub returns-then-bytes-book_bytes : goal.returns-then-bytes-book_bytes
 returns-then-bytes-book_bytes c = λ place e.
@@ -41,7 +43,7 @@ returns-then-bytes-book_bytes c = λ place e.
     let room : length place < book_bytes_of a.form a.contracts = omega (arith, c.book_bytes.ensures) in
     let rows = then_rows (write_book_call a.form a.nodes a.contracts a.book.now place) (sym c.nodes_bad.ensures ∙ c.if-nodes_bad.false) c.if-contracts-gt-MAX_CONTRACTS.false c.if-book-contracts.false in
     let told : c.check_rows.result ≡ first (checks_to a.contracts (row_checks (ends_below_of a.form a.nodes) a.book.now)) = rw (← c.ends_below.ensures) c.check_rows.ensures in
-    sym (rows ∙ append_passes _ _ (sym told ∙ c.in_default.is) ∙ first-refuses _ _ (lt-ltb _ _ room))
+    sym (rows ∙ append_passes _ _ (sym told ∙ c.in_ok-check_rows.was) ∙ first-refuses _ _ (lt-ltb _ _ room))
 
 pub returns : goal.returns
 returns c = λ place e.
@@ -49,4 +51,4 @@ returns c = λ place e.
     let room : book_bytes_of a.form a.contracts ≤ length place = omega (arith, c.book_bytes.ensures) in
     let rows = then_rows (write_book_call a.form a.nodes a.contracts a.book.now place) (sym c.nodes_bad.ensures ∙ c.if-nodes_bad.false) c.if-contracts-gt-MAX_CONTRACTS.false c.if-book-contracts.false in
     let told : c.check_rows.result ≡ first (checks_to a.contracts (row_checks (ends_below_of a.form a.nodes) a.book.now)) = rw (← c.ends_below.ensures) c.check_rows.ensures in
-    sym (rows ∙ append_passes _ _ (sym told ∙ c.in_default.is) ∙ last-passes _ (le-ltb _ _ room))
+    sym (rows ∙ append_passes _ _ (sym told ∙ c.in_ok-check_rows.was) ∙ last-passes _ (le-ltb _ _ room))

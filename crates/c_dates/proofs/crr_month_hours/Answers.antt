@@ -1,25 +1,27 @@
 -- `crr_month_hours`.
-use mathlib.Core.Path.{sym, ap, ◌∙◌}
+use mathlib.Core.Path.{◌≡◌, refl, ◌∙◌}
+use Prim.Native.Nat.{ℕ}
+use Rattle.std.specs.Prelude.{Ok, Err}
+use Rattle.tariff.specs.Refusals.{number_in, found_or, cell_after, number_after}
 use Rattle.tariff.proofs.Answers.{refused_answers, refused_keeps, given-answers, given-count}
 use Rattle.date_rules.specs.OnPeak.{on_peak_hours}
-use Rattle.date_hours.specs.MonthHours.{month_hours_checked, hours_outcome}
+use Rattle.date_hours.specs.MonthHours.{HoursAnswer, TellsHours, month_hours_checked}
 use Rattle.c_dates.proofs.crr_month_hours.Goals as goal
 
-pub returns-in-Refused : goal.returns-in-Refused
-returns-in-Refused c =
-    let f = c.month_hours.ensures in
-    let a = c.args in
-    let checked = month_hours_checked a.year a.month in
-    let told = sym (ap hours_outcome c.in-Refused.is) ∙ f.hours_given in
-    record {
-      refusal-number = refused_answers checked _ c.in-Refused.refusal told c.number.ensures;
-      hours_given = refused_keeps checked _ c.in-Refused.refusal told (on_peak_hours a.year a.month) a.hours.now;
-    }
+module _ (y m : ℕ) where
+  number-told : (answer : HoursAnswer) → TellsHours y m answer → number_in answer ≡ number_after (month_hours_checked y m)
+  number-told (Ok n) told = given-answers (month_hours_checked y m) _ _ told.hours_given
+  number-told (Err r) told = refused_answers (month_hours_checked y m) _ r told.hours_given refl
 
-pub returns-in-Found : goal.returns-in-Found
-returns-in-Found c =
-    let f = c.month_hours.ensures in
+  cell_told : (answer : HoursAnswer) (entry : ℕ) → TellsHours y m answer → found_or answer entry ≡ cell_after (month_hours_checked y m) (on_peak_hours y m) entry
+  cell_told (Ok n) entry told = given-count (month_hours_checked y m) _ _ told.hours_given 0 entry
+  cell_told (Err r) entry told = refused_keeps (month_hours_checked y m) _ r told.hours_given (on_peak_hours y m) entry
+
+pub returns : goal.returns
+returns c =
     let a = c.args in
-    let checked = month_hours_checked a.year a.month in
-    let told = sym (ap hours_outcome c.in-Found.is) ∙ f.hours_given in
-    record { refusal-number = given-answers checked _ _ told; hours_given = given-count checked _ _ told 0 a.hours.now }
+    let told = c.month_hours.ensures in
+    record {
+      refusal-number = c.answer_cell.ensures.number ∙ number-told a.year a.month c.month_hours.result told;
+      hours_given = c.answer_cell.ensures.cell ∙ cell_told a.year a.month c.month_hours.result a.hours.now told;
+    }

@@ -5,14 +5,14 @@ use Rattle.dates.specs.Date.{date_for}
 use Rattle.dates.specs.MonthLater.{date_values, date_outcome, later_year, later_month, later_day, month_later_of, month_later_checked}
 use Rattle.c_dates.proofs.crr_month_later.Goals as goal
 
-pub returns-in-Refused : goal.returns-in-Refused
-returns-in-Refused c =
+pub returns-in-Err : goal.returns-in-Err
+returns-in-Err c =
     let f = c.month_later.ensures in
     let a = c.args in
     let date = date_for a.year a.month a.day in
     let checked = month_later_checked date in
-    let r = c.in-Refused.refusal in
-    let told = sym (ap date_outcome c.in-Refused.is) ∙ f.date_given in
+    let r = c.in-Err.refusal in
+    let told = sym (ap date_outcome c.in-Err.is) ∙ f.date_given in
     record {
       refusal-number = refused_answers checked (date_values (month_later_of date)) r told c.number.ensures;
       year_given = refused_keeps checked (date_values (month_later_of date)) r told (later_year date) a.later_year.now;
@@ -20,13 +20,13 @@ returns-in-Refused c =
       day_given = refused_keeps checked (date_values (month_later_of date)) r told (later_day date) a.later_day.now;
     }
 
-pub returns-in-Reached : goal.returns-in-Reached
-returns-in-Reached c =
+pub returns-in-Ok : goal.returns-in-Ok
+returns-in-Ok c =
     let f = c.month_later.ensures in
     let a = c.args in
     let date = date_for a.year a.month a.day in
     let checked = month_later_checked date in
-    let told = sym (ap date_outcome c.in-Reached.is) ∙ f.date_given in
+    let told = sym (ap date_outcome c.in-Ok.is) ∙ f.date_given in
     record {
       refusal-number = given-answers checked (date_values (month_later_of date)) _ told;
       year_given = given-count checked (date_values (month_later_of date)) _ told 0 a.later_year.now;

@@ -1,9 +1,11 @@
 -- `crr_judge_flows`.
-use mathlib.Core.Path.{sym, ap, ◌∙◌}
+use mathlib.Core.Path.{◌≡◌, sym, ap, ◌∙◌}
 use mathlib.Core.List.{[], ◌∷◌}
 use lib.IntN.{pos}
 use mir.Syntax.{w64}
-use mir.Facts.{to_z-of_z}
+use mir.Val.{to_z, of_z}
+use Rattle.std.specs.Prelude.{Ok}
+use Rattle.std.proofs.Common.{rules}
 use Rattle.tariff.proofs.Answers.{refused_answers, refused_keeps, given-answers, given-values, given-cell}
 use Rattle.tariff.specs.Processes.{process_of}
 use Rattle.test_rules.specs.TestBook.{test_outcome, TestCells}
@@ -12,14 +14,14 @@ use Rattle.test_totals.specs.JudgeFlows.{judge_call, judge_checked, judged_figur
 use Rattle.c_totals.proofs.Cells.{pass_cells, fail_cells}
 use Rattle.c_totals.proofs.crr_judge_flows.Goals as goal
 
-pub returns-in-Refused : goal.returns-in-Refused
-returns-in-Refused c =
+pub returns-in-Err : goal.returns-in-Err
+returns-in-Err c =
     let f = c.judge_flows in
     let a = c.args in
     let q = judge_call a.constraints a.process a.limits.now a.flows.now a.summed in
     let vs = judged_values q.limits (process_of q.process) q.flows q.constraints in
-    let told = sym (ap test_outcome c.in-Refused.is) ∙ f.ensures.figures in
-    let r = c.in-Refused.refusal in
+    let told = sym (ap test_outcome c.in-Err.is) ∙ f.ensures.figures in
+    let r = c.in-Err.refusal in
     record {
       refusal-number = refused_answers (judge_checked q) vs r told c.number.ensures;
       set_given = refused_keeps (judge_checked q) vs r told (judged_figures q).set a.set.now;
@@ -28,13 +30,14 @@ returns-in-Refused c =
       excess-given = refused_keeps (judge_checked q) vs r told (judged_figures q).over a.excess.now;
     }
 
-pub returns-in-Pass : goal.returns-in-Pass
-returns-in-Pass c =
+pub returns-in-Ok-Pass : goal.returns-in-Ok-Pass
+returns-in-Ok-Pass c =
+    let is = c.in-Ok-Pass.is ∙ ap Ok c.in-Ok-Pass.field-0-is in
     let f = c.judge_flows in
     let a = c.args in
     let q = judge_call a.constraints a.process a.limits.now a.flows.now a.summed in
     let vs = judged_values q.limits (process_of q.process) q.flows q.constraints in
-    let told = sym (ap test_outcome c.in-Pass.is) ∙ f.ensures.figures in
+    let told = sym (ap test_outcome is) ∙ f.ensures.figures in
     let same = pass_cells q.constraints q.limits (process_of q.process) q.flows (given-values (judge_checked q) vs [] told) in
     record {
       refusal-number = given-answers (judge_checked q) vs [] told;
@@ -44,21 +47,22 @@ returns-in-Pass c =
       excess-given = given-cell (judge_checked q) vs [] told (judged_figures q).over a.excess.now (ap (λ (t : TestCells). t.over) same);
     }
 
-pub returns-in-Fail : goal.returns-in-Fail
-returns-in-Fail c =
+pub returns-in-Ok-Fail : goal.returns-in-Ok-Fail
+returns-in-Ok-Fail c =
+    let is = c.in-Ok-Fail.is ∙ ap Ok c.in-Ok-Fail.field-0-is in
     let f = c.judge_flows in
     let a = c.args in
     let q = judge_call a.constraints a.process a.limits.now a.flows.now a.summed in
-    let set = c.in-Fail.overloads in
-    let count = c.in-Fail.many in
-    let lowest = c.in-Fail.named in
-    let over = c.in-Fail.over in
+    let set = c.in-Ok-Fail.overloads in
+    let count = c.in-Ok-Fail.many in
+    let lowest = c.in-Ok-Fail.named in
+    let over = c.in-Ok-Fail.over in
     let vs = judged_values q.limits (process_of q.process) q.flows q.constraints in
     let ws = pos set ∷ pos count ∷ pos lowest ∷ over.0 ∷ [] in
-    let told = sym (ap test_outcome c.in-Fail.is) ∙ f.ensures.figures in
+    let told = sym (ap test_outcome is) ∙ f.ensures.figures in
     let figures = given-values (judge_checked q) vs ws told in
     let same = fail_cells q.constraints q.limits (process_of q.process) q.flows set count lowest over.0 figures in
-    let back = to_z-of_z {w = w64} (record { sfits = c.struct_told-1.given.0.1 }) in
+    let back : to_z w64 (of_z w64 over.0) ≡ over.0 = search rules in
     record {
       refusal-number = given-answers (judge_checked q) vs ws told;
       set_given = given-cell (judge_checked q) vs ws told (judged_figures q).set a.set.now (ap (λ (t : TestCells). t.set) same);

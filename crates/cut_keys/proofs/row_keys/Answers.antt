@@ -1,92 +1,48 @@
 -- `row_keys`: none where the test passes; else those of the contracts, collected and sorted.
-use mathlib.Core.Path.{◌∙◌}
-use Prim.Native.Nat.{◌≤◌}
+use mathlib.Core.Path.{ap}
+use mathlib.Core.List.{List, ◌++◌}
+use Prim.Native.Nat.{ℕ, ◌≤◌}
 use native.Mathlib.Omega.{arith}
-use lib.ListN.{length}
-use Rattle.sorting.proofs.Callers.{cells-long}
+use lib.ListN.{length, drop}
 use Rattle.test_rules.proofs.Flowing.{carried_judgeable}
 use Rattle.cut_keys.proofs.Listing.{passes, fails, excesses, listed-keys}
 use Rattle.cut_keys.proofs.row_keys.Goals as goal
 
-pub carry-carried-requires : goal.carry-carried-requires
-carry-carried-requires c = let s = c in (s.requires.good_cells.1, s.requires.good_cells.2)
+pub of-loading-requires : goal.of-loading-requires
+of-loading-requires c =
+    let t = c.args.test in
+    let f = t.grid.factors in
+    carried_judgeable f.nodes f.constraints t.grid.limits.now f.cells.now t.period t.book.now t.grid.good f.good t.accepted c.carry-flows.result c.carry-flows.ensures
 
-pub overload_set-requires : goal.overload_set-requires
-overload_set-requires c =
-    let a = c.args in
-    let p = c.requires.good_cells in
-    let judged = carried_judgeable a.terms.nodes a.terms.constraints a.limits.now a.factors.now a.terms.period a.book.now p.0 p.1 p.2 c.carry-carried.result c.carry-carried.ensures in
-    judged
-
-pub returns-then-overload_set-eq0 : goal.returns-then-overload_set-eq0
-returns-then-overload_set-eq0 c =
-    let f = c in
-    let s = f in
-    let a = s.args in
-    let p = s.requires.good_cells in
-    let o = c.overload_set in record {
-      upper_bound = (omega arith, s.requires.keys_len);
-      keys_value = passes a.terms.nodes a.terms.constraints a.limits.now a.factors.now a.terms.process a.terms.period a.book.now p.0 p.1 p.2
-          f.carry-carried.result f.carry-carried.ensures
-          o.result o.ensures c.if-overload_set-eq0.true;
-    }
+pub returns-then-overload_set-eq0-clause-keys_value : goal.returns-then-overload_set-eq0-clause-keys_value
+returns-then-overload_set-eq0-clause-keys_value c =
+    let t = c.args.test in
+    let f = t.grid.factors in
+    let l = c.of-loading.ensures in
+    passes f.nodes f.constraints t.grid.limits.now f.cells.now t.process t.period t.book.now t.grid.good f.good t.accepted c.carry-flows.result c.carry-flows.ensures
+    c.overload_set.result (rw (l.constraints_kept, l.limits_kept, l.flows_kept) at c.overload_set.ensures) c.if-overload_set-eq0.true
 
 pub fill_excess-requires : goal.fill_excess-requires
-fill_excess-requires c =
-    let a = c.args in
-    let p = c.requires.good_cells in
-    let judged = carried_judgeable a.terms.nodes a.terms.constraints a.limits.now a.factors.now a.terms.period a.book.now p.0 p.1 p.2 c.carry-carried.result c.carry-carried.ensures in
-    (judged, judged.few)
+fill_excess-requires c = rw c.of-loading.ensures.constraints_kept c.args.test.grid.factors.good.few
 
-pub first_overload-from-requires : goal.first_overload-from-requires
-first_overload-from-requires c =
-    let a = c.args in
-    let p = c.requires.good_cells in
-    let good = excesses a.terms.nodes a.terms.constraints a.limits.now a.factors.now a.terms.process a.terms.period a.book.now p.0 p.1 p.2
-    c.carry-carried.result c.carry-carried.ensures
-    _ _ c.fill_excess.ensures in
-    good
+pub of-requires : goal.of-requires
+of-requires c =
+    let t = c.args.test in
+    let f = t.grid.factors in
+    let l = c.of-loading.ensures in
+    excesses f.nodes f.constraints t.grid.limits.now f.cells.now t.process t.period t.book.now t.grid.good f.good t.accepted c.carry-flows.result c.carry-flows.ensures
+    _ _ (rw (l.constraints_kept, l.limits_kept, l.flows_kept) at c.fill_excess.ensures)
 
-pub overloads_end-upto-requires : goal.overloads_end-upto-requires
-overloads_end-upto-requires c =
-    let a = c.args in
-    let p = c.requires.good_cells in
-    let good = excesses a.terms.nodes a.terms.constraints a.limits.now a.factors.now a.terms.process a.terms.period a.book.now p.0 p.1 p.2
-    c.carry-carried.result c.carry-carried.ensures
-    _ _ c.fill_excess.ensures in
-    good
-
-pub collect_keys-count-requires : goal.collect_keys-count-requires
-collect_keys-count-requires c =
-    let a = c.args in
-    let p = c.requires.good_cells in
-    let good = excesses a.terms.nodes a.terms.constraints a.limits.now a.factors.now a.terms.process a.terms.period a.book.now p.0 p.1 p.2
-    c.carry-carried.result c.carry-carried.ensures
-    _ _ c.fill_excess.ensures in
-    let s = c in
-    let first = c.first_overload-from.ensures in
-    let end = c.overloads_end-upto.ensures in record { good_factors = (s.requires.good_cells.1, s.requires.good_cells.2); excesses = (good, record { from_below = first.0; upto_below = end.0; none_before = first.1; none-behind = end.1 }, s.requires.keys_len) }
-
-pub sort-requires : goal.sort-requires
-sort-requires c = let k = c.collect_keys-count.ensures in (omega (arith, k.upper_bound.0, k.upper_bound.1), k.upper_bound.0)
-
-pub returns : goal.returns
-returns c =
-    let k = c in
-    let x = k in
-    let o = x in
-    let f = o in
-    let s = f in
-    let a = s.args in
-    let p = s.requires.good_cells in
-    let h = k.collect_keys-count.ensures in
-    let sort = c.sort.ensures in
-    let room : k.collect_keys-count.result ≤ length k.collect_keys-count.new.keys = omega (arith, h.upper_bound.0, h.upper_bound.1) in
-    let out = fails a.terms.nodes a.terms.constraints a.limits.now a.factors.now a.terms.process a.terms.period a.book.now p.0 p.1
-    p.2 f.carry-carried.result f.carry-carried.ensures
-    o.overload_set.result o.overload_set.ensures x.if-overload_set-eq0.false in record {
-      upper_bound = (h.upper_bound.0, cells-long k.collect_keys-count.result _ _ room sort ∙ h.upper_bound.1);
-      keys_value = listed-keys a.terms.nodes a.terms.constraints a.limits.now a.factors.now a.terms.process a.terms.period a.book.now p.0 p.1
-          p.2 f.carry-carried.result f.carry-carried.ensures
-          _ _ x.fill_excess.ensures out k.collect_keys-count.result _ _ room h.keys_value sort;
-    }
+pub returns-clause-keys_value : goal.returns-clause-keys_value
+returns-clause-keys_value c =
+    let t = c.args.test in
+    let f = t.grid.factors in
+    let l = c.of-loading.ensures in
+    let k = c.collect_keys-count in
+    let h = k.ensures in
+    let sort = ap (λ (xs : List ℕ). xs ++ drop k.result k.new.keys) c.sort.ensures in
+    let room : k.result ≤ length k.new.keys = omega (arith, h.upper_bound.0, h.upper_bound.1) in
+    let out = fails f.nodes f.constraints t.grid.limits.now f.cells.now t.process t.period t.book.now t.grid.good f.good t.accepted c.carry-flows.result c.carry-flows.ensures
+    c.overload_set.result (rw (l.constraints_kept, l.limits_kept, l.flows_kept) at c.overload_set.ensures) c.if-overload_set-eq0.false in
+    listed-keys f.nodes f.constraints t.grid.limits.now f.cells.now t.process t.period t.book.now t.grid.good f.good t.accepted c.carry-flows.result c.carry-flows.ensures
+    _ _ (rw (l.constraints_kept, l.limits_kept, l.flows_kept) at c.fill_excess.ensures) out k.result _ _ room (rw (c.of.ensures.test_kept, c.of.ensures.cells_kept) at h.keys_value) sort

@@ -9,7 +9,7 @@ use Rattle.lists.proofs.Lists.{length-list_to, get_d_list_to}
 use Rattle.cut_list.proofs.store_rows.Goals as goal
 
 pub loop-i-init : goal.loop-i-init
-loop-i-init c = (omega arith, refl, refl, refl, refl, refl, refl)
+loop-i-init c = (refl, refl, refl, refl, refl, refl)
 
 pub loop-i-preserved : goal.loop-i-preserved
 loop-i-preserved c =
@@ -17,18 +17,17 @@ loop-i-preserved c =
     let l = c.loop-i in
     let n : ℕ → ℕ = λ j. get_or s.args.keys.now j 0 % 1024 in
     let t : ℕ → ℕ = λ j. get_or s.args.keys.now j 0 / 1024 in
-    let h : l.i < s.args.count = omega arith in
-    let hn : l.i < length l.numbers = omega (arith, s.requires.1, l.invariant.1) in
-    let ht : l.i < length l.cuts = omega (arith, s.requires.2, l.invariant.2) in (
-      omega arith,
+    let h : l.i < length s.args.keys.now = omega arith in
+    let hn : l.i < length l.numbers = omega (arith, s.requires.0, l.invariant.0) in
+    let ht : l.i < length l.cuts = omega (arith, s.requires.1, l.invariant.1) in (
+      simp length-set l.invariant.0,
       simp length-set l.invariant.1,
-      simp length-set l.invariant.2,
-      fill_turn (list_to s.args.count n) l.numbers l.i l.invariant.3 _ 0 hn (rw (length-list_to s.args.count n) h)
-          (sym (get_d_list_to s.args.count n l.i 0 h)),
-      rest-turn l.numbers s.args.numbers.now l.i _ l.invariant.4,
-      fill_turn (list_to s.args.count t) l.cuts l.i l.invariant.5 _ 0 ht (rw (length-list_to s.args.count t) h)
-          (sym (get_d_list_to s.args.count t l.i 0 h)),
-      rest-turn l.cuts s.args.cuts.now l.i _ l.invariant.6,
+      fill_turn (list_to (length s.args.keys.now) n) l.numbers l.i l.invariant.2 _ 0 hn (rw (length-list_to (length s.args.keys.now) n) h)
+          (sym (get_d_list_to (length s.args.keys.now) n l.i 0 h)),
+      rest-turn l.numbers s.args.numbers.now l.i _ l.invariant.3,
+      fill_turn (list_to (length s.args.keys.now) t) l.cuts l.i l.invariant.4 _ 0 ht (rw (length-list_to (length s.args.keys.now) t) h)
+          (sym (get_d_list_to (length s.args.keys.now) t l.i 0 h)),
+      rest-turn l.cuts s.args.cuts.now l.i _ l.invariant.5,
     )
 
 pub returns : goal.returns
@@ -37,7 +36,7 @@ returns c =
     let l = c.loop-i in
     let n : ℕ → ℕ = λ j. get_or s.args.keys.now j 0 % 1024 in
     let t : ℕ → ℕ = λ j. get_or s.args.keys.now j 0 / 1024 in record {
-      numbers_value = fill_front (list_to s.args.count n) l.numbers s.args.numbers.now l.i l.invariant.3 l.invariant.4
-          (rw (length-list_to s.args.count n) (omega arith));
-      cuts_value = fill_front (list_to s.args.count t) l.cuts s.args.cuts.now l.i l.invariant.5 l.invariant.6 (rw (length-list_to s.args.count t) (omega arith));
+      numbers_value = fill_front (list_to (length s.args.keys.now) n) l.numbers s.args.numbers.now l.i l.invariant.2 l.invariant.3
+          (rw (length-list_to (length s.args.keys.now) n) (omega arith));
+      cuts_value = fill_front (list_to (length s.args.keys.now) t) l.cuts s.args.cuts.now l.i l.invariant.4 l.invariant.5 (rw (length-list_to (length s.args.keys.now) t) (omega arith));
     }

@@ -1,38 +1,23 @@
 -- `raised`.
 use mathlib.Core.Path.{refl, ap, ◌∙◌}
 use mathlib.Core.Bool.{cond}
-use native.Mathlib.Omega.{arith}
 use lib.Dec.{leb}
 use lib.IntN.{ℤ, ◌-ℤ◌}
 use Rattle.tariff.specs.ContractRules.{counted}
 use Rattle.integers.proofs.Linear.{*ℤ-pos1}
 use Rattle.cut_rules.specs.Inner.{need_at}
 use Rattle.cut_rules.proofs.Turns.{raise_short, raise_enough}
-use Rattle.cut_needs.proofs.Reliefs.{relief_of, relief_sized, over-so, within-so}
+use Rattle.cut_needs.proofs.Reliefs.{relief_of, over-so, within-so}
 use Rattle.cut_needs.proofs.raised.Goals as goal
 
-pub exceeds-requires : goal.exceeds-requires
-exceeds-requires c =
-    let s = c in
-    let a = s.args in
-    let relief = relief_sized a.kind a.source a.sink _ a.need.0 s.requires.source_bound.0 s.requires.source_bound.1 (omega (arith, s.requires.source_bound.2, s.requires.source_bound.3)) c.counted_flow-relief.ensures in
-    (s.requires.pos_bound.1, omega (arith, relief))
-
-pub cut_needed-requires : goal.cut_needed-requires
-cut_needed-requires c =
-    let s = c in
-    let a = s.args in
-    let slope = relief_sized a.kind a.source a.sink _ 1 s.requires.source_bound.0 s.requires.source_bound.1 (omega arith) c.counted_flow-slope.ensures in
-    (s.requires.pos_bound.0, s.requires.pos_bound.1, omega (arith, slope))
-
-pub returns-then-exceeds : goal.returns-then-exceeds
-returns-then-exceeds c =
+pub returns-then-lt : goal.returns-then-lt
+returns-then-lt c =
     let x = c in
     let s = x in
     let a = s.args in
     let w = counted a.kind (a.source -ℤ a.sink) in
     let slope = relief_of a.kind a.source a.sink _ 1 s.requires.source_bound.0 s.requires.source_bound.1 c.counted_flow-slope.ensures ∙ *ℤ-pos1 w in
-    let over = over-so a.over.0 a.over.0 _ _ refl (relief_of a.kind a.source a.sink _ a.need.0 s.requires.source_bound.0 s.requires.source_bound.1 c.counted_flow-relief.ensures) x.exceeds.result x.exceeds.ensures c.if-exceeds.true in
+    let over = over-so a.over.0 a.over.0 _ _ refl (relief_of a.kind a.source a.sink _ a.need.0 s.requires.source_bound.0 s.requires.source_bound.1 c.counted_flow-relief.ensures) x.lt.result x.lt.ensures c.if-lt.true in
     c.cut_needed.ensures
     ∙ ap (λ (z : ℤ). cond (leb (need_at a.over.0 z) a.most.0) (need_at a.over.0 z) 0) slope
     ∙ raise_short a.over.0 w a.need.0 a.most.0 over
@@ -42,5 +27,5 @@ returns c =
     let x = c in
     let s = x in
     let a = s.args in
-    let within = within-so a.over.0 a.over.0 _ _ refl (relief_of a.kind a.source a.sink _ a.need.0 s.requires.source_bound.0 s.requires.source_bound.1 c.counted_flow-relief.ensures) x.exceeds.result x.exceeds.ensures c.if-exceeds.false in
-    raise_enough a.over.0 (counted a.kind (a.source -ℤ a.sink)) a.need.0 a.most.0 s.requires.pos_bound.0 s.requires.source_bound.2 within
+    let within = within-so a.over.0 a.over.0 _ _ refl (relief_of a.kind a.source a.sink _ a.need.0 s.requires.source_bound.0 s.requires.source_bound.1 c.counted_flow-relief.ensures) x.lt.result x.lt.ensures c.if-lt.false in
+    raise_enough a.over.0 (counted a.kind (a.source -ℤ a.sink)) a.need.0 a.most.0 s.requires.pos_bound s.requires.source_bound.2 within

@@ -6,7 +6,8 @@ use Prim.Native.Nat.{ℕ}
 use native.Mathlib.Omega.{arith}
 use lib.IntN.{pos}
 use Rattle.tariff.specs.declared.refusals.Refusal.TheVariants.{NoSuchDate}
-use Rattle.tariff.specs.declared.refusals.Checked.TheVariants.{Passed, Refused}
+use Rattle.std.specs.Prelude.{Err}
+use Rattle.tariff.specs.Refusals.{passed}
 use Rattle.tariff.specs.Refusals.{given}
 use Rattle.tariff.proofs.Answers.{answer-refused, answer-passed}
 use Rattle.tariff.proofs.Checks.{first-refuses, last-passes}
@@ -16,11 +17,11 @@ use Rattle.date_hours.specs.MonthHours.{month_hours_checks, month_hours_checked}
 use Rattle.date_table.proofs.Theorems.{every_entry_right}
 use Rattle.date_hours.proofs.month_hours.Goals as goal
 
-missing : (y m : ℕ) → not (month_exists_of y m) ≡ true → Refused NoSuchDate ≡ month_hours_checked y m
+missing : (y m : ℕ) → not (month_exists_of y m) ≡ true → Err NoSuchDate ≡ month_hours_checked y m
 unfolding month_hours_checks
 missing y m h = sym (first-refuses (no_such_month y m) [] h)
 
-present : (y m : ℕ) → not (month_exists_of y m) ≡ false → Passed ≡ month_hours_checked y m
+present : (y m : ℕ) → not (month_exists_of y m) ≡ false → passed ≡ month_hours_checked y m
 unfolding month_hours_checks
 present y m h = sym (last-passes (no_such_month y m) h)
 

@@ -1,18 +1,25 @@
 -- `is_between`: the day, then the weekday.
-use borrow.Author.Tests.{le-leb, lt-leb}
+use mathlib.Core.Path.{◌≡◌, sym, ◌∙◌}
+use mathlib.Core.Bool.{true, false, ◌&&◌}
+use lib.Dec.{leb}
 use Rattle.date_rules.specs.Inner.{between}
+use Rattle.dates.proofs.Ranges.{range-test}
 use Rattle.date_on_peak.proofs.is_between.Goals as goal
 
-pub returns-then-day-from : goal.returns-then-day-from
+pub returns-then-contains : goal.returns-then-contains
 unfolding between
-returns-then-day-from c = let a = c.args in rw (lt-leb a.from a.day c.if-day-from.true)
-
-pub returns-then-to-day : goal.returns-then-to-day
-unfolding between
-returns-then-to-day c = let a = c.args in rw (le-leb a.from a.day c.if-day-from.false, lt-leb a.day a.to c.if-to-day.true)
-
-pub returns : goal.returns
-unfolding between
-returns c =
+returns-then-contains c =
     let a = c.args in
-    rw (le-leb a.from a.day c.if-day-from.false, le-leb a.day a.to c.if-to-day.false, c.weekday_number.ensures)
+    let s = c.new.ensures in
+    let days : (leb a.from a.day && leb a.day a.to) ≡ true =
+    sym ((rw (s.start, s.end, s.exhausted) at c.contains.ensures.value) ∙ range-test a.from a.to a.day) ∙ c.if-contains.true in
+    rw (days, c.weekday.ensures)
+
+pub returns-else-contains : goal.returns-else-contains
+unfolding between
+returns-else-contains c =
+    let a = c.args in
+    let s = c.new.ensures in
+    let days : (leb a.from a.day && leb a.day a.to) ≡ false =
+    sym ((rw (s.start, s.end, s.exhausted) at c.contains.ensures.value) ∙ range-test a.from a.to a.day) ∙ c.if-contains.false in
+    rw (days, c.if-contains.false)

@@ -1,12 +1,12 @@
 -- `is_within`.
-use borrow.Author.Tests.{le-leb, lt-leb}
+use mathlib.Core.Path.{◌∙◌}
+use Rattle.dates.proofs.Ranges.{range-test}
 use Rattle.date_period.specs.HourPeriod.{within}
 use Rattle.date_period.proofs.is_within.Goals as goal
 
-pub returns-then-hour-first : goal.returns-then-hour-first
-unfolding within
-returns-then-hour-first c = let a = c.args in rw (lt-leb a.first a.hour c.if-hour-first.true)
-
 pub returns : goal.returns
 unfolding within
-returns c = let a = c.args in rw (le-leb a.first a.hour c.if-hour-first.false)
+returns c =
+    let a = c.args in
+    let s = c.new.ensures in
+    (rw (s.start, s.end, s.exhausted) at c.contains.ensures.value) ∙ range-test a.first a.last a.hour

@@ -2,4 +2,4 @@
 use Rattle.date_table.proofs.cell.Goals as goal
 
 pub returns : goal.returns
-returns c = c.wide.ensures.0
+returns c = c.from.ensures

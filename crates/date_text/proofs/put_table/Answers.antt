@@ -1,45 +1,37 @@
 -- `put_table`: the loop has put the lines of the months passed.
-use mathlib.Core.Path.{◌≡◌, sym, ap, ◌∙◌}
-use mathlib.Core.List.{flat_map}
+use mathlib.Core.Path.{◌≡◌, sym, ap}
+use mathlib.Core.List.{List, flat_map}
+use Prim.Native.Nat.{ℕ}
 use native.Mathlib.Omega.{arith}
+use borrow.Author.Rules.{rules}
 use Rattle.lists.specs.Lists.{list_to}
-use Rattle.text_format.proofs.Putting.{◌then◌, put_none, put_same, put_front}
+use Rattle.text_format.specs.Inner.{Put}
+use Rattle.text_format.proofs.Putting.{◌and◌, puts_none, puts_same, put_same, put_front}
 use Rattle.date_rules.specs.OnPeak.{table_entries}
 use Rattle.date_rules.proofs.Months.{month_of}
+use Rattle.date_text.specs.TableText.{PutsTable}
 use Rattle.date_text.proofs.Lines.{lines_to, lines_more}
 use Rattle.date_text.proofs.put_table.Goals as goal
 
 pub loop-k-init : goal.loop-k-init
 unfolding list_to flat_map
-loop-k-init c = (omega arith, omega arith, put_none (omega arith), omega arith)
+loop-k-init c = (puts_none (omega arith), omega arith)
 
 pub hours_by_rule-hours-requires : goal.hours_by_rule-hours-requires
 hours_by_rule-hours-requires c = month_of _ _ (record { year_low = omega arith; year_high = omega arith; month_low = omega arith; month_high = omega arith })
 
-pub put_count-next-requires : goal.put_count-next-requires
-put_count-next-requires c = (c.hours_by_rule-hours.ensures.1, omega (arith, c.loop-k.invariant))
+pub put_count-requires : goal.put_count-requires
+put_count-requires c = (c.hours_by_rule-hours.ensures.1, omega (arith, c.loop-k.invariant.0.same_length, c.loop-k.invariant.1))
 
 pub loop-k-preserved : goal.loop-k-preserved
 loop-k-preserved c =
-    let p = c.put_count-next in
+    let p = c.put_count.ensures in
     let h = c.hours_by_rule-hours in
     let l = c.loop-k in
-    (omega arith, p.auto.buf ∙ l.invariant.1, put_same (lines_more l.k h.result h.ensures.0) (l.invariant.2 then p.ensures.put), omega (arith, p.ensures.upper_bound, l.invariant.3))
+    (puts_same (lines_more l.k h.result h.ensures.0) (l.invariant.0 and p.put), omega (arith, p.upper_bound, l.invariant.1))
 
-pub returns : goal.returns
-returns c =
-    let l = c.loop-k in
-    let last : l.k ≡ table_entries = omega arith in
-    let put = put_front (put_same (ap lines_to (sym last)) l.invariant.2) in record { puts_table = record { text_put = put.0; bytes-given = put.1 }; upper_bound = omega (arith, l.invariant.3, last) }
+whole : (entry exit : List ℕ) (k bytes : ℕ) → k ≡ table_entries → Put entry 0 (lines_to k) exit bytes → PutsTable entry bytes exit
+whole entry exit k bytes last put = let p = put_front (put_same (ap lines_to (sym last)) put) in record { text_put = p.0; bytes-given = p.1 }
 
-pub overflow_add-k : goal.overflow_add-k
-overflow_add-k c = omega arith
-
-pub overflow_add-k-in-loop-k : goal.overflow_add-k-in-loop-k
-overflow_add-k-in-loop-k c = omega arith
-
-pub overflow_add-k-in-loop-k-2 : goal.overflow_add-k-in-loop-k-2
-overflow_add-k-in-loop-k-2 c = omega arith
-
-pub loop-k-smaller : goal.loop-k-smaller
-loop-k-smaller c = omega arith
+pub returns-clause-puts_table : goal.returns-clause-puts_table
+returns-clause-puts_table c = whole _ _ c.loop-k.k _ (omega arith) (search rules)

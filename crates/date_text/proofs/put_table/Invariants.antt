@@ -1,14 +1,8 @@
--- The invariants and measures of `date_text::put_table`.
-use mathlib.Core.Path.{◌≡◌}
-use Prim.Native.Nat.{◌-◌, ◌*◌, ◌≤◌}
-use lib.ListN.{length}
-use Rattle.text_format.specs.Inner.{Put}
-use Rattle.date_rules.specs.OnPeak.{table_entries}
+-- The invariant of `date_text::put_table`.
+use Prim.Native.Nat.{◌*◌, ◌≤◌}
+use Rattle.text_format.specs.Inner.{Puts}
 use Rattle.date_text.proofs.Lines.{lines_to}
 use Rattle.date_text.proofs.put_table.Given as goal
 
 abbrev pub invariant-loop-k : goal.invariant-loop-k
-invariant-loop-k l = (l.k ≤ table_entries) × (length l.buf ≡ length l.initial.buf) × Put l.initial.buf 0 (lines_to l.k) l.buf l.next × (l.next ≤ 4 * l.k)
-
-abbrev pub decreases-loop-k : goal.decreases-loop-k
-decreases-loop-k l = table_entries - l.k
+invariant-loop-k l = Puts l.initial.text (lines_to l.k) l.text × (l.text.at ≤ 4 * l.k)

@@ -8,10 +8,10 @@ pub returns-then-year-eq0 : goal.returns-then-year-eq0
 unfolding leap
 returns-then-year-eq0 c = let y = c.args.year in rw (eq-eqb (y % 400) 0 c.if-year-eq0.true)
 
-pub returns-then-year-eq0-2 : goal.returns-then-year-eq0-2
+pub returns-then-year-ne0 : goal.returns-then-year-ne0
 unfolding leap
-returns-then-year-eq0-2 c = let y = c.args.year in rw (ne_eqb (y % 400) 0 c.if-year-eq0.false, eq-eqb (y % 100) 0 c.if-year-eq0-2.true)
+returns-then-year-ne0 c = let y = c.args.year in rw (ne_eqb (y % 400) 0 c.if-year-eq0.false, ne_eqb (y % 100) 0 c.if-year-ne0.true)
 
-pub returns : goal.returns
+pub returns-else-year-ne0 : goal.returns-else-year-ne0
 unfolding leap
-returns c = let y = c.args.year in rw (ne_eqb (y % 400) 0 c.if-year-eq0.false, ne_eqb (y % 100) 0 c.if-year-eq0-2.false)
+returns-else-year-ne0 c = let y = c.args.year in rw (ne_eqb (y % 400) 0 c.if-year-eq0.false, eq-eqb (y % 100) 0 c.if-year-ne0.false)

@@ -1,24 +1,25 @@
 -- `month_exists`: the four tests.
+use mathlib.Core.Path.{◌≡◌, sym, ◌∙◌}
+use mathlib.Core.Bool.{true, false, ◌&&◌}
+use lib.Dec.{leb}
 use Rattle.date_rules.specs.Dates.{month_exists_of}
-use borrow.Author.Tests.{le-leb, lt-leb}
+use Rattle.dates.proofs.Ranges.{range-test}
 use Rattle.dates.proofs.month_exists.Goals as goal
 
-pub returns-then-year-lt-FIRST_YEAR : goal.returns-then-year-lt-FIRST_YEAR
+pub returns-then-contains : goal.returns-then-contains
 unfolding month_exists_of
-returns-then-year-lt-FIRST_YEAR c = rw (lt-leb 2010 c.args.year c.if-year-lt-FIRST_YEAR.true)
-
-pub returns-then-year-gt-LAST_YEAR : goal.returns-then-year-gt-LAST_YEAR
-unfolding month_exists_of
-returns-then-year-gt-LAST_YEAR c = let a = c.args in rw (le-leb 2010 a.year c.if-year-lt-FIRST_YEAR.false, lt-leb a.year 2037 c.if-year-gt-LAST_YEAR.true)
-
-pub returns-then-month-lt1 : goal.returns-then-month-lt1
-unfolding month_exists_of
-returns-then-month-lt1 c =
+returns-then-contains c =
     let a = c.args in
-    rw (le-leb 2010 a.year c.if-year-lt-FIRST_YEAR.false, le-leb a.year 2037 c.if-year-gt-LAST_YEAR.false, lt-leb 1 a.month c.if-month-lt1.true)
+    let s = c.new.ensures in
+    let t = c.new-then-contains.ensures in
+    let years : (leb 2010 a.year && leb a.year 2037) ≡ true = sym ((rw (s.start, s.end, s.exhausted) at c.contains.ensures.value) ∙ range-test 2010 2037 a.year) ∙ c.if-contains.true in
+    let months : c.contains-then-contains.result ≡ (leb 1 a.month && leb a.month 12) = (rw (t.start, t.end, t.exhausted) at c.contains-then-contains.ensures.value) ∙ range-test 1 12 a.month in
+    rw (years, months)
 
-pub returns : goal.returns
+pub returns-else-contains : goal.returns-else-contains
 unfolding month_exists_of
-returns c =
+returns-else-contains c =
     let a = c.args in
-    rw (le-leb 2010 a.year c.if-year-lt-FIRST_YEAR.false, le-leb a.year 2037 c.if-year-gt-LAST_YEAR.false, le-leb 1 a.month c.if-month-lt1.false)
+    let s = c.new.ensures in
+    let years : (leb 2010 a.year && leb a.year 2037) ≡ false = sym ((rw (s.start, s.end, s.exhausted) at c.contains.ensures.value) ∙ range-test 2010 2037 a.year) ∙ c.if-contains.false in
+    rw (years, c.if-contains.false)

@@ -9,7 +9,7 @@ pub returns-then-month-ne2 : goal.returns-then-month-ne2
 returns-then-month-ne2 c =
     let s = c in
     let a = s.args in
-    rw c.wide.ensures.0 (rw (ne_eqb a.month 2 c.if-month-ne2.true) at (length-right a.leap a.month s.requires))
+    rw c.from.ensures (rw (ne_eqb a.month 2 c.if-month-ne2.true) at (length-right a.leap a.month s.requires))
 
 pub returns-then-leap : goal.returns-then-leap
 returns-then-leap c = rw (c.if-month-ne2.false, c.if-leap.true) (length-right true 2 (omega arith))

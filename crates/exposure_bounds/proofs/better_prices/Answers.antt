@@ -1,70 +1,74 @@
 -- `better_prices`: all overloaded constraints, unless the largest excess alone costs more.
--- the highest price stands on every overloaded constraint
 use mathlib.Core.Path.{◌≡◌}
-use Prim.Native.Nat.{ℕ}
 use native.Mathlib.Omega.{arith}
+use lib.ListN.{length}
+use lib.IntN.{pos, ◌*ℤ◌}
+use Rattle.lists.specs.Lent.{overwrite}
 use Rattle.tariff.specs.Units.{max_price}
 use Rattle.layouts.specs.BookFile.{book_in}
-use Rattle.grid_tables.specs.Inner.{GoodCells}
 use Rattle.test_excesses.specs.Inner.{cell_at}
-use Rattle.exposure_rules.specs.Exposure.{largest_of}
+use Rattle.exposure_rules.specs.Exposure.{highest_where, largest_of}
+use Rattle.exposure_figures.specs.Inner.{Exactly}
+use Rattle.exposure_figures.proofs.Figures.{order-is}
+use Rattle.exposure_prices.specs.Inner.{chosen_in, top_in}
 use Rattle.exposure_bounds.proofs.Meaning.{filled-good, all-kept, alone_taken, largest_few}
 use Rattle.exposure_bounds.proofs.better_prices.Goals as goal
 
-pub largest_cell-largest-requires : goal.largest_cell-largest-requires
-largest_cell-largest-requires c =
-    let e = c.requires.excesses.0 in
-    record { few = omega (arith, e.few); long = e.long; sized = λ j h. omega (arith, e.sized j h) }
-
-pub shortfall_at-found-requires : goal.shortfall_at-found-requires
-shortfall_at-found-requires c =
+pub shortfall_at-requires : goal.shortfall_at-requires
+shortfall_at-requires c =
     let a = c.args in
+    let t = a.tested in
+    let g = t.grid in
+    let k = g.factors.constraints in
+    let cells = a.excesses.cells.now in
+    let long = c.requires.are_excesses.0 in
     let largest = c.largest_cell-largest.result in
-    let largest_is : largest ≡ largest_of a.terms.constraints (cell_at a.excesses.now) = c.largest_cell-largest.ensures in
+    let largest_is : largest ≡ largest_of k (cell_at cells) = rw long at c.largest_cell-largest.ensures in
+    let fills : c.fill_prices.new.prices ≡ overwrite (highest_where k (chosen_in cells 0 k)) a.prices.now = rw long at c.fill_prices.ensures in
     -- the highest price stands on every overloaded constraint
-    let good : GoodCells max_price a.terms.constraints c.fill_prices.new.prices =
-    filled-good a.terms.nodes a.terms.constraints a.limits.now a.factors.now a.terms.process a.terms.period (book_in a.book.now)
-    a.excesses.now c.requires.are_excesses largest largest_is a.prices.now _ c.fill_prices.ensures c.requires.book_value.1 in
-    let p = c.requires in
-    record { good_cells = (p.excesses.1, record { good-factors = p.excesses.2; good-prices = good }); book_value = p.book_value.0 }
+    filled-good g.factors.nodes k g.limits.now g.factors.cells.now t.process t.period (book_in t.book.now) cells c.requires.are_excesses.1 largest largest_is
+    a.prices.now _ fills c.requires.room
 
 pub overflow_add-largest : goal.overflow_add-largest
 overflow_add-largest c =
-    let a = c.args in
-    let largest = c.largest_cell-largest.result in
-    let largest_is : largest ≡ largest_of a.terms.constraints (cell_at a.excesses.now) = c.largest_cell-largest.ensures in
-    omega (arith, largest_few a.terms.constraints (cell_at a.excesses.now) largest largest_is, c.requires.excesses.0.few)
+    let cells = c.args.excesses.cells.now in
+    let largest = c.largest_cell-largest in
+    omega (arith, largest_few (length cells) (cell_at cells) largest.result largest.ensures, c.args.excesses.sized.few)
 
-pub fill_prices-requires-then-below : goal.fill_prices-requires-then-below
-fill_prices-requires-then-below c =
+pub returns-then-lt : goal.returns-then-lt
+returns-then-lt c =
     let a = c.args in
+    let t = a.tested in
+    let g = t.grid in
+    let k = g.factors.constraints in
+    let cells = a.excesses.cells.now in
+    let long = c.requires.are_excesses.0 in
     let largest = c.largest_cell-largest.result in
-    let largest_is : largest ≡ largest_of a.terms.constraints (cell_at a.excesses.now) = c.largest_cell-largest.ensures in
-    -- the highest price stands on every overloaded constraint
-    let good : GoodCells max_price a.terms.constraints c.fill_prices.new.prices =
-    filled-good a.terms.nodes a.terms.constraints a.limits.now a.factors.now a.terms.process a.terms.period (book_in a.book.now)
-    a.excesses.now c.requires.are_excesses largest largest_is a.prices.now _ c.fill_prices.ensures c.requires.book_value.1 in
-    (c.requires.excesses.0, good.long)
+    let largest_is : largest ≡ largest_of k (cell_at cells) = rw long at c.largest_cell-largest.ensures in
+    let fills : c.fill_prices.new.prices ≡ overwrite (highest_where k (chosen_in cells 0 k)) a.prices.now = rw long at c.fill_prices.ensures in
+    let alone = c.alone_shortfall-alone.result in
+    let costs : Exactly (top_in k cells largest *ℤ pos max_price) alone = rw long at c.alone_shortfall-alone.ensures in
+    let all = c.shortfall_at.result.shortfall in
+    let all-costs = c.shortfall_at.ensures.shortfall-is in
+    alone_taken g.factors.nodes k g.limits.now g.factors.cells.now t.process t.period (book_in t.book.now) cells c.requires.are_excesses.1 largest largest_is
+    a.prices.now _ fills alone all costs all-costs c.lt.result
+    (order-is all alone all-costs.parts-small costs.parts-small c.lt.result c.lt.ensures) c.if-lt.true _ (rw long at c.fill_prices-then-lt.ensures)
 
-pub returns-then-below : goal.returns-then-below
-returns-then-below c =
+pub returns-else-lt : goal.returns-else-lt
+returns-else-lt c =
     let a = c.args in
+    let t = a.tested in
+    let g = t.grid in
+    let k = g.factors.constraints in
+    let cells = a.excesses.cells.now in
+    let long = c.requires.are_excesses.0 in
     let largest = c.largest_cell-largest.result in
-    let largest_is : largest ≡ largest_of a.terms.constraints (cell_at a.excesses.now) = c.largest_cell-largest.ensures in
-    let alone = c.alone_shortfall-alone in
-    let all = c.shortfall_at-found in
-    alone_taken a.terms.nodes a.terms.constraints a.limits.now a.factors.now a.terms.process a.terms.period (book_in a.book.now)
-    a.excesses.now c.requires.are_excesses largest largest_is a.prices.now _ c.fill_prices.ensures
-    alone.result all.result.shortfall alone.ensures all.ensures.shortfall-is c.below.result c.below.ensures
-    c.if-below.true _ c.fill_prices-then-below.ensures
-
-pub returns : goal.returns
-returns c =
-    let a = c.args in
-    let largest = c.largest_cell-largest.result in
-    let largest_is : largest ≡ largest_of a.terms.constraints (cell_at a.excesses.now) = c.largest_cell-largest.ensures in
-    let alone = c.alone_shortfall-alone in
-    let all = c.shortfall_at-found.result.shortfall in
-    all-kept a.terms.nodes a.terms.constraints a.limits.now a.factors.now a.terms.process a.terms.period (book_in a.book.now)
-    a.excesses.now c.requires.are_excesses largest largest_is a.prices.now _ c.fill_prices.ensures alone.result all
-    alone.ensures c.shortfall_at-found.ensures.shortfall-is c.below.result c.below.ensures c.if-below.false
+    let largest_is : largest ≡ largest_of k (cell_at cells) = rw long at c.largest_cell-largest.ensures in
+    let fills : c.fill_prices.new.prices ≡ overwrite (highest_where k (chosen_in cells 0 k)) a.prices.now = rw long at c.fill_prices.ensures in
+    let alone = c.alone_shortfall-alone.result in
+    let costs : Exactly (top_in k cells largest *ℤ pos max_price) alone = rw long at c.alone_shortfall-alone.ensures in
+    let all = c.shortfall_at.result.shortfall in
+    let all-costs = c.shortfall_at.ensures.shortfall-is in
+    all-kept g.factors.nodes k g.limits.now g.factors.cells.now t.process t.period (book_in t.book.now) cells c.requires.are_excesses.1 largest largest_is
+    a.prices.now _ fills alone all costs all-costs c.lt.result
+    (order-is all alone all-costs.parts-small costs.parts-small c.lt.result c.lt.ensures) c.if-lt.false

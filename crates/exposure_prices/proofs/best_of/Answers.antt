@@ -1,5 +1,6 @@
 -- `best_of`.
 use mathlib.Core.Path.{◌≡◌, ap}
+use lib.ListN.{length}
 use Prim.Native.Nat.{◌<◌}
 use native.Mathlib.Omega.{arith}
 use lib.IntN.{ℤ, pos, ◌*ℤ◌}
@@ -13,8 +14,8 @@ use Rattle.exposure_figures.proofs.Figures.{exactly_of}
 use Rattle.test_excesses.specs.Inner.{cell_at}
 use Rattle.exposure_prices.proofs.best_of.Goals as goal
 
-inside : (c : goal.After-largest_cell-set) → c.largest_cell-set.result < c.args.sets
-inside c = rw c.largest_cell-set.ensures (largest_inside c.args.sets (cell_at c.args.costs.now) c.requires.1)
+inside : (c : goal.After-largest_cell-set) → c.largest_cell-set.result < (length c.args.costs.now)
+inside c = rw c.largest_cell-set.ensures (largest_inside (length c.args.costs.now) (cell_at c.args.costs.now) c.requires.1)
 
 same : (c : goal.After-largest_cell-set) → let z = cell_at c.args.costs.now c.largest_cell-set.result in to_z w64 (of_z w64 z) ≡ z
 same c = back (cell_at c.args.costs.now c.largest_cell-set.result) (omega (arith, c.requires.0.sized c.largest_cell-set.result (inside c)))

@@ -1,14 +1,9 @@
--- The invariants and measures of `exposure_prices::total_above`.
-use mathlib.Core.Path.{◌≡◌}
-use Prim.Native.Nat.{ℕ, ◌-◌, ◌*◌, ◌≤◌}
-use lib.IntN.{pos}
+-- The invariant of `exposure_prices::total_above`.
+use Rattle.std.proofs.Common.{◌≡◌, ℕ, ◌*◌, ◌≤◌, pos}
 use Rattle.test_excesses.specs.Inner.{cell_at}
 use Rattle.exposure_prices.specs.Inner.{max_excess}
 use Rattle.integers.specs.Sums.{max0, sum_to}
 use Rattle.exposure_prices.proofs.total_above.Given as goal
 
-abbrev pub invariant-loop-k : goal.invariant-loop-k
-invariant-loop-k l = (l.k ≤ l.constraints) × (pos l.total ≡ sum_to l.k (λ (j : ℕ). max0 (cell_at l.excesses j))) × (l.total ≤ max_excess * l.k)
-
-abbrev pub decreases-loop-k : goal.decreases-loop-k
-decreases-loop-k l = l.constraints - l.k
+abbrev pub invariant-loop-excess : goal.invariant-loop-excess
+invariant-loop-excess l = (pos l.total ≡ sum_to l.excess-index (λ (j : ℕ). max0 (cell_at l.excesses.cells.now j))) × (l.total ≤ max_excess * l.excess-index)

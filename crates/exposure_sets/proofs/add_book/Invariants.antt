@@ -1,6 +1,5 @@
--- The invariants and measures of `exposure_sets::add_book`.
-use mathlib.Core.Path.{◌≡◌}
-use Prim.Native.Nat.{ℕ, ◌-◌, ◌*◌, ◌≤◌}
+-- The invariant of `exposure_sets::add_book`.
+use Prim.Native.Nat.{ℕ, ◌*◌, ◌^◌}
 use mathlib.Core.List.{List}
 use lib.ListN.{length}
 use lib.IntN.{ℤ}
@@ -18,8 +17,5 @@ abbrev pub fixed : ℕ → List ℤ → List ℕ → Period → List ℕ → ℕ
 fixed k fs over t book i s = fixed_in k fs over t (contract_at book i) s
 
 abbrev pub invariant-loop-i : goal.invariant-loop-i
-invariant-loop-i l = (l.i ≤ l.contracts) × (length l.sums ≡ 1024) × Upto max_released l.count (fixed l.constraints l.factors l.over l.period l.book) l.initial.row l.row l.i
-    × Upto (max_released * 10) l.n (options l.constraints l.factors l.over l.count l.period l.book) l.initial.costs l.costs l.i
-
-abbrev pub decreases-loop-i : goal.decreases-loop-i
-decreases-loop-i l = l.contracts - l.i
+invariant-loop-i l = Upto max_released (length l.listing.over.now) (fixed l.listing.tested.grid.factors.constraints l.listing.tested.grid.factors.cells.now l.listing.over.now l.listing.tested.period l.listing.tested.book.now) l.initial.row l.row l.i
+    × Upto (max_released * 10) (2 ^ length l.listing.over.now) (options l.listing.tested.grid.factors.constraints l.listing.tested.grid.factors.cells.now l.listing.over.now (length l.listing.over.now) l.listing.tested.period l.listing.tested.book.now) l.initial.costs l.costs l.i

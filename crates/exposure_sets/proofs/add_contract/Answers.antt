@@ -1,75 +1,45 @@
 -- `add_contract`: where it is of the period, an obligation's figures or an option's sums.
-use mathlib.Core.Path.{sym, ◌∙◌}
-use Prim.Native.Nat.{◌*◌}
+use mathlib.Core.Path.{◌≡◌, sym, ◌∙◌}
 use native.Mathlib.Omega.{arith}
+use lib.ListN.{length}
+use lib.Seq.{length-take-le}
+use Rattle.tariff.specs.declared.contracts.Kind.TheVariants.{Option}
 use Rattle.tariff.specs.Inner.{max_released}
-use Rattle.exposure_sets.specs.Inner.{cell_in_of}
-use Rattle.exposure_sets.proofs.Laws.{pow_most, sums_small, no_obligation_of_another, no_option_of_another, obligation_added, no_option, no_obligation, option_added}
+use Rattle.hour_rules.proofs.Amounts.{period_told}
+use Rattle.exposure_sets.specs.Inner.{cell_in_of, Sums}
+use Rattle.exposure_sets.proofs.Laws.{sums_small, no_obligation, option_added, front-ready, front-added}
 use Rattle.exposure_sets.proofs.add_contract.Goals as goal
-
-pub add_counted-requires : goal.add_counted-requires
-add_counted-requires c =
-    let s = c in
-    let f = c.fill_spreads.ensures in
-    let few = s.requires.ends.1.few in
-    (omega (arith, few), omega (arith, few, f.length-kept), s.requires.ends.3, λ m h. omega (arith, f.sized m h), s.requires.sums_len.2)
-
-pub set_sums-requires : goal.set_sums-requires
-set_sums-requires c =
-    let s = c in
-    let f = c.fill_spreads.ensures in
-    let few = s.requires.ends.1.few in
-    (few, omega (arith, few, f.length-kept), λ m h. omega (arith, f.sized m h), s.requires.sums_len.0)
 
 pub add_counted-requires-in-Option : goal.add_counted-requires-in-Option
 add_counted-requires-in-Option c =
-    let s = c in
-    let a = s.args in
+    let a = c.args in
     let f = c.fill_spreads.ensures in
     let x = c.set_sums.ensures in
-    let few = s.requires.ends.1.few in
-    let most = pow_most a.count a.n s.requires.ends.2 few in
-    let small = sums_small max_released a.count a.n
-    (cell_in_of c.fill_spreads.new.figures)
-    c.set_sums.new.sums s.requires.ends.2 few f.sized x.0 in
-    (most, omega (arith, most, x.1), omega (arith, most, s.requires.sums_len.1), λ m h. omega (arith, small m h), s.requires.sums_len.3)
-
-pub returns-in-Obligation : goal.returns-in-Obligation
-returns-in-Obligation c =
-    let s = c in
-    let a = s.args in
-    let f = c in
-    let own = sym f.same.ensures ∙ f.if-same.true in
-    let filled = f.fill_spreads.ensures in
-    let kind = c.in-Obligation.is in (
-      obligation_added a.constraints a.factors.now a.over.now a.count a.period a.c own _ _ filled kind a.row.now _
-          c.add_counted.ensures,
-      no_option a.constraints a.factors.now a.over.now a.count a.period a.c own _ _ filled kind (max_released * 10) a.n a.costs.now,
-      s.requires.sums_len.0,
-    )
+    let n = c.set_count in
+    let few = c.args.listing.chosen.few in
+    let count = length a.listing.over.now in
+    let figures = c.fill_spreads.new.figures in
+    let long : length figures ≡ count = f.length-kept ∙ length-take-le count _ few in
+    let sums : Sums count (cell_in_of figures) c.set_sums.new.sums = rw long at x in
+    let small = sums_small max_released count n.result (cell_in_of figures) c.set_sums.new.sums n.ensures.0 few f.sized sums in
+    front-ready n.result c.set_sums.new.sums a.costs.now n.ensures.2 (omega arith) (omega arith) (λ m h. omega (arith, small m h))
+    (λ m h. c.requires.small.1 m (rw n.ensures.0 at h))
 
 pub returns-in-Option : goal.returns-in-Option
 returns-in-Option c =
-    let s = c in
-    let a = s.args in
-    let f = c in
-    let own = sym f.same.ensures ∙ f.if-same.true in
-    let filled = f.fill_spreads.ensures in
+    let a = c.args in
+    let own = sym (c.eq.ensures ∙ period_told a.c.period a.listing.tested.period) ∙ c.if-eq.true in
+    let f = c.fill_spreads.ensures in
     let kind = c.in-Option.is in
-    let x = c.set_sums.ensures in (
-      no_obligation a.constraints a.factors.now a.over.now a.count a.period a.c own _ _ filled kind max_released a.row.now,
-      option_added a.constraints a.factors.now a.over.now a.count a.period a.c own _ _ filled kind a.n
-          c.set_sums.new.sums a.costs.now _ s.requires.ends.2 s.requires.ends.1.few x.0
-          c.add_counted-in-Option.ensures,
-      x.1,
-    )
-
-pub returns : goal.returns
-returns c =
-    let s = c in
-    let a = s.args in
-    let other = sym c.same.ensures ∙ c.if-same.false in (
-      no_obligation_of_another a.constraints a.factors.now a.over.now a.count a.period a.c max_released a.row.now other,
-      no_option_of_another a.constraints a.factors.now a.over.now a.count a.period a.c (max_released * 10) a.n a.costs.now other,
-      s.requires.sums_len.0,
+    let x = c.set_sums.ensures in
+    let n = c.set_count in
+    let few = c.args.listing.chosen.few in
+    let count = length a.listing.over.now in
+    let figures = c.fill_spreads.new.figures in
+    let long : length figures ≡ count = f.length-kept ∙ length-take-le count _ few in
+    let sums : Sums count (cell_in_of figures) c.set_sums.new.sums = rw long at x in
+    let added = front-added Option n.result c.set_sums.new.sums a.costs.now _ (omega (arith, n.ensures.2)) c.add_counted-in-Option.ensures in (
+      no_obligation a.listing.tested.grid.factors.constraints a.listing.tested.grid.factors.cells.now a.listing.over.now count a.listing.tested.period a.c own _ _ f kind max_released a.row.now,
+      rw n.ensures.0 at (option_added a.listing.tested.grid.factors.constraints a.listing.tested.grid.factors.cells.now a.listing.over.now count a.listing.tested.period a.c own _ _ f kind n.result
+          c.set_sums.new.sums a.costs.now _ n.ensures.0 few sums added),
     )

@@ -1,18 +1,8 @@
 -- `check_cells`: each return by the tests that led there.
-use mathlib.Core.Path.{◌≡◌, sym, ◌∙◌}
-use mathlib.Core.List.{List, ◌∷◌}
-use Prim.Native.Nat.{◌*◌}
-use native.Mathlib.Omega.{arith}
-use lib.ListN.{length, take}
+use mathlib.Core.Path.{sym, ◌∙◌}
 use borrow.Author.Tests.{lt-ltb, le-ltb}
-use Rattle.tariff.specs.Refusals.{Check, first}
-use Rattle.tariff.specs.Checks.{short_table, limit_range, factor_range}
 use Rattle.tariff.proofs.Checks.{first_passes, first-refuses, last-passes}
-use Rattle.grid_tables.proofs.Factors.{count_fits}
 use Rattle.exposure_shortfall.proofs.check_cells.Goals as goal
-
-pub overflow_mul-cells : goal.overflow_mul-cells
-overflow_mul-cells c = record { fits = omega (arith, count_fits _ _ c.requires.0 c.requires.1) }
 
 pub returns-then-prices-constraints : goal.returns-then-prices-constraints
 returns-then-prices-constraints c =

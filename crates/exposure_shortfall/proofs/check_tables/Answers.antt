@@ -1,10 +1,9 @@
 -- `check_tables`: the counts and numbers, then the cells.
 use mathlib.Core.Path.{◌≡◌, sym, ◌∙◌}
 use mathlib.Core.Bool.{false}
-use native.Mathlib.Omega.{arith}
 use borrow.Author.Tests.{lt-ltb, le-ltb}
 use Rattle.tariff.specs.Checks.{node_count}
-use Rattle.tariff.proofs.Checks.{first_passes, first-refuses, nodes-few_of}
+use Rattle.tariff.proofs.Checks.{first_passes, first-refuses}
 use Rattle.exposure_shortfall.proofs.Checking.{Counted, then_cells}
 use Rattle.exposure_shortfall.proofs.check_tables.Goals as goal
 
@@ -26,11 +25,6 @@ returns-then-asked-gt1 c =
     let pass : (node_count c.args.asked.nodes).fails ≡ false = sym c.nodes_bad.ensures ∙ c.if-nodes_bad.false in
     sym (first_passes _ _ pass ∙ first_passes _ _ (le-ltb _ _ c.if-asked-gt-MAX_CONSTRAINTS.false)
     ∙ first_passes _ _ (le-ltb _ _ c.if-asked-gt2.false) ∙ first-refuses _ _ (lt-ltb _ _ c.if-asked-gt1.true))
-
-pub check_cells-requires : goal.check_cells-requires
-check_cells-requires c =
-    let pass : (node_count c.args.asked.nodes).fails ≡ false = sym c.nodes_bad.ensures ∙ c.if-nodes_bad.false in
-    (nodes-few_of c.args.asked.nodes pass, omega arith)
 
 pub returns : goal.returns
 returns c =

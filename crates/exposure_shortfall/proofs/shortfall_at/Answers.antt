@@ -14,12 +14,12 @@ use Rattle.exposure_shortfall.proofs.shortfall_at.Goals as goal
 
 pub settle-totals-requires : goal.settle-totals-requires
 settle-totals-requires c =
-    let few : contract_count_in c.args.book.now ≤ 1000 = (book-accepted c.args.terms.nodes c.args.book.now c.requires.book_value).few in
-    record { hour = (c.requires.good_cells.1, c.requires.book_value); book_in_bounds = (few, few) }
+    let few : contract_count_in c.args.tested.book.now ≤ 1000 = (book-accepted c.args.tested.grid.factors.nodes c.args.tested.book.now c.args.tested.accepted).few in
+    record { book_value = c.args.tested.accepted; book_in_bounds = (few, few) }
 
-pub less-shortfall-requires : goal.less-shortfall-requires
-less-shortfall-requires c =
-    let few : contract_count_in c.args.book.now ≤ 1000 = (book-accepted c.args.terms.nodes c.args.book.now c.requires.book_value).few in
+pub sub-requires : goal.sub-requires
+sub-requires c =
+    let few : contract_count_in c.args.tested.book.now ≤ 1000 = (book-accepted c.args.tested.grid.factors.nodes c.args.tested.book.now c.args.tested.accepted).few in
     let whole = c.settle-totals.result.whole in
     let sized : nat_abs whole < 2 ^ 60 = omega (arith, c.settle-totals.ensures.bounded.whole-sized, few) in
     let same : to_z w64 (of_z w64 whole) ≡ whole = back whole (omega (arith, sized)) in
@@ -28,14 +28,15 @@ less-shortfall-requires c =
 pub returns : goal.returns
 returns c =
     let a = c.args in
-    let few : contract_count_in c.args.book.now ≤ 1000 = (book-accepted c.args.terms.nodes c.args.book.now c.requires.book_value).few in
+    let few : contract_count_in c.args.tested.book.now ≤ 1000 = (book-accepted c.args.tested.grid.factors.nodes c.args.tested.book.now c.args.tested.accepted).few in
     let whole = c.settle-totals.result.whole in
     let sized : nat_abs whole < 2 ^ 60 = omega (arith, c.settle-totals.ensures.bounded.whole-sized, few) in
     let same : to_z w64 (of_z w64 whole) ≡ whole = back whole (omega (arith, sized)) in
+    let g = a.tested.grid in
     let e = c.settle-totals.ensures in
     let owed = c.rent-owed in
     let paid = ap (λ (z : ℤ). cents z c.settle-totals.result.parts) same ∙ e.exact in
-    costs a.terms.nodes a.terms.constraints a.limits.now a.factors.now a.terms.process a.terms.period a.prices.now
-    (book_in a.book.now) _ owed.result
+    costs g.factors.nodes g.factors.constraints g.limits.now g.factors.cells.now a.tested.process a.tested.period a.prices.now
+    (book_in a.tested.book.now) _ owed.result
     (record { is = paid; parts-small = e.bounded.parts-small; whole-sized = rw same (omega (arith, sized)) })
-    owed.ensures.0 c.exact.ensures c.less-shortfall.ensures
+    owed.ensures.0 c.exact.ensures c.sub.ensures

@@ -22,7 +22,8 @@ use Rattle.grid_rules.proofs.Sizing.{size_by, size-checks}
 use Rattle.grid_checks.proofs.check_size.Goals as goal
 
 -- past each test that did not hold, the checks behind it are left
-module _ (s : List ℕ) (f : Form) (n k : ℕ) (form : f ≡ grid_form_in s) (nodes : n ≡ nodes_of f s) (constraints : k ≡ constraints_in_of s) (long : grid_header_bytes_of f ≤ length s) where
+module _ (s : List ℕ) (f : Form) (n k : ℕ) (form : f ≡ grid_form_in s) (nodes : n ≡ nodes_of f s) (constraints : k ≡ constraints_in_of s)
+    (long : grid_header_bytes_of f ≤ length s) where
   past : first (grid_size_checks s) ≡ first (drop 1 (size_by f n k s))
   past = size-checks s f n k form nodes constraints ∙ first_passes _ _ (le-ltb _ _ long)
 
@@ -52,32 +53,47 @@ returns-then-file-lt-FORM_BYTES c =
 
 pub returns-then-file-grid_header_bytes : goal.returns-then-file-grid_header_bytes
 unfolding grid_size_checks
-returns-then-file-grid_header_bytes c = sym (first-refuses _ _ (lt-ltb _ _ (rw (c.grid_header_bytes.ensures, c.form_in-form.ensures) at c.if-file-grid_header_bytes.true)))
+returns-then-file-grid_header_bytes c =
+    sym (first-refuses _ _ (lt-ltb _ _ (rw (c.grid_header_bytes.ensures, c.form_in-form.ensures) at c.if-file-grid_header_bytes.true)))
 
 pub returns-then-nodes_outside : goal.returns-then-nodes_outside
-returns-then-nodes_outside c = sym (past c.args.file.now c.form_in-form.result c.nodes_in-nodes.result c.constraints_in-constraints.result c.form_in-form.ensures c.nodes_in-nodes.ensures c.constraints_in-constraints.ensures (rw c.grid_header_bytes.ensures at c.if-file-grid_header_bytes.false)
+returns-then-nodes_outside c = sym (past c.args.file.now c.form_in-form.result c.nodes_in-nodes.result c.constraints_in-constraints.result c.form_in-form.ensures
+    c.nodes_in-nodes.ensures c.constraints_in-constraints.ensures (rw c.grid_header_bytes.ensures at c.if-file-grid_header_bytes.false)
     ∙ first-refuses _ _ (sym (bad c.form_in-form.result c.nodes_in-nodes.result _ _ c.most_nodes.ensures c.nodes_outside.ensures) ∙ c.if-nodes_outside.true))
 
 pub returns-then-constraints-gt-MAX_CONSTRAINTS : goal.returns-then-constraints-gt-MAX_CONSTRAINTS
-returns-then-constraints-gt-MAX_CONSTRAINTS c = sym (past-2 c.args.file.now c.form_in-form.result c.nodes_in-nodes.result c.constraints_in-constraints.result c.form_in-form.ensures c.nodes_in-nodes.ensures c.constraints_in-constraints.ensures (rw c.grid_header_bytes.ensures at c.if-file-grid_header_bytes.false)
+returns-then-constraints-gt-MAX_CONSTRAINTS c = sym (past-2 c.args.file.now c.form_in-form.result c.nodes_in-nodes.result c.constraints_in-constraints.result
+    c.form_in-form.ensures c.nodes_in-nodes.ensures c.constraints_in-constraints.ensures (rw c.grid_header_bytes.ensures at c.if-file-grid_header_bytes.false)
     (sym (bad c.form_in-form.result c.nodes_in-nodes.result _ _ c.most_nodes.ensures c.nodes_outside.ensures) ∙ c.if-nodes_outside.false)
     ∙ first-refuses _ _ (lt-ltb _ _ c.if-constraints-gt-MAX_CONSTRAINTS.true))
 
 pub returns-then-field-grid_spare : goal.returns-then-field-grid_spare
-returns-then-field-grid_spare c = sym (past-3 c.args.file.now c.form_in-form.result c.nodes_in-nodes.result c.constraints_in-constraints.result c.form_in-form.ensures c.nodes_in-nodes.ensures c.constraints_in-constraints.ensures (rw c.grid_header_bytes.ensures at c.if-file-grid_header_bytes.false)
-    (sym (bad c.form_in-form.result c.nodes_in-nodes.result _ _ c.most_nodes.ensures c.nodes_outside.ensures) ∙ c.if-nodes_outside.false) c.if-constraints-gt-MAX_CONSTRAINTS.false
+returns-then-field-grid_spare c = sym (past-3 c.args.file.now c.form_in-form.result c.nodes_in-nodes.result c.constraints_in-constraints.result
+    c.form_in-form.ensures c.nodes_in-nodes.ensures c.constraints_in-constraints.ensures (rw c.grid_header_bytes.ensures at c.if-file-grid_header_bytes.false)
+    (sym (bad c.form_in-form.result c.nodes_in-nodes.result _ _ c.most_nodes.ensures c.nodes_outside.ensures) ∙ c.if-nodes_outside.false)
+    c.if-constraints-gt-MAX_CONSTRAINTS.false
     ∙ first-refuses _ _ (differs _ _ (rw (c.field.ensures.0, c.grid_spare.ensures) at c.if-field-grid_spare.true)))
 
-pub file_bytes-requires : goal.file_bytes-requires
-file_bytes-requires c =
-    (rw c.grid_header_bits.ensures (short-header c.form_in-form.result), good c.form_in-form.result _ _ (sym (bad c.form_in-form.result c.nodes_in-nodes.result _ _ c.most_nodes.ensures c.nodes_outside.ensures) ∙ c.if-nodes_outside.false) c.if-constraints-gt-MAX_CONSTRAINTS.false)
+pub invariant_of-size : goal.invariant_of-size
+invariant_of-size c =
+    let within = sym (bad c.form_in-form.result c.nodes_in-nodes.result _ _ c.most_nodes.ensures c.nodes_outside.ensures) ∙ c.if-nodes_outside.false in
+    record {
+      good = (
+        rw c.grid_header_bits.ensures (short-header c.form_in-form.result),
+        good c.form_in-form.result _ _ within c.if-constraints-gt-MAX_CONSTRAINTS.false,
+      );
+    }
 
 pub returns-then-file-file_bytes : goal.returns-then-file-file_bytes
-returns-then-file-file_bytes c = sym (past-4 c.args.file.now c.form_in-form.result c.nodes_in-nodes.result c.constraints_in-constraints.result c.form_in-form.ensures c.nodes_in-nodes.ensures c.constraints_in-constraints.ensures (rw c.grid_header_bytes.ensures at c.if-file-grid_header_bytes.false)
-    (sym (bad c.form_in-form.result c.nodes_in-nodes.result _ _ c.most_nodes.ensures c.nodes_outside.ensures) ∙ c.if-nodes_outside.false) c.if-constraints-gt-MAX_CONSTRAINTS.false (sym c.field.ensures.0 ∙ c.if-field-grid_spare.false ∙ c.grid_spare.ensures)
+returns-then-file-file_bytes c = sym (past-4 c.args.file.now c.form_in-form.result c.nodes_in-nodes.result c.constraints_in-constraints.result c.form_in-form.ensures
+    c.nodes_in-nodes.ensures c.constraints_in-constraints.ensures (rw c.grid_header_bytes.ensures at c.if-file-grid_header_bytes.false)
+    (sym (bad c.form_in-form.result c.nodes_in-nodes.result _ _ c.most_nodes.ensures c.nodes_outside.ensures) ∙ c.if-nodes_outside.false)
+    c.if-constraints-gt-MAX_CONSTRAINTS.false (sym c.field.ensures.0 ∙ c.if-field-grid_spare.false ∙ c.grid_spare.ensures)
     ∙ first-refuses _ _ (differs _ _ (rw (c.file_bytes.ensures.0, c.grid_header_bits.ensures) at c.if-file-file_bytes.true)))
 
 pub returns : goal.returns
-returns c = sym (past-4 c.args.file.now c.form_in-form.result c.nodes_in-nodes.result c.constraints_in-constraints.result c.form_in-form.ensures c.nodes_in-nodes.ensures c.constraints_in-constraints.ensures (rw c.grid_header_bytes.ensures at c.if-file-grid_header_bytes.false)
-    (sym (bad c.form_in-form.result c.nodes_in-nodes.result _ _ c.most_nodes.ensures c.nodes_outside.ensures) ∙ c.if-nodes_outside.false) c.if-constraints-gt-MAX_CONSTRAINTS.false (sym c.field.ensures.0 ∙ c.if-field-grid_spare.false ∙ c.grid_spare.ensures)
+returns c = sym (past-4 c.args.file.now c.form_in-form.result c.nodes_in-nodes.result c.constraints_in-constraints.result c.form_in-form.ensures
+    c.nodes_in-nodes.ensures c.constraints_in-constraints.ensures (rw c.grid_header_bytes.ensures at c.if-file-grid_header_bytes.false)
+    (sym (bad c.form_in-form.result c.nodes_in-nodes.result _ _ c.most_nodes.ensures c.nodes_outside.ensures) ∙ c.if-nodes_outside.false)
+    c.if-constraints-gt-MAX_CONSTRAINTS.false (sym c.field.ensures.0 ∙ c.if-field-grid_spare.false ∙ c.grid_spare.ensures)
     ∙ last-passes _ (same _ _ (rw (c.file_bytes.ensures.0, c.grid_header_bits.ensures) at c.if-file-file_bytes.false)))

@@ -24,38 +24,48 @@ module _ (s : List ℕ) (header nodes constraints : ℕ) (counted : Counted s he
 
 pub returns-then-field_above : goal.returns-then-field_above
 unfolding figure_checks
-returns-then-field_above c = sym (first-refuses _ _ (sym (limit c.args.file.now c.args.header c.args.nodes c.args.constraints c.requires c.field_above.ensures) ∙ c.if-field_above.true))
+returns-then-field_above c = sym
+    (first-refuses _ _ (sym (limit c.args.grid.bytes.now c.args.grid.size.header c.args.grid.size.nodes c.args.grid.size.constraints c.args.grid.counted c.field_above.ensures) ∙ c.if-field_above.true))
 
 pub returns-then-factor_bad_in : goal.returns-then-factor_bad_in
 unfolding figure_checks
-returns-then-factor_bad_in c = sym (first_passes _ _ (sym (limit c.args.file.now c.args.header c.args.nodes c.args.constraints c.requires c.field_above.ensures) ∙ c.if-field_above.false)
+returns-then-factor_bad_in c = sym
+    (first_passes _ _ (sym (limit c.args.grid.bytes.now c.args.grid.size.header c.args.grid.size.nodes c.args.grid.size.constraints c.args.grid.counted c.field_above.ensures) ∙ c.if-field_above.false)
     ∙ first-refuses _ _ (sym c.factor_bad_in.ensures ∙ c.if-factor_bad_in.true))
 
 pub returns-then-field-ne0 : goal.returns-then-field-ne0
 unfolding figure_checks
-returns-then-field-ne0 c = sym (first_passes _ _ (sym (limit c.args.file.now c.args.header c.args.nodes c.args.constraints c.requires c.field_above.ensures) ∙ c.if-field_above.false)
+returns-then-field-ne0 c = sym (first_passes _ _ (sym (limit c.args.grid.bytes.now c.args.grid.size.header c.args.grid.size.nodes c.args.grid.size.constraints c.args.grid.counted c.field_above.ensures)
+    ∙ c.if-field_above.false)
     ∙ first_passes _ _ (sym c.factor_bad_in.ensures ∙ c.if-factor_bad_in.false)
-    ∙ first-refuses _ _ (differs _ _ (rw (pad c.args.file.now c.args.header c.args.nodes c.args.constraints c.requires _ _ c.used_bits-used.ensures.0 c.field.ensures.0) at c.if-field-ne0.true)))
+    ∙ first-refuses _ _ (differs _ _ (rw
+    (pad c.args.grid.bytes.now c.args.grid.size.header c.args.grid.size.nodes c.args.grid.size.constraints c.args.grid.counted _ _ c.used_bits-used.ensures.0 c.field.ensures.0) at c.if-field-ne0.true)))
 
-pub returns-then-limits-constraints : goal.returns-then-limits-constraints
+pub returns-then-limits-size : goal.returns-then-limits-size
 unfolding figure_checks
-returns-then-limits-constraints c = sym (first_passes _ _ (sym (limit c.args.file.now c.args.header c.args.nodes c.args.constraints c.requires c.field_above.ensures) ∙ c.if-field_above.false)
+returns-then-limits-size c =
+    sym (first_passes _ _ (sym (limit c.args.grid.bytes.now c.args.grid.size.header c.args.grid.size.nodes c.args.grid.size.constraints c.args.grid.counted c.field_above.ensures) ∙ c.if-field_above.false)
     ∙ first_passes _ _ (sym c.factor_bad_in.ensures ∙ c.if-factor_bad_in.false)
-    ∙ first_passes _ _ (same _ _ (sym (pad c.args.file.now c.args.header c.args.nodes c.args.constraints c.requires _ _ c.used_bits-used.ensures.0 c.field.ensures.0) ∙ c.if-field-ne0.false))
-    ∙ first-refuses _ _ (lt-ltb _ _ (rw c.requires.constraints at c.if-limits-constraints.true)))
+    ∙ first_passes _ _ (same _ _ (sym (pad c.args.grid.bytes.now c.args.grid.size.header c.args.grid.size.nodes c.args.grid.size.constraints c.args.grid.counted _ _ c.used_bits-used.ensures.0 c.field.ensures.0)
+    ∙ c.if-field-ne0.false))
+    ∙ first-refuses _ _ (lt-ltb _ _ (rw c.args.grid.counted.constraints at c.if-limits-size.true)))
 
-pub returns-then-factors-factor_count : goal.returns-then-factors-factor_count
+pub returns-then-factors : goal.returns-then-factors
 unfolding figure_checks
-returns-then-factors-factor_count c = sym (first_passes _ _ (sym (limit c.args.file.now c.args.header c.args.nodes c.args.constraints c.requires c.field_above.ensures) ∙ c.if-field_above.false)
+returns-then-factors c =
+    sym (first_passes _ _ (sym (limit c.args.grid.bytes.now c.args.grid.size.header c.args.grid.size.nodes c.args.grid.size.constraints c.args.grid.counted c.field_above.ensures) ∙ c.if-field_above.false)
     ∙ first_passes _ _ (sym c.factor_bad_in.ensures ∙ c.if-factor_bad_in.false)
-    ∙ first_passes _ _ (same _ _ (sym (pad c.args.file.now c.args.header c.args.nodes c.args.constraints c.requires _ _ c.used_bits-used.ensures.0 c.field.ensures.0) ∙ c.if-field-ne0.false))
-    ∙ first_passes _ _ (le-ltb _ _ (rw c.requires.constraints at c.if-limits-constraints.false))
-    ∙ first-refuses _ _ (lt-ltb _ _ (rw (c.factor_count.ensures.0, c.requires.nodes, c.requires.constraints) at c.if-factors-factor_count.true)))
+    ∙ first_passes _ _ (same _ _ (sym (pad c.args.grid.bytes.now c.args.grid.size.header c.args.grid.size.nodes c.args.grid.size.constraints c.args.grid.counted _ _ c.used_bits-used.ensures.0 c.field.ensures.0)
+    ∙ c.if-field-ne0.false))
+    ∙ first_passes _ _ (le-ltb _ _ (rw c.args.grid.counted.constraints at c.if-limits-size.false))
+    ∙ first-refuses _ _ (lt-ltb _ _ (rw (c.factors.ensures.0, c.args.grid.counted.nodes, c.args.grid.counted.constraints) at c.if-factors.true)))
 
 pub returns : goal.returns
 unfolding figure_checks
-returns c = sym (first_passes _ _ (sym (limit c.args.file.now c.args.header c.args.nodes c.args.constraints c.requires c.field_above.ensures) ∙ c.if-field_above.false)
+returns c = sym (first_passes _ _ (sym (limit c.args.grid.bytes.now c.args.grid.size.header c.args.grid.size.nodes c.args.grid.size.constraints c.args.grid.counted c.field_above.ensures)
+    ∙ c.if-field_above.false)
     ∙ first_passes _ _ (sym c.factor_bad_in.ensures ∙ c.if-factor_bad_in.false)
-    ∙ first_passes _ _ (same _ _ (sym (pad c.args.file.now c.args.header c.args.nodes c.args.constraints c.requires _ _ c.used_bits-used.ensures.0 c.field.ensures.0) ∙ c.if-field-ne0.false))
-    ∙ first_passes _ _ (le-ltb _ _ (rw c.requires.constraints at c.if-limits-constraints.false))
-    ∙ last-passes _ (le-ltb _ _ (rw (c.factor_count.ensures.0, c.requires.nodes, c.requires.constraints) at c.if-factors-factor_count.false)))
+    ∙ first_passes _ _ (same _ _ (sym (pad c.args.grid.bytes.now c.args.grid.size.header c.args.grid.size.nodes c.args.grid.size.constraints c.args.grid.counted _ _ c.used_bits-used.ensures.0 c.field.ensures.0)
+    ∙ c.if-field-ne0.false))
+    ∙ first_passes _ _ (le-ltb _ _ (rw c.args.grid.counted.constraints at c.if-limits-size.false))
+    ∙ last-passes _ (le-ltb _ _ (rw (c.factors.ensures.0, c.args.grid.counted.nodes, c.args.grid.counted.constraints) at c.if-factors.false)))

@@ -46,40 +46,39 @@ module _ (s : List ℕ) (header nodes constraints : ℕ) (counted : Counted s he
       same bits bad is of_bits = of_bits ∙ ap factor_bad_of (factor-from s header nodes constraints next at _ inside fits place is)
 
 pub nodes-init : goal.nodes-init
-nodes-init c = let k = c.args.constraints in
-    let fs = all c.args.file.now c.args.header c.args.nodes c.args.constraints in
-    (search rules, search rules, omega arith, bad_so_far fs 0 (0 * k) (omega arith) (any_of_start factor_bad_of))
+nodes-init c = let k = c.args.grid.size.constraints in
+    let fs = all c.args.grid.bytes.now c.args.grid.size.header c.args.grid.size.nodes c.args.grid.size.constraints in
+    (search rules, omega arith, bad_so_far fs 0 (0 * k) (omega arith) (any_of_start factor_bad_of))
 
 pub loop-constraint-init : goal.loop-constraint-init
 loop-constraint-init c =
     let a = c.args in
     let n = c.nodes in
-    let fs = all a.file.now a.header a.nodes a.constraints in
-    (omega arith, n.invariant.1, omega arith, bad_so_far fs (n.node * a.constraints) (n.node * a.constraints + 0) (omega arith) n.invariant.3)
+    let fs = all a.grid.bytes.now a.grid.size.header a.grid.size.nodes a.grid.size.constraints in
+    (n.invariant.0, omega arith, bad_so_far fs (n.node * a.grid.size.constraints) (n.node * a.grid.size.constraints + 0) (omega arith) n.invariant.2)
 
 pub load_field-requires : goal.load_field-requires
 load_field-requires c =
     let s = c in
     let a = s.args in
-    let late = late_factors a.file.now a.header a.nodes a.constraints s.requires (next c.args.file.now c.args.header c.args.nodes c.args.constraints c.requires c.nodes.node c.loop-constraint.constraint) (inside c.args.file.now c.args.header c.args.nodes c.args.constraints c.requires c.nodes.node c.loop-constraint.constraint (omega arith) (omega arith)) in record { bound = (omega (arith, late, c.loop-constraint.invariant.2), room c.args.file.now c.args.header c.args.nodes c.args.constraints c.requires c.nodes.node c.loop-constraint.constraint (omega arith) (omega arith) c.loop-constraint.at c.loop-constraint.invariant.2); offset_bound = (omega (arith, room c.args.file.now c.args.header c.args.nodes c.args.constraints c.requires c.nodes.node c.loop-constraint.constraint (omega arith) (omega arith) c.loop-constraint.at c.loop-constraint.invariant.2, short-file a.file.now _ _ _ s.requires), search rules, search rules) }
+    let late = late_factors a.grid.bytes.now a.grid.size.header a.grid.size.nodes a.grid.size.constraints s.args.grid.counted (next c.args.grid.bytes.now c.args.grid.size.header c.args.grid.size.nodes c.args.grid.size.constraints c.args.grid.counted c.nodes.node c.loop-constraint.constraint) (inside c.args.grid.bytes.now c.args.grid.size.header c.args.grid.size.nodes c.args.grid.size.constraints c.args.grid.counted c.nodes.node c.loop-constraint.constraint (omega arith) (omega arith)) in record { bound = (omega (arith, late, c.loop-constraint.invariant.1), room c.args.grid.bytes.now c.args.grid.size.header c.args.grid.size.nodes c.args.grid.size.constraints c.args.grid.counted c.nodes.node c.loop-constraint.constraint (omega arith) (omega arith) c.loop-constraint.at c.loop-constraint.invariant.1); offset_bound = (omega (arith, room c.args.grid.bytes.now c.args.grid.size.header c.args.grid.size.nodes c.args.grid.size.constraints c.args.grid.counted c.nodes.node c.loop-constraint.constraint (omega arith) (omega arith) c.loop-constraint.at c.loop-constraint.invariant.1, short-file a.grid.bytes.now _ _ _ s.args.grid.counted), search rules, search rules) }
 
 pub overflow_add-at-in-loop-constraint : goal.overflow_add-at-in-loop-constraint
 overflow_add-at-in-loop-constraint c =
     let s = c in
-    omega (arith, room c.args.file.now c.args.header c.args.nodes c.args.constraints c.requires c.nodes.node c.loop-constraint.constraint (omega arith) (omega arith) c.loop-constraint.at c.loop-constraint.invariant.2, short-file s.args.file.now _ _ _ s.requires)
+    omega (arith, room c.args.grid.bytes.now c.args.grid.size.header c.args.grid.size.nodes c.args.grid.size.constraints c.args.grid.counted c.nodes.node c.loop-constraint.constraint (omega arith) (omega arith) c.loop-constraint.at c.loop-constraint.invariant.1, short-file s.args.grid.bytes.now _ _ _ s.args.grid.counted)
 
 pub loop-constraint-preserved : goal.loop-constraint-preserved
 loop-constraint-preserved c =
     let a = c.args in
     let j = c.nodes.node in
     let l = c.loop-constraint in
-    let fs = all a.file.now a.header a.nodes a.constraints in
-    let i = j * a.constraints + l.constraint in
-    let one : i < length fs = rw length-factors (inside c.args.file.now c.args.header c.args.nodes c.args.constraints c.requires c.nodes.node c.loop-constraint.constraint (omega arith) (omega arith)) in (
+    let fs = all a.grid.bytes.now a.grid.size.header a.grid.size.nodes a.grid.size.constraints in
+    let i = j * a.grid.size.constraints + l.constraint in
+    let one : i < length fs = rw length-factors (inside c.args.grid.bytes.now c.args.grid.size.header c.args.grid.size.nodes c.args.grid.size.constraints c.args.grid.counted c.nodes.node c.loop-constraint.constraint (omega arith) (omega arith)) in (
+      l.invariant.0,
       omega arith,
-      l.invariant.1,
-      omega arith,
-      bad_so_far fs (i + 1) (j * a.constraints + (l.constraint + 1)) (omega arith) (bad_turn fs i (to_int factor_width 0) _ one (same c.args.file.now c.args.header c.args.nodes c.args.constraints c.requires c.nodes.node c.loop-constraint.constraint (omega arith) (omega arith) c.loop-constraint.at c.loop-constraint.invariant.2 _ _ c.load_field.ensures.0 c.bits_bad.ensures) c.if-bits_bad.false l.invariant.3),
+      bad_so_far fs (i + 1) (j * a.grid.size.constraints + (l.constraint + 1)) (omega arith) (bad_turn fs i (to_int factor_width 0) _ one (same c.args.grid.bytes.now c.args.grid.size.header c.args.grid.size.nodes c.args.grid.size.constraints c.args.grid.counted c.nodes.node c.loop-constraint.constraint (omega arith) (omega arith) c.loop-constraint.at c.loop-constraint.invariant.1 _ _ c.load_field.ensures.0 c.bits_bad.ensures) c.if-bits_bad.false l.invariant.2),
     )
 
 pub nodes-preserved : goal.nodes-preserved
@@ -87,23 +86,23 @@ nodes-preserved c =
     let a = c.args in
     let j = c.nodes.node in
     let l = c.loop-constraint in
-    let fs = all a.file.now a.header a.nodes a.constraints in
-    let next : j * a.constraints + l.constraint ≡ (j + 1) * a.constraints = omega arith in
-    (omega arith, l.invariant.1, omega arith, bad_so_far fs (j * a.constraints + l.constraint) ((j + 1) * a.constraints) next l.invariant.3)
+    let fs = all a.grid.bytes.now a.grid.size.header a.grid.size.nodes a.grid.size.constraints in
+    let next : j * a.grid.size.constraints + l.constraint ≡ (j + 1) * a.grid.size.constraints = omega arith in
+    (l.invariant.0, omega arith, bad_so_far fs (j * a.grid.size.constraints + l.constraint) ((j + 1) * a.grid.size.constraints) next l.invariant.2)
 
 pub returns-after-nodes : goal.returns-after-nodes
 returns-after-nodes c =
     let s = c in
     let a = s.args in
     let n = c.nodes in
-    let past : a.nodes * a.constraints ≤ n.node * a.constraints = mul-le-mul_right a.constraints c.nodes-test.false in
-    rw (factors-are a.file.now a.header a.nodes a.constraints s.requires) at
-    (n.invariant.1 ∙ any_of_end factor_bad_of (all a.file.now a.header a.nodes a.constraints) (n.node * a.constraints) (rw length-factors past) n.invariant.3)
+    let past : a.grid.size.nodes * a.grid.size.constraints ≤ n.node * a.grid.size.constraints = mul-le-mul_right a.grid.size.constraints c.nodes-test.false in
+    rw (factors-are a.grid.bytes.now a.grid.size.header a.grid.size.nodes a.grid.size.constraints s.args.grid.counted) at
+    (n.invariant.0 ∙ any_of_end factor_bad_of (all a.grid.bytes.now a.grid.size.header a.grid.size.nodes a.grid.size.constraints) (n.node * a.grid.size.constraints) (rw length-factors past) n.invariant.2)
 
 pub returns-then-bits_bad : goal.returns-then-bits_bad
 returns-then-bits_bad c =
     let s = c in
     let a = s.args in
     let l = c in
-    rw (factors-are a.file.now a.header a.nodes a.constraints s.requires) at
-    (bad_found (all a.file.now a.header a.nodes a.constraints) (next c.args.file.now c.args.header c.args.nodes c.args.constraints c.requires c.nodes.node c.loop-constraint.constraint) (to_int factor_width 0) _ (rw length-factors (inside c.args.file.now c.args.header c.args.nodes c.args.constraints c.requires c.nodes.node c.loop-constraint.constraint (omega arith) (omega arith))) (same c.args.file.now c.args.header c.args.nodes c.args.constraints c.requires c.nodes.node c.loop-constraint.constraint (omega arith) (omega arith) c.loop-constraint.at c.loop-constraint.invariant.2 _ _ c.load_field.ensures.0 c.bits_bad.ensures) c.if-bits_bad.true)
+    rw (factors-are a.grid.bytes.now a.grid.size.header a.grid.size.nodes a.grid.size.constraints s.args.grid.counted) at
+    (bad_found (all a.grid.bytes.now a.grid.size.header a.grid.size.nodes a.grid.size.constraints) (next c.args.grid.bytes.now c.args.grid.size.header c.args.grid.size.nodes c.args.grid.size.constraints c.args.grid.counted c.nodes.node c.loop-constraint.constraint) (to_int factor_width 0) _ (rw length-factors (inside c.args.grid.bytes.now c.args.grid.size.header c.args.grid.size.nodes c.args.grid.size.constraints c.args.grid.counted c.nodes.node c.loop-constraint.constraint (omega arith) (omega arith))) (same c.args.grid.bytes.now c.args.grid.size.header c.args.grid.size.nodes c.args.grid.size.constraints c.args.grid.counted c.nodes.node c.loop-constraint.constraint (omega arith) (omega arith) c.loop-constraint.at c.loop-constraint.invariant.1 _ _ c.load_field.ensures.0 c.bits_bad.ensures) c.if-bits_bad.true)

@@ -1,4 +1,4 @@
--- The invariants and measures of `grid_figures::factor_bad_in`.
+-- The invariants and of `grid_figures::factor_bad_in`.
 use mathlib.Core.Path.{◌≡◌}
 use mathlib.Core.Bool.{false}
 use mathlib.Core.List.{List}
@@ -17,15 +17,9 @@ abbrev pub start : ℕ → ℕ → ℕ
 start h k = h + limit_width * k
 
 abbrev pub invariant-loop-constraint : goal.invariant-loop-constraint
-invariant-loop-constraint l = (l.constraint ≤ l.constraints) × (l.found ≡ false) × (l.at ≡ start l.header l.constraints + factor_width * (l.node * l.constraints + l.constraint))
-    × (any_of factor_bad_of (take (l.node * l.constraints + l.constraint) (all l.file l.header l.nodes l.constraints)) ≡ false)
-
-abbrev pub decreases-loop-constraint : goal.decreases-loop-constraint
-decreases-loop-constraint l = l.constraints - l.constraint
+invariant-loop-constraint l = (l.found ≡ false) × (l.at ≡ start l.grid.size.header l.grid.size.constraints + factor_width * (l.node * l.grid.size.constraints + l.constraint))
+    × (any_of factor_bad_of (take (l.node * l.grid.size.constraints + l.constraint) (all l.grid.bytes.now l.grid.size.header l.grid.size.nodes l.grid.size.constraints)) ≡ false)
 
 abbrev pub invariant-nodes : goal.invariant-nodes
-invariant-nodes l = (l.node ≤ l.nodes) × (l.found ≡ false) × (l.at ≡ start l.header l.constraints + factor_width * (l.node * l.constraints))
-    × (any_of factor_bad_of (take (l.node * l.constraints) (all l.file l.header l.nodes l.constraints)) ≡ false)
-
-abbrev pub decreases-nodes : goal.decreases-nodes
-decreases-nodes l = l.nodes - l.node
+invariant-nodes l = (l.found ≡ false) × (l.at ≡ start l.grid.size.header l.grid.size.constraints + factor_width * (l.node * l.grid.size.constraints))
+    × (any_of factor_bad_of (take (l.node * l.grid.size.constraints) (all l.grid.bytes.now l.grid.size.header l.grid.size.nodes l.grid.size.constraints)) ≡ false)

@@ -31,9 +31,11 @@ returns-then-nodes_bad c = sym (first-refuses _ _ (sym c.nodes_bad.ensures ∙ c
 
 pub returns-then-constraints-gt-MAX_CONSTRAINTS : goal.returns-then-constraints-gt-MAX_CONSTRAINTS
 unfolding grid_table_checks
-returns-then-constraints-gt-MAX_CONSTRAINTS c = sym (first_passes _ _ (sym c.nodes_bad.ensures ∙ c.if-nodes_bad.false) ∙ first-refuses _ _ (lt-ltb _ _ c.if-constraints-gt-MAX_CONSTRAINTS.true))
+returns-then-constraints-gt-MAX_CONSTRAINTS c =
+    sym (first_passes _ _ (sym c.nodes_bad.ensures ∙ c.if-nodes_bad.false) ∙ first-refuses _ _ (lt-ltb _ _ c.if-constraints-gt-MAX_CONSTRAINTS.true))
 
 pub returns-then-process-gt2 : goal.returns-then-process-gt2
 unfolding grid_table_checks
-returns-then-process-gt2 c = let n = c in sym (first_passes _ _ (sym n.nodes_bad.ensures ∙ n.if-nodes_bad.false) ∙ first_passes _ _ (le-ltb _ _ c.if-constraints-gt-MAX_CONSTRAINTS.false)
+returns-then-process-gt2 c =
+    sym (first_passes _ _ (sym c.nodes_bad.ensures ∙ c.if-nodes_bad.false) ∙ first_passes _ _ (le-ltb _ _ c.if-constraints-gt-MAX_CONSTRAINTS.false)
     ∙ first-refuses _ _ (lt-ltb _ _ c.if-process-gt2.true))

@@ -10,7 +10,8 @@ pub returns-then-period-gt1 : goal.returns-then-period-gt1
 unfolding hour_table_checks
 returns-then-period-gt1 c =
     let n = c in
-    sym (first_passes _ _ (sym n.nodes_bad.ensures ∙ n.if-nodes_bad.false) ∙ first_passes _ _ (le-ltb _ _ c.if-constraints-gt-MAX_CONSTRAINTS.false) ∙ first-refuses _ _ (lt-ltb _ _ c.if-period-gt1.true))
+    sym (first_passes _ _ (sym n.nodes_bad.ensures ∙ n.if-nodes_bad.false) ∙ first_passes _ _ (le-ltb _ _ c.if-constraints-gt-MAX_CONSTRAINTS.false)
+    ∙ first-refuses _ _ (lt-ltb _ _ c.if-period-gt1.true))
 
 pub check_hour_cells-requires : goal.check_hour_cells-requires
 check_hour_cells-requires c = let n = c in (nodes-few_of _ (sym n.nodes_bad.ensures ∙ n.if-nodes_bad.false), search rules)
@@ -21,7 +22,8 @@ returns c =
     let p = c in
     let n = p in
     c.check_hour_cells.ensures
-    ∙ sym (first_passes _ _ (sym n.nodes_bad.ensures ∙ n.if-nodes_bad.false) ∙ first_passes _ _ (le-ltb _ _ p.if-constraints-gt-MAX_CONSTRAINTS.false) ∙ first_passes _ _ (le-ltb _ _ p.if-period-gt1.false))
+    ∙ sym (first_passes _ _ (sym n.nodes_bad.ensures ∙ n.if-nodes_bad.false) ∙ first_passes _ _ (le-ltb _ _ p.if-constraints-gt-MAX_CONSTRAINTS.false)
+    ∙ first_passes _ _ (le-ltb _ _ p.if-period-gt1.false))
 
 pub returns-then-nodes_bad : goal.returns-then-nodes_bad
 unfolding hour_table_checks
@@ -29,4 +31,5 @@ returns-then-nodes_bad c = sym (first-refuses _ _ (sym c.nodes_bad.ensures ∙ c
 
 pub returns-then-constraints-gt-MAX_CONSTRAINTS : goal.returns-then-constraints-gt-MAX_CONSTRAINTS
 unfolding hour_table_checks
-returns-then-constraints-gt-MAX_CONSTRAINTS c = sym (first_passes _ _ (sym c.nodes_bad.ensures ∙ c.if-nodes_bad.false) ∙ first-refuses _ _ (lt-ltb _ _ c.if-constraints-gt-MAX_CONSTRAINTS.true))
+returns-then-constraints-gt-MAX_CONSTRAINTS c =
+    sym (first_passes _ _ (sym c.nodes_bad.ensures ∙ c.if-nodes_bad.false) ∙ first-refuses _ _ (lt-ltb _ _ c.if-constraints-gt-MAX_CONSTRAINTS.true))

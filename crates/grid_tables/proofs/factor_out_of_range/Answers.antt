@@ -1,38 +1,48 @@
--- `factor_out_of_range`: no factor passed is out of range, four at a time.
-use lib.IntN.{ℤ}
+-- `factor_out_of_range`: the library's search, of the fours and of what stands behind them.
+use mathlib.Core.Path.{◌≡◌, refl, ap, ◌∙◌}
+use mathlib.Core.Bool.{Bool, true, false, ◌||◌}
 use mathlib.Core.List.{List}
-use mathlib.Core.Path.{◌≡◌, ◌∙◌}
-use mathlib.Core.Bool.{Bool}
-use Prim.Native.Nat.{◌+◌, ◌≤◌, ℕ}
-use native.Mathlib.Omega.{arith}
+use Prim.Native.Nat.{◌*◌, ◌/◌}
 use borrow.Author.Rules.{rules}
-use lib.ListN.{length, take}
-use lib.Seq.{length-take-le}
-use Rattle.lists.proofs.Search.{any_of_start}
+use borrow.Author.Tests.{tests}
+use lib.ListN.{length, drop}
+use lib.IntN.{ℤ}
+use Rattle.std.specs.List.{list_any}
+use Rattle.std.specs.Simd.{first_chunks}
+use Rattle.std.proofs.lemmas.Iterator.{YieldsList-from_slice}
+use Rattle.std.proofs.lemmas.Iterator.Search.{any_from_yields_List}
+use Rattle.lists.specs.Lists.{any_of}
 use Rattle.tariff.specs.Checks.{factor_bad_of}
-use Rattle.grid_tables.specs.Inner.{four_bad_of}
-use Rattle.grid_tables.proofs.Factors.{four_turn, four_found, four_same}
+use Rattle.grid_tables.proofs.Cells.{searched}
+use Rattle.grid_tables.proofs.Factors.{in_fours}
 use Rattle.grid_tables.proofs.factor_out_of_range.Goals as goal
 
-pub loop-i-init : goal.loop-i-init
-loop-i-init c = (search rules, any_of_start factor_bad_of)
+module _ (fs : List ℤ) (fours : List (List ℤ)) (bad : Bool) (are : fours ≡ first_chunks 4 (length fs / 4) fs)
+    (is : bad ≡ list_any (any_of factor_bad_of) fours) where
+  -- in one of the fours, or behind them
+  found : (bad || any_of factor_bad_of (drop (length fs / 4 * 4) fs)) ≡ any_of factor_bad_of fs
+  found = rw (is, are) (in_fours (length fs / 4) (length fs / 4 * 4) fs refl)
 
--- the four are those of the first `count`
-same : (factors : List ℤ) → (count i : ℕ) → {bad : Bool} → i + 4 ≤ count → count ≤ length factors → bad ≡ four_bad_of factors i → bad ≡ four_bad_of (take count factors) i
-same factors count i below within is = is ∙ four_same factors count i below
+  early : bad ≡ true → bad ≡ any_of factor_bad_of fs
+  early t = t ∙ rw t at found
 
-long : (factors : List ℤ) → (count i : ℕ) → i + 4 ≤ count → count ≤ length factors → i + 4 ≤ length (take count factors)
-long factors count i below within = omega (arith, length-take-le count factors within)
+  late : bad ≡ false → any_of factor_bad_of (drop (length fs / 4 * 4) fs) ≡ any_of factor_bad_of fs
+  late t = rw t at found
 
-pub returns-then-four_bad : goal.returns-then-four_bad
-returns-then-four_bad c =
-    let b = c in
-    let a = b.args in
-    four_found (take a.count a.factors.now) b.loop-i.i _ (long a.factors.now a.count c.loop-i.i (omega arith) (omega arith)) (same a.factors.now a.count c.loop-i.i (omega arith) (omega arith) c.four_bad.ensures) c.if-four_bad.true
+pub returns-then-any : goal.returns-then-any
+returns-then-any c =
+    let fours = c.as_chunks.result.0.now in
+    let is : c.any.result ≡ list_any (any_of factor_bad_of) fours =
+    any_from_yields_List (any_of factor_bad_of) _ _ _ c.any.ensures.ran (YieldsList-from_slice fours cc) (λ x b q k. search (rules, tests)) in
+    early c.args.factors.now fours _ c.as_chunks.ensures.front is c.if-any.true
 
-pub loop-i-preserved : goal.loop-i-preserved
-loop-i-preserved c =
-    let b = c in
-    let a = b.args in
-    let l = b.loop-i in
-    (omega arith, four_turn (take a.count a.factors.now) l.i _ (long a.factors.now a.count c.loop-i.i (omega arith) (omega arith)) (same a.factors.now a.count c.loop-i.i (omega arith) (omega arith) c.four_bad.ensures) c.if-four_bad.false l.invariant.1)
+pub returns-else-any : goal.returns-else-any
+returns-else-any c =
+    let fours = c.as_chunks.result.0.now in
+    let rest = c.as_chunks.result.1.now in
+    let is : c.any.result ≡ list_any (any_of factor_bad_of) fours =
+    any_from_yields_List (any_of factor_bad_of) _ _ _ c.any.ensures.ran (YieldsList-from_slice fours cc) (λ x b q k. search (rules, tests)) in
+    let behind : c.any-else-any.result ≡ list_any factor_bad_of rest =
+    any_from_yields_List factor_bad_of _ _ _ c.any-else-any.ensures.ran (YieldsList-from_slice rest cc) (λ x b q k. search (rules, tests)) in
+    behind ∙ searched factor_bad_of rest ∙ ap (any_of factor_bad_of) c.as_chunks.ensures.back
+    ∙ late c.args.factors.now fours _ c.as_chunks.ensures.front is c.if-any.false

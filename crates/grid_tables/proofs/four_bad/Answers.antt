@@ -1,26 +1,18 @@
 -- `four_bad`: each answer is of the cell itself.
--- a factor that fits is read back
-use mathlib.Core.Path.{◌≡◌, ap, ◌∙◌}
+use mathlib.Core.Path.{◌≡◌, ◌∙◌}
 use mathlib.Core.Bool.{◌||◌}
-use Prim.Native.Nat.{◌+◌}
+use borrow.Author.Rules.{rules}
 use lib.ListN.{get_or}
-use lib.IntN.{ℤ, pos}
-use mir.Syntax.{w64}
-use mir.Val.{SFits, to_z, of_z}
-use mir.ValLaws.{to_z-of_z}
+use lib.IntN.{pos}
 use Rattle.tariff.specs.Checks.{factor_bad_of}
+use Rattle.grid_tables.proofs.Factors.{four_any}
 use Rattle.grid_tables.proofs.four_bad.Goals as goal
-
-kept : (z : ℤ) → SFits w64 z → factor_bad_of (to_z w64 (of_z w64 z)) ≡ factor_bad_of z
-kept z h = ap factor_bad_of (to_z-of_z w64 z h)
 
 pub returns : goal.returns
 returns c =
-    let n3 = c in
-    let n2 = n3 in
-    let n1 = n2 in
-    let a = n1.args in
-    λ t. (n1.factor_bad-a.ensures ∙ kept (get_or a.factors.now a.i (pos 0)) (record { sfits = n1.factor_bad-arg-1.given })) t
-    || ((n2.factor_bad-b.ensures ∙ kept (get_or a.factors.now (a.i + 1) (pos 0)) (record { sfits = n2.factor_bad-arg-2-1.given })) t
-    || ((n3.factor_bad-c.ensures ∙ kept (get_or a.factors.now (a.i + 2) (pos 0)) (record { sfits = n3.factor_bad-arg-3-1.given })) t
-    || (c.factor_bad-d.ensures ∙ kept (get_or a.factors.now (a.i + 3) (pos 0)) (record { sfits = c.factor_bad-arg-4-1.given })) t))
+    let fs = c.args.four.now in
+    let one : c.factor_bad.result ≡ factor_bad_of (get_or fs 0 (pos 0)) = search rules in
+    let two : c.factor_bad-2.result ≡ factor_bad_of (get_or fs 1 (pos 0)) = search rules in
+    let three : c.factor_bad-3.result ≡ factor_bad_of (get_or fs 2 (pos 0)) = search rules in
+    let four : c.factor_bad-4.result ≡ factor_bad_of (get_or fs 3 (pos 0)) = search rules in
+    (λ t. one t || two t || three t || four t) ∙ four_any fs (search rules)

@@ -1,7 +1,5 @@
 -- `rest_differ`: the bits from k on are known.
-use mathlib.Core.Path.{◌≡◌, ap, ◌∙◌}
-use Prim.Native.Nat.{ℕ, ◌+◌, ◌-◌, ◌*◌, ◌/◌, ◌^◌, ◌≤◌, ◌<◌}
-use native.Mathlib.Omega.{arith}
+use Rattle.std.proofs.Common.{◌≡◌, ap, ◌∙◌, ℕ, ◌+◌, ◌-◌, ◌*◌, ◌/◌, ◌^◌, ◌≤◌, ◌<◌, arith}
 use Rattle.lists.specs.Sets.{set_of}
 use Rattle.lists.proofs.Sets.{set-start, set-turn, set-fits}
 use Rattle.hour_priced.specs.Inner.{differ_at}
@@ -9,27 +7,25 @@ use Rattle.hour_priced.proofs.Rows.{row-part, differ_from}
 use Rattle.hour_priced.proofs.rest_differ.Goals as goal
 
 pub loop-k-init : goal.loop-k-init
-loop-k-init c = let a = c.args in (omega arith, omega arith, set-start a.constraints (differ_at a.factors.now a.source a.sink))
+loop-k-init c = let a = c.args in (omega arith, set-start a.table.constraints (differ_at a.table.cells.now a.source a.sink))
 
 pub differ-bit-requires : goal.differ-bit-requires
 differ-bit-requires c =
-    let s = c in
-    let a = s.args in
+    let a = c.args in
     let i = c.loop-k.k - 1 in
-    let inside : i + 1 ≤ a.constraints = omega arith in
-    (row-part a.factors.now a.source a.constraints s.requires.1 i 1 inside, row-part a.factors.now a.sink a.constraints s.requires.2 i 1 inside)
+    let inside : i + 1 ≤ a.table.constraints = omega arith in
+    (row-part a.table.cells.now a.source a.table.constraints c.requires.0 i 1 inside, row-part a.table.cells.now a.sink a.table.constraints c.requires.1 i 1 inside)
 
 -- bit k − 1 is the one found
 bit_is : (c : goal.After-differ-bit)
-    → let a = c.args in c.differ-bit.result ≡ set_of 1 (λ (j : ℕ). differ_at a.factors.now a.source a.sink (c.loop-k.k - 1 + j))
-bit_is c = let a = c.args in c.differ-bit.ensures.0 ∙ differ_from a.factors.now a.source a.sink (c.loop-k.k - 1) 1
+    → let a = c.args in c.differ-bit.result ≡ set_of 1 (λ (j : ℕ). differ_at a.table.cells.now a.source a.sink (c.loop-k.k - 1 + j))
+bit_is c = let a = c.args in c.differ-bit.ensures.0 ∙ differ_from a.table.cells.now a.source a.sink (c.loop-k.k - 1) 1
 
 fits : (c : goal.After-differ-bit) → c.loop-k.set * 2 + c.differ-bit.result < 2 ^ 64
 fits c =
-    let s = c in
-    let a = s.args in
+    let a = c.args in
     let l = c.loop-k in
-    set-fits 1 a.constraints l.k (l.k - 1) (differ_at a.factors.now a.source a.sink) l.set c.differ-bit.result (omega arith) l.invariant.1 l.invariant.2 (bit_is c) s.requires.0
+    set-fits 1 a.table.constraints l.k (l.k - 1) (differ_at a.table.cells.now a.source a.sink) l.set c.differ-bit.result (omega arith) (omega arith) l.invariant.1 (bit_is c) a.table.good.few
 
 pub overflow_mul-set : goal.overflow_mul-set
 overflow_mul-set c = omega (arith, fits c)
@@ -42,25 +38,12 @@ loop-k-preserved c =
     let a = c.args in
     let l = c.loop-k in (
       omega arith,
-      omega arith,
-      set-turn 1 a.constraints l.k (l.k - 1) (differ_at a.factors.now a.source a.sink) l.set c.differ-bit.result (omega arith) l.invariant.1 l.invariant.2 (bit_is c),
+      set-turn 1 a.table.constraints l.k (l.k - 1) (differ_at a.table.cells.now a.source a.sink) l.set c.differ-bit.result (omega arith) (omega arith) l.invariant.1 (bit_is c),
     )
 
 pub returns : goal.returns
 returns c =
     let a = c.args in
     let l = c.loop-k in
-    let last : l.k ≡ a.constraints / 8 * 8 = omega arith in
-    l.invariant.2 ∙ ap (λ (k : ℕ). set_of (a.constraints - k) (λ (j : ℕ). differ_at a.factors.now a.source a.sink (k + j))) last
-
-pub overflow_mul-eights : goal.overflow_mul-eights
-overflow_mul-eights c = omega arith
-
-pub overflow_add-source : goal.overflow_add-source
-overflow_add-source c = omega (arith, c.requires.1.long)
-
-pub overflow_add-sink : goal.overflow_add-sink
-overflow_add-sink c = omega (arith, c.requires.2.long)
-
-pub loop-k-smaller : goal.loop-k-smaller
-loop-k-smaller c = omega arith
+    let last : l.k ≡ a.table.constraints / 8 * 8 = omega arith in
+    l.invariant.1 ∙ ap (λ (k : ℕ). set_of (a.table.constraints - k) (λ (j : ℕ). differ_at a.table.cells.now a.source a.sink (k + j))) last

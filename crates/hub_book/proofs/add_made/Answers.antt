@@ -1,13 +1,12 @@
 -- `add_made`: the rows are the contracts made, 10 and 9 are the checks left, and where they pass the rows fit.
-use mathlib.Core.Path.{◌≡◌, sym, ap, ap₂, subst, ◌∙◌}
+use mathlib.Core.Path.{◌≡◌, refl, sym, ap, ap₂, subst, ◌∙◌}
 use mathlib.Core.List.{List}
 use Prim.Native.Nat.{ℕ, ◌+◌, ◌≤◌}
-use Rattle.tariff.specs.declared.refusals.Checked.{Checked}
-use Rattle.tariff.specs.declared.refusals.Checked.TheVariants.{Passed}
+use Rattle.std.proofs.lemmas.Result.{err_from_is_err_and}
+use Rattle.tariff.specs.Refusals.{Checked, passed}
 use Rattle.hub_shares.specs.Inner.{RowsTo}
 use native.Mathlib.Omega.{arith}
 use lib.ListN.{length}
-use Rattle.book_rules.proofs.Accepted.{own_header}
 use Rattle.lists.specs.Lent.{overwrite}
 use Rattle.tariff.specs.Refusals.{first}
 use Rattle.tariff.specs.Units.{max_contracts, max_hub_nodes}
@@ -16,7 +15,7 @@ use Rattle.layouts.specs.declared.forms.Form.{Form}
 use Rattle.layouts.specs.Forms.{end_width}
 use Rattle.layouts.specs.BookFile.{book_bytes_of, book_form_in, contract_count_in}
 use Rattle.layouts.specs.BookTable.{ContractFits}
-use Rattle.book_growth.specs.Inner.{growth_checks, Whole}
+use Rattle.book_growth.specs.Inner.{growth_checks}
 use Rattle.book_growth.proofs.Keeping.{accepted-whole, room-parts}
 use Rattle.hub_book.specs.AddHubContract.{HubCall, count_grown, hub_contract_checked, book_grown}
 use Rattle.hub_book.specs.Inner.{terms_call, row_contract, HubRoom, grown_front}
@@ -25,7 +24,7 @@ use Rattle.hub_book.proofs.Growing.{length-grown, growth_next, rows-at_most, cou
 use Rattle.hub_book.proofs.add_made.Goals as goal
 
 -- the rows that were made of a call, and what was read of its book
-module _ (q : HubCall) (pre : first (given_of q) ≡ Passed) (made : ℕ) (sources quantities : List ℕ) (rows : RowsTo q.hub-nodes q.hub-weights q.quantity q.nodes made sources quantities)
+module _ (q : HubCall) (pre : first (given_of q) ≡ passed) (made : ℕ) (sources quantities : List ℕ) (rows : RowsTo q.hub-nodes q.hub-weights q.quantity q.nodes made sources quantities)
     (count : ℕ) (count-told : count ≡ contract_count_in q.book) (form : Form) (form-told : form ≡ book_form_in q.book) where
   given : Given q
   given = given_is q pre
@@ -46,7 +45,7 @@ module _ (q : HubCall) (pre : first (given_of q) ≡ Passed) (made : ℕ) (sourc
         ∙ sym (growth_next q pre)
 
     -- where they pass
-    module _ (passed : room ≡ Passed) where
+    module _ (passed : room ≡ passed) where
       room-left : (count + made ≤ max_contracts) × (book_bytes_of form (count + made) ≤ length q.place)
       room-left = room-parts form (count + made) (length q.place) (sym room-found ∙ passed)
 
@@ -80,38 +79,36 @@ hub_rows-made-requires c =
     let ok = given_is q c.requires in
     record { nodes_le_max_nodes = (few-nodes q ok, hub-of_nodes q ok, ok.sized); max_hub_nodes_in_bounds = (omega arith, omega arith) }
 
--- the book's header
-header : (q : HubCall) → first (given_of q) ≡ Passed → 2 ≤ length q.book
-header q pre = own_header q.nodes q.book (given_is q pre).own
-
-pub contract_count-count-requires : goal.contract_count-count-requires
-contract_count-count-requires c = let a = c.args in header (terms_call a.nodes a.book.now a.terms a.hub.now a.weights.now a.quantity a.file.now) c.requires
-
-pub book_form-form-requires : goal.book_form-form-requires
-book_form-form-requires c = let a = c.args in header (terms_call a.nodes a.book.now a.terms a.hub.now a.weights.now a.quantity a.file.now) c.requires
+pub of-contracts-requires : goal.of-contracts-requires
+of-contracts-requires c =
+    let a = c.args in
+    let q = terms_call a.nodes a.book.now a.terms a.hub.now a.weights.now a.quantity a.file.now in
+    let ok = accepted q (given_is q c.requires) in
+    (omega (arith, ok.size), omega (arith, ok.size))
 
 pub overflow_add-grown : goal.overflow_add-grown
 overflow_add-grown c =
     let a = c.args in
     let q = terms_call a.nodes a.book.now a.terms a.hub.now a.weights.now a.quantity a.file.now in
     let few = rows-at_most q (given_is q c.requires) c.hub_rows-made.result c.hub_rows-made.new.sources c.hub_rows-made.new.quantities c.hub_rows-made.ensures in
-    omega (arith, c.contract_count-count.ensures.1, few)
+    omega (arith, c.of-contracts.result.few, few)
 
-pub returns-in-Refused : goal.returns-in-Refused
-returns-in-Refused c =
+pub returns-in_err-check_room : goal.returns-in_err-check_room
+returns-in_err-check_room c =
     let a = c.args in
     let q = terms_call a.nodes a.book.now a.terms a.hub.now a.weights.now a.quantity a.file.now in
     let m = c.hub_rows-made in
-    let told = room-told q c.requires m.result m.new.sources m.new.quantities m.ensures _ c.contract_count-count.ensures.0 _ c.book_form-form.ensures _ c.check_room.ensures in
-    let refused = c.in-Refused.is in
-    record { length-given = answer-refused _ _ told _ refused _; bytes-written = cells-refused _ _ told _ refused (book_grown q) _ }
+    let told = room-told q c.requires m.result m.new.sources m.new.quantities m.ensures _ c.of-contracts.ensures.2 _ c.of-contracts.ensures.1 _ c.check_room.ensures in
+    let refused = c.in_err-check_room.was in
+    let p = err_from_is_err_and c.from_residual.result c.from_residual.ensures.1 in
+    rw (p.1, p.2) (record { length-given = answer-refused _ _ told _ refused _; bytes-written = cells-refused _ _ told _ refused (book_grown q) _ })
 
 pub book_bytes-bytes-requires : goal.book_bytes-bytes-requires
 book_bytes-bytes-requires c =
     let a = c.args in
     let q = terms_call a.nodes a.book.now a.terms a.hub.now a.weights.now a.quantity a.file.now in
     let m = c.hub_rows-made in
-    (room-left q c.requires m.result m.new.sources m.new.quantities m.ensures _ c.contract_count-count.ensures.0 _ c.book_form-form.ensures _ c.check_room.ensures c.in_default.is).0
+    (room-left q c.requires m.result m.new.sources m.new.quantities m.ensures _ c.of-contracts.ensures.2 _ c.of-contracts.ensures.1 _ c.check_room.ensures c.in_ok-check_room.was).0
 
 pub write_grown-requires : goal.write_grown-requires
 write_grown-requires c =
@@ -119,21 +116,22 @@ write_grown-requires c =
     let q = terms_call a.nodes a.book.now a.terms a.hub.now a.weights.now a.quantity a.file.now in
     let m = c.hub_rows-made in
     let whole = accepted-whole q.nodes q.book (accepted q (given_is q c.requires)) in
-    let fit = rows_fit q c.requires m.result m.new.sources m.new.quantities m.ensures _ c.contract_count-count.ensures.0 _ c.book_form-form.ensures _ c.check_room.ensures c.in_default.is
+    let fit = rows_fit q c.requires m.result m.new.sources m.new.quantities m.ensures _ c.of-contracts.ensures.2 _ c.of-contracts.ensures.1 _ c.check_room.ensures c.in_ok-check_room.was
     (omega (arith, m.auto.sources)) (omega (arith, m.auto.quantities)) in
-    (subst (λ (f : Form). Whole f q.book) (sym c.book_form-form.ensures) whole, sym c.contract_count-count.ensures.0, fit)
+    let of = c.of-contracts.ensures in
+    record { whole = rw (of.0, of.1, of.2) (whole, refl); room = fit }
 
 pub returns : goal.returns
 returns c =
     let a = c.args in
     let q = terms_call a.nodes a.book.now a.terms a.hub.now a.weights.now a.quantity a.file.now in
     let m = c.hub_rows-made in
-    let passed = c.in_default.is in
-    let told = room-told q c.requires m.result m.new.sources m.new.quantities m.ensures _ c.contract_count-count.ensures.0 _ c.book_form-form.ensures _ c.check_room.ensures in
-    let size = sized q c.requires m.result m.new.sources m.new.quantities m.ensures _ c.contract_count-count.ensures.0 _ c.book_form-form.ensures _ c.check_room.ensures passed in
-    let is = front q c.requires m.result m.new.sources m.new.quantities m.ensures _ c.contract_count-count.ensures.0 _ c.book_form-form.ensures _ c.check_room.ensures passed in
+    let passed = c.in_ok-check_room.was in
+    let told = room-told q c.requires m.result m.new.sources m.new.quantities m.ensures _ c.of-contracts.ensures.2 _ c.of-contracts.ensures.1 _ c.check_room.ensures in
+    let size = sized q c.requires m.result m.new.sources m.new.quantities m.ensures _ c.of-contracts.ensures.2 _ c.of-contracts.ensures.1 _ c.check_room.ensures passed in
+    let is = front q c.requires m.result m.new.sources m.new.quantities m.ensures _ c.of-contracts.ensures.2 _ c.of-contracts.ensures.1 _ c.check_room.ensures passed in
     record {
       length-given = rw (c.book_bytes-bytes.ensures ∙ size) (answer-passed _ _ told passed _);
       bytes-written = cells-passed _ _ told passed (book_grown q) q.place _
-          (c.write_grown.ensures ∙ ap (λ (l : List ℕ). overwrite l q.place) is);
+          (rw c.of-contracts.ensures.0 at c.write_grown.ensures ∙ ap (λ (l : List ℕ). overwrite l q.place) is);
     }

@@ -1,7 +1,8 @@
 -- `check_given`: each part by what was found.
 use mathlib.Core.Path.{◌≡◌, sym, ap, ◌∙◌}
 use Rattle.std.proofs.Common.{ℕ, List}
-use Rattle.tariff.specs.declared.refusals.Checked.{Checked}
+use Rattle.std.proofs.lemmas.Result.{err_from_is_err_and}
+use Rattle.tariff.specs.Refusals.{Checked}
 use Rattle.hub_book.specs.declared.Terms.{Terms}
 use Rattle.tariff.specs.Refusals.{first}
 use Rattle.layouts.specs.declared.forms.Form.{Form}
@@ -14,19 +15,20 @@ use Rattle.hub_book.specs.Inner.{term_checks}
 use Rattle.hub_book.proofs.Checking.{own_refuses, terms_refuse, shape-next}
 use Rattle.hub_book.proofs.check_given.Goals as goal
 
-pub returns-in-Refused : goal.returns-in-Refused
-returns-in-Refused c =
+pub returns-in_err-check_own : goal.returns-in_err-check_own
+returns-in_err-check_own c =
     let k = c in
     let a = k.args in
-    sym (own_refuses a.nodes a.book.now a.terms a.hub.now a.weights.now a.quantity _ (sym k.check_own.ensures ∙ c.in-Refused.is))
+    let p = err_from_is_err_and c.from_residual.result c.from_residual.ensures.1 in
+    rw (p.1, p.2) (sym (own_refuses a.nodes a.book.now a.terms a.hub.now a.weights.now a.quantity _ (sym k.check_own.ensures ∙ c.in_err-check_own.was)))
 
 pub book_form-form-requires : goal.book_form-form-requires
-book_form-form-requires c = let a = c.args in own_header a.nodes a.book.now (sym c.check_own.ensures ∙ c.in_default.is)
+book_form-form-requires c = let a = c.args in own_header a.nodes a.book.now (sym c.check_own.ensures ∙ c.in_ok-check_own.was)
 
 pub check_terms-requires : goal.check_terms-requires
 check_terms-requires c =
     let a = c.args in
-    let accepted = sym c.check_own.ensures ∙ c.in_default.is in
+    let accepted = sym c.check_own.ensures ∙ c.in_ok-check_own.was in
     rw c.ends_below-below.ensures (ends_some c.book_form-form.result a.nodes (nodes-some_of a.nodes (own_parts a.nodes a.book.now accepted).0))
 
 -- what the terms' checks found, by the form that the book says
@@ -38,15 +40,16 @@ terms-told nodes book terms hub quantity form below found form-is below-is found
     ap (λ (b : ℕ). first (term_checks b terms hub quantity)) ends
     ∙ sym found-is
 
-pub returns-in-Refused-check_terms : goal.returns-in-Refused-check_terms
-returns-in-Refused-check_terms c =
+pub returns-in_err-check_terms : goal.returns-in_err-check_terms
+returns-in_err-check_terms c =
     let a = c.args in
     let told = terms-told a.nodes a.book.now a.terms a.hub.now a.quantity _ _ _ c.book_form-form.ensures c.ends_below-below.ensures c.check_terms.ensures in
-    sym (terms_refuse a.nodes a.book.now a.terms a.hub.now a.weights.now a.quantity (sym c.check_own.ensures ∙ c.in_default.is) _ (told ∙ c.in-Refused-check_terms.is))
+    let p = err_from_is_err_and c.from_residual-in_err-check_terms.result c.from_residual-in_err-check_terms.ensures.1 in
+    rw (p.1, p.2) (sym (terms_refuse a.nodes a.book.now a.terms a.hub.now a.weights.now a.quantity (sym c.check_own.ensures ∙ c.in_ok-check_own.was) _ (told ∙ c.in_err-check_terms.was)))
 
 pub returns : goal.returns
 returns c =
     let a = c.args in
     let told = terms-told a.nodes a.book.now a.terms a.hub.now a.quantity _ _ _ c.book_form-form.ensures c.ends_below-below.ensures c.check_terms.ensures in
     c.check_shape.ensures
-    ∙ sym (shape-next a.nodes a.book.now a.terms a.hub.now a.weights.now a.quantity (sym c.check_own.ensures ∙ c.in_default.is) (told ∙ c.in_default-check_terms.is))
+    ∙ sym (shape-next a.nodes a.book.now a.terms a.hub.now a.weights.now a.quantity (sym c.check_own.ensures ∙ c.in_ok-check_own.was) (told ∙ c.in_ok-check_terms.was))

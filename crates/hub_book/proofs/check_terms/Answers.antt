@@ -17,22 +17,22 @@ pub returns-then-listed_outside : goal.returns-then-listed_outside
 returns-then-listed_outside c =
     nodes-refused _ _ _ _ c.if-terms-gt1.false c.if-terms-gt1-2.false c.if-terms-gt-MAX_HOLDER.false (sym c.listed_outside.ensures ∙ c.if-listed_outside.true)
 
-pub returns-then-bound-terms : goal.returns-then-bound-terms
-returns-then-bound-terms c =
+pub returns-then-below-terms : goal.returns-then-below-terms
+returns-then-below-terms c =
     let listed = sym c.listed_outside.ensures ∙ c.if-listed_outside.false in
-    sink-refused _ _ _ _ c.if-terms-gt1.false c.if-terms-gt1-2.false c.if-terms-gt-MAX_HOLDER.false listed c.if-bound-terms.true
+    sink-refused _ _ _ _ c.if-terms-gt1.false c.if-terms-gt1-2.false c.if-terms-gt-MAX_HOLDER.false listed c.if-below-terms.true
 
 -- past the fifth only the quantity's check is left
 pub returns-then-quantity_bad : goal.returns-then-quantity_bad
 returns-then-quantity_bad c =
     let a = c.args in
     let listed = sym c.listed_outside.ensures ∙ c.if-listed_outside.false in
-    let left = ends-good a.below a.terms a.hub.now a.quantity c.if-terms-gt1.false c.if-terms-gt1-2.false c.if-terms-gt-MAX_HOLDER.false listed c.if-bound-terms.false in
+    let left = ends-good a.below a.terms a.hub.now a.quantity c.if-terms-gt1.false c.if-terms-gt1-2.false c.if-terms-gt-MAX_HOLDER.false listed c.if-below-terms.false in
     sym (left ∙ first-refuses _ _ (sym c.quantity_bad.ensures ∙ c.if-quantity_bad.true))
 
 pub returns : goal.returns
 returns c =
     let a = c.args in
     let listed = sym c.listed_outside.ensures ∙ c.if-listed_outside.false in
-    let left = ends-good a.below a.terms a.hub.now a.quantity c.if-terms-gt1.false c.if-terms-gt1-2.false c.if-terms-gt-MAX_HOLDER.false listed c.if-bound-terms.false in
+    let left = ends-good a.below a.terms a.hub.now a.quantity c.if-terms-gt1.false c.if-terms-gt1-2.false c.if-terms-gt-MAX_HOLDER.false listed c.if-below-terms.false in
     sym (left ∙ last-passes _ (sym c.quantity_bad.ensures ∙ c.if-quantity_bad.false))

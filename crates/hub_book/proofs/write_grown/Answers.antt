@@ -14,27 +14,27 @@ use Rattle.hub_book.specs.Inner.{row_contract}
 use Rattle.hub_book.proofs.write_grown.Goals as goal
 
 pub overflow_add-count : goal.overflow_add-count
-overflow_add-count c = omega (arith, c.requires.2.few)
+overflow_add-count c = omega (arith, c.requires.room.few)
 
 pub keep_contracts-requires : goal.keep_contracts-requires
 keep_contracts-requires c =
     let s = c in
-    let size = s.requires.0.size in
-    let room = room-fewer s.args.form s.args.count (s.args.count + s.args.made) _ (omega arith) s.requires.2.bytes in
-    (s.requires.0, omega (arith, s.requires.2.few), omega (arith, rw s.requires.1 at size, room))
+    let size = s.requires.whole.0.size in
+    let room = room-fewer s.args.contracts.form s.args.contracts.count (s.args.contracts.count + s.args.made) _ (omega arith) s.requires.room.bytes in
+    (s.requires.whole.0, omega (arith, s.requires.room.few), omega (arith, rw s.requires.whole.1 at size, room))
 
 pub loop-i-init : goal.loop-i-init
 loop-i-init c =
     let a = c.args in
-    (omega arith, refl, no_rows a.form a.count (row_contract a.terms a.sources.now a.quantities.now) _ (a.count + 0) (omega arith))
+    (refl, no_rows a.contracts.form a.contracts.count (row_contract a.terms a.sources.now a.quantities.now) _ (a.contracts.count + 0) (omega arith))
 
 pub row_at-c-requires : goal.row_at-c-requires
 row_at-c-requires c =
-    let p = c.requires.2 in
+    let p = c.requires.room in
     (omega (arith, p.source-cells), omega (arith, p.quantity-cells))
 
 pub overflow_add-count-in-loop-i : goal.overflow_add-count-in-loop-i
-overflow_add-count-in-loop-i c = omega (arith, c.requires.2.few)
+overflow_add-count-in-loop-i c = omega (arith, c.requires.room.few)
 
 pub store_contract-requires : goal.store_contract-requires
 store_contract-requires c =
@@ -42,7 +42,7 @@ store_contract-requires c =
     let a = s.args in
     let l = c.loop-i in
     let kept = c.keep_contracts.auto.file in
-    let room = record_room a.form (a.count + l.i) (a.count + a.made) (length a.file.now) (omega arith) s.requires.2.bytes in record { i_bound = (omega (arith, s.requires.2.few), omega (arith, room, l.invariant.1, kept)); contract_fits = rw c.row_at-c.ensures (s.requires.2.fits l.i (omega arith)) }
+    let room = record_room a.contracts.form (a.contracts.count + l.i) (a.contracts.count + a.made) (length a.file.now) (omega arith) s.requires.room.bytes in record { i_bound = (omega (arith, s.requires.room.few), omega (arith, room, l.invariant.0, kept)); contract_fits = rw c.row_at-c.ensures (s.requires.room.fits l.i (omega arith)) }
 
 pub loop-i-preserved : goal.loop-i-preserved
 loop-i-preserved c =
@@ -50,14 +50,13 @@ loop-i-preserved c =
     let a = s.args in
     let l = c.loop-i in
     let stored = c.store_contract in (
-      omega arith,
-      stored.auto.file ∙ l.invariant.1,
-      row_appended a.form a.count (row_contract a.terms a.sources.now a.quantities.now) _ l.file _ l.i (a.count + l.i)
-          (a.count + (l.i + 1)) (omega arith) l.invariant.2 (rw (← c.row_at-c.ensures) stored.ensures),
+      stored.auto.file ∙ l.invariant.0,
+      row_appended a.contracts.form a.contracts.count (row_contract a.terms a.sources.now a.quantities.now) _ l.file _ l.i (a.contracts.count + l.i)
+          (a.contracts.count + (l.i + 1)) (omega arith) l.invariant.1 (rw (← c.row_at-c.ensures) stored.ensures),
     )
 
 pub shape_of-file : goal.shape_of-file
-shape_of-file c = c.loop-i.invariant.1 ∙ c.keep_contracts.auto.file
+shape_of-file c = c.loop-i.invariant.0 ∙ c.keep_contracts.auto.file
 
 pub returns : goal.returns
 returns c =
@@ -65,6 +64,6 @@ returns c =
     let a = s.args in
     let l = c.loop-i in
     let row = row_contract a.terms a.sources.now a.quantities.now in
-    l.invariant.2.front (a.count + a.made) a.file.now (book_in a.book.now) (length-book_in a.book.now ∙ s.requires.1)
+    l.invariant.1.front (a.contracts.count + a.made) a.file.now (book_in a.contracts.file.now) (length-book_in a.contracts.file.now ∙ s.requires.whole.1)
     c.keep_contracts.ensures
-    ∙ ap (λ (n : ℕ). overwrite (book_front a.form (a.count + a.made) (book_in a.book.now ++ list_to n row)) a.file.now) (omega arith)
+    ∙ ap (λ (n : ℕ). overwrite (book_front a.contracts.form (a.contracts.count + a.made) (book_in a.contracts.file.now ++ list_to n row)) a.file.now) (omega arith)

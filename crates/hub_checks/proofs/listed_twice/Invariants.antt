@@ -1,12 +1,7 @@
--- The invariants and measures of `hub_checks::listed_twice`.
-use mathlib.Core.Path.{◌≡◌}
-use Prim.Native.Nat.{◌-◌, ◌≤◌}
-use lib.ListN.{length, drop}
+-- The invariant of `hub_checks::listed_twice`.
+use Rattle.std.specs.Prelude.{◌≡◌, drop}
 use Rattle.hub_rules.specs.Hubs.{twice}
 use Rattle.hub_checks.proofs.listed_twice.Given as goal
 
 abbrev pub invariant-loop-i : goal.invariant-loop-i
-invariant-loop-i l = (l.i ≤ length l.nodes) × (twice (drop l.i l.nodes) ≡ twice l.nodes)
-
-abbrev pub decreases-loop-i : goal.decreases-loop-i
-decreases-loop-i l = length l.nodes - l.i
+invariant-loop-i l = twice (drop l.i l.nodes) ≡ twice l.nodes

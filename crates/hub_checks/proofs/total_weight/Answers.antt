@@ -1,22 +1,19 @@
--- `total_weight`: the sum so far and what is left are the weights together.
+-- `total_weight`: the library's sum, of weights in range.
+use mathlib.Core.Path.{◌≡◌, ◌∙◌}
 use native.Mathlib.Omega.{arith}
-use Rattle.hub_checks.proofs.Rest.{sum-rest, sum_over, weight_small}
+use borrow.Author.Rules.{rules}
+use Prim.Native.Nat.{◌<◌}
+use Rattle.std.specs.List.{sum}
+use Rattle.hub_checks.proofs.Rest.{summed, weights_small}
 use Rattle.hub_checks.proofs.total_weight.Goals as goal
 
-pub overflow_add-sum : goal.overflow_add-sum
-overflow_add-sum c =
-    let s = c in
-    omega (arith, weight_small s.args.weights.now s.requires.1 c.loop-i.i (omega arith), s.requires.0)
-
-pub loop-i-preserved : goal.loop-i-preserved
-loop-i-preserved c =
-    let s = c in
-    let i = c.loop-i.i in
-    let ws = s.args.weights.now in
-    (omega arith, omega (arith, sum-rest (λ w. w) ws i (omega arith)), omega (arith, weight_small ws s.requires.1 i (omega arith)))
+pub sum-requires-clause-fits : goal.sum-requires-clause-fits
+sum-requires-clause-fits c =
+    let ws = c.args.weights.now in
+    let fits : sum ws < 18446744073709551616 = omega (arith, summed ws, weights_small ws c.requires.1, c.requires.0) in
+    search rules
 
 pub returns : goal.returns
-returns c = omega (arith, sum_over (λ w. w) c.args.weights.now c.loop-i.i (omega arith))
-
-pub loop-i-init : goal.loop-i-init
-loop-i-init c = (omega arith, omega arith, omega arith)
+returns c =
+    let e : c.sum.result ≡ sum c.args.weights.now = search rules in
+    e ∙ summed _

@@ -1,6 +1,7 @@
 -- `migrate_load`: the square says the rows' losses, so that what follows by it follows by the rows.
 use mathlib.Core.Path.{◌≡◌, sym, ◌∙◌}
 use Rattle.std.proofs.Common.{Bool, List, ℕ, ◌≤◌, ◌<◌}
+use Rattle.std.proofs.lemmas.Result.{err_from_is_err_and}
 use Rattle.tariff.specs.Units.{max_entities}
 use Rattle.tariff.specs.declared.units.Transfer.{Transfer}
 use native.Mathlib.Nat.{le_trans}
@@ -26,18 +27,19 @@ load-told : (q : MigrateLoadCall) (square : List (List Transfer)) → length q.l
     → (found : Bool) → found ≡ loads_exceeded_of (lost_in square) q.loads → loads_exceeded_of (loss (rows_given q)) q.loads ≡ found
 load-told q square few nets found e = sym (e ∙ exceeded-alike (lost_in square) (loss (rows_given q)) q.loads (same-losses q square few nets))
 
-pub returns-in-Refused : goal.returns-in-Refused
-returns-in-Refused c =
+pub returns-in_err-check_input : goal.returns-in_err-check_input
+returns-in_err-check_input c =
     let a = c.args in
     let q = call a.nodes a.period a.book.now (row_lists a.classes.now a.customers.now a.rates.now a.olds.now a.news.now) a.loads.now a.file.now in
-    let e = input_refuses q _ (sym c.check_input.ensures ∙ c.in-Refused.is) in
-    record { length-given = rw e; bytes-written = rw e }
+    let e = input_refuses q _ (sym c.check_input.ensures ∙ c.in_err-check_input.was) in
+    let p = err_from_is_err_and c.from_residual.result c.from_residual.ensures.1 in
+    rw (p.1, p.2) (record { length-given = rw e; bytes-written = rw e })
 
 pub net_square-square-requires : goal.net_square-square-requires
 net_square-square-requires c =
     let a = c.args in
     let q = call a.nodes a.period a.book.now (row_lists a.classes.now a.customers.now a.rates.now a.olds.now a.news.now) a.loads.now a.file.now in
-    let passed = sym c.check_input.ensures ∙ c.in_default.is in
+    let passed = sym c.check_input.ensures ∙ c.in_ok-check_input.was in
     let f = input_figures q passed in
     f.rows
 
@@ -45,7 +47,7 @@ pub loads_exceeded-requires : goal.loads_exceeded-requires
 loads_exceeded-requires c =
     let a = c.args in
     let q = call a.nodes a.period a.book.now (row_lists a.classes.now a.customers.now a.rates.now a.olds.now a.news.now) a.loads.now a.file.now in
-    let passed = sym c.check_input.ensures ∙ c.in_default.is in
+    let passed = sym c.check_input.ensures ∙ c.in_ok-check_input.was in
     let f = input_figures q passed in
     (f.few, c.net_square-square.ensures.size)
 
@@ -53,7 +55,7 @@ pub returns-then-loads_exceeded : goal.returns-then-loads_exceeded
 returns-then-loads_exceeded c =
     let a = c.args in
     let q = call a.nodes a.period a.book.now (row_lists a.classes.now a.customers.now a.rates.now a.olds.now a.news.now) a.loads.now a.file.now in
-    let passed = sym c.check_input.ensures ∙ c.in_default.is in
+    let passed = sym c.check_input.ensures ∙ c.in_ok-check_input.was in
     let f = input_figures q passed in
     let n = c.net_square-square in
     let told = load-told q n.result f.few n.ensures.nets c.loads_exceeded.result c.loads_exceeded.ensures in
@@ -64,7 +66,7 @@ pub migrate_by-requires : goal.migrate_by-requires
 migrate_by-requires c =
     let a = c.args in
     let q = call a.nodes a.period a.book.now (row_lists a.classes.now a.customers.now a.rates.now a.olds.now a.news.now) a.loads.now a.file.now in
-    let passed = sym c.check_input.ensures ∙ c.in_default.is in
+    let passed = sym c.check_input.ensures ∙ c.in_ok-check_input.was in
     let f = input_figures q passed in
     let n = c.net_square-square in (
       accepted-readable q.nodes q.book (input_accepted q passed),
@@ -80,11 +82,11 @@ pub returns : goal.returns
 returns c =
     let a = c.args in
     let q = call a.nodes a.period a.book.now (row_lists a.classes.now a.customers.now a.rates.now a.olds.now a.news.now) a.loads.now a.file.now in
-    let passed = sym c.check_input.ensures ∙ c.in_default.is in
+    let passed = sym c.check_input.ensures ∙ c.in_ok-check_input.was in
     let f = input_figures q passed in
     let n = c.net_square-square in
     let told = load-told q n.result f.few n.ensures.nets c.loads_exceeded.result c.loads_exceeded.ensures in
-    let p = c.from_number in
+    let p = c.from in
     rw (
       room_next q passed (told ∙ c.if-loads_exceeded.false),
       ← p.ensures,

@@ -20,18 +20,18 @@ pub keep_contracts-requires : goal.keep_contracts-requires
 keep_contracts-requires c =
     let s = c in
     let a = s.args in
-    let ok = s.requires.readable.0 in
+    let ok = s.args.migration.readable in
     let size = ok.whole.size in
-    let old = length-list_to a.count (contract_in a.form a.book.now) in
-    let all = length (contracts_to a.form a.book.now a.count)
-    + length (new_to a.form a.book.now a.period a.square a.loads.now a.count) in
-    let room = room-fewer a.form a.count all _ (omega (arith, old)) s.requires.roomy.room in
+    let old = length-list_to a.migration.contracts.count (contract_in a.migration.contracts.form a.migration.contracts.file.now) in
+    let all = length (contracts_to a.migration.contracts.form a.migration.contracts.file.now a.migration.contracts.count)
+    + length (new_to a.migration.contracts.form a.migration.contracts.file.now a.migration.period a.square a.migration.loads.now a.migration.contracts.count) in
+    let room = room-fewer a.migration.contracts.form a.migration.contracts.count all _ (omega (arith, old)) s.requires.roomy.room in
     (ok.whole, omega (arith, s.requires.grown_value, s.requires.roomy.few), omega (arith, rw ok.count-is at size, room))
 
 pub store_grown-requires : goal.store_grown-requires
 store_grown-requires c =
     let w = c in
-    let s = w in record { readable = (s.requires.readable.0, s.requires.readable.1); roomy = record { few = s.requires.roomy.few; room = rw w.keep_contracts.auto.file s.requires.roomy.room } }
+    let s = w in record { ready = s.requires.ready; roomy = record { few = s.requires.roomy.few; room = rw w.keep_contracts.auto.file s.requires.roomy.room } }
 
 pub shape_of-file : goal.shape_of-file
 shape_of-file c =
@@ -45,10 +45,10 @@ returns c =
     let w = n in
     let s = w in
     let a = s.args in
-    let old = contracts_to a.form a.book.now a.count in
+    let old = contracts_to a.migration.contracts.form a.migration.contracts.file.now a.migration.contracts.count in
     let kept = w.keep_contracts.ensures
-    ∙ ap (λ (cs : List Contract). overwrite (book_front a.form a.grown cs) a.file.now) (contracts-of a.form a.count a.book.now s.requires.readable.0) in
-    grown_written a.form a.grown a.count _ old (new_to a.form a.book.now a.period a.square a.loads.now a.count) a.file.now _ _
-    (length-list_to a.count (contract_in a.form a.book.now)) s.requires.grown_value
-    (book-fits a.form a.book.now a.period a.square a.loads.now a.count s.requires.readable.1)
+    ∙ ap (λ (cs : List Contract). overwrite (book_front a.migration.contracts.form a.grown cs) a.file.now) (contracts-of a.migration.contracts.form a.migration.contracts.count a.migration.contracts.file.now s.args.migration.readable) in
+    grown_written a.migration.contracts.form a.grown a.migration.contracts.count _ old (new_to a.migration.contracts.form a.migration.contracts.file.now a.migration.period a.square a.migration.loads.now a.migration.contracts.count) a.file.now _ _
+    (length-list_to a.migration.contracts.count (contract_in a.migration.contracts.form a.migration.contracts.file.now)) s.requires.grown_value
+    (book-fits a.migration.contracts.form a.migration.contracts.file.now a.migration.period a.square a.migration.loads.now a.migration.contracts.count s.requires.ready)
     kept n.store_grown.ensures

@@ -9,13 +9,13 @@ pub share_of-least-requires : goal.share_of-least-requires
 share_of-least-requires c =
     let s = c in
     let a = s.args in
-    (s.requires.1, least-ready a.row a.loads.now a.c a.gainers s.requires.0 s.requires.1 s.requires.2)
+    (s.requires.0, least-ready a.base.row a.base.loads.now a.base.contract a.gainers s.args.base.ready s.requires.0 s.requires.1)
 
 pub returns : goal.returns
 returns c =
     let s = c in
     let a = s.args in
     let share = c.share_of-least in
-    let some = eqb-false share.result.0 0 (sym c.is_zero.ensures ∙ c.if-is_zero.false) in
-    let is = pairs-are a.row a.loads.now a.c a.gainers s.requires.0 s.requires.1 s.requires.2 share.result.0 share.ensures.0 some in
-    (is, omega (arith, s.requires.2.few, s.requires.0.few))
+    let some = eqb-false share.result.0 0 (sym c.eq.ensures ∙ c.if-eq.false) in
+    let is = pairs-are a.base.row a.base.loads.now a.base.contract a.gainers s.args.base.ready s.requires.0 s.requires.1 share.result.0 share.ensures.0 some in
+    (is, omega (arith, s.requires.1.few, s.args.base.ready.few))

@@ -1,35 +1,36 @@
 -- `gainers_of`: those of the first j cells.
-use mathlib.Core.Path.{◌≡◌, refl}
+use mathlib.Core.Path.{◌≡◌, sym}
+use Prim.Native.Nat.{◌<◌}
 use native.Mathlib.Omega.{arith}
+use lib.Seq.{get_or-take}
+use Rattle.std.proofs.lemmas.List.{length-take}
+use Rattle.migration_transfers.specs.Squares.{no_transfer}
 use Rattle.migration_pairs.proofs.Gaining.{no_gainers}
 use Rattle.migration_pairs.proofs.gainers_of.Goals as goal
 
-pub loop-j-init : goal.loop-j-init
-loop-j-init c = (omega arith, no_gainers _)
+pub loop-net-init : goal.loop-net-init
+loop-net-init c = no_gainers _
 
 pub with_net-gainers-requires : goal.with_net-gainers-requires
 with_net-gainers-requires c =
-    let l = c.loop-j in
-    let s = c in
-    (s.requires.0.sized l.j (omega (arith, s.requires.1)), l.invariant.1.size, omega (arith, l.invariant.1.few, s.requires.1))
+    let a = c.args in
+    let l = c.loop-net in
+    let j = l.net-index in
+    let below : j < a.entities = omega (arith, c.loop-net-test.true, length-take a.entities a.row) in
+    let cell = get_or-take a.entities a.row j no_transfer below in
+    (rw cell (c.requires.0.sized j (omega (arith, c.requires.1))), l.invariant.size, omega (arith, l.invariant.few, c.requires.1))
 
-pub loop-j-preserved : goal.loop-j-preserved
-loop-j-preserved c = let l = c.loop-j in (omega arith, c.with_net-gainers.ensures _ l.j refl l.invariant.1)
+pub loop-net-preserved : goal.loop-net-preserved
+loop-net-preserved c =
+    let a = c.args in
+    let l = c.loop-net in
+    let j = l.net-index in
+    let below : j < a.entities = omega (arith, c.loop-net-test.true, length-take a.entities a.row) in
+    c.with_net-gainers.ensures a.row j (sym (get_or-take a.entities a.row j no_transfer below)) l.invariant
 
 pub returns : goal.returns
 returns c =
-    let l = c.loop-j in
-    let last : l.j ≡ c.args.entities = omega arith in
-    rw last at l.invariant.1
-
-pub offset_bounds-row-j : goal.offset_bounds-row-j
-offset_bounds-row-j c = omega (arith, c.requires.1)
-
-pub bounds-row-j : goal.bounds-row-j
-bounds-row-j c = omega (arith, c.requires.1)
-
-pub overflow_add-j : goal.overflow_add-j
-overflow_add-j c = omega (arith, c.requires.1)
-
-pub loop-j-smaller : goal.loop-j-smaller
-loop-j-smaller c = omega arith
+    let a = c.args in
+    let l = c.loop-net in
+    let last : l.net-index ≡ a.entities = omega (arith, length-take a.entities a.row, c.requires.1) in
+    rw last at l.invariant

@@ -1,10 +1,6 @@
--- The invariants and measures of `migration_pairs::gainers_of`.
-use Prim.Native.Nat.{◌-◌, ◌≤◌}
+-- The invariant of `migration_pairs::gainers_of`.
 use Rattle.migration_pairs.specs.Inner.{GainersOf}
 use Rattle.migration_pairs.proofs.gainers_of.Given as goal
 
-abbrev pub invariant-loop-j : goal.invariant-loop-j
-invariant-loop-j l = (l.j ≤ l.entities) × GainersOf l.row l.j l.gainers
-
-abbrev pub decreases-loop-j : goal.decreases-loop-j
-decreases-loop-j l = l.entities - l.j
+abbrev pub invariant-loop-net : goal.invariant-loop-net
+invariant-loop-net l = GainersOf l.fn.row l.net-index l.gainers

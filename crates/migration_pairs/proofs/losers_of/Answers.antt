@@ -9,7 +9,7 @@ use Rattle.migration_pairs.proofs.Gaining.{loser_stored}
 use Rattle.migration_pairs.proofs.losers_of.Goals as goal
 
 pub loop-i-init : goal.loop-i-init
-loop-i-init c = (omega arith, refl, λ k h. absurd (omega arith))
+loop-i-init c = (refl, λ k h. absurd (omega arith))
 
 pub gainers_of-requires : goal.gainers_of-requires
 gainers_of-requires c =
@@ -20,29 +20,10 @@ pub loop-i-preserved : goal.loop-i-preserved
 loop-i-preserved c =
     let a = c.args in
     let l = c.loop-i in (
-      omega arith,
-      simp length-set l.invariant.1,
-      loser_stored (λ k g. GainersOf (get_or a.square k []) a.entities g) l.losers l.i c.gainers_of.result no_gainers_of (omega (arith, l.invariant.1))
-          c.gainers_of.ensures l.invariant.2,
+      simp length-set l.invariant.0,
+      loser_stored (λ k g. GainersOf (get_or a.square k []) a.entities g) l.losers l.i c.gainers_of.result no_gainers_of (omega (arith, l.invariant.0))
+          c.gainers_of.ensures l.invariant.1,
     )
 
 pub returns : goal.returns
-returns c = let l = c.loop-i in record { each = λ i h. l.invariant.2 i (omega arith) }
-
-pub offset_bounds-square-i : goal.offset_bounds-square-i
-offset_bounds-square-i c = omega arith
-
-pub bounds-square-i : goal.bounds-square-i
-bounds-square-i c = omega arith
-
-pub offset_bounds-losers-i : goal.offset_bounds-losers-i
-offset_bounds-losers-i c = omega arith
-
-pub bounds-losers-i : goal.bounds-losers-i
-bounds-losers-i c = omega arith
-
-pub overflow_add-i : goal.overflow_add-i
-overflow_add-i c = omega arith
-
-pub loop-i-smaller : goal.loop-i-smaller
-loop-i-smaller c = omega arith
+returns c = let l = c.loop-i in record { each = λ i h. l.invariant.1 i (omega arith) }

@@ -1,49 +1,56 @@
 -- `pair_count`: how many follow for the first j gainers.
 use mathlib.Core.Path.{◌≡◌, sym, ap}
-use Prim.Native.Nat.{suc, ◌+◌}
+use Prim.Native.Nat.{suc, ◌+◌, ◌<◌}
 use native.Mathlib.Numerals.{add-one}
 use native.Mathlib.Omega.{arith}
 use lib.ListN.{length}
+use lib.Seq.{get_or-take}
+use Rattle.std.proofs.lemmas.List.{length-take}
 use Rattle.migration_rules.specs.ContractRules.{pairs_to}
-use Rattle.migration_transfers.specs.Squares.{row_losses}
+use Rattle.migration_transfers.specs.Squares.{no_transfer, row_losses}
 use Rattle.migration_pairs.proofs.Pairs.{share-by_net, net-ready, no_pairs, length_more, pair_length, pairs-few}
 use Rattle.migration_pairs.proofs.pair_count.Goals as goal
 
-pub loop-j-init : goal.loop-j-init
-loop-j-init c = let a = c.args in (omega arith, sym (ap length (no_pairs (row_losses a.row) a.loads.now a.c)))
+pub loop-net-init : goal.loop-net-init
+loop-net-init c = let b = c.args.base in sym (ap length (no_pairs (row_losses b.row) b.loads.now b.contract))
 
-pub bounds-row-j : goal.bounds-row-j
-bounds-row-j c = omega (arith, c.requires.0.few)
+pub share_of-share-requires : goal.share_of-share-requires
+share_of-share-requires c =
+    let b = c.args.base in
+    let n = length b.loads.now in
+    let j = c.loop-net.net-index in
+    let below : j < n = omega (arith, c.loop-net-test.true, length-take n b.row) in
+    (c.requires, rw (get_or-take n b.row j no_transfer below) (net-ready b.row b.loads.now b.contract j b.ready c.requires below))
 
-pub share_of-requires : goal.share_of-requires
-share_of-requires c =
-    let s = c in
-    (s.requires.1, net-ready s.args.row s.args.loads.now s.args.c c.loop-j.j s.requires.0 s.requires.1 (omega arith))
-
-counted : (c : goal.After-pair_size-count) → let a = c.args in
-    let l = c.loop-j in
-    l.count + c.pair_size-count.result ≡ length (pairs_to (row_losses a.row) a.loads.now a.c (l.j + 1))
+counted : (c : goal.After-pair_size-count) → let b = c.args.base in
+    let l = c.loop-net in
+    l.count + c.pair_size-count.result ≡ length (pairs_to (row_losses b.row) b.loads.now b.contract (l.net-index + 1))
 counted c =
-    let a = c.args in
-    let l = c.loop-j in
-    let q = c.share_of.result.0 in
-    let is = share-by_net a.row a.loads.now a.c l.j q c.share_of.ensures.0 in
-    rw (add-one l.j)
-    (omega (arith, length_more (row_losses a.row) a.loads.now a.c l.j q is, pair_length a.c (suc l.j) q, c.pair_size-count.ensures, l.invariant.1))
+    let b = c.args.base in
+    let n = length b.loads.now in
+    let l = c.loop-net in
+    let j = l.net-index in
+    let below : j < n = omega (arith, c.loop-net-test.true, length-take n b.row) in
+    let q = c.share_of-share.result.0 in
+    let is = share-by_net b.row b.loads.now b.contract j q (rw (get_or-take n b.row j no_transfer below) at c.share_of-share.ensures.0) in
+    rw (add-one j)
+    (omega (arith, length_more (row_losses b.row) b.loads.now b.contract j q is, pair_length b.contract (suc j) q, c.pair_size-count.ensures, l.invariant))
 
 pub overflow_add-count : goal.overflow_add-count
 overflow_add-count c =
-    let s = c in
-    let l = c.loop-j in
-    record { fits = omega (arith, counted c, pairs-few (row_losses s.args.row) s.args.loads.now s.args.c (l.j + 1), s.requires.0.few) }
+    let b = c.args.base in
+    let n = length b.loads.now in
+    let j = c.loop-net.net-index in
+    record { fits = omega (arith, counted c, pairs-few (row_losses b.row) b.loads.now b.contract (j + 1), b.ready.few, c.loop-net-test.true, length-take n b.row) }
 
-pub loop-j-preserved : goal.loop-j-preserved
-loop-j-preserved c = (omega arith, counted c)
+pub loop-net-preserved : goal.loop-net-preserved
+loop-net-preserved c = counted c
 
 pub returns : goal.returns
 returns c =
-    let s = c in
-    let l = c.loop-j in
-    let last : l.j ≡ length s.args.loads.now = omega arith in
-    let is = rw last at l.invariant.1 in
-    (is, omega (arith, is, pairs-few (row_losses s.args.row) s.args.loads.now s.args.c (length s.args.loads.now), s.requires.0.few))
+    let b = c.args.base in
+    let n = length b.loads.now in
+    let l = c.loop-net in
+    let last : l.net-index ≡ n = omega (arith, length-take n b.row, b.ready.few) in
+    let is = rw last at l.invariant in
+    (is, omega (arith, is, pairs-few (row_losses b.row) b.loads.now b.contract n, b.ready.few))

@@ -1,13 +1,9 @@
--- The invariants and measures of `migration_pairs::pair_count`.
+-- The invariant of `migration_pairs::pair_count`.
 use mathlib.Core.Path.{◌≡◌}
-use Prim.Native.Nat.{◌-◌, ◌≤◌}
 use lib.ListN.{length}
 use Rattle.migration_rules.specs.ContractRules.{pairs_to}
 use Rattle.migration_transfers.specs.Squares.{row_losses}
 use Rattle.migration_pairs.proofs.pair_count.Given as goal
 
-abbrev pub invariant-loop-j : goal.invariant-loop-j
-invariant-loop-j l = (l.j ≤ length l.loads) × (l.count ≡ length (pairs_to (row_losses l.row) l.loads l.c l.j))
-
-abbrev pub decreases-loop-j : goal.decreases-loop-j
-decreases-loop-j l = length l.loads - l.j
+abbrev pub invariant-loop-net : goal.invariant-loop-net
+invariant-loop-net l = (l.count ≡ length (pairs_to (row_losses l.fn.base.row) l.fn.base.loads.now l.fn.base.contract l.net-index))

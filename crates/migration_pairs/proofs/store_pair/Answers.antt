@@ -14,10 +14,10 @@ use Rattle.migration_pairs.specs.Inner.{pair_of}
 use Rattle.migration_pairs.proofs.Pairs.{fits-gained, fits-countered, pair_none, pair_some}
 use Rattle.migration_pairs.proofs.store_pair.Goals as goal
 
-pub returns-then-is_zero : goal.returns-then-is_zero
-returns-then-is_zero c =
+pub returns-then-eq : goal.returns-then-eq
+returns-then-eq c =
     let a = c.args in
-    rw (pair_none a.c a.gainer a.quantity.0 (eqb-true a.quantity.0 0 (sym c.is_zero.ensures ∙ c.if-is_zero.true)))
+    rw (pair_none a.c a.gainer a.quantity.0 (eqb-true a.quantity.0 0 (sym c.eq.ensures ∙ c.if-eq.true)))
     (none-appended a.form a.at a.file.now)
 
 -- two contracts, and room for both
@@ -27,7 +27,7 @@ two-long c gainer quantity some = ap length (pair_some c gainer quantity some)
 pub store_contract-requires : goal.store_contract-requires
 store_contract-requires c =
     let a = c.args in
-    let two = two-long a.c a.gainer a.quantity.0 (eqb-false a.quantity.0 0 (sym c.is_zero.ensures ∙ c.if-is_zero.false)) in
+    let two = two-long a.c a.gainer a.quantity.0 (eqb-false a.quantity.0 0 (sym c.eq.ensures ∙ c.if-eq.false)) in
     let gained : ContractFits (end_width a.form) c.gained_by-gained.result
     = rw c.gained_by-gained.ensures (fits-gained (end_width a.form) a.c c.requires.contract_fits.0 a.quantity.0 c.requires.contract_fits.2 a.gainer c.requires.contract_fits.1) in
     record {
@@ -38,7 +38,7 @@ store_contract-requires c =
 pub store_contract-requires-2 : goal.store_contract-requires-2
 store_contract-requires-2 c =
     let a = c.args in
-    let two = two-long a.c a.gainer a.quantity.0 (eqb-false a.quantity.0 0 (sym c.is_zero.ensures ∙ c.if-is_zero.false)) in
+    let two = two-long a.c a.gainer a.quantity.0 (eqb-false a.quantity.0 0 (sym c.eq.ensures ∙ c.if-eq.false)) in
     let countered : ContractFits (end_width a.form) c.countered_by-countered.result
     = rw c.countered_by-countered.ensures (fits-countered (end_width a.form) a.c c.requires.contract_fits.0 a.quantity.0 c.requires.contract_fits.2) in
     record {
@@ -54,7 +54,7 @@ returns c =
     let two_more : a.at + 2 ≡ a.at + 1 + 1 = omega arith in
     rw (
       pair_some a.c a.gainer a.quantity.0
-          (eqb-false a.quantity.0 0 (sym c.is_zero.ensures ∙ c.if-is_zero.false)),
+          (eqb-false a.quantity.0 0 (sym c.eq.ensures ∙ c.if-eq.false)),
       ← gained.ensures,
       ← countered.ensures,
     )

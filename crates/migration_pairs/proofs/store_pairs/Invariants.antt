@@ -1,6 +1,5 @@
--- The invariants and measures of `migration_pairs::store_pairs`.
+-- The invariant of `migration_pairs::store_pairs`.
 use mathlib.Core.Path.{◌≡◌}
-use Prim.Native.Nat.{◌-◌, ◌≤◌}
 use lib.ListN.{length}
 use Rattle.migration_rules.specs.ContractRules.{pairs_to}
 use Rattle.migration_transfers.specs.Squares.{row_losses}
@@ -8,7 +7,4 @@ use Rattle.book_growth.specs.Inner.{Appended}
 use Rattle.migration_pairs.proofs.store_pairs.Given as goal
 
 abbrev pub invariant-loop-j : goal.invariant-loop-j
-invariant-loop-j l = (l.j ≤ length l.loads) × (length l.file ≡ length l.initial.file) × Appended l.form l.at (pairs_to (row_losses l.row) l.loads l.c l.j) l.initial.file l.file l.place
-
-abbrev pub decreases-loop-j : goal.decreases-loop-j
-decreases-loop-j l = length l.loads - l.j
+invariant-loop-j l = (length l.file ≡ length l.initial.file) × Appended l.form l.at (pairs_to (row_losses l.base.row) l.base.loads.now l.base.contract l.j) l.initial.file l.file l.place

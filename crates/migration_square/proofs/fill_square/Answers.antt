@@ -23,7 +23,7 @@ row_ends n i h =
     rw (← suc-mul i n) (mul-le-mul most all)
 
 pub loop-i-init : goal.loop-i-init
-loop-i-init c = (omega arith, refl, rows_none c.args.entities c.args.square c.args.nets.now)
+loop-i-init c = (refl, rows_none c.args.entities c.args.square c.args.nets.now)
 
 pub bounds-square-i : goal.bounds-square-i
 bounds-square-i c = omega (arith, c.requires.0)
@@ -39,7 +39,7 @@ fill_row-requires c =
     let l = c.loop-i in
     let n = s.args.entities in (
       s.requires.0,
-      omega (arith, row_ends n l.i (omega arith), s.requires.1, l.invariant.1),
+      omega (arith, row_ends n l.i (omega arith), s.requires.1, l.invariant.0),
       row_sized s.args.square s.requires.2 l.i (omega (arith, s.requires.0)),
       row-starts n l.i s.requires.0 (omega arith),
     )
@@ -49,9 +49,8 @@ loop-i-preserved c =
     let s = c in
     let l = c.loop-i in
     let stored = c.fill_row in (
-      omega arith,
-      stored.auto.nets ∙ l.invariant.1,
-      rows_more s.args.entities s.args.square l.i s.args.nets.now l.nets _ l.invariant.2 stored.ensures,
+      stored.auto.nets ∙ l.invariant.0,
+      rows_more s.args.entities s.args.square l.i s.args.nets.now l.nets _ l.invariant.1 stored.ensures,
     )
 
 pub returns : goal.returns
@@ -59,4 +58,4 @@ returns c =
     let s = c in
     let l = c.loop-i in
     let last : l.i ≡ s.args.entities = omega arith in
-    l.invariant.2 ∙ ap (λ (m : ℕ). overwrite (rows_cells s.args.entities s.args.square m) s.args.nets.now) last
+    l.invariant.1 ∙ ap (λ (m : ℕ). overwrite (rows_cells s.args.entities s.args.square m) s.args.nets.now) last

@@ -1,13 +1,15 @@
--- `lost_by`: what is lost to the first j.
+-- `lost_by`: what is lost to the LSEs passed.
 use mathlib.Core.Path.{◌≡◌, sym, ap, ◌∙◌}
-use Rattle.std.proofs.Common.{List, ℕ, ◌<◌}
+use Rattle.std.proofs.Common.{List, ℕ, ◌<◌, length, get_or, take}
 use Rattle.tariff.specs.Units.{max_entities}
 use Rattle.tariff.specs.declared.units.Transfer.{Transfer}
 use Prim.Native.Nat.{suc, ◌-◌, ◌≤◌}
 use native.Mathlib.Numerals.{add-one}
 use native.Mathlib.Omega.{arith}
-use lib.ListN.{get_or}
+use lib.Seq.{get_or-take}
+use Rattle.std.proofs.lemmas.List.{length-take}
 use lib.IntN.{ℤ, nat_abs}
+use Rattle.integers.specs.Sums.{max0}
 use Rattle.integers.proofs.Sizes.{nat_abs_max0}
 use Rattle.migration_rules.specs.Transfers.{losses_to}
 use Rattle.migration_rules.proofs.Nets.{losses-none, losses-more}
@@ -15,41 +17,39 @@ use Rattle.migration_transfers.specs.Squares.{no_transfer, row_losses}
 use Rattle.migration_transfers.specs.Inner.{max_net, SizedRow}
 use Rattle.migration_transfers.proofs.lost_by.Goals as goal
 
-pub loop-j-init : goal.loop-j-init
-loop-j-init c = (omega arith, (λ i. sym (losses-none (row_losses c.args.row) i)), omega arith)
+pub loop-net-init : goal.loop-net-init
+loop-net-init c = ((λ i. sym (losses-none (row_losses c.args.row) i)), omega arith)
 
--- the net in cell j, and that it is small
-abbrev cell : List Transfer → ℕ → ℤ
-cell row j = (get_or row j no_transfer).0
+-- the net in cell j of the LSEs' cells, and that it is small
+abbrev cell : List Transfer → ℕ → ℕ → ℤ
+cell row n j = (get_or (take n row) j no_transfer).0
 
-small : (row : List Transfer) (j entities : ℕ) → entities ≤ max_entities → SizedRow row → j < entities → nat_abs (cell row j) ≤ max_net
-small row j entities few fine lt = fine.sized j (omega arith)
+cell_is : (row : List Transfer) (n j : ℕ) → j < length (take n row) → cell row n j ≡ (get_or row j no_transfer).0
+cell_is row n j h = ap (λ (t : Transfer). t.0) (get_or-take n row j no_transfer (omega (arith, length-take n row)))
 
-pub bounds-row-j : goal.bounds-row-j
-bounds-row-j c = omega (arith, c.requires.0)
+small : (row : List Transfer) (n j : ℕ) → n ≤ max_entities → SizedRow row → j < length (take n row) → nat_abs (cell row n j) ≤ max_net
+small row n j few fine h = rw (cell_is row n j h) (fine.sized j (omega (arith, length-take n row)))
 
-pub lost-requires : goal.lost-requires
-lost-requires c = omega (arith, small c.args.row c.loop-j.j c.args.entities c.requires.0 c.requires.1 (omega arith))
+pub add-lost-requires : goal.add-lost-requires
+add-lost-requires c =
+    let a = c.args in
+    let j = c.loop-net.net-index in
+    omega (arith, c.requires.0, c.loop-net.invariant.1, c.lost.ensures, length-take a.entities a.row, nat_abs_max0 (cell a.row a.entities j), small a.row a.entities j c.requires.0 c.requires.1 c.loop-net-test.true)
 
-pub plus-lost-requires : goal.plus-lost-requires
-plus-lost-requires c =
-    let l = c in
-    omega (arith, l.requires.0, l.loop-j.invariant.2, c.lost.ensures, nat_abs_max0 (cell c.args.row c.loop-j.j), small c.args.row c.loop-j.j c.args.entities c.requires.0 c.requires.1 (omega arith))
-
-pub loop-j-preserved : goal.loop-j-preserved
-loop-j-preserved c =
-    let i = c in
-    let l = i.loop-j in
-    let lost = c.lost.ensures in
-    let place : suc l.j - 1 ≡ l.j = omega arith in (
-      omega arith,
-      (λ k. rw (add-one l.j, losses-more (row_losses i.args.row) k l.j, ← l.invariant.1 k, place, ← lost) c.plus-lost.ensures),
-      omega (arith, l.invariant.2, lost, nat_abs_max0 (cell c.args.row l.j), small c.args.row l.j c.args.entities c.requires.0 c.requires.1 (omega arith), c.plus-lost.ensures),
+pub loop-net-preserved : goal.loop-net-preserved
+loop-net-preserved c =
+    let a = c.args in
+    let l = c.loop-net in
+    let j = l.net-index in
+    let lost = c.lost.ensures ∙ ap (λ (z : ℤ). nat_abs (max0 z)) (cell_is a.row a.entities j c.loop-net-test.true) in
+    let place : suc j - 1 ≡ j = omega arith in (
+      (λ k. rw (add-one j, losses-more (row_losses a.row) k j, ← l.invariant.0 k, place, ← lost) c.add-lost.ensures),
+      omega (arith, l.invariant.1, c.lost.ensures, nat_abs_max0 (cell a.row a.entities j), small a.row a.entities j c.requires.0 c.requires.1 c.loop-net-test.true, c.add-lost.ensures),
     )
 
 pub returns : goal.returns
 returns c =
-    let l = c.loop-j in
-    let s = c in
-    let last : l.j ≡ s.args.entities = omega arith in
-    (λ i. l.invariant.1 i ∙ ap (losses_to (row_losses s.args.row) i) last)
+    let l = c.loop-net in
+    let a = c.args in
+    let last : l.net-index ≡ a.entities = omega (arith, length-take a.entities a.row, c.requires.0) in
+    (λ i. l.invariant.0 i ∙ ap (losses_to (row_losses a.row) i) last)

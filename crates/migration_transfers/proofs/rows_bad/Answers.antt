@@ -1,44 +1,29 @@
--- `rows_bad`: no row passed is bad.
-use mathlib.Core.Path.{sym, ◌∙◌}
+-- `rows_bad`: a search by the rows' numbers is one of the rows.
+use mathlib.Core.Path.{◌≡◌, refl, sym, ap, ◌∙◌}
+use Prim.Native.Nat.{◌+◌}
 use native.Mathlib.Omega.{arith}
-use Rattle.lists.proofs.Search.{any_of_start, any_of_end, any_of_good, any_of_bad}
+use borrow.Author.Rules.{rules}
+use borrow.Author.Tests.{tests}
+use lib.ListN.{length}
+use Rattle.std.proofs.lemmas.Iterator.{YieldsList-from_range}
+use Rattle.std.proofs.lemmas.Iterator.Search.{any_from_yields_List}
+use Rattle.std.specs.List.{list_any, range_with_len}
+use Rattle.lists.specs.Lists.{any_of}
 use Rattle.migration_rules.specs.Transfers.{row, rows_of, row_bad_of}
-use Rattle.migration_transfers.proofs.Rows.{rows-many, rows_at}
+use Rattle.migration_transfers.specs.Inner.{migration_row_at}
+use Rattle.migration_transfers.proofs.Rows.{rows-many, rows_at, search_list}
 use Rattle.migration_transfers.proofs.rows_bad.Goals as goal
-
-pub loop-i-init : goal.loop-i-init
-loop-i-init c = (omega arith, any_of_start (row_bad_of _))
-
-pub returns-then-row_bad : goal.returns-then-row_bad
-returns-then-row_bad c =
-    let a = c.args in
-    let i = c.loop-i.i in
-    sym (any_of_bad (row_bad_of a.entities) (rows_of a.customers.now a.rates.now a.olds.now a.news.now) i (row 0 0 0 0)
-    (rw (rows-many a.customers.now a.rates.now a.olds.now a.news.now) (omega arith))
-    (rw (rows_at a.customers.now a.rates.now a.olds.now a.news.now i (row 0 0 0 0) (omega arith)) (sym c.row_bad.ensures ∙ c.if-row_bad.true)))
-
-pub loop-i-preserved : goal.loop-i-preserved
-loop-i-preserved c =
-    let a = c.args in
-    let l = c.loop-i in (
-      omega arith,
-      any_of_good (row_bad_of a.entities) (rows_of a.customers.now a.rates.now a.olds.now a.news.now) l.i (row 0 0 0 0)
-          (rw (rows-many a.customers.now a.rates.now a.olds.now a.news.now) (omega arith)) l.invariant.1
-          (rw (rows_at a.customers.now a.rates.now a.olds.now a.news.now l.i (row 0 0 0 0) (omega arith)) (sym c.row_bad.ensures ∙ c.if-row_bad.false)),
-    )
 
 pub returns : goal.returns
 returns c =
-    let a = c.args in
-    let l = c.loop-i in
-    any_of_end (row_bad_of a.entities) (rows_of a.customers.now a.rates.now a.olds.now a.news.now) l.i
-    (omega (arith, rows-many a.customers.now a.rates.now a.olds.now a.news.now)) l.invariant.1
-
-pub bounds-rates-i : goal.bounds-rates-i
-bounds-rates-i c = omega (arith, c.requires)
-
-pub bounds-olds-i : goal.bounds-olds-i
-bounds-olds-i c = omega (arith, c.requires)
-
-pub bounds-news-i : goal.bounds-news-i
-bounds-news-i c = omega (arith, c.requires)
+    let a = c.args.lists in
+    let bad = row_bad_of c.args.entities in
+    let at = migration_row_at a.customers.now a.rates.now a.olds.now a.news.now in
+    let rows = rows_of a.customers.now a.rates.now a.olds.now a.news.now in
+    let n = length a.customers.now in
+    let many = rows-many a.customers.now a.rates.now a.olds.now a.news.now in
+    let by_number : c.any.result ≡ list_any (λ i. bad (at i)) (range_with_len 0 n) =
+    any_from_yields_List (λ i. bad (at i)) _ _ c.any.result c.any.ensures.ran (YieldsList-from_range 0 n n refl (omega arith)) (λ x b q k. search (rules, tests)) in
+    let by_row : list_any (λ i. bad (at i)) (range_with_len 0 (length rows)) ≡ any_of bad rows =
+    search_list bad at rows (row 0 0 0 0) 0 (λ j h. let same : 0 + j ≡ j = omega arith in rows_at a.customers.now a.rates.now a.olds.now a.news.now j (row 0 0 0 0) (omega (arith, many)) ∙ ap at (sym same)) in
+    by_number ∙ rw many at by_row

@@ -1,40 +1,45 @@
 -- `price_reading::read_prices`: where no check refuses, the file has its length and the table its cells.
-use Rattle.price_rules.specs.ReadPrices.{read_prices_checked, read_prices_call}
-use Rattle.tariff.specs.declared.refusals.Checked.{Checked}
-use Prim.Native.Nat.{ℕ}
-use mathlib.Core.List.{List}
 use mathlib.Core.Path.{◌≡◌, refl, sym, ◌∙◌}
+use mathlib.Core.List.{◌++◌}
 use native.Mathlib.Omega.{arith}
-use Rattle.layouts.specs.PriceFile.{prices_in}
-use Rattle.tariff.specs.declared.refusals.Checked.TheVariants.{Passed}
-use Rattle.tariff.proofs.Answers.{answer-refused, cells-refused, answer-passed, cells-passed}
-use Rattle.price_rules.proofs.PriceLaws.{Readable, readable}
+use lib.ListN.{drop}
+use lib.Seq.{length-take-le}
+use Rattle.bits.specs.Bits.{fields}
+use Rattle.bits.proofs.Fields.{length_fields}
+use Rattle.tariff.proofs.Answers.{answer-passed, cells-passed}
+use Rattle.lists.specs.Lent.{overwrite}
+use Rattle.layouts.specs.PriceFile.{prices_in, price_width}
+use Rattle.price_rules.proofs.PriceLaws.{readable, number-of_period}
 use Rattle.price_reading.proofs.read_prices.Goals as goal
 
--- what holds of a file that is not refused
-ok : (constraints : ℕ) → (file prices : List ℕ) → (answer : Checked) → answer ≡ read_prices_checked (read_prices_call constraints file prices) → answer ≡ Passed → Readable constraints file prices
-ok constraints file prices answer found told = readable _ _ _ (sym found ∙ told)
+pub slice_bounds-read_run-end : goal.slice_bounds-read_run-end
+slice_bounds-read_run-end c = (readable _ _ _ (sym c.check_read.ensures ∙ c.in_ok-check_read.was)).room
 
-pub read_run-requires : goal.read_run-requires
-read_run-requires c = let r = ok c.args.constraints c.args.file.now c.args.prices.now _ (c.check_read.ensures _ refl) c.in-Passed.is in record { count_bound = omega arith; width_bound = (omega arith, omega arith); count_in_bounds = omega arith }
+pub slice_bounds-read_run-end-2 : goal.slice_bounds-read_run-end-2
+slice_bounds-read_run-end-2 c = sym (length-take-le c.args.constraints c.args.prices.now (readable _ _ _ (sym c.check_read.ensures ∙ c.in_ok-check_read.was)).room)
 
-pub field-requires : goal.field-requires
-field-requires c = let r = ok c.args.constraints c.args.file.now c.args.prices.now _ (c.check_read.ensures _ refl) c.in-Passed.is in record { width_bound = omega arith; width_bound_2 = omega arith }
+pub read_run-requires-clause-run_bound : goal.read_run-requires-clause-run_bound
+read_run-requires-clause-run_bound c =
+    let r = readable _ _ _ (sym c.check_read.ensures ∙ c.in_ok-check_read.was) in
+    rw (length-take-le c.args.constraints c.args.prices.now r.room) (omega arith)
 
-pub returns-in-Refused : goal.returns-in-Refused
-returns-in-Refused c =
-    let a = c.args in
-    let found = c.check_read.ensures a.prices.now refl in
-    let told = c.in-Refused.is in
-    record { period-given = answer-refused _ _ found _ told _; prices-read = cells-refused _ _ found _ told (prices_in a.constraints a.file.now) _ }
+pub read_run-requires-clause-width_bound : goal.read_run-requires-clause-width_bound
+read_run-requires-clause-width_bound c = let r = readable _ _ _ (sym c.check_read.ensures ∙ c.in_ok-check_read.was) in (omega arith, omega arith)
 
-pub returns-in-Passed : goal.returns-in-Passed
+pub field-requires-clause-width_bound : goal.field-requires-clause-width_bound
+field-requires-clause-width_bound c = let r = readable _ _ _ (sym c.check_read.ensures ∙ c.in_ok-check_read.was) in omega arith
+
+pub returns : goal.returns
 unfolding prices_in
-returns-in-Passed c =
+returns c =
     let a = c.args in
-    let found = c.check_read.ensures a.prices.now refl in
-    let told = c.in-Passed.is in
+    let told = c.in_ok-check_read.was in
+    let prices = fields a.file.now 8 price_width a.constraints in
+    let cut = length-take-le a.constraints a.prices.now (readable _ _ _ (sym c.check_read.ensures ∙ told)).room in
+    let is : c.read_run.new.out ≡ prices = rw cut at c.read_run.ensures in
+    let read : c.read_run.new.out ++ drop a.constraints a.prices.now ≡ overwrite prices a.prices.now =
+    rw (is, length_fields) refl in
     record {
-      period-given = rw c.field.ensures.0 (answer-passed _ _ found told _);
-      prices-read = cells-passed _ _ found told (prices_in a.constraints a.file.now) a.prices.now _ c.read_run.ensures;
+      period-given = rw (c.from.ensures, number-of_period c.field.result c.field.ensures.1, c.field.ensures.0) (answer-passed _ _ c.check_read.ensures told _);
+      prices-read = cells-passed _ _ c.check_read.ensures told (prices_in a.constraints a.file.now) a.prices.now _ read;
     }

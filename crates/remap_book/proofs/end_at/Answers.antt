@@ -3,4 +3,4 @@ use native.Mathlib.Omega.{arith}
 use Rattle.remap_book.proofs.end_at.Goals as goal
 
 pub overflow_cast-result : goal.overflow_cast-result
-overflow_cast-result c = record { fits = omega (arith, (c.shared_slice_known-1.given c.args.node).fits) }
+overflow_cast-result c = record { fits = omega (arith, (c.type_inv.ends c.args.node).fits) }

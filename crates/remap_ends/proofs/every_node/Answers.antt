@@ -1,22 +1,33 @@
 -- `every_node`: those passed stand for themselves.
-use mathlib.Core.Path.{refl}
+use mathlib.Core.Path.{◌≡◌, ◌∙◌}
+use Prim.Native.Nat.{ℕ}
 use native.Mathlib.Omega.{arith}
-use lib.ListN.{length-set}
+use mathlib.Core.List.{List}
+use lib.ListN.{length, drop, replicate, length-drop, length-replicate, get_or-append, length-append}
+use lib.Seq.{length-take-le}
 use Rattle.remap_rules.specs.RemapBook.{moved_end}
 use Rattle.remap_rules.proofs.Moving.{node_stored}
 use Rattle.remap_ends.proofs.every_node.Goals as goal
 
 pub loop-node-init : goal.loop-node-init
-loop-node-init c = (omega arith, refl, λ i h. absurd (omega arith))
+loop-node-init c = λ i h. absurd (omega arith)
 
 pub loop-node-preserved : goal.loop-node-preserved
 loop-node-preserved c =
     let l = c.loop-node in
-    (omega arith, simp length-set l.invariant.1, node_stored l.ends l.node (omega (arith, l.invariant.1)) l.invariant.2)
+    node_stored l.end-items l.node (omega arith) l.invariant
 
 pub returns : goal.returns
 unfolding moved_end
-returns c = let l = c.loop-node in record { size = l.invariant.1; each = λ e h. l.invariant.2 e (omega arith) }
-
-pub bounds-ends-node : goal.bounds-ends-node
-bounds-ends-node c = omega arith
+returns c =
+    let l = c.loop-node in
+    let n = c.args.nodes in
+    let cells : List ℕ = replicate 4000 0 in
+    let all : length cells ≡ 4000 = length-replicate {A = ℕ} 4000 0 in
+    let front = length-take-le n cells (omega (arith, all, c.requires)) in
+    let long : length l.end-items ≡ n = l.auto.end-items ∙ front in
+    let rest = length-drop n cells in
+    record {
+      size = omega (arith, length-append l.end-items (drop n cells), long, rest, all, c.requires);
+      each = λ e h. get_or-append l.end-items (drop n cells) 0 e (omega (arith, long)) ∙ l.invariant e (omega (arith, c.loop-node-test.false, front));
+    }

@@ -29,10 +29,9 @@ loop-i-preserved c =
     let F = balance_share (to_z w64 (of_z w64 a.balance)) a.demands.now in
     let h : l.i < n = omega arith in
     let v = to_z-of_z {w = w64} (record { sfits = c.share_at.type_inv }) ∙ c.share_at.ensures.0 ∙ sym (get_d_list_to n F l.i (pos 0) h) in (
-      omega arith,
       simp length-set (omega arith),
-      fill_turn (list_to n F) l.shares l.i l.invariant.2 _ (pos 0) (omega arith) (rw (length-list_to n F) h) v,
-      rest-turn l.shares a.shares.now l.i _ l.invariant.3,
+      fill_turn (list_to n F) l.shares l.i l.invariant.1 _ (pos 0) (omega arith) (rw (length-list_to n F) h) v,
+      rest-turn l.shares a.shares.now l.i _ l.invariant.2,
     )
 
 pub returns : goal.returns
@@ -42,5 +41,5 @@ returns c =
     let l = c.loop-i in
     let n = length a.demands.now in
     let z = to_z w64 (of_z w64 a.balance) in
-    fill_front (shares_of z a.demands.now) l.shares a.shares.now l.i l.invariant.2 l.invariant.3 (rw (length-list_to n (balance_share z a.demands.now)) (omega arith))
+    fill_front (shares_of z a.demands.now) l.shares a.shares.now l.i l.invariant.1 l.invariant.2 (rw (length-list_to n (balance_share z a.demands.now)) (omega arith))
     ∙ ap (λ (x : ℤ). overwrite (shares_of x a.demands.now) a.shares.now) (to_z-of_z {w = w64} s.ranges.balance)

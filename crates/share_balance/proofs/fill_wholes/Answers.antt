@@ -14,7 +14,7 @@ use Rattle.share_balance.proofs.fill_wholes.Goals as goal
 pub loop-i-init : goal.loop-i-init
 loop-i-init c =
     let a = c.args in
-    (omega arith, refl, refl, sym (add_to-none (whole (length a.demands.now) (demand_of a.demands.now) a.size)), (λ k b. absurd (omega arith)), (λ k b. absurd (omega arith)))
+    (refl, refl, sym (add_to-none (whole (length a.demands.now) (demand_of a.demands.now) a.size)), (λ k b. absurd (omega arith)), (λ k b. absurd (omega arith)))
 
 pub overflow_mul-product : goal.overflow_mul-product
 overflow_mul-product c =
@@ -49,12 +49,11 @@ loop-i-preserved c =
     let k = remainder_key (rest n (demand_of a.demands.now) a.size) 256 in
     let cents = whole_is a.size a.sum a.demands.now s.requires.weighed l.i in
     let key = key_is a.size a.sum a.demands.now s.requires.weighed l.i in (
-      omega arith,
       simp length-set (omega arith),
       simp length-set (omega arith),
       omega (arith, cents, add_to-more l.i w),
-      cell_turn l.wholes w l.i _ (omega arith) cents l.invariant.4,
-      cell_turn l.keys k l.i _ (omega arith) key l.invariant.5,
+      cell_turn l.wholes w l.i _ (omega arith) cents l.invariant.3,
+      cell_turn l.keys k l.i _ (omega arith) key l.invariant.4,
     )
 
 pub returns : goal.returns
@@ -62,4 +61,4 @@ returns c =
     let a = c.args in
     let l = c.loop-i in
     let n = length a.demands.now in
-    let last : l.i ≡ n = omega arith in record { value = l.invariant.3 ∙ ap (λ (x : ℕ). add_to x (whole n (demand_of a.demands.now) a.size)) last; rounded_cents = record { whole_cells = omega arith; key_cells = omega arith; whole_is = λ k b. l.invariant.4 k (omega arith); key_is = λ k b. l.invariant.5 k (omega arith) } }
+    let last : l.i ≡ n = omega arith in record { value = l.invariant.2 ∙ ap (λ (x : ℕ). add_to x (whole n (demand_of a.demands.now) a.size)) last; rounded_cents = record { whole_cells = omega arith; key_cells = omega arith; whole_is = λ k b. l.invariant.3 k (omega arith); key_is = λ k b. l.invariant.4 k (omega arith) } }

@@ -5,7 +5,8 @@ use Prim.Native.Nat.{ℕ, ◌≤◌, ◌<◌}
 use native.Mathlib.Omega.{arith}
 use lib.IntN.{pos}
 use borrow.Author.Tests.{lt-ltb, le-ltb}
-use Rattle.tariff.specs.declared.refusals.Checked.TheVariants.{Passed, Refused}
+use Rattle.std.specs.Prelude.{Err}
+use Rattle.tariff.specs.Refusals.{passed}
 use Rattle.tariff.specs.declared.refusals.Refusal.TheVariants.{ProcessNumber}
 use Rattle.tariff.specs.Processes.{process_of, percent}
 use Rattle.tariff.specs.Refusals.{given}
@@ -15,11 +16,11 @@ use Rattle.tariff.proofs.Checks.{first-refuses, last-passes}
 use Rattle.test_loading.specs.ReleasedPercent.{percent_checks, percent_checked}
 use Rattle.test_loading.proofs.released_percent.Goals as goal
 
-other : (p : ℕ) → 2 < p → Refused ProcessNumber ≡ percent_checked p
+other : (p : ℕ) → 2 < p → Err ProcessNumber ≡ percent_checked p
 unfolding percent_checks
 other p h = sym (first-refuses (process_number p) [] (lt-ltb 2 p h))
 
-one_of_three : (p : ℕ) → p ≤ 2 → Passed ≡ percent_checked p
+one_of_three : (p : ℕ) → p ≤ 2 → passed ≡ percent_checked p
 unfolding percent_checks
 one_of_three p h = sym (last-passes (process_number p) (le-ltb 2 p h))
 
@@ -29,5 +30,5 @@ returns-then-process-gt2 c = let p = c.args.process in record { percent-given = 
 pub returns : goal.returns
 returns c =
     let p = c.args.process in
-    let share : c.percent-percent.result ≡ percent (process_of p) = c.percent-percent.ensures ∙ ap percent c.from_number.ensures in
+    let share : c.percent.result ≡ percent (process_of p) = c.percent.ensures ∙ ap percent c.from.ensures in
     record { percent-given = ap (λ (x : ℕ). given (pos x ∷ [])) share ∙ answer-passed _ _ (one_of_three p (omega arith)) refl _ }

@@ -11,6 +11,7 @@ use Rattle.tariff.specs.Checks.{limit_range}
 use Rattle.tariff.proofs.Checks.{first_passes, first-refuses, last-passes}
 use Rattle.test_totals.specs.JudgeFlows.{judge_call, judge_checks, judge_checked}
 use Rattle.test_totals.specs.Totals.{totals_range}
+use Rattle.test_totals.proofs.Totalling.{cut_totals}
 use Rattle.test_totals.proofs.check_judged.Goals as goal
 
 pub returns-then-constraints-gt-MAX_CONSTRAINTS : goal.returns-then-constraints-gt-MAX_CONSTRAINTS
@@ -48,9 +49,9 @@ returns-then-cell_above c =
 pub returns-then-no_totals : goal.returns-then-no_totals
 returns-then-no_totals c =
     sym (cells_left c.args.constraints c.args.process c.args.limits.now c.args.flows.now c.args.count c.if-constraints-gt-MAX_CONSTRAINTS.false c.if-process-gt2.false c.if-limits-constraints.false c.if-flows-constraints.false
-    ∙ first_passes _ _ (sym c.cell_above.ensures ∙ c.if-cell_above.false) ∙ first-refuses _ _ (sym c.no_totals.ensures ∙ c.if-no_totals.true))
+    ∙ first_passes _ _ (sym c.cell_above.ensures ∙ c.if-cell_above.false) ∙ first-refuses _ _ (sym (c.no_totals.ensures ∙ cut_totals c.args.constraints c.args.count c.args.flows.now c.if-flows-constraints.false) ∙ c.if-no_totals.true))
 
 pub returns : goal.returns
 returns c =
     sym (cells_left c.args.constraints c.args.process c.args.limits.now c.args.flows.now c.args.count c.if-constraints-gt-MAX_CONSTRAINTS.false c.if-process-gt2.false c.if-limits-constraints.false c.if-flows-constraints.false
-    ∙ first_passes _ _ (sym c.cell_above.ensures ∙ c.if-cell_above.false) ∙ last-passes _ (sym c.no_totals.ensures ∙ c.if-no_totals.false))
+    ∙ first_passes _ _ (sym c.cell_above.ensures ∙ c.if-cell_above.false) ∙ last-passes _ (sym (c.no_totals.ensures ∙ cut_totals c.args.constraints c.args.count c.args.flows.now c.if-flows-constraints.false) ∙ c.if-no_totals.false))

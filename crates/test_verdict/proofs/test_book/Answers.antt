@@ -1,60 +1,45 @@
--- `test_book`.
+-- `test_book`: the flows carried are those of what is tested, and their loading is judged.
 use mathlib.Core.Path.{◌≡◌, sym, ◌∙◌, subst}
-use native.Mathlib.Omega.{arith}
-use Rattle.tariff.specs.declared.contracts.Period.{Period}
-use Rattle.tariff.specs.ContractRules.{period_of, of_period}
+use Rattle.std.specs.Prelude.{Ok, List}
+use Rattle.tariff.specs.declared.contracts.Contract.{Contract}
+use Rattle.tariff.specs.Units.{Grid}
+use Rattle.tariff.specs.Refusals.{given}
+use Rattle.tariff.specs.ContractRules.{of_period}
 use Rattle.layouts.specs.BookFile.{book_in}
-use Rattle.test_rules.specs.TestBook.{TestCall, tested_grid, tested_contracts}
-use Rattle.test_rules.specs.declared.Flows.{Flows}
-use Rattle.test_rules.specs.Carried.{Carries}
-use Rattle.test_rules.proofs.Checking.{tested, refusal-answers, verdict_answers}
+use Rattle.test_rules.specs.Inner.{Judges}
+use Rattle.test_rules.specs.TestBook.{test_outcome, tested_grid}
+use Rattle.test_rules.proofs.Checking.{tested, verdict_answers}
 use Rattle.test_rules.proofs.Flowing.{carried_judgeable}
 use Rattle.test_terms.specs.Calls.{asked_test}
+use Rattle.test_verdict.specs.Judged.{judged_values}
 use Rattle.test_verdict.proofs.Judging.{judges}
 use Rattle.test_verdict.proofs.test_book.Goals as goal
 
--- the flows that are carried are those of the contracts tested
-carried_is : (q : TestCall) (t : Period) (flows : Flows) → t ≡ period_of q.period → Carries (tested_grid q).factors (of_period t (book_in q.book)) flows
-    → Carries (tested_grid q).factors (tested_contracts q) flows
-carried_is q t flows e h = subst (λ (t : Period). Carries (tested_grid q).factors (of_period t (book_in q.book)) flows) e h
-
-pub returns-in-Refused : goal.returns-in-Refused
-returns-in-Refused c =
+pub of-tested-requires : goal.of-tested-requires
+of-tested-requires c =
     let q = asked_test c.args.asked c.args.limits.now c.args.factors.now c.args.book.now in
-    let k = c.check_test-checked in
-    refusal-answers q k.result k.ensures _ c.in-Refused.is
+    let o = tested q (sym c.check_test.ensures ∙ c.in_ok-check_test.was) in
+    record { tables = (o.tables.good-limits, o.tables.good-factors); others = (o.tables.process-number, o.book) }
 
--- none of the checks refuses
-pub from_number-period-requires : goal.from_number-period-requires
-from_number-period-requires c =
-    let q = asked_test c.args.asked c.args.limits.now c.args.factors.now c.args.book.now in
-    let t = (tested q (sym c.check_test-checked.ensures ∙ c.in_default.is)).tables in
-    omega (arith, t.process-number, t.period-number)
-
-pub carry-flows-requires : goal.carry-flows-requires
-carry-flows-requires c =
-    let q = asked_test c.args.asked c.args.limits.now c.args.factors.now c.args.book.now in
-    let o = tested q (sym c.check_test-checked.ensures ∙ c.in_default.is) in
-    (o.tables.good-factors, o.book)
-
-pub from_number-process-requires : goal.from_number-process-requires
-from_number-process-requires c =
-    let q = asked_test c.args.asked c.args.limits.now c.args.factors.now c.args.book.now in
-    let t = (tested q (sym c.check_test-checked.ensures ∙ c.in_default.is)).tables in
-    omega (arith, t.process-number, t.period-number)
-
-pub verdict-requires : goal.verdict-requires
-verdict-requires c =
-    let q = asked_test c.args.asked c.args.limits.now c.args.factors.now c.args.book.now in
-    let o = tested q (sym c.check_test-checked.ensures ∙ c.in_default.is) in
-    carried_judgeable q.nodes q.constraints q.limits q.factors (period_of q.period) q.book o.tables.good-limits o.tables.good-factors
-    o.book _ (carried_is q _ _ c.from_number-period.ensures c.carry-flows.ensures)
+pub of-loading-requires : goal.of-loading-requires
+of-loading-requires c =
+    let t = c.of-tested.result in
+    let g = t.grid in
+    carried_judgeable g.factors.nodes g.factors.constraints g.limits.now g.factors.cells.now t.period t.book.now g.good g.factors.good t.accepted _
+    c.carry-flows.ensures
 
 pub returns : goal.returns
 returns c =
     let q = asked_test c.args.asked c.args.limits.now c.args.factors.now c.args.book.now in
-    let o = tested q (sym c.check_test-checked.ensures ∙ c.in_default.is) in
-    let k = c.check_test-checked in
-    verdict_answers q k.result k.ensures c.in_default.is c.from_number-process.result c.from_number-process.ensures c.verdict.result
-    (judges q.nodes q.constraints o.tables.good-factors.few q.limits q.factors c.from_number-process.result (period_of q.period)
-    (book_in q.book) _ (carried_is q _ _ c.from_number-period.ensures c.carry-flows.ensures) c.verdict.result c.verdict.ensures)
+    let t = c.of-tested.result in
+    let g = t.grid in
+    let of = c.of-tested.ensures in
+    let l = c.of-loading.ensures in
+    let a = Ok c.verdict.result in
+    let told : test_outcome a ≡ given (judged_values g.limits.now t.process c.carry-flows.result.flows g.factors.constraints)
+    = c.verdict.ensures ∙ (λ i. given (judged_values (l.limits_kept i) t.process (l.flows_kept i).flows (l.constraints_kept i))) in
+    let own = judges g.factors.nodes g.factors.constraints g.factors.good.few g.limits.now g.factors.cells.now t.process t.period (book_in t.book.now) _
+    c.carry-flows.ensures a told in
+    let asked = subst (λ (cs : List Contract). Judges (tested_grid q) t.process cs a) (λ i. of_period (of.period_kept i) (book_in (of.book_kept i)))
+    (subst (λ (x : Grid). Judges x t.process (of_period t.period (book_in t.book.now)) a) of.grid_kept own) in
+    verdict_answers q c.check_test.result c.check_test.ensures c.in_ok-check_test.was t.process of.process_kept a asked

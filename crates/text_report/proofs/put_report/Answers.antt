@@ -1,15 +1,13 @@
 -- `put_report`.
 -- the tables before the reader fills them
-use Rattle.grid_rules.specs.declared.GridAnswer.TheVariants.{Read}
-use Rattle.grid_rules.specs.declared.GridAnswer.{GridAnswer}
+use Rattle.grid_rules.specs.ReadGrid.{GridAnswer, grid_read}
 use Rattle.layouts.specs.declared.forms.Form.{Form}
 use mathlib.Core.Path.{◌≡◌}
 use mathlib.Core.List.{List}
 use Prim.Native.Nat.{ℕ}
-use native.Mathlib.Omega.{arith}
 use lib.ListN.{length, replicate, length-replicate}
 use lib.IntN.{ℤ, pos}
-use Rattle.text_format.proofs.Putting.{put_same}
+use Rattle.text_format.proofs.Putting.{puts_same}
 use Rattle.tariff.specs.Units.{max_constraints}
 use Rattle.text_files.proofs.WithFiles.{grid-refused, grid-text}
 use Rattle.grid_rules.specs.ReadGrid.{capped_checks, program_bytes, program_factors, ReadsWithin, read_grid_call}
@@ -32,21 +30,23 @@ unfolding places
 places-long = length-replicate {A = ℤ} program_factors (pos 0)
 
 -- the tables as the reader left them
-taken : (file : List ℕ) → (nodes constraints : ℕ) → (form : Form) → (limits : List ℕ) → (factors : List ℤ) → (answer : GridAnswer) → answer ≡ Read nodes constraints form
+taken : (file : List ℕ) → (nodes constraints : ℕ) → (form : Form) → (limits : List ℕ) → (factors : List ℤ) → (answer : GridAnswer) → answer ≡ grid_read nodes constraints form
     → ReadsWithin program_bytes (read_grid_call file cells places) answer limits factors → GridTaken (capped_checks program_bytes file) file nodes constraints limits factors
 taken file nodes constraints form limits factors answer told reads = within-taken _ cells places program_bytes _ _ _ _ _ (rw told at reads)
 
-pub put_tested-requires : goal.put_tested-requires
+pub of-grid-requires : goal.of-grid-requires
 unfolding cells places
-put_tested-requires c =
-    let t = taken _ c.in-Read.nodes c.in-Read.constraints _ _ _ _ c.in-Read.is c.read_within.ensures in record { report_room_in_bounds = omega arith; good_cells = (t.good-limits, t.good-factors) }
+of-grid-requires c =
+    let t = taken _ c.in-Ok.read.nodes c.in-Ok.read.constraints _ _ _ _ c.in-Ok.is c.read_within.ensures in
+    (t.good-limits, t.good-factors)
 
-pub returns-in-Refused : goal.returns-in-Refused
+pub returns-in-Err : goal.returns-in-Err
 unfolding report cells places
-returns-in-Refused c =
+returns-in-Err c =
     let r = c.read_within in
-    put_same (grid-refused _ _ cells places cells-long places-long _ _ _ (rw c.in-Refused.is at r.ensures)) c.put_refused.ensures
+    puts_same (grid-refused _ _ cells places cells-long places-long _ _ _ (rw c.in-Err.is at r.ensures)) c.put_refused.ensures
 
-pub returns-in-Read : goal.returns-in-Read
+pub returns-in-Ok : goal.returns-in-Ok
 unfolding report cells places
-returns-in-Read c = put_same (grid-text _ _ _ _ _ _ (taken _ c.in-Read.nodes c.in-Read.constraints _ _ _ _ c.in-Read.is c.read_within.ensures)) c.put_tested.ensures
+returns-in-Ok c = puts_same (grid-text _ _ _ _ _ _ (taken _ c.in-Ok.read.nodes c.in-Ok.read.constraints _ _ _ _ c.in-Ok.is c.read_within.ensures))
+    (let kept = c.of-grid.ensures in rw (kept.nodes_kept, kept.constraints_kept, kept.limits_kept, kept.factors_kept) at c.put_tested.ensures)

@@ -1,22 +1,11 @@
 -- `put_tested`.
 use mathlib.Core.Path.{sym, ◌∙◌}
-use native.Mathlib.Omega.{arith}
-use Rattle.text_format.proofs.Putting.{put_same}
+use Rattle.text_format.proofs.Putting.{puts_same}
 use Rattle.text_files.proofs.WithFiles.{book-refused, book-text}
 use Rattle.text_report.proofs.put_tested.Goals as goal
 
-pub put_lines-requires : goal.put_lines-requires
-put_lines-requires c =
-    record { report_room_in_bounds = omega (arith, c.requires.report_room_in_bounds); reportable = record { good-limits = c.requires.good_cells.0; good-factors = c.requires.good_cells.1; good_book = sym c.check_book.ensures ∙ c.in-Passed.is } }
+pub returns-in-Err : goal.returns-in-Err
+returns-in-Err c = puts_same (book-refused _ _ _ _ (sym c.check_book.ensures ∙ c.in-Err.is)) c.put_refused.ensures
 
-pub returns-in-Refused : goal.returns-in-Refused
-returns-in-Refused c =
-    let k = c.check_book in
-    let told = c.in-Refused.is in
-    put_same (book-refused _ _ _ _ (sym k.ensures ∙ told)) c.put_refused.ensures
-
-pub returns-in-Passed : goal.returns-in-Passed
-returns-in-Passed c =
-    let k = c.check_book in
-    let told = c.in-Passed.is in
-    put_same (book-text _ _ _ (sym k.ensures ∙ told)) c.put_lines.ensures
+pub returns-in-Ok : goal.returns-in-Ok
+returns-in-Ok c = puts_same (book-text _ _ _ (sym c.check_book.ensures ∙ c.in-Ok.is)) c.put_lines.ensures

@@ -1,14 +1,9 @@
--- The invariants and measures of `text_report_figures::put_numbers`.
-use mathlib.Core.Path.{◌≡◌}
-use Prim.Native.Nat.{◌+◌, ◌-◌, ◌*◌, ◌≤◌}
-use lib.ListN.{length}
-use Rattle.text_format.specs.Inner.{Put}
+-- The invariant of `text_report_figures::put_numbers`.
+use Prim.Native.Nat.{◌+◌, ◌*◌, ◌≤◌}
+use Rattle.text_format.specs.Inner.{Puts}
 use Rattle.text_report_rules.specs.Report.{numbers_to}
 use Rattle.text_report_rules.specs.Inner.{in_set, member_room}
 use Rattle.text_report_figures.proofs.put_numbers.Given as goal
 
 abbrev pub invariant-loop-k : goal.invariant-loop-k
-invariant-loop-k l = (l.k ≤ l.constraints) × (length l.buf ≡ length l.initial.buf) × Put l.initial.buf l.at (numbers_to l.k (in_set l.set)) l.buf l.next × (l.next ≤ l.at + member_room * l.k)
-
-abbrev pub decreases-loop-k : goal.decreases-loop-k
-decreases-loop-k l = l.constraints - l.k
+invariant-loop-k l = Puts l.initial.text (numbers_to l.k (in_set l.set)) l.text × (l.text.at ≤ l.initial.text.at + member_room * l.k)

@@ -3,83 +3,56 @@ use Rattle.test_rules.specs.Carried.{Carries}
 use Rattle.test_rules.specs.declared.Flows.{Flows}
 use Rattle.tariff.specs.declared.contracts.Period.{Period}
 use mathlib.Core.List.{List}
-use mathlib.Core.Path.{◌≡◌}
-use Prim.Native.Nat.{◌^◌, ◌<◌, ℕ}
-use native.Mathlib.Omega.{arith}
-use lib.IntN.{nat_abs, ℤ}
+use mathlib.Core.Path.{◌≡◌, ◌∙◌}
+use Prim.Native.Nat.{ℕ}
 use Rattle.tariff.specs.declared.processes.Process.{Process}
 use Rattle.tariff.specs.declared.processes.Process.TheVariants.{Annual, TierLt, Monthly}
-use Rattle.tariff.specs.Units.{Grid, grid_of, factors_of}
+use Rattle.grid_tables.specs.declared.table.GridTable.{GridTable}
+use Rattle.grid_tables.specs.Grids.{grid_by}
+use Rattle.test_verdict.specs.declared.loading.Loading.{Loading}
+use Rattle.tariff.specs.Units.{factors_of}
 use Rattle.tariff.specs.ContractRules.{of_period}
 use Rattle.tariff.specs.Refusals.{given}
 use Rattle.layouts.specs.BookFile.{book_in}
-use Rattle.test_rules.specs.declared.TestAnswer.{TestAnswer}
+use Rattle.std.specs.Prelude.{Ok}
+use Rattle.test_rules.specs.declared.Verdict.{Verdict}
 use Rattle.test_rules.specs.TestBook.{test_outcome}
-use Rattle.test_rules.specs.Inner.{Judgeable, Judges}
 use Rattle.test_rules.proofs.Flowing.{carried_judgeable}
 use Rattle.test_verdict.specs.Judged.{judged_values}
 use Rattle.test_verdict.proofs.Judging.{judges}
-use Rattle.text_format.proofs.Putting.{put_same, ◌then◌}
+use Rattle.text_format.proofs.Putting.{puts_same, ◌and◌}
 use Rattle.text_report_rules.specs.Report.{line, period_lines}
-use Rattle.text_report_rules.specs.Inner.{answer_line, over_by, Reportable}
-use Rattle.text_report_rules.proofs.Answering.{over-bound, line-text}
+use Rattle.text_report_rules.specs.Inner.{answer_line}
+use Rattle.text_report_rules.proofs.Answering.{line-text}
 use Rattle.text_report_lines.proofs.put_period_lines.Goals as goal
 
-pub carry-flows-requires : goal.carry-flows-requires
-carry-flows-requires c = let ok = c.requires.reportable in (ok.good-factors, ok.good_book)
+-- ---- with the three verdicts
 
--- ---- with the three answers
+module _ (grid : GridTable) (period : Period) (book : List ℕ) (flows : Flows)
+    (carried : Carries (factors_of grid.factors.nodes grid.factors.constraints grid.factors.cells.now) (of_period period (book_in book)) flows) where
+  -- the verdict is the test's, so its line is
+  text : (loading : Loading) → loading.constraints ≡ grid.factors.constraints → loading.limits.now ≡ grid.limits.now → loading.flows ≡ flows
+      → (process : Process) (verdict : Verdict)
+      → test_outcome (Ok verdict) ≡ given (judged_values loading.limits.now process loading.flows.flows loading.constraints)
+      → line (grid_by grid) (book_in book) period process ≡ answer_line grid.factors.constraints period process verdict
+  text loading same_constraints same_limits same_flows process verdict told =
+      let g = grid.factors in
+      let own : test_outcome (Ok verdict) ≡ given (judged_values grid.limits.now process flows.flows g.constraints)
+      = told ∙ (λ i. given (judged_values (same_limits i) process (same_flows i).flows (same_constraints i))) in
+      line-text g.nodes g.constraints grid.limits.now g.cells.now book process period verdict
+      (judges g.nodes g.constraints g.good.few grid.limits.now g.cells.now process period (book_in book) flows carried (Ok verdict) own)
 
-module _ (nodes constraints : ℕ) (limits : List ℕ) (factors : List ℤ) (period : Period) (book : List ℕ) (reportable : Reportable nodes constraints limits factors book)
-    (flows : Flows) (carried : Carries (factors_of nodes constraints factors) (of_period period (book_in book)) flows) where
-  judgeable : Judgeable constraints limits flows
-  judgeable = carried_judgeable nodes constraints limits factors period book reportable.good-limits reportable.good-factors reportable.good_book flows carried
+pub of-loading-requires : goal.of-loading-requires
+of-loading-requires c =
+    let g = c.args.grid in
+    carried_judgeable g.factors.nodes g.factors.constraints g.limits.now g.factors.cells.now c.args.period c.args.book.now g.good g.factors.good c.requires.book_accepted _
+    c.carry-flows.ensures
 
-  abbrev grid : Grid
-  grid = grid_of nodes constraints limits factors
-
-  -- the answer is the test's
-  abbrev Told : Process → TestAnswer → Type 0
-  Told process answer = Judges grid process (of_period period (book_in book)) answer
-
-  by-flows : (process : Process) (answer : TestAnswer) → test_outcome answer ≡ given (judged_values limits process flows.flows constraints) → Told process answer
-  by-flows process = judges nodes constraints reportable.good-factors.few limits factors process period (book_in book) flows carried
-
-  small : (process : Process) (answer : TestAnswer) → Told process answer → nat_abs (over_by answer) < 2 ^ 63
-  small process answer told = over-bound nodes constraints limits factors book process period answer told reportable
-
-  text : (process : Process) (answer : TestAnswer) → Told process answer → line grid (book_in book) period process ≡ answer_line constraints period process answer
-  text process answer told = line-text nodes constraints limits factors book process period answer told
-
-pub verdict-annual-requires : goal.verdict-annual-requires
-verdict-annual-requires c = judgeable c.args.nodes c.args.constraints c.args.limits.now c.args.factors.now c.args.period c.args.book.now c.requires.reportable c.carry-flows.result c.carry-flows.ensures
-
-pub verdict-lt-requires : goal.verdict-lt-requires
-verdict-lt-requires c = judgeable c.args.nodes c.args.constraints c.args.limits.now c.args.factors.now c.args.period c.args.book.now c.requires.reportable c.carry-flows.result c.carry-flows.ensures
-
-pub verdict-monthly-requires : goal.verdict-monthly-requires
-verdict-monthly-requires c = judgeable c.args.nodes c.args.constraints c.args.limits.now c.args.factors.now c.args.period c.args.book.now c.requires.reportable c.carry-flows.result c.carry-flows.ensures
-
-pub put_line-first-requires : goal.put_line-first-requires
-put_line-first-requires c = (c.requires.reportable.good-factors.few, omega (arith, c.requires.period_lines_room_in_bounds), (small c.args.nodes c.args.constraints c.args.limits.now c.args.factors.now c.args.period c.args.book.now c.requires.reportable c.carry-flows.result c.carry-flows.ensures Annual _ (by-flows c.args.nodes c.args.constraints c.args.limits.now c.args.factors.now c.args.period c.args.book.now c.requires.reportable c.carry-flows.result c.carry-flows.ensures Annual _ c.verdict-annual.ensures)))
-
-pub put_line-second-requires : goal.put_line-second-requires
-put_line-second-requires c =
-    (c.requires.reportable.good-factors.few, omega (arith, c.requires.period_lines_room_in_bounds, c.put_line-first.ensures.upper_bound), (small c.args.nodes c.args.constraints c.args.limits.now c.args.factors.now c.args.period c.args.book.now c.requires.reportable c.carry-flows.result c.carry-flows.ensures TierLt _ (by-flows c.args.nodes c.args.constraints c.args.limits.now c.args.factors.now c.args.period c.args.book.now c.requires.reportable c.carry-flows.result c.carry-flows.ensures TierLt _ c.verdict-lt.ensures)))
-
-pub put_line-requires : goal.put_line-requires
-put_line-requires c =
-    (c.requires.reportable.good-factors.few, omega (arith, c.requires.period_lines_room_in_bounds, c.put_line-first.ensures.upper_bound, c.put_line-second.ensures.upper_bound), (small c.args.nodes c.args.constraints c.args.limits.now c.args.factors.now c.args.period c.args.book.now c.requires.reportable c.carry-flows.result c.carry-flows.ensures Monthly _ (by-flows c.args.nodes c.args.constraints c.args.limits.now c.args.factors.now c.args.period c.args.book.now c.requires.reportable c.carry-flows.result c.carry-flows.ensures Monthly _ c.verdict-monthly.ensures)))
-
-pub returns : goal.returns
+pub returns-clause-put : goal.returns-clause-put
 unfolding period_lines
-returns c =
-    let p1 = c.put_line-first.ensures in
-    let p2 = c.put_line-second.ensures in
-    let p3 = c.put_line.ensures in
-    record {
-      put = put_same (text c.args.nodes c.args.constraints c.args.limits.now c.args.factors.now c.args.period c.args.book.now c.requires.reportable c.carry-flows.result c.carry-flows.ensures Annual _ (by-flows c.args.nodes c.args.constraints c.args.limits.now c.args.factors.now c.args.period c.args.book.now c.requires.reportable c.carry-flows.result c.carry-flows.ensures Annual _ c.verdict-annual.ensures)) p1.put
-          then put_same (text c.args.nodes c.args.constraints c.args.limits.now c.args.factors.now c.args.period c.args.book.now c.requires.reportable c.carry-flows.result c.carry-flows.ensures TierLt _ (by-flows c.args.nodes c.args.constraints c.args.limits.now c.args.factors.now c.args.period c.args.book.now c.requires.reportable c.carry-flows.result c.carry-flows.ensures TierLt _ c.verdict-lt.ensures)) p2.put
-          then put_same (text c.args.nodes c.args.constraints c.args.limits.now c.args.factors.now c.args.period c.args.book.now c.requires.reportable c.carry-flows.result c.carry-flows.ensures Monthly _ (by-flows c.args.nodes c.args.constraints c.args.limits.now c.args.factors.now c.args.period c.args.book.now c.requires.reportable c.carry-flows.result c.carry-flows.ensures Monthly _ c.verdict-monthly.ensures)) p3.put;
-      upper_bound = omega (arith, p1.upper_bound, p2.upper_bound, p3.upper_bound);
-    }
+returns-clause-put c =
+    let l = c.of-loading in
+    let line = text c.args.grid c.args.period c.args.book.now c.carry-flows.result c.carry-flows.ensures l.result l.ensures.constraints_kept l.ensures.limits_kept l.ensures.flows_kept in
+    puts_same (line Annual _ c.verdict-annual.ensures) c.put_line.ensures.put
+    and puts_same (line TierLt _ c.verdict-lt.ensures) c.put_line-2.ensures.put
+    and puts_same (line Monthly _ c.verdict-monthly.ensures) c.put_line-3.ensures.put

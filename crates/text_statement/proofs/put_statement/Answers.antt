@@ -1,9 +1,8 @@
 -- `put_statement`.
 use Prim.Native.Nat.{ℕ}
-use native.Mathlib.Omega.{arith}
 use lib.IntN.{ℤ, pos}
 use lib.ListN.{length-replicate}
-use Rattle.text_format.proofs.Putting.{put_same}
+use Rattle.text_format.proofs.Putting.{puts_same}
 use Rattle.tariff.specs.Units.{max_constraints}
 use Rattle.grid_rules.specs.ReadGrid.{program_bytes, program_factors}
 use Rattle.grid_rules.proofs.Taken.{within-taken}
@@ -11,24 +10,23 @@ use Rattle.text_files.proofs.WithFiles.{grid-refused, grid-text}
 use Rattle.text_statement.specs.WriteStatement.{statement as statementOf}
 use Rattle.text_statement.proofs.put_statement.Goals as goal
 
-pub put_booked-requires : goal.put_booked-requires
-put_booked-requires c =
-    let r = c.read_within in
-    let a = c.args in
-    (omega (arith, c.requires), (within-taken a.grid_file.now _ _ program_bytes _ _ _ _ _ (rw c.in-Read.is at r.ensures)).good-factors)
+pub of-table-requires : goal.of-table-requires
+of-table-requires c = (within-taken c.args.grid_file.now _ _ program_bytes _ _ _ _ _ (rw c.in-Ok.is at c.read_within.ensures)).good-factors
 
-pub returns-in-Refused : goal.returns-in-Refused
+pub returns-in-Err : goal.returns-in-Err
 unfolding statementOf
-returns-in-Refused c =
+returns-in-Err c =
     let r = c.read_within in
     let a = c.args in
     let limits = length-replicate {A = ℕ} max_constraints 0 in
     let factors = length-replicate {A = ℤ} program_factors (pos 0) in
-    put_same (grid-refused a.grid_file.now _ _ _ limits factors _ _ _ (rw c.in-Refused.is at r.ensures)) c.put_refused.ensures
+    puts_same (grid-refused a.grid_file.now _ _ _ limits factors _ _ _ (rw c.in-Err.is at r.ensures)) c.put_refused.ensures
 
-pub returns-in-Read : goal.returns-in-Read
+pub returns-in-Ok : goal.returns-in-Ok
 unfolding statementOf
-returns-in-Read c =
+returns-in-Ok c =
     let r = c.read_within in
     let a = c.args in
-    put_same (grid-text a.grid_file.now _ _ _ _ _ (within-taken a.grid_file.now _ _ program_bytes _ _ _ _ _ (rw c.in-Read.is at r.ensures))) c.put_booked.ensures
+    let kept = c.of-table.ensures in
+    puts_same (grid-text a.grid_file.now _ _ _ _ _ (within-taken a.grid_file.now _ _ program_bytes _ _ _ _ _ (rw c.in-Ok.is at r.ensures)))
+    (rw (kept.nodes_kept, kept.constraints_kept, kept.cells_kept) at c.put_booked.ensures)

@@ -1,35 +1,34 @@
 -- `write_statement`.
-use mathlib.Core.Path.{refl, ap, ◌∙◌}
-use mathlib.Core.List.{[], ◌∷◌}
-use Prim.Native.Nat.{ℕ}
-use borrow.Author.Tests.{lt-ltb, le-ltb}
+use mathlib.Core.List.{List, []}
+use Prim.Native.Nat.{ℕ, ◌≤◌}
 use lib.ListN.{length}
-use lib.IntN.{pos}
+use borrow.Author.Rules.{rules}
+use borrow.Author.Tests.{lt-ltb, le-ltb}
+use Rattle.std.specs.Prelude.{Ok}
+use Rattle.text_format.specs.Inner.{Put}
 use Rattle.text_format.proofs.Putting.{put_front}
-use Rattle.tariff.specs.Refusals.{given}
 use Rattle.tariff.specs.Checks.{short_table}
 use Rattle.tariff.proofs.Checks.{first-refuses, last-passes}
-use Rattle.tariff.proofs.Answers.{answer-refused, cells-refused, answer-passed, cells-passed}
 use Rattle.text_statement_lines.specs.Lines.{longest_statement}
-use Rattle.text_statement.specs.WriteStatement.{statement as statementOf, statement_checks}
+use Rattle.text_statement.specs.WriteStatement.{statement as statementOf, statement_checks, statement_call, WritesStatement}
 use Rattle.text_statement.proofs.write_statement.Goals as goal
 
 pub returns-then-text-lt-LONGEST_STATEMENT : goal.returns-then-text-lt-LONGEST_STATEMENT
 unfolding statement_checks
 returns-then-text-lt-LONGEST_STATEMENT c =
-    let a = c.args in
-    let place = a.text.now in
+    let place = c.args.text.now in
     let told = first-refuses (short_table (length place) longest_statement) [] (lt-ltb (length place) longest_statement c.if-text-lt-LONGEST_STATEMENT.true) in
-    record { length-given = answer-refused _ _ refl _ told _; bytes-written = cells-refused _ _ refl _ told (statementOf a.grid_file.now a.book_file.now a.price_file.now) place }
+    record { length-given = rw told; bytes-written = rw told }
+
+written : (grid_file book_file price_file place : List ℕ) → longest_statement ≤ length place → (exit : List ℕ) (bytes : ℕ)
+    → Put place 0 (statementOf grid_file book_file price_file) exit bytes → WritesStatement (statement_call grid_file book_file price_file place) (Ok bytes) exit
+unfolding statement_checks
+written grid_file book_file price_file place room exit bytes put =
+    let p = put_front put in
+    let told = last-passes (short_table (length place) longest_statement) (le-ltb (length place) longest_statement room) in
+    record { length-given = rw (told, p.1); bytes-written = rw told p.0 }
 
 pub returns : goal.returns
-unfolding statement_checks
 returns c =
     let a = c.args in
-    let place = a.text.now in
-    let told = last-passes (short_table (length place) longest_statement) (le-ltb (length place) longest_statement c.if-text-lt-LONGEST_STATEMENT.false) in
-    let front = put_front c.put_statement.ensures in
-    record {
-      length-given = ap (λ (n : ℕ). given (pos n ∷ [])) front.1 ∙ answer-passed _ _ refl told _;
-      bytes-written = cells-passed _ _ refl told (statementOf a.grid_file.now a.book_file.now a.price_file.now) place _ front.0;
-    }
+    written a.grid_file.now a.book_file.now a.price_file.now a.text.now c.if-text-lt-LONGEST_STATEMENT.false _ _ (search rules)

@@ -1,10 +1,11 @@
 -- `check_award`: the tables and the buffers, the number held, then the row.
+use Rattle.std.proofs.lemmas.Result.{err_from_is_err_and}
 use mathlib.Core.Path.{◌≡◌, ap, ◌∙◌}
 use mathlib.Core.Bool.{Bool, ◌||◌}
 use mathlib.Core.List.{List, [], ◌∷◌}
 use Prim.Native.Nat.{ℕ}
 use lib.IntN.{ℤ}
-use Rattle.tariff.specs.declared.refusals.Checked.{Checked}
+use Rattle.tariff.specs.Refusals.{Checked}
 use Rattle.test_terms.specs.declared.Asked.{Asked}
 use native.Mathlib.Omega.{arith}
 use lib.Dec.{ltb}
@@ -27,37 +28,39 @@ found : (q : AddAwardCall) (x : Checked) (b : Bool)
 found q x b e s =
     e ∙ ap (λ (b : Bool). first (running_checks q.nodes q.constraints q.process q.period q.limits q.factors (short_if (ltb (length q.award) contract_cells || b) ∷ []))) s
 
-pub returns-in-Refused : goal.returns-in-Refused
-returns-in-Refused c =
+pub returns-in_err-check_tables : goal.returns-in_err-check_tables
+returns-in_err-check_tables c =
     let a = c.args in
     let q = call a.asked a.limits.now a.factors.now a.award.now a.awards.now a.numbers.now a.flows.now in
-    let f = found q c.check_tables-checked.result c.state_short.result c.check_tables-checked.ensures c.state_short.ensures in
-    tables-refuse q c.check_tables-checked.result f _ _ c.in-Refused.is
+    let f = found q c.check_tables.result c.state_short.result c.check_tables.ensures c.state_short.ensures in
+    let p = err_from_is_err_and c.from_residual.result c.from_residual.ensures.1 in
+    rw (p.1, p.2)
+    (tables-refuse q c.check_tables.result f _ _ c.in_err-check_tables.was)
 
 pub bounds-numbers-0 : goal.bounds-numbers-0
 bounds-numbers-0 c =
     let a = c.args in
     let q = call a.asked a.limits.now a.factors.now a.award.now a.awards.now a.numbers.now a.flows.now in
-    let f = found q c.check_tables-checked.result c.state_short.result c.check_tables-checked.ensures c.state_short.ensures in
-    omega (arith, (tables-pass q c.check_tables-checked.result f 0 c.in_default.is).numbers-long)
+    let f = found q c.check_tables.result c.state_short.result c.check_tables.ensures c.state_short.ensures in
+    omega (arith, (tables-pass q c.check_tables.result f 0 c.in_ok-check_tables.was).numbers-long)
 
 pub returns-then-numbers-ge-MAX_AWARDS : goal.returns-then-numbers-ge-MAX_AWARDS
 returns-then-numbers-ge-MAX_AWARDS c =
     let a = c.args in
     let q = call a.asked a.limits.now a.factors.now a.award.now a.awards.now a.numbers.now a.flows.now in
-    let f = found q c.check_tables-checked.result c.state_short.result c.check_tables-checked.ensures c.state_short.ensures in
-    one_too_many q c.check_tables-checked.result f _ c.in_default.is (omega arith)
+    let f = found q c.check_tables.result c.state_short.result c.check_tables.ensures c.state_short.ensures in
+    one_too_many q c.check_tables.result f _ c.in_ok-check_tables.was (omega arith)
 
 pub check_row-requires : goal.check_row-requires
 check_row-requires c =
     let a = c.args in
     let q = call a.asked a.limits.now a.factors.now a.award.now a.awards.now a.numbers.now a.flows.now in
-    let f = found q c.check_tables-checked.result c.state_short.result c.check_tables-checked.ensures c.state_short.ensures in
-    (omega arith, (tables-pass q c.check_tables-checked.result f 0 c.in_default.is).award-long)
+    let f = found q c.check_tables.result c.state_short.result c.check_tables.ensures c.state_short.ensures in
+    (omega arith, (tables-pass q c.check_tables.result f 0 c.in_ok-check_tables.was).award-long)
 
 pub returns : goal.returns
 returns c =
     let a = c.args in
     let q = call a.asked a.limits.now a.factors.now a.award.now a.awards.now a.numbers.now a.flows.now in
-    let f = found q c.check_tables-checked.result c.state_short.result c.check_tables-checked.ensures c.state_short.ensures in
-    then_row q c.check_tables-checked.result f _ c.in_default.is (omega arith) _ c.check_row.ensures
+    let f = found q c.check_tables.result c.state_short.result c.check_tables.ensures c.state_short.ensures in
+    then_row q c.check_tables.result f _ c.in_ok-check_tables.was (omega arith) _ c.check_row.ensures

@@ -1,4 +1,5 @@
 -- `check_holder_view`: each return by the tests that led there.
+use Rattle.std.proofs.lemmas.Result.{err_from_is_err_and}
 use mathlib.Core.Path.{◌≡◌, sym, ◌∙◌}
 use mathlib.Core.List.{List}
 use Prim.Native.Nat.{ℕ}
@@ -6,7 +7,7 @@ use native.Mathlib.Nat.{le_of_eq}
 use native.Mathlib.Omega.{arith}
 use lib.Dec.{ltb}
 use lib.ListN.{length}
-use Rattle.tariff.specs.declared.refusals.Checked.TheVariants.{Passed}
+use Rattle.tariff.specs.Refusals.{passed}
 use Rattle.tariff.specs.Refusals.{first}
 use Rattle.book_rules.specs.BookChecks.{own_checks}
 use Rattle.book_rules.proofs.Accepted.{own_accepted, own_header}
@@ -15,48 +16,34 @@ use Rattle.view_holder.specs.Inner.{rows_to}
 use Rattle.view_holder.proofs.Checking.{view_rows, book-refuses, no_holder, no_room, room}
 use Rattle.view_holder.proofs.check_holder_view.Goals as goal
 
-pub returns-in-Refused : goal.returns-in-Refused
-returns-in-Refused c place e = sym (book-refuses _ _ (sym c.check_own.ensures ∙ c.in-Refused.is))
+pub returns-in_err-check_own : goal.returns-in_err-check_own
+returns-in_err-check_own c place e = let p = err_from_is_err_and c.from_residual.result c.from_residual.ensures.1 in
+    rw (p.1, p.2) (sym (book-refuses _ _ (sym c.check_own.ensures ∙ c.in_err-check_own.was)))
 
 pub returns-then-holder-gt-MAX_HOLDER : goal.returns-then-holder-gt-MAX_HOLDER
-returns-then-holder-gt-MAX_HOLDER c place e = sym (no_holder _ (sym c.check_own.ensures ∙ c.in_default.is) (omega arith))
+returns-then-holder-gt-MAX_HOLDER c place e = sym (no_holder _ (sym c.check_own.ensures ∙ c.in_ok-check_own.was) (omega arith))
 
-pub book_form-form-requires : goal.book_form-form-requires
-book_form-form-requires c =
-    let accepted : first (own_checks c.args.nodes c.args.book.now) ≡ Passed = sym c.check_own.ensures ∙ c.in_default.is in
-    own_header _ _ accepted
-
-pub room_short-requires : goal.room_short-requires
-room_short-requires c =
-    let accepted : first (own_checks c.args.nodes c.args.book.now) ≡ Passed = sym c.check_own.ensures ∙ c.in_default.is in
-    let own = own_accepted _ _ accepted in
-    let form = c.book_form-form.ensures in
-    let count = c.contract_count.ensures.0 in
-    (omega (arith, count, own.few), rw (form, count) (le_of_eq (sym own.size)))
+pub of-requires : goal.of-requires
+of-requires c =
+    let accepted : first (own_checks c.args.nodes c.args.book.now) ≡ passed = sym c.check_own.ensures ∙ c.in_ok-check_own.was in
+    (own_header _ _ accepted, le_of_eq (sym (own_accepted _ _ accepted).size))
 
 pub returns-then-room_short : goal.returns-then-room_short
 returns-then-room_short c place e =
-    let accepted : first (own_checks c.args.nodes c.args.book.now) ≡ Passed = sym c.check_own.ensures ∙ c.in_default.is in
+    let accepted : first (own_checks c.args.nodes c.args.book.now) ≡ passed = sym c.check_own.ensures ∙ c.in_ok-check_own.was in
     let told : (place : List ℕ) → length place ≡ c.args.bytes → ltb (length place) (length (holder_view c.args.holder c.args.book.now)) ≡ c.room_short.result = λ place e. let a = c.args in
-    let form = c.book_form-form.ensures in
-    let count = c.contract_count.ensures.0 in
+    let of = c.of.ensures in
     (λ k. ltb (e k) (length (view_rows a.holder a.book.now k)))
-    ∙ sym (λ k. ltb a.bytes (length (rows_to (form k) a.holder a.book.now (count k))))
+    ∙ sym (λ k. ltb a.bytes (length (rows_to (of.1 k) a.holder (of.0 k) (of.2 k))))
     ∙ sym c.room_short.ensures in
     sym (no_room _ accepted (omega (arith, c.if-holder-gt-MAX_HOLDER.false)) (told place e ∙ c.if-room_short.true))
 
 pub returns : goal.returns
 returns c place e =
-    let accepted : first (own_checks c.args.nodes c.args.book.now) ≡ Passed = sym c.check_own.ensures ∙ c.in_default.is in
+    let accepted : first (own_checks c.args.nodes c.args.book.now) ≡ passed = sym c.check_own.ensures ∙ c.in_ok-check_own.was in
     let told : (place : List ℕ) → length place ≡ c.args.bytes → ltb (length place) (length (holder_view c.args.holder c.args.book.now)) ≡ c.room_short.result = λ place e. let a = c.args in
-    let form = c.book_form-form.ensures in
-    let count = c.contract_count.ensures.0 in
+    let of = c.of.ensures in
     (λ k. ltb (e k) (length (view_rows a.holder a.book.now k)))
-    ∙ sym (λ k. ltb a.bytes (length (rows_to (form k) a.holder a.book.now (count k))))
+    ∙ sym (λ k. ltb a.bytes (length (rows_to (of.1 k) a.holder (of.0 k) (of.2 k))))
     ∙ sym c.room_short.ensures in
     sym (room _ accepted (omega (arith, c.if-holder-gt-MAX_HOLDER.false)) (told place e ∙ c.if-room_short.false))
-
-pub contract_count-requires : goal.contract_count-requires
-contract_count-requires c =
-    let accepted : first (own_checks c.args.nodes c.args.book.now) ≡ Passed = sym c.check_own.ensures ∙ c.in_default.is in
-    own_header _ _ accepted

@@ -2,28 +2,20 @@
 use mathlib.Core.Path.{◌≡◌, sym}
 use native.Mathlib.Omega.{arith}
 use Rattle.layouts.specs.BookFile.{contract_in}
-use Rattle.layouts.proofs.BookFile.{record_room}
 use Rattle.view_holder.proofs.Rows.{held_begin, held_more}
 use Rattle.view_holder.proofs.held_count.Goals as goal
 
 pub loop-i-init : goal.loop-i-init
-loop-i-init c = (omega arith, omega arith, sym (held_begin _ _))
-
-pub held_at-held-requires : goal.held_at-held-requires
-held_at-held-requires c =
-    let l = c.loop-i in
-    let s = c in
-    (omega arith, record_room s.args.form l.i s.args.count _ (omega arith) s.requires.1)
+loop-i-init c = (omega arith, sym (held_begin _ _))
 
 pub loop-i-preserved : goal.loop-i-preserved
 loop-i-preserved c =
     let l = c.loop-i in
     let a = c.args in
-    (omega arith, omega (arith, c.held_at-held.ensures.1), omega (arith, l.invariant.2, c.held_at-held.ensures.0, held_more a.holder (contract_in a.form a.book.now) l.i))
+    (omega (arith, c.held_at-held.ensures.1), omega (arith, l.invariant.1, c.held_at-held.ensures.0, held_more a.holder (contract_in a.contracts.form a.contracts.file.now) l.i))
 
 pub returns : goal.returns
 returns c =
     let l = c.loop-i in
-    let s = c in
-    let last : l.i ≡ s.args.count = omega arith in
-    (rw last at l.invariant.2, omega (arith, s.requires.0))
+    let last : l.i ≡ c.args.contracts.count = omega arith in
+    (rw last at l.invariant.1, omega arith)

@@ -1,29 +1,26 @@
 -- `Date::exists`: the month, then the day.
-use mathlib.Core.Path.{sym, ◌∙◌}
-use borrow.Author.Tests.{lt-leb, le-leb}
-use Rattle.date_rules.specs.Dates.{date_exists}
+use mathlib.Core.Path.{◌≡◌, sym, ◌∙◌}
+use mathlib.Core.Bool.{◌&&◌}
+use lib.Dec.{leb}
+use Rattle.date_rules.specs.Dates.{month_days_of, date_exists}
 use Rattle.date_rules.proofs.Months.{month_in}
+use Rattle.dates.proofs.Ranges.{range-test}
 use Rattle.dates.proofs.Date.exists.Goals as goal
-
-pub returns-then-not-month_exists : goal.returns-then-not-month_exists
-unfolding date_exists
-returns-then-not-month_exists c = rw (sym c.month_exists.ensures ∙ c.if-not-month_exists.true)
-
-pub returns-then-self-lt1 : goal.returns-then-self-lt1
-unfolding date_exists
-returns-then-self-lt1 c =
-    let s = c in
-    rw (sym s.month_exists.ensures ∙ c.if-not-month_exists.false, lt-leb 1 s.args.self.day c.if-self-lt1.true)
 
 pub month_days-requires : goal.month_days-requires
 month_days-requires c =
-    let s = c in
-    let a = s.args.self in
-    (month_in a.year a.month (sym s.month_exists.ensures ∙ c.if-not-month_exists.false)).month_high
+    let a = c.args.self in
+    (month_in a.year a.month (sym c.month_exists.ensures ∙ c.if-month_exists.true)).month_high
 
-pub returns : goal.returns
+pub returns-else-month_exists : goal.returns-else-month_exists
 unfolding date_exists
-returns c =
-    let i = c in
-    let there = sym i.month_exists.ensures ∙ i.if-not-month_exists.false in
-    rw (there, le-leb 1 i.args.self.day c.if-self-lt1.false, c.month_days.ensures.0)
+returns-else-month_exists c = rw (sym c.month_exists.ensures, c.if-month_exists.false)
+
+pub returns-then-month_exists : goal.returns-then-month_exists
+unfolding date_exists
+returns-then-month_exists c =
+    let a = c.args.self in
+    let s = c.new.ensures in
+    let day : c.contains.result ≡ (leb 1 a.day && leb a.day (month_days_of a.year a.month)) =
+    (rw (s.start, s.end, s.exhausted, c.month_days.ensures.0) at c.contains.ensures.value) ∙ range-test 1 (month_days_of a.year a.month) a.day in
+    rw (sym c.month_exists.ensures, c.if-month_exists.true) day

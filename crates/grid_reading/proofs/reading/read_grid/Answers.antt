@@ -1,48 +1,18 @@
 -- `read_grid`: where no check refuses, the file has its length and the tables their cells.
 use mathlib.Core.Path.{sym, ◌∙◌}
-use native.Mathlib.Omega.{arith}
-use Rattle.tariff.proofs.Answers.{answer-refused, cells-refused, answer-passed, cells-passed}
-use Rattle.layouts.specs.GridFile.{grid_form_in, limits_in, factors_in}
-use Rattle.layouts.proofs.FormLaws.{header-least}
-use Rattle.grid_rules.specs.ReadGrid.{read_grid_call}
-use Rattle.grid_rules.proofs.Passing.{readable, counted-by}
+use Rattle.tariff.proofs.Checks.{passed_append}
+use Rattle.grid_rules.specs.ReadGrid.{read_grid_call, grid_size_checks, grid_file_checks, read_grid_checks}
+use Rattle.grid_rules.proofs.Passing.{readable}
 use Rattle.grid_reading.proofs.reading.read_grid.Goals as goal
 
-pub form_in-form-requires : goal.form_in-form-requires
-form_in-form-requires c = omega (arith, (readable (read_grid_call c.args.file.now c.args.limits.now c.args.factors.now) (sym c.check_read.ensures ∙ c.in-Passed.is)).file-sized.header-there, header-least (grid_form_in c.args.file.now))
-
-pub nodes_in-nodes-requires : goal.nodes_in-nodes-requires
-nodes_in-nodes-requires c = rw c.form_in-form.ensures (readable (read_grid_call c.args.file.now c.args.limits.now c.args.factors.now) (sym c.check_read.ensures ∙ c.in-Passed.is)).file-sized.header-there
-
-pub constraints_in-constraints-requires : goal.constraints_in-constraints-requires
-constraints_in-constraints-requires c =
-    omega (arith, (readable (read_grid_call c.args.file.now c.args.limits.now c.args.factors.now) (sym c.check_read.ensures ∙ c.in-Passed.is)).file-sized.header-there, header-least (grid_form_in c.args.file.now))
+pub of-grid-requires : goal.of-grid-requires
+unfolding grid_file_checks read_grid_checks
+of-grid-requires c =
+    (passed_append (grid_size_checks c.args.file.now) _ (passed_append (grid_file_checks c.args.file.now) _ (sym c.check_read.ensures ∙ c.in_ok-check_read.was)).0).0
 
 pub read_tables-requires : goal.read_tables-requires
 read_tables-requires c =
-    let r = readable (read_grid_call c.args.file.now c.args.limits.now c.args.factors.now) (sym c.check_read.ensures ∙ c.in-Passed.is) in
-    let f = c.form_in-form.ensures in
-    let n = c.nodes_in-nodes.ensures in
-    let m = c.constraints_in-constraints.ensures in record { counted = counted-by _ _ _ _ _ f c.grid_header_bits-header.ensures n m r.file-sized; constraints_in_bounds = (rw m r.limit-room, rw (n, m, f) r.factor-room) }
-
-pub returns-in-Refused : goal.returns-in-Refused
-returns-in-Refused c =
-    let found = c.check_read.ensures in
-    let told = c.in-Refused.is in
-    let s = c.args.file.now in
-    record {
-      values-given = answer-refused _ _ found _ told _;
-      limits-read = cells-refused _ _ found _ told (limits_in s) _;
-      factors-read = cells-refused _ _ found _ told (factors_in s) _;
-    }
-
-pub returns-in-Passed : goal.returns-in-Passed
-returns-in-Passed c =
-    let found = c.check_read.ensures in
-    let told = c.in-Passed.is in
-    let a = c.args in
-    record {
-      values-given = rw (c.nodes_in-nodes.ensures, c.constraints_in-constraints.ensures, c.form_in-form.ensures) (answer-passed _ _ found told _);
-      limits-read = cells-passed _ _ found told (limits_in a.file.now) a.limits.now _ c.read_tables.ensures.limits_value;
-      factors-read = cells-passed _ _ found told (factors_in a.file.now) a.factors.now _ c.read_tables.ensures.factors_value;
-    }
+    let r = readable (read_grid_call c.args.file.now c.args.limits.now c.args.factors.now) (sym c.check_read.ensures ∙ c.in_ok-check_read.was) in
+    let counted = c.of-grid.result.counted in
+    let kept = c.of-grid.ensures.bytes_kept in
+    (rw (counted.constraints, kept) r.limit-room, rw (counted.nodes, counted.constraints, kept) r.factor-room)

@@ -1,43 +1,51 @@
--- `store_digits`: what is left to store makes the buffer that is wanted.
+-- `store_digits`: what is left to store makes the digits that are wanted.
 -- the last digit stored, and the others to store
-use mathlib.Core.Path.{◌≡◌, sym, ap, ◌∙◌}
+use mathlib.Core.Path.{◌≡◌, refl, sym, ap, ◌∙◌}
+use mathlib.Core.Bool.{Bool, true, false}
 use mathlib.Core.List.{List}
-use Prim.Native.Nat.{ℕ, ◌+◌, ◌-◌, ◌/◌, ◌%◌, ◌^◌, ◌≤◌, ◌<◌}
+use Prim.Native.Nat.{ℕ, zero, suc, ◌+◌, ◌-◌, ◌/◌, ◌%◌, ◌^◌, ◌≤◌, ◌<◌}
 use native.Mathlib.Omega.{arith}
+use borrow.Author.Tests.{ltb-true, ltb-false}
+use lib.Dec.{ltb}
 use lib.ListN.{length, set, length-set}
 use lib.Seq.{sets}
-use borrow.Author.Rules.{rules}
 use Rattle.text_format.specs.Decimal.{decimal}
-use Rattle.text_format.proofs.Digits.{some_decimal, one_digit, next-digit, length-next, length-one}
-use Rattle.text_format.proofs.Putting.{last-first}
+use Rattle.text_format.proofs.Digits.{left, left_some, some_decimal, one_digit, next-digit, length-next, length-one}
+use Rattle.text_format.proofs.Putting.{last-first, filled}
 use Rattle.text_format.proofs.figures.store_digits.Goals as goal
 
-digit-stored : (buf : List ℕ) (at place n : ℕ) → n < 2 ^ 64 → 10 ≤ n → place ≡ at + length (decimal (n / 10))
-    → sets (set buf place (48 + n % 10)) at (decimal (n / 10)) ≡ sets buf at (decimal n)
-digit-stored buf at place n f h p = rw (next-digit n f h) (last-first (decimal (n / 10)) buf at place (48 + n % 10) p)
+module _ (cells : List ℕ) (n : ℕ) (fits : n < 2 ^ 64) where
+  abbrev Stored : ℕ → Type 0
+  Stored k = (length (left k (n / 10)) ≡ k) × (sets (set cells k (48 + n % 10)) 0 (left k (n / 10)) ≡ sets cells 0 (decimal n))
 
-pub loop-rest-init : goal.loop-rest-init
-loop-rest-init c = let some = some_decimal c.args.n in search rules
+  one : n < 10 → Stored 0
+  one h = let last : n % 10 ≡ n = omega arith in (refl, rw last (ap (sets cells 0) (sym (one_digit n h))))
 
-pub loop-rest-preserved : goal.loop-rest-preserved
-loop-rest-preserved c =
-    let l = c.loop-rest in
-    let fits : l.rest < 2 ^ 64 = omega (arith, l.invariant.0, c.ranges.n.fits) in
-    let m = length-next l.rest fits (omega arith) in (
-      omega arith,
-      some_decimal (l.rest / 10),
-      simp length-set l.invariant.2,
-      omega arith,
-      omega (arith, m),
-      digit-stored l.buf c.args.at (l.place - 1) l.rest fits (omega arith) (omega (arith, m)) ∙ l.invariant.5,
-    )
+  more : (k : ℕ) → 10 ≤ n → length (decimal n) ≡ suc (suc k) → Stored (suc k)
+  more k h long =
+      let m = length-next n fits h in
+      (omega (arith, m), last-first (decimal (n / 10)) cells 0 (suc k) (48 + n % 10) (omega (arith, m)) ∙ ap (sets cells 0) (sym (next-digit n fits h)))
 
-pub returns : goal.returns
-returns c =
-    let l = c.loop-rest in
-    let first : l.place - 1 ≡ c.args.at = omega (arith, length-one l.rest (omega arith)) in
-    record {
-      cells = ap (λ (x : ℕ). set l.buf x (48 + l.rest)) first ∙ ap (sets l.buf c.args.at) (sym (one_digit l.rest (omega arith))) ∙ l.invariant.5;
-      place = omega arith;
-      room = omega arith;
-    }
+  by : (k : ℕ) (b : Bool) → ltb n 10 ≡ b → length (decimal n) ≡ suc k → Stored k
+  by zero true t long = one (ltb-true n 10 t)
+  by zero false t long = absurd (omega (arith, length-next n fits (ltb-false n 10 t), some_decimal (n / 10)))
+  by (suc k) true t long = absurd (omega (arith, length-one n (ltb-true n 10 t)))
+  by (suc k) false t long = more k (ltb-false n 10 t) long
+
+stored : (cells : List ℕ) (k n : ℕ) → n < 2 ^ 64 → length (left k n) ≡ k → 1 ≤ k
+    → (length (left (k - 1) (n / 10)) ≡ k - 1) × (sets (set cells (k - 1) (48 + n % 10)) 0 (left (k - 1) (n / 10)) ≡ sets cells 0 (left k n))
+stored cells zero n fits fill some = absurd (omega arith)
+stored cells (suc k) n fits fill some = let down : suc k - 1 ≡ k = omega arith in rw down (by cells n fits k (ltb n 10) refl fill)
+
+pub loop-k-init : goal.loop-k-init
+loop-k-init c =
+    let n = c.args.n in
+    let place = c.args.place.now in
+    let all = left_some (length place) n (omega (arith, some_decimal n, c.requires)) in
+    (omega arith, refl, ap length all ∙ sym c.requires, ap (sets place 0) all ∙ filled (decimal n) place c.requires)
+
+pub loop-k-preserved : goal.loop-k-preserved
+loop-k-preserved c =
+    let l = c.loop-k in
+    let s = stored l.place l.k l.rest (omega (arith, l.invariant.0, c.ranges.n.fits)) l.invariant.2 (omega arith) in
+    (omega (arith, l.invariant.0), simp length-set l.invariant.1, s.0, s.1 ∙ l.invariant.3)

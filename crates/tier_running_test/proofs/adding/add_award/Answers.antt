@@ -1,4 +1,5 @@
 -- `add_award`: the checks before 21, then the flows, then the award's row.
+use Rattle.std.proofs.lemmas.Result.{err_from_is_err_and}
 use mathlib.Core.Path.{◌≡◌, sym, ap, ap₂, subst, ◌∙◌}
 use mathlib.Core.Bool.{Bool, cond}
 use mathlib.Core.List.{List}
@@ -50,53 +51,64 @@ module _ (q : AddAwardCall) where
     flows-by : (b : Bool) → over ≡ b → flows ≡ cond b q.flows added
     flows-by b e = t.flows-are ∙ ap (λ (b : Bool). cond b q.flows added) e
 
-pub returns-in-Refused : goal.returns-in-Refused
-returns-in-Refused c =
+pub returns-in_err-check_award : goal.returns-in_err-check_award
+returns-in_err-check_award c =
     let a = c.args in
     let q = call a.asked a.limits.now a.factors.now a.award.now a.awards.now a.numbers.now a.flows.now in
-    adds-refused q _ (field-refuses q c.check_award-checked.result c.check_award-checked.ensures _ c.in-Refused.is)
+    let p = err_from_is_err_and c.from_residual.result c.from_residual.ensures.1 in
+    rw (p.1, p.2)
+    (adds-refused q _ (field-refuses q c.check_award.result c.check_award.ensures _ c.in_err-check_award.was))
 
 pub contract_from-c-requires : goal.contract_from-c-requires
 contract_from-c-requires c =
     let a = c.args in
     let q = call a.asked a.limits.now a.factors.now a.award.now a.awards.now a.numbers.now a.flows.now in
-    let ok : Fields q (held_in q.numbers) = fields q (held_in q.numbers) (sym c.check_award-checked.ensures ∙ c.in_default.is) in
+    let ok : Fields q (held_in q.numbers) = fields q (held_in q.numbers) (sym c.check_award.ensures ∙ c.in_ok-check_award.was) in
     ok.before.award-long
+
+pub of-grid-requires : goal.of-grid-requires
+of-grid-requires c =
+    let a = c.args in
+    let q = call a.asked a.limits.now a.factors.now a.award.now a.awards.now a.numbers.now a.flows.now in
+    let ok : Fields q (held_in q.numbers) = fields q (held_in q.numbers) (sym c.check_award.ensures ∙ c.in_ok-check_award.was) in
+    (ok.before.tables.good-limits, ok.before.tables.good-factors)
 
 pub try_flows-over-requires : goal.try_flows-over-requires
 try_flows-over-requires c =
     let a = c.args in
     let q = call a.asked a.limits.now a.factors.now a.award.now a.awards.now a.numbers.now a.flows.now in
-    let ok : Fields q (held_in q.numbers) = fields q (held_in q.numbers) (sym c.check_award-checked.ensures ∙ c.in_default.is) in
-    let in_range = contract-in_range q.nodes (row_at q.award 0) (row-award q.nodes q.award ok.row).checks_pass in (
-      ok.before.tables.process-number,
-      record {
-        good-limits = ok.before.tables.good-limits;
-        good-factors = ok.before.tables.good-factors;
-        in_range = rw c.contract_from-c.ensures in_range;
-        numbers-long = ok.before.numbers-long;
-        flows_long = ok.before.flows_long;
-        room = ok.room;
-      },
-    )
+    let ok : Fields q (held_in q.numbers) = fields q (held_in q.numbers) (sym c.check_award.ensures ∙ c.in_ok-check_award.was) in
+    let in_range = contract-in_range q.nodes (row_at q.award 0) (row-award q.nodes q.award ok.row).checks_pass in
+    record {
+      good-limits = c.of-grid.result.good;
+      good-factors = c.of-grid.result.factors.good;
+      in_range = rw (c.contract_from-c.ensures, c.of-grid.ensures.nodes_kept) in_range;
+      numbers-long = ok.before.numbers-long;
+      flows_long = ok.before.flows_long;
+      room = ok.room;
+    }
 
 pub returns-then-over : goal.returns-then-over
 returns-then-over c =
     let a = c.args in
     let q = call a.asked a.limits.now a.factors.now a.award.now a.awards.now a.numbers.now a.flows.now in
     let w = c.try_flows-over in
-    let t = tried q c.contract_from-c.result w.result w.new.numbers w.new.flows c.contract_from-c.ensures w.ensures in
+    let kept = c.of-grid.ensures in
+    let told = rw (kept.limits_kept, kept.nodes_kept, kept.constraints_kept, kept.factors_kept) at w.ensures in
+    let t = tried q c.contract_from-c.result w.result w.new.numbers w.new.flows c.contract_from-c.ensures told in
     let over = c.if-over.true in
-    let refused = over-refuses q c.check_award-checked.result c.check_award-checked.ensures c.in_default.is (sym t.over-is ∙ over) in
+    let refused = over-refuses q c.check_award.result c.check_award.ensures c.in_ok-check_award.was (sym t.over-is ∙ over) in
     adds-21 q refused _ _ (numbers-by q w.result w.new.numbers w.new.flows t _ over) (flows-by q w.result w.new.numbers w.new.flows t _ over)
 
 pub store_award-requires : goal.store_award-requires
 store_award-requires c =
     let a = c.args in
     let q = call a.asked a.limits.now a.factors.now a.award.now a.awards.now a.numbers.now a.flows.now in
-    let ok : Fields q (held_in q.numbers) = fields q (held_in q.numbers) (sym c.check_award-checked.ensures ∙ c.in_default.is) in
+    let ok : Fields q (held_in q.numbers) = fields q (held_in q.numbers) (sym c.check_award.ensures ∙ c.in_ok-check_award.was) in
     let w = c.try_flows-over in
-    let t = tried q c.contract_from-c.result w.result w.new.numbers w.new.flows c.contract_from-c.ensures w.ensures in
+    let kept = c.of-grid.ensures in
+    let told = rw (kept.limits_kept, kept.nodes_kept, kept.constraints_kept, kept.factors_kept) at w.ensures in
+    let t = tried q c.contract_from-c.result w.result w.new.numbers w.new.flows c.contract_from-c.ensures told in
     -- the numbers before the award is stored
     let counts = numbers-by q w.result w.new.numbers w.new.flows t _ c.if-over.false in
     let k = counts-kept (own_period q) q.numbers (counted_in q.numbers + 1) in
@@ -107,10 +119,12 @@ returns c =
     let a = c.args in
     let q = call a.asked a.limits.now a.factors.now a.award.now a.awards.now a.numbers.now a.flows.now in
     let w = c.try_flows-over in
-    let t = tried q c.contract_from-c.result w.result w.new.numbers w.new.flows c.contract_from-c.ensures w.ensures in
+    let kept = c.of-grid.ensures in
+    let told = rw (kept.limits_kept, kept.nodes_kept, kept.constraints_kept, kept.factors_kept) at w.ensures in
+    let t = tried q c.contract_from-c.result w.result w.new.numbers w.new.flows c.contract_from-c.ensures told in
     let counts = numbers-by q w.result w.new.numbers w.new.flows t _ c.if-over.false in
     let held = ap held_in counts ∙ (counts-kept (own_period q) q.numbers (counted_in q.numbers + 1)).1 in
-    let passes = held_passes q c.check_award-checked.result c.check_award-checked.ensures c.in_default.is (sym t.over-is ∙ c.if-over.false) in
+    let passes = held_passes q c.check_award.result c.check_award.ensures c.in_ok-check_award.was (sym t.over-is ∙ c.if-over.false) in
     adds-passed q passes _ _ _
     (c.store_award.ensures.0 ∙ ap₂ (λ (m : ℕ) (x : Contract). with_award_row m x q.awards) held c.contract_from-c.ensures)
     (c.store_award.ensures.1 ∙ ap₂ (λ (l : List ℕ) (m : ℕ). set l 0 (m + 1)) counts held) (flows-by q w.result w.new.numbers w.new.flows t _ c.if-over.false)

@@ -1,8 +1,0 @@
--- `weekday_number`: by its callee.
-use mathlib.Core.Path.{sym}
-use Rattle.date_rules.specs.Dates.{weekday_of}
-use Rattle.dates.proofs.weekday_number.Goals as goal
-
-pub returns : goal.returns
-unfolding weekday_of
-returns c = rw (sym c.day_number.ensures.0)

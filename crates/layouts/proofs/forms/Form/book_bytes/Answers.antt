@@ -1,8 +1,0 @@
--- `Form::book_bytes`.
-use Rattle.layouts.proofs.forms.Form.book_bytes.Goals as goal
-
-pub returns-in-Narrow : goal.returns-in-Narrow
-returns-in-Narrow c = rw c.in-Narrow.is
-
-pub returns-in-Wide : goal.returns-in-Wide
-returns-in-Wide c = rw c.in-Wide.is
