@@ -98,14 +98,14 @@ shared_library() { # FILE ARCHIVE
     rm "$1.exports"
 }
 
-# crr.dll and its import library. What the library asks of the system, memcpy, memmove, memset and the
-# probes of the stack, is in ntdll.dll, which every process has.
+# crr.dll and its import library. What the library asks of the system, memcpy, memset and the probes of
+# the stack, is in ntdll.dll, which every process has.
 windows_library() { # FOLDER OBJECT..
     local out=$1 functions
     shift
     mapfile -t functions < <(header_functions)
     ln -sf "$(kit_tools)/clang" "$out/llvm-dlltool"
-    printf '%s\n' 'LIBRARY ntdll.dll' EXPORTS memcpy memmove memset __chkstk > "$out/ntdll.def"
+    printf '%s\n' 'LIBRARY ntdll.dll' EXPORTS memcpy memset __chkstk > "$out/ntdll.def"
     "$out/llvm-dlltool" -m i386:x86-64 -d "$out/ntdll.def" -l "$out/ntdll.lib"
     "$(kit_tools)/ld.lld" -flavor link /dll /noentry /nodefaultlib /machine:x64 /timestamp:0 /opt:ref,noicf \
         "${functions[@]/#//export:}" "/out:$out/crr.dll" "/implib:$out/crr.lib" "$out/ntdll.lib" "$@"

@@ -8,7 +8,7 @@ use lib.ListN.{length, get_or, take, drop, length-drop, take-append-drop}
 use lib.Seq.{take-add, length-take-le}
 use lib.Pow.{pow_pos, shr-shr}
 use Rattle.bits.specs.Bits.{number, digits, field, fields}
-use Rattle.bits.proofs.Numbers.{Below, part-high, part_low, number_append, number_lt, length_digits, get_d_digits, below-digits, below-drop}
+use Rattle.bits.proofs.Numbers.{Below, part-high, part_low, number_append, number_lt, number_fits, length_digits, get_d_digits, below-digits, below-drop}
 
 pub field_lt : (s : List ℕ) (o w : ℕ) → field s o w < 2 ^ w
 unfolding field
@@ -49,6 +49,10 @@ field-window s o w f k b lo hi le =
     cut =
         ap (number 8) (sym (take-append-drop (f + k) s)) ∙ number_append 8 (take (f + k) s) rest
         ∙ rw (long, take-add, number_append, mid)
+
+-- bytes gathered one by one
+pub window_fits : (s : List ℕ) (f i k acc : ℕ) → Below 8 s → i ≤ k → acc ≡ number 8 (take i (drop f s)) → acc < 2 ^ (8 * k)
+window_fits s f i k acc b h e = rw e (number_fits 8 (drop f s) i k (below-drop 8 f s b) h)
 
 -- k gathered bytes, shifted and masked
 pub field-code : (s : List ℕ) (o w k acc : ℕ) → Below 8 s → o % 8 + w ≤ 8 * k → o / 8 + k ≤ length s → acc ≡ number 8 (take k (drop (o / 8) s))

@@ -1,14 +1,14 @@
 -- Laws of `number` and `digits`, each over the width.
 use mathlib.Core.Path.{◌≡◌, refl, sym, ap, ◌∙◌}
 use Prim.Native.Nat.{ℕ, zero, suc, ◌+◌, ◌-◌, ◌*◌, ◌/◌, ◌%◌, ◌^◌, ◌≤◌, ◌<◌}
-use native.Mathlib.Nat.{zero-add, suc-add, add_comm, mul-zero, one-mul, mul-one, mul-suc, mul-add, mul-le-mul_left}
+use native.Mathlib.Nat.{zero-add, suc-add, add_comm, mul-zero, one-mul, mul-one, mul-suc, mul-add, mul-le-mul_left, lt_of_lt_of_le}
 use native.Mathlib.Nat.{mod-one, mod-lt, mul-add-div_right, mul-add-mod_self_right, mod-eq_of_lt}
 use native.Mathlib.Numerals.{add-one}
 use native.Mathlib.Omega.{arith}
 use mathlib.Core.List.{List, [], ◌∷◌, ◌++◌}
-use lib.ListN.{length, get_or, take, drop, length-append}
+use lib.ListN.{length, get_or, take, drop, length-append, length-take}
 use lib.Seq.{take-suc, get_or-drop}
-use lib.Pow.{shl_exact, pow_pos, pow-add, shr-shr, high, mod-pow-add}
+use lib.Pow.{shl_exact, pow_mono, pow_pos, pow-add, shr-shr, high, mod-pow-add}
 use lib.Arith.{digits_lt}
 use Rattle.bits.specs.Bits.{number, digits}
 
@@ -99,6 +99,10 @@ below-take w (suc n) (x ∷ xs) h (suc i) = below-take w n xs (λ j. h (suc j)) 
 
 pub below-drop : (w n : ℕ) (s : List ℕ) → Below w s → Below w (drop n s)
 below-drop w n s h i = rw get_or-drop (h (n + i))
+
+pub number_fits : (w : ℕ) (t : List ℕ) (i k : ℕ) → Below w t → i ≤ k → number w (take i t) < 2 ^ (w * k)
+number_fits w t i k b h =
+    lt_of_lt_of_le (number_lt w (take i t) (below-take w i t b)) (pow_mono (mul-le-mul_left w (rw length-take (omega arith))))
 
 -- `1 << k` at 64 bits
 pub one_shl : (k : ℕ) → k ≤ 63 → 1 * 2 ^ k % 2 ^ 64 ≡ 2 ^ k

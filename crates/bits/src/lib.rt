@@ -50,6 +50,18 @@ fn cut(s: &[u8], offset: usize, width: usize, count: usize) -> u64
     )
 }
 
+// All of `s`, fewer than five bytes, as one number, one by one: `window` of so many as there are would call `memcpy`, and its load would wait for the bytes.
+fn gather(s: &[u8]) -> u64
+    requires { length s.now ≤ 4 }
+    ensures { result ≡ number 8 s.now }
+{
+    let mut acc = 0;
+    for b in s {
+        acc = acc * 256 + u64::from(*b);
+    }
+    acc
+}
+
 // The field of `width` bits at bit `offset`: four or five bytes at once, or where there are fewer, all that are left.
 pub fn field(s: &[u8], offset: usize, width: usize) -> u64
     requires width_bound { offset + width ≤ 8 * length s.now }
@@ -58,7 +70,11 @@ pub fn field(s: &[u8], offset: usize, width: usize) -> u64
 {
     let left = s.len() - offset / 8;
     if left < 5 {
-        cut(s, offset, width, left)
+        part(
+            gather(&s[offset / 8..]),
+            8 * left - offset % 8 - width,
+            width,
+        )
     } else if width <= 25 {
         cut(s, offset, width, 4)
     } else {

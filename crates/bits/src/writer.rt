@@ -80,7 +80,7 @@ pub fn put(buf: &mut [u8], writer: BitWriter, v: u64, width: usize) -> BitWriter
     }
 }
 
-// Stores the whole bytes that a writer holds.
+// Stores the whole bytes that a writer holds, at most three, the last one first: `store` of so many would call `memcpy`.
 fn flush(buf: &mut [u8], writer: BitWriter) -> BitWriter
     requires { bits_written writer ≤ 8 * length buf.old }
     ensures result_value { written (after buf) result ≡ written (before buf) writer }
@@ -89,7 +89,11 @@ fn flush(buf: &mut [u8], writer: BitWriter) -> BitWriter
 {
     let whole = writer.held / 8;
     let rest = writer.held % 8;
-    store(buf, writer.at, whole, part(writer.bits, rest, 8 * whole));
+    let mut bits = writer.bits >> rest;
+    for i in (0..whole).rev() {
+        buf[writer.at + i] = (bits % 256) as u8;
+        bits /= 256;
+    }
     BitWriter {
         at: writer.at + whole,
         held: rest,

@@ -18,7 +18,9 @@ pub fn keep_contracts(book: &[u8], form: Form, grown: usize, file: &mut [u8])
     requires { Whole form book.now × (grown ≤ max_contracts) × (length book.now ≤ length file.old) }
     ensures { after file ≡ overwrite (book_front form grown (book_in book.now)) (before file) }
 {
-    file[..book.len()].copy_from_slice(book);
+    for i in 0..book.len() {
+        file[i] = book[i];
+    }
     book_bits::store_header(file, form, grown);
 }
 

@@ -60,7 +60,7 @@ pub fn row_keys(test: Tested, keys: &mut [u64]) -> usize
 {
     let grid = test.grid;
     let flows = test_flows::carry(grid.factors, test.period, test.book);
-    let loading = Loading::of(grid.factors.constraints, grid.limits, flows);
+    let loading = Loading::of(grid.factors.constraints, grid.limits, &flows);
     if loading.overload_set(test.process) == 0 {
         return 0;
     }

@@ -94,8 +94,8 @@ pub record Filled (t : Tested) (cells : List ℤ) : Type 0 where
   pub are : AreExcesses (grid_by t.grid) t.process (contracts_by t) cells
 
 pub filled : (t : Tested) (carried : Flows) → Carries (factors_of t.grid.factors.nodes t.grid.factors.constraints t.grid.factors.cells.now) (contracts_by t) carried
-    → (l : Loading) → l.constraints ≡ t.grid.factors.constraints → l.limits.now ≡ t.grid.limits.now → l.flows ≡ carried → (entry cells : List ℤ)
-    → cells ≡ overwrite (list_to l.constraints (excess_in l.limits.now t.process l.flows.flows)) entry → Filled t (take t.grid.factors.constraints cells)
+    → (l : Loading) → l.constraints ≡ t.grid.factors.constraints → l.limits.now ≡ t.grid.limits.now → l.flows.now ≡ carried → (entry cells : List ℤ)
+    → cells ≡ overwrite (list_to l.constraints (excess_in l.limits.now t.process l.flows.now.flows)) entry → Filled t (take t.grid.factors.constraints cells)
 filled t carried carries l same-constraints same-limits same-flows entry cells e =
     let g = t.grid in
     let n = g.factors.nodes in

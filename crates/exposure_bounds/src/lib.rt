@@ -64,7 +64,7 @@ fn expose(tested: Tested, prices: &mut [u64]) -> Exposure
     let grid = tested.grid;
     let constraints = grid.factors.constraints;
     let carried = test_flows::carry(grid.factors, tested.period, tested.book);
-    let loading = Loading::of(constraints, grid.limits, carried);
+    let loading = Loading::of(constraints, grid.limits, &carried);
     let mut cells = [0i64; MAX_CONSTRAINTS];
     test_excesses::fill_excess(loading, tested.process, &mut cells);
     let excesses = ExcessTable {

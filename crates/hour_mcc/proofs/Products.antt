@@ -72,20 +72,20 @@ module _ (t : HourTable) where
       pub factor-small : nat_abs factor_read ≤ max_factor
       factor-small = rw factor-back (of.sized j hj)
 
-      -- its product x by the price fits beside the sum s before it
-      module _ (s : ℤ) (so_far : s ≡ sum_so_far j) (x : ℤ) (e : x ≡ factor_read *ℤ pos (get_or ps j 0)) where
-        pub sum_fits : nat_abs s + nat_abs x ≤ max_mcc
-        sum_fits =
-            let small : nat_abs x ≤ max_factor * max_price = rw e (nat_abs_times factor_read (pos (get_or ps j 0)) factor-small (t.good.good-prices.sized j hj)) in
+      -- a product x by any price fits beside the sum s before it
+      module _ (s : ℤ) (so_far : s ≡ sum_so_far j) (x : ℤ) where
+        pub sum_fits : (i : ℕ) → x ≡ factor_read *ℤ pos (get_or ps i 0) → i < k → nat_abs s + nat_abs x ≤ max_mcc
+        sum_fits i e hi =
+            let small : nat_abs x ≤ max_factor * max_price = rw e (nat_abs_times factor_read (pos (get_or ps i 0)) factor-small (t.good.good-prices.sized i hi)) in
             omega (arith, sum-sized s j (omega arith) so_far, small, t.good.good-factors.few)
 
-        -- and makes it the sum of one more
-        product_is : x ≡ factor (factors_by t) node j *ℤ pos (price (prices_by t) j)
-        product_is = e ∙ ap₂ (λ (f : ℤ) (p : ℕ). f *ℤ pos p) (factor-back ∙ of.cell j hj) (sym (get_or-take k ps j 0 hj))
+        -- and, by the price of constraint j, makes it the sum of one more
+        product_is : x ≡ factor_read *ℤ pos (get_or ps j 0) → x ≡ factor (factors_by t) node j *ℤ pos (price (prices_by t) j)
+        product_is e = e ∙ ap₂ (λ (f : ℤ) (p : ℕ). f *ℤ pos p) (factor-back ∙ of.cell j hj) (sym (get_or-take k ps j 0 hj))
 
-        pub sum_more : (r : ℤ) → r ≡ s +ℤ x → (r ≡ sum_so_far (j + 1)) × (nat_abs r ≤ max_factor * max_price * (j + 1))
-        sum_more r q =
-            let is : r ≡ sum_so_far (j + 1) = q ∙ ap₂ ◌+ℤ◌ so_far product_is ∙ sym (sum-takes_the_next (factors_by t) (prices_by t) node j) in
+        pub sum_more : x ≡ factor_read *ℤ pos (get_or ps j 0) → (r : ℤ) → r ≡ s +ℤ x → (r ≡ sum_so_far (j + 1)) × (nat_abs r ≤ max_factor * max_price * (j + 1))
+        sum_more e r q =
+            let is : r ≡ sum_so_far (j + 1) = q ∙ ap₂ ◌+ℤ◌ so_far (product_is e) ∙ sym (sum-takes_the_next (factors_by t) (prices_by t) node j) in
             (is, sum-sized r (j + 1) (omega arith) is)
 
     -- one negation at the end

@@ -51,7 +51,7 @@ fn grown_count(migration: Migration, square: Square) -> usize
     for i in 0..migration.contracts.count {
         let contract = migration.contracts.at(i);
         let place = migration_transfers::row_of(contract.holder);
-        let row = square[place];
+        let row = &square[place];
         let base = Base {
             contract,
             row,
@@ -74,7 +74,7 @@ fn store_grown(file: &mut [u8], migration: Migration, square: Square) -> usize
     let mut place = migration.contracts.count;
     for i in 0..migration.contracts.count {
         let contract = migration.contracts.at(i);
-        let row = square[migration_transfers::row_of(contract.holder)];
+        let row = &square[migration_transfers::row_of(contract.holder)];
         let base = Base {
             contract,
             row,

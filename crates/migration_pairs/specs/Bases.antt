@@ -8,8 +8,8 @@ use Rattle.migration_pairs.specs.declared.base.Base.{Base}
 
 -- for each gainer its own and the loser's
 abbrev pub pairs_by : Base → List Contract
-pairs_by base = pairs_to (row_losses base.row) base.loads.now base.contract (length base.loads.now)
+pairs_by base = pairs_to (row_losses base.row.now) base.loads.now base.contract (length base.loads.now)
 
 -- the same, or none where the contract is no base contract
 abbrev pub new_by : Base → Period → List Contract
-new_by base period = new_from (row_losses base.row) base.loads.now period base.contract
+new_by base period = new_from (row_losses base.row.now) base.loads.now period base.contract

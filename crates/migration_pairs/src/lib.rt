@@ -29,7 +29,8 @@ fn pair_count(base: Base) -> usize
     ensures { (result ≡ length (pairs_by base.entry)) × (result ≤ 32) }
 {
     let mut count = 0;
-    for net in &base.row[..base.loads.len()] {
+    let row = base.row;
+    for net in &row[..base.loads.len()] {
         let share = migration_shares::share_of(base.contract, *net, base.loads);
         count += migration_shares::pair_size(share);
     }
@@ -98,7 +99,7 @@ pub fn losers_of(square: Square, entities: usize) -> Losers
 
 // How many contracts follow a base contract: where the least share is not nought, a pair for each gainer.
 fn base_count(base: Base, gainers: Gainers) -> usize
-    requires { Held base.loads.now base.contract × GainersOf base.row (length base.loads.now) gainers }
+    requires { Held base.loads.now base.contract × GainersOf base.row.now (length base.loads.now) gainers }
     ensures { (result ≡ length (pairs_by base.entry)) × (result ≤ 32) }
 {
     let least = migration_shares::share_of(base.contract, gainers.least, base.loads);
@@ -110,7 +111,7 @@ fn base_count(base: Base, gainers: Gainers) -> usize
 
 // How many follow any contract: none where it is no base contract.
 pub fn new_count(base: Base, period: Period, gainers: Gainers) -> usize
-    requires { (base.contract.quantity.0 ≤ max_quantity) × GainersOf base.row (length base.loads.now) gainers }
+    requires { (base.contract.quantity.0 ≤ max_quantity) × GainersOf base.row.now (length base.loads.now) gainers }
     ensures { (result ≡ length (new_by base.entry period)) × (result ≤ 32) }
 {
     if migration_shares::migrates(base.contract, period, base.loads.len()) {

@@ -12,7 +12,7 @@ use test_verdict::Loading;
 // The excesses of all constraints, into the first cells of `out`. By index: flows, limits and the cell at one number; zips would be nested.
 pub fn fill_excess(loading: Loading, process: Process, out: &mut [i64])
     requires { loading.constraints ≤ length out.old }
-    ensures { after out ≡ overwrite (list_to loading.entry.constraints (excess_in loading.entry.limits.now process loading.entry.flows.flows)) (before out) }
+    ensures { after out ≡ overwrite (list_to loading.entry.constraints (excess_in loading.entry.limits.now process loading.entry.flows.now.flows)) (before out) }
 {
     for k in 0..loading.constraints {
         let excess = Flow(loading.flows.flows[k]) - process.released(loading.limits[k]);

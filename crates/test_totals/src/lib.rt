@@ -109,6 +109,6 @@ pub fn judge_flows(
 {
     check_judged(constraints, process, limits, flows, count)?;
     let held = test_held::held_flows(constraints, flows);
-    let loading = Loading::of(constraints, limits, held);
+    let loading = Loading::of(constraints, limits, &held);
     Ok(loading.verdict(Process::from(process)))
 }

@@ -33,6 +33,6 @@ pub fn test_book(
     let tested = Tested::of(asked, limits, factors, book);
     let grid = tested.grid;
     let flows = test_flows::carry(grid.factors, tested.period, tested.book);
-    let loading = Loading::of(grid.factors.constraints, grid.limits, flows);
+    let loading = Loading::of(grid.factors.constraints, grid.limits, &flows);
     Ok(loading.verdict(tested.process))
 }

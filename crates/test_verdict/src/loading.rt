@@ -11,23 +11,24 @@ ghost use Rattle.test_verdict.specs.Judged.{judged_values};
 use tariff::{Flow, Process};
 use test_rules::{Flows, Verdict};
 
-// Limits with perhaps more behind them, and flows of which none is so large that a difference leaves 64 bits.
+// Limits with perhaps more behind them, and flows of which none is so large that a difference leaves 64 bits. Lent, since copies of 64 flows cost more than
+// what is done with a few of them.
 #[derive(Clone, Copy)]
 pub struct Loading<'a> {
     pub constraints: usize,
     pub limits: &'a [u64],
-    pub flows: Flows,
-    pub ghost judgeable: { Judgeable constraints limits.now flows },
+    pub flows: &'a Flows,
+    pub ghost judgeable: { Judgeable constraints limits.now flows.now },
 }
 
 impl<'a> Loading<'a> {
     // Not one function with `GridTable::of`: another type, of other facts. The count stands beside the limits: a slice cut to it would be cut by
     // each of the six callers, with a law that its limits are the table's.
-    pub fn of(constraints: usize, limits: &'a [u64], flows: Flows) -> Self
-        requires { Judgeable constraints limits.now flows }
+    pub fn of(constraints: usize, limits: &'a [u64], flows: &'a Flows) -> Self
+        requires { Judgeable constraints limits.now flows.now }
         ensures constraints_kept { result.constraints ≡ constraints }
         ensures limits_kept { result.limits.now ≡ limits.now }
-        ensures flows_kept { result.flows ≡ flows }
+        ensures flows_kept { result.flows.now ≡ flows.now }
     {
         Loading {
             constraints,
@@ -40,7 +41,7 @@ impl<'a> Loading<'a> {
     // By index: flows and limits at one number; zips would be nested.
     pub fn overload_set(self, process: Process) -> u64
         ensures { result ≡ set_of self.entry.constraints (λ (k : ℕ).
-            lt_z (pos (get_or self.entry.limits.now k 0 * percent process * 1000)) (get_or self.entry.flows.flows k (pos 0))) }
+            lt_z (pos (get_or self.entry.limits.now k 0 * percent process * 1000)) (get_or self.entry.flows.now.flows k (pos 0))) }
     {
         let mut set = 0u64;
         for k in (0..self.constraints).rev() {
@@ -53,7 +54,7 @@ impl<'a> Loading<'a> {
     // The answer: pass where the set is empty, else the set, its count of ones, its trailing zeros and the excess there.
     pub fn verdict(self, process: Process) -> Verdict
         ensures { test_outcome (Ok result)
-            ≡ given (judged_values self.entry.limits.now process self.entry.flows.flows self.entry.constraints) }
+            ≡ given (judged_values self.entry.limits.now process self.entry.flows.now.flows self.entry.constraints) }
     {
         let set = self.overload_set(process);
         if set == 0 {

@@ -9,9 +9,10 @@ impl Text<'_> {
         requires { HasRoom self.old (length s.now) }
         ensures { Puts self.old s.now self.new }
     {
-        let end = self.at + s.len();
-        self.buf[self.at..end].copy_from_slice(s);
-        self.at = end;
+        for i in 0..s.len() {
+            self.buf[self.at + i] = s[i];
+        }
+        self.at += s.len();
     }
 
     pub fn put_char(&mut self, c: u8)

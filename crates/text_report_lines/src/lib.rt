@@ -67,7 +67,7 @@ fn put_period_lines(text: &mut Text, grid: GridTable, period: Period, book: &[u8
 {
     let constraints = grid.factors.constraints;
     let flows = test_flows::carry(grid.factors, period, book);
-    let loading = Loading::of(constraints, grid.limits, flows);
+    let loading = Loading::of(constraints, grid.limits, &flows);
     let annual = loading.verdict(Process::Annual);
     let lt = loading.verdict(Process::TierLt);
     let monthly = loading.verdict(Process::Monthly);

@@ -13,14 +13,21 @@ use tier_rules::{BLOCK, MAX_TIER};
 // The numbers of a mark. Tier i's: at MARK * i - 1 whether it is set, behind it the awards held at it, then those counted.
 pub const MARK: usize = 3;
 
-// Copies the 64 flows from one place to another that does not overlap it.
+// A flow itself: as an argument it is known to be a number of 64 bits.
+fn same_flow(flow: i64) -> i64
+    ensures { result ≡ flow }
+{
+    flow
+}
+
+// Copies the 64 flows from one place to another that does not overlap it, cell by cell: by `copy_from_slice` a library for C would ask for `memmove`.
 pub fn copy_block(flows: &mut [i64], from: usize, to: usize)
     requires { Apart from to flows.old }
     ensures { after flows ≡ copied from to (before flows) }
 {
-    let mut block = [0; BLOCK];
-    block.copy_from_slice(&flows[from..from + BLOCK]);
-    flows[to..to + BLOCK].copy_from_slice(&block);
+    for k in 0..BLOCK {
+        flows[to + k] = same_flow(flows[from + k]);
+    }
 }
 
 // The numbers of a mark: it is set, and how many awards are held and counted now.

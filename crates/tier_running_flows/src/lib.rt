@@ -58,7 +58,7 @@ pub fn add_flows(
         return true;
     }
     let tried = flows_with(grid.factors, c, numbers, flows);
-    if Loading::of(constraints, grid.limits, tried).overload_set(process) != 0 {
+    if Loading::of(constraints, grid.limits, &tried).overload_set(process) != 0 {
         return true;
     }
     test_loading::fill_flows(constraints, tried, flows);

@@ -8,7 +8,7 @@ add-requires c =
     let a = c.args in
     let n = c.requires.node_lt_nodes in
     let x = c.times-product in
-    omega (arith, sum_fits a.hour a.node n.0 a.row.now c.requires.row_is a.k n.1 a.sum.0 c.requires.sum_value x.result.0 x.ensures)
+    omega (arith, sum_fits a.hour a.node n.0 a.row.now c.requires.row_is a.k n.1 a.sum.0 c.requires.sum_value x.result.0 a.k x.ensures n.1)
 
 pub returns : goal.returns
 returns c =

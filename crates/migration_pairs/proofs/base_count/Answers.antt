@@ -9,7 +9,7 @@ pub share_of-least-requires : goal.share_of-least-requires
 share_of-least-requires c =
     let s = c in
     let a = s.args in
-    (s.requires.0, least-ready a.base.row a.base.loads.now a.base.contract a.gainers s.args.base.ready s.requires.0 s.requires.1)
+    (s.requires.0, least-ready a.base.row.now a.base.loads.now a.base.contract a.gainers s.args.base.ready s.requires.0 s.requires.1)
 
 pub returns : goal.returns
 returns c =
@@ -17,5 +17,5 @@ returns c =
     let a = s.args in
     let share = c.share_of-least in
     let some = eqb-false share.result.0 0 (sym c.eq.ensures ∙ c.if-eq.false) in
-    let is = pairs-are a.base.row a.base.loads.now a.base.contract a.gainers s.args.base.ready s.requires.0 s.requires.1 share.result.0 share.ensures.0 some in
+    let is = pairs-are a.base.row.now a.base.loads.now a.base.contract a.gainers s.args.base.ready s.requires.0 s.requires.1 share.result.0 share.ensures.0 some in
     (is, omega (arith, s.requires.1.few, s.args.base.ready.few))

@@ -12,36 +12,36 @@ use Rattle.migration_pairs.proofs.Pairs.{share-by_net, net-ready, no_pairs, leng
 use Rattle.migration_pairs.proofs.pair_count.Goals as goal
 
 pub loop-net-init : goal.loop-net-init
-loop-net-init c = let b = c.args.base in sym (ap length (no_pairs (row_losses b.row) b.loads.now b.contract))
+loop-net-init c = let b = c.args.base in sym (ap length (no_pairs (row_losses b.row.now) b.loads.now b.contract))
 
 pub share_of-share-requires : goal.share_of-share-requires
 share_of-share-requires c =
     let b = c.args.base in
     let n = length b.loads.now in
     let j = c.loop-net.net-index in
-    let below : j < n = omega (arith, c.loop-net-test.true, length-take n b.row) in
-    (c.requires, rw (get_or-take n b.row j no_transfer below) (net-ready b.row b.loads.now b.contract j b.ready c.requires below))
+    let below : j < n = omega (arith, c.loop-net-test.true, length-take n b.row.now) in
+    (c.requires, rw (get_or-take n b.row.now j no_transfer below) (net-ready b.row.now b.loads.now b.contract j b.ready c.requires below))
 
 counted : (c : goal.After-pair_size-count) → let b = c.args.base in
     let l = c.loop-net in
-    l.count + c.pair_size-count.result ≡ length (pairs_to (row_losses b.row) b.loads.now b.contract (l.net-index + 1))
+    l.count + c.pair_size-count.result ≡ length (pairs_to (row_losses b.row.now) b.loads.now b.contract (l.net-index + 1))
 counted c =
     let b = c.args.base in
     let n = length b.loads.now in
     let l = c.loop-net in
     let j = l.net-index in
-    let below : j < n = omega (arith, c.loop-net-test.true, length-take n b.row) in
+    let below : j < n = omega (arith, c.loop-net-test.true, length-take n b.row.now) in
     let q = c.share_of-share.result.0 in
-    let is = share-by_net b.row b.loads.now b.contract j q (rw (get_or-take n b.row j no_transfer below) at c.share_of-share.ensures.0) in
+    let is = share-by_net b.row.now b.loads.now b.contract j q (rw (get_or-take n b.row.now j no_transfer below) at c.share_of-share.ensures.0) in
     rw (add-one j)
-    (omega (arith, length_more (row_losses b.row) b.loads.now b.contract j q is, pair_length b.contract (suc j) q, c.pair_size-count.ensures, l.invariant))
+    (omega (arith, length_more (row_losses b.row.now) b.loads.now b.contract j q is, pair_length b.contract (suc j) q, c.pair_size-count.ensures, l.invariant))
 
 pub overflow_add-count : goal.overflow_add-count
 overflow_add-count c =
     let b = c.args.base in
     let n = length b.loads.now in
     let j = c.loop-net.net-index in
-    record { fits = omega (arith, counted c, pairs-few (row_losses b.row) b.loads.now b.contract (j + 1), b.ready.few, c.loop-net-test.true, length-take n b.row) }
+    record { fits = omega (arith, counted c, pairs-few (row_losses b.row.now) b.loads.now b.contract (j + 1), b.ready.few, c.loop-net-test.true, length-take n b.row.now) }
 
 pub loop-net-preserved : goal.loop-net-preserved
 loop-net-preserved c = counted c
@@ -51,6 +51,6 @@ returns c =
     let b = c.args.base in
     let n = length b.loads.now in
     let l = c.loop-net in
-    let last : l.net-index ≡ n = omega (arith, length-take n b.row, b.ready.few) in
+    let last : l.net-index ≡ n = omega (arith, length-take n b.row.now, b.ready.few) in
     let is = rw last at l.invariant in
-    (is, omega (arith, is, pairs-few (row_losses b.row) b.loads.now b.contract n, b.ready.few))
+    (is, omega (arith, is, pairs-few (row_losses b.row.now) b.loads.now b.contract n, b.ready.few))

@@ -6,4 +6,4 @@ use Rattle.migration_transfers.specs.Squares.{row_losses}
 use Rattle.migration_pairs.proofs.pair_count.Given as goal
 
 abbrev pub invariant-loop-net : goal.invariant-loop-net
-invariant-loop-net l = (l.count ≡ length (pairs_to (row_losses l.fn.base.row) l.fn.base.loads.now l.fn.base.contract l.net-index))
+invariant-loop-net l = (l.count ≡ length (pairs_to (row_losses l.fn.base.row.now) l.fn.base.loads.now l.fn.base.contract l.net-index))

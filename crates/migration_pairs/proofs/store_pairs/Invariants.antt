@@ -7,4 +7,4 @@ use Rattle.book_growth.specs.Inner.{Appended}
 use Rattle.migration_pairs.proofs.store_pairs.Given as goal
 
 abbrev pub invariant-loop-j : goal.invariant-loop-j
-invariant-loop-j l = (length l.file ≡ length l.initial.file) × Appended l.form l.at (pairs_to (row_losses l.base.row) l.base.loads.now l.base.contract l.j) l.initial.file l.file l.place
+invariant-loop-j l = (length l.file ≡ length l.initial.file) × Appended l.form l.at (pairs_to (row_losses l.base.row.now) l.base.loads.now l.base.contract l.j) l.initial.file l.file l.place

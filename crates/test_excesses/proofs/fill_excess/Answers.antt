@@ -14,9 +14,9 @@ pub loop-k-preserved : goal.loop-k-preserved
 loop-k-preserved c =
     let s = c in
     let l = c.loop-k in
-    let f = excess_in s.args.loading.limits.now s.args.process s.args.loading.flows.flows in
+    let f = excess_in s.args.loading.limits.now s.args.process s.args.loading.flows.now.flows in
     let h = c.loop-k-test.true in
-    let is = excess-kept s.args.loading.limits.now s.args.process s.args.loading.flows.flows l.k c.released.result.0 c.sub-excess.result.0
+    let is = excess-kept s.args.loading.limits.now s.args.process s.args.loading.flows.now.flows l.k c.released.result.0 c.sub-excess.result.0
     (s.args.loading.judgeable.flows-sized l.k h) (s.args.loading.judgeable.good-limits.sized l.k h) c.released.ensures c.sub-excess.ensures in
     let v = is ∙ sym (get_d_list_to s.args.loading.constraints f l.k (pos 0) h) in (
       simp length-set l.invariant.0,
@@ -28,6 +28,6 @@ pub returns : goal.returns
 returns c =
     let s = c in
     let l = c.loop-k in
-    let f = excess_in s.args.loading.limits.now s.args.process s.args.loading.flows.flows in
+    let f = excess_in s.args.loading.limits.now s.args.process s.args.loading.flows.now.flows in
     fill_front (list_to s.args.loading.constraints f) l.out s.args.out.now l.k l.invariant.1 l.invariant.2
     (rw (length-list_to s.args.loading.constraints f) (omega arith))

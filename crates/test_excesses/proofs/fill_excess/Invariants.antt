@@ -6,4 +6,4 @@ use Rattle.test_excesses.specs.Inner.{excess_in}
 use Rattle.test_excesses.proofs.fill_excess.Given as goal
 
 abbrev pub invariant-loop-k : goal.invariant-loop-k
-invariant-loop-k l = (length l.out ≡ length l.initial.out) × (take l.k l.out ≡ take l.k (list_to l.loading.constraints (excess_in l.loading.limits.now l.process l.loading.flows.flows))) × (drop l.k l.out ≡ drop l.k l.initial.out)
+invariant-loop-k l = (length l.out ≡ length l.initial.out) × (take l.k l.out ≡ take l.k (list_to l.loading.constraints (excess_in l.loading.limits.now l.process l.loading.flows.now.flows))) × (drop l.k l.out ≡ drop l.k l.initial.out)

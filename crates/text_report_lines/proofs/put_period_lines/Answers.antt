@@ -31,9 +31,9 @@ use Rattle.text_report_lines.proofs.put_period_lines.Goals as goal
 module _ (grid : GridTable) (period : Period) (book : List ℕ) (flows : Flows)
     (carried : Carries (factors_of grid.factors.nodes grid.factors.constraints grid.factors.cells.now) (of_period period (book_in book)) flows) where
   -- the verdict is the test's, so its line is
-  text : (loading : Loading) → loading.constraints ≡ grid.factors.constraints → loading.limits.now ≡ grid.limits.now → loading.flows ≡ flows
+  text : (loading : Loading) → loading.constraints ≡ grid.factors.constraints → loading.limits.now ≡ grid.limits.now → loading.flows.now ≡ flows
       → (process : Process) (verdict : Verdict)
-      → test_outcome (Ok verdict) ≡ given (judged_values loading.limits.now process loading.flows.flows loading.constraints)
+      → test_outcome (Ok verdict) ≡ given (judged_values loading.limits.now process loading.flows.now.flows loading.constraints)
       → line (grid_by grid) (book_in book) period process ≡ answer_line grid.factors.constraints period process verdict
   text loading same_constraints same_limits same_flows process verdict told =
       let g = grid.factors in

@@ -18,7 +18,7 @@ use Rattle.test_rules.proofs.Judging.{less-is, over, over-is}
 use Rattle.test_verdict.proofs.loading.Loading.overload_set.Goals as goal
 
 pub loop-k-init : goal.loop-k-init
-loop-k-init c = set-start c.args.self.constraints (over c.args.self.limits.now c.args.process c.args.self.flows.flows)
+loop-k-init c = set-start c.args.self.constraints (over c.args.self.limits.now c.args.process c.args.self.flows.now.flows)
 
 -- bit k - 1 is what the test found, before the bits from k on
 module _ (limits : List ℕ) (process : Process) (cells : List ℤ) (n k s : ℕ) (r : ℤ) (b : Bool) (some : 0 < k) (below : k ≤ n)
@@ -36,13 +36,13 @@ module _ (limits : List ℕ) (process : Process) (cells : List ℤ) (n k s : ℕ
 pub loop-k-preserved : goal.loop-k-preserved
 loop-k-preserved c =
     let k = c.loop-k.k in
-    turn c.args.self.limits.now c.args.process c.args.self.flows.flows c.args.self.constraints k c.loop-k.set c.released.result.0 c.lt-over.result (omega arith) (omega arith)
+    turn c.args.self.limits.now c.args.process c.args.self.flows.now.flows c.args.self.constraints k c.loop-k.set c.released.result.0 c.lt-over.result (omega arith) (omega arith)
     c.loop-k.invariant (c.args.self.judgeable.flows-sized (k - 1) (omega arith)) c.released.ensures c.lt-over.ensures
 
 pub overflow_add-set : goal.overflow_add-set
 overflow_add-set c =
     let k = c.loop-k.k in
-    let h = fits c.args.self.limits.now c.args.process c.args.self.flows.flows c.args.self.constraints k c.loop-k.set c.released.result.0 c.lt-over.result (omega arith) (omega arith)
+    let h = fits c.args.self.limits.now c.args.process c.args.self.flows.now.flows c.args.self.constraints k c.loop-k.set c.released.result.0 c.lt-over.result (omega arith) (omega arith)
     c.loop-k.invariant (c.args.self.judgeable.flows-sized (k - 1) (omega arith)) c.released.ensures c.lt-over.ensures c.args.self.judgeable.few in
     omega (arith, h)
 

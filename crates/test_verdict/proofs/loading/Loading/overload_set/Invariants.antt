@@ -6,4 +6,4 @@ use Rattle.test_rules.proofs.Judging.{over}
 use Rattle.test_verdict.proofs.loading.Loading.overload_set.Given as goal
 
 abbrev pub invariant-loop-k : goal.invariant-loop-k
-invariant-loop-k l = l.set ≡ set_of (l.self.constraints - l.k) (λ (j : ℕ). over l.self.limits.now l.process l.self.flows.flows (l.k + j))
+invariant-loop-k l = l.set ≡ set_of (l.self.constraints - l.k) (λ (j : ℕ). over l.self.limits.now l.process l.self.flows.now.flows (l.k + j))
